@@ -1,0 +1,9 @@
+pub mod Constructors
+pub mod FormKinds
+pub mod Forms
+pub mod PairRows
+pub mod Places
+pub mod Scalars
+pub mod Sizes
+pub mod StandardFacts
+pub mod Texts

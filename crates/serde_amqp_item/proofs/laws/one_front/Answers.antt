@@ -1,0 +1,5 @@
+use Rattle.serde_amqp_item.proofs.Forms.{wire_same}
+use Rattle.serde_amqp_item.proofs.laws.one_front.Goals as goal
+
+pub returns : goal.returns
+returns c = λ m n k a b x y g h e. (wire_same m n k a b x y g h e).0

@@ -1,0 +1,5 @@
+pub mod Item
+pub mod Wire
+pub mod Canon
+pub mod Kind
+pub mod Record
