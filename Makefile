@@ -1,0 +1,21 @@
+# The script that `run` and `try` run.
+SCENARIO ?= examples/open_close.scenario
+
+.PHONY: run try test bench
+
+# Proves and builds the program, runs the script with it and prints what the endpoint answers.
+run:
+	@cd crates/amqp_scenario && rt run < "$(abspath $(SCENARIO))"
+
+# The same in seconds, without any proof.
+try:
+	@echo "This run is tried only: nothing is proved." >&2
+	@cd crates/amqp_scenario && rt try < "$(abspath $(SCENARIO))"
+
+# Every proof, edit that must fail, test and program, from nothing.
+test:
+	rt ci
+
+# Counts the instructions that the endpoint takes, by valgrind.
+bench:
+	@crates/amqp_bench/measure

@@ -1,0 +1,4 @@
+pub mod Grammars
+pub mod Prints
+pub mod Readings
+pub mod Words

@@ -1,0 +1,10 @@
+pub mod Grammar
+pub mod Parsed
+pub mod Performed
+pub mod Printed
+pub mod Script
+pub use Rattle.amqp_endpoint_model.specs.History
+pub use Rattle.amqp_endpoint_model.specs.Numbers
+pub use Rattle.amqp_endpoint_model.specs.Said
+pub use Rattle.amqp_endpoint_model.specs.State
+pub use Rattle.amqp_endpoint_model.specs.Step

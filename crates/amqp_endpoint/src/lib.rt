@@ -1,0 +1,16 @@
+//! An AMQP 1.0 endpoint without a network: bytes are fed in and events come out, calls are made and `pull` gives bytes.
+#![tactic(auto)]
+
+pub mod scenario;
+
+pub use amqp_endpoint_core::Endpoint;
+pub use amqp_endpoint_model::{
+    Answer, Call, Closed, EndpointError, Event, Fed, LinkError, Opened, Reply, Settings,
+};
+pub use amqp_endpoint_world::play;
+pub use amqp_session_frames::{
+    Error as FrameError, Frame, FrameBody, FrameDecoder, FrameEncoder, Piece,
+};
+pub use amqp_session_performatives::{Close, Open, definitions};
+pub use amqp_session_types::{ConnectionError, SessionError, TryCloseError};
+pub use serde_amqp_types::{Symbol, Text};

@@ -1,0 +1,72 @@
+-- Laws of frames as they are queued.
+use Rattle.std.proofs.Common.{◌≡◌, ℕ, ◌+◌, ◌-◌, ◌≤◌, ◌<◌, List, [], ◌∷◌, ◌++◌, length, map, Option, Some, None, true, refl, sym, ◌∙◌, ap, arith, subst, option_to_list, All}
+use Rattle.std.proofs.lemmas.List.{length-append}
+use Rattle.std.specs.Int.{w32, to_be_bytes}
+use Rattle.std.proofs.lemmas.Bool.Decides.{nat_tests}
+use Rattle.std.specs.Char.{encode_utf8}
+use Rattle.std.specs.Str.{is_utf8, chars}
+use Rattle.amqp_session_frames.specs.declared.frame.Frame.{Frame}
+use Rattle.amqp_session_frames.specs.Cutting.{with_size}
+use Rattle.amqp_session_frames.specs.Text.{IsWritten, frame_text}
+use Rattle.amqp_endpoint_model.specs.State.{written, text_or_nothing, text_fits, fits, own_close_with, error_of}
+use Rattle.amqp_endpoint_core.specs.declared.condition.Condition.{Condition}
+use Rattle.amqp_endpoint_core.specs.declared.condition.Condition.TheVariants.{FramingError, DecodeError, NotAllowed}
+use Rattle.amqp_endpoint_core.specs.Reading.{condition_text}
+
+-- the pieces of a frame are one
+pub some_piece : (f : Frame) (pieces : List (List ℕ)) → IsWritten f pieces → 0 < length pieces
+some_piece f [] w = absurd (let e : [] ≡ frame_text f ∷ [] = w in cc)
+some_piece f (p ∷ ps) w = omega arith
+
+-- the last piece of a frame is all of it
+pub last_piece : (f : Frame) (front : List (List ℕ)) (piece : List ℕ) → IsWritten f (front ++ piece ∷ []) → frame_text f ≡ Some (with_size piece)
+last_piece f [] piece w = let e : Some (with_size piece) ∷ [] ≡ frame_text f ∷ [] = w in cc
+last_piece f (p ∷ []) piece w = absurd (let e : Some (with_size p) ∷ Some (with_size piece) ∷ [] ≡ frame_text f ∷ [] = w in cc)
+last_piece f (p ∷ q ∷ ps) piece w = absurd (let e : Some (with_size p) ∷ Some (with_size q) ∷ map (λ x. Some (with_size x)) (ps ++ piece ∷ []) ≡ frame_text f ∷ [] = w in cc)
+
+pub length-with_size : (piece : List ℕ) → length (with_size piece) ≡ 4 + length piece
+length-with_size piece = length-append (to_be_bytes w32 (4 + length piece)) piece
+
+pub written_is : (f : Frame) (text : List ℕ) → frame_text f ≡ Some text → written f ≡ text
+unfolding written
+written_is f text e = ap text_or_nothing e
+
+fits_text : (text : List ℕ) (limit : ℕ) → length text ≤ limit → text_fits limit (Some text) ≡ true
+fits_text text limit short = grind (arith, nat_tests)
+
+pub fits_is : (f : Frame) (text : List ℕ) (limit : ℕ) → frame_text f ≡ Some text → length text ≤ limit → fits limit f ≡ true
+fits_is f text limit e short =
+    let P : Option (List ℕ) → Type 0 = λ o. text_fits limit o ≡ true in
+    subst P (sym e) (fits_text text limit short)
+
+text_fits-more : (o : Option (List ℕ)) (small limit : ℕ) → small ≤ limit → text_fits small o ≡ true → text_fits limit o ≡ true
+text_fits-more None small limit le e = e
+text_fits-more (Some text) small limit le e = grind (arith, nat_tests)
+
+pub fits_more : (f : Frame) (small limit : ℕ) → small ≤ limit → fits small f ≡ true → fits limit f ≡ true
+fits_more f small limit le e = text_fits-more (frame_text f) small limit le e
+
+-- a Close that tells of a fault fits any peer's limit
+pub close_fits : (c : Condition) → fits 512 (own_close_with (Some (error_of (condition_text c)))) ≡ true
+unfolding is_utf8 chars encode_utf8
+close_fits FramingError = refl
+close_fits DecodeError = refl
+close_fits NotAllowed = refl
+
+alone : (f : Frame) (front : List (List ℕ)) (piece : List ℕ) → IsWritten f (front ++ piece ∷ []) → front ≡ []
+alone f [] piece w = refl
+alone f (p ∷ []) piece w = absurd (let e : Some (with_size p) ∷ Some (with_size piece) ∷ [] ≡ frame_text f ∷ [] = w in cc)
+alone f (p ∷ q ∷ ps) piece w = absurd (let e : Some (with_size p) ∷ Some (with_size q) ∷ map (λ x. Some (with_size x)) (ps ++ piece ∷ []) ≡ frame_text f ∷ [] = w in cc)
+
+-- what was encoded is the frame, within the limit
+pub encoded_is : (f : Frame) (pieces front : List (List ℕ)) (popped : Option (List ℕ)) (piece queued : List ℕ) (limit : ℕ)
+    → IsWritten f pieces → All (λ p. length p ≤ limit - 4) pieces → 4 ≤ limit → pieces ≡ front ++ option_to_list popped → popped ≡ Some piece → queued ≡ with_size piece
+    → (queued ≡ written f) × (fits limit f ≡ true)
+encoded_is f pieces front popped piece queued limit w short four split last is =
+    let e : pieces ≡ front ++ piece ∷ [] = split ∙ ap (λ o. front ++ option_to_list o) last in
+    let P : List (List ℕ) → Type 0 = IsWritten f in
+    let text = last_piece f front piece (subst P e w) in
+    let one : pieces ≡ piece ∷ [] = e ∙ ap (λ x. x ++ piece ∷ []) (alone f front piece (subst P e w)) in
+    let Q : List (List ℕ) → Type 0 = All (λ p. length p ≤ limit - 4) in
+    let h : length piece ≤ limit - 4 = subst Q one short 0 [] (omega arith) in
+    (is ∙ sym (written_is f (with_size piece) text), fits_is f (with_size piece) limit text (omega (arith, length-with_size piece)))

@@ -1,0 +1,3 @@
+pub mod CodingLaws
+pub mod ReadingLaws
+pub mod FeedLaws

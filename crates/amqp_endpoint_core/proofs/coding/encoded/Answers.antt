@@ -1,0 +1,8 @@
+use Rattle.amqp_endpoint_core.proofs.CodingLaws.{encoded_is}
+use Rattle.std.proofs.Common.{arith}
+use Rattle.amqp_endpoint_core.proofs.coding.encoded.Goals as goal
+
+pub returns-in-Ok-clause-ok : goal.returns-in-Ok-clause-ok
+returns-in-Ok-clause-ok c =
+    encoded_is c.args.frame c.in-Ok.pieces.items c.pop.new.self.items c.pop.result c.unwrap.result c.frame.result c.args.limit
+    c.in-Ok.ensures.text (λ k d lt. rw (← c.new-encoder.ensures) (c.in-Ok.ensures.limit k d lt)) (omega arith) c.pop.ensures.items c.unwrap.ensures c.frame.ensures

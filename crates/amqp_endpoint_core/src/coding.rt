@@ -1,0 +1,93 @@
+ghost use Rattle.std.specs.Prelude.{◌≡◌, ◌≤◌, ◌⊎◌, true, false, IfOk, IfErr};
+ghost use Rattle.amqp_session_frames.specs.Text.{FrameText};
+ghost use Rattle.amqp_session_frames.specs.Cutting.{IsPiece};
+ghost use Rattle.amqp_endpoint_model.specs.State.{written, fits, own_open, own_close_with, error_of};
+ghost use Rattle.amqp_endpoint_model.specs.declared.error.EndpointError.TheVariants.{Memory, FrameTooLarge};
+ghost use Rattle.amqp_endpoint_core.specs.Reading.{NotTaken};
+
+use crate::queued::Queued;
+use amqp_endpoint_model::{EndpointError, Settings};
+use amqp_session_frames::{Error as FrameError, Frame, FrameBody, FrameDecoder, FrameEncoder};
+use amqp_session_performatives::{Close, Open, definitions};
+use bytes::Bytes;
+use serde_amqp_types::{Array, Symbol};
+use std::alloc::Global;
+
+/// The longest frame that each peer takes before it said more (part 2, 2.4.1).
+pub(crate) const MIN_MAX_FRAME_SIZE: u32 = 512;
+
+/// How many bytes the size of a frame takes (part 2, 2.3.1).
+pub(crate) const SIZE_FIELD: usize = 4;
+
+/// A frame of one piece as it is queued, within this limit.
+pub(crate) fn encoded(alloc: Global, limit: u32, frame: Frame) -> Result<Queued, EndpointError>
+    requires { 512 ≤ limit }
+    ensures ok { IfOk result (λ q. (q ≡ written frame) × (fits limit frame ≡ true)) }
+    ensures err { IfErr result (λ e. (e ≡ Memory) ⊎ ((e ≡ FrameTooLarge) × (fits limit frame ≡ false))) }
+{
+    let encoder = FrameEncoder::new(limit as usize - SIZE_FIELD);
+    match encoder.encode(alloc, frame) {
+        Ok(mut pieces) => Ok(Queued::frame(pieces.pop().unwrap())),
+        Err(FrameError::TooLarge) => Err(EndpointError::FrameTooLarge),
+        Err(_) => Err(EndpointError::Memory),
+    }
+}
+
+/// The own Open (part 2, 2.7.1).
+pub(crate) fn open_frame(alloc: Global, settings: &Settings) -> Result<Frame, EndpointError>
+    ensures ok { IfOk result (λ f. f ≡ own_open settings.now) }
+    ensures err { IfErr result (λ e. e ≡ Memory) }
+{
+    let open = Open {
+        container_id: settings.container_id.try_clone(alloc)?,
+        hostname: None,
+        max_frame_size: settings.max_frame_size,
+        channel_max: settings.channel_max,
+        idle_time_out: settings.idle_time_out,
+        outgoing_locales: Array::new(alloc),
+        incoming_locales: Array::new(alloc),
+        offered_capabilities: Array::new(alloc),
+        desired_capabilities: Array::new(alloc),
+    };
+    Ok(Frame {
+        channel: 0,
+        body: FrameBody::Open(open),
+    })
+}
+
+/// The own Close (part 2, 2.7.9).
+pub(crate) fn close_frame(error: Option<definitions::Error>) -> Frame
+    ensures { result ≡ own_close_with error }
+{
+    Frame {
+        channel: 0,
+        body: FrameBody::Close(Close { error }),
+    }
+}
+
+/// An error of this condition, without a description (part 2, 2.8.14).
+pub(crate) fn error_of_condition(
+    alloc: Global,
+    condition: &str,
+) -> Result<definitions::Error, EndpointError>
+    ensures ok { IfOk result (λ e. e ≡ error_of condition.now) }
+    ensures err { IfErr result (λ e. e ≡ Memory) }
+{
+    Ok(definitions::Error {
+        condition: Symbol::new(String::from_str(alloc, condition)?),
+        description: None,
+    })
+}
+
+/// The frame that a whole piece is.
+pub(crate) fn decoded(alloc: Global, piece: Bytes) -> Result<Frame, EndpointError>
+    requires { IsPiece piece }
+    ensures ok { IfOk result (λ f. FrameText piece f) }
+    ensures err { IfErr result (λ e. NotTaken piece e) }
+{
+    match FrameDecoder::new().decode(alloc, piece) {
+        Ok(frame) => Ok(frame),
+        Err(FrameError::Memory) => Err(EndpointError::Memory),
+        Err(error) => Err(EndpointError::Frame(error)),
+    }
+}

@@ -1,0 +1,269 @@
+ghost use Rattle.std.specs.Prelude.{◌≡◌, ◌++◌, [], true, Some, None, IfOk, IfErr, OnOk, MatchOption};
+ghost use Rattle.amqp_endpoint_model.specs.State.{error_of, own_close_with, written};
+ghost use Rattle.amqp_endpoint_model.specs.Step.{FeedsIn, Greets, ReadsOn, Waits, with_close};
+ghost use Rattle.amqp_endpoint_model.specs.declared.error.EndpointError.TheVariants.{Memory};
+ghost use Rattle.amqp_endpoint_model.specs.declared.phase.Phase.TheVariants.{Greeting, Running};
+ghost use Rattle.amqp_endpoint_core.specs.Reading.{BodyRefused, BodyTaken, EndsBy, FrameSplit, FrontRefused, FrontTaken, FrontUnread, HeaderRefused, HeaderTaken, PieceOf, SizeRefused, condition_text};
+
+use super::{Endpoint, PROTOCOL_HEADER};
+use crate::coding::{MIN_MAX_FRAME_SIZE, decoded, error_of_condition};
+use crate::condition::Condition;
+use crate::queued::Queued;
+use amqp_endpoint_model::{Closed, EndpointError, Event, Fed, Opened, Phase};
+use amqp_session_frames::{Frame, FrameBody};
+use amqp_session_performatives::{Close, Open};
+use amqp_session_types::ConnectionError;
+use bytes::{Buf, BytesMut};
+use std::alloc::Global;
+
+/// The shortest frame: its header alone (part 2, 2.3.1).
+const FRAME_HEADER: u32 = 8;
+
+impl Endpoint {
+    /// Takes these bytes of the peer, and answers what the whole frames say, in order.
+    ///
+    /// The fault is `NotConnected` before `connect`, and nothing is taken then. Each other fault ends the
+    /// connection: what is left of the bytes is dropped.
+    /// - `ProtocolHeaderMismatch`: the first eight bytes are another header (part 2, 2.2). It is broken off,
+    ///   without a frame.
+    /// - `SizeUnder8`, `SizeOverLimit`: a size that may not be, as soon as its four bytes are there (part 2,
+    ///   2.3.1).
+    /// - `PeerLimitUnder512`: what the peer's Open says (part 2, 2.7.1).
+    /// - `Frame`: a whole piece that is no frame. `Connection(IllegalState)`: a second Open.
+    /// - `Memory`: there was no memory. It is broken off, without a frame, before the frame that met it.
+    ///
+    /// At all of these but the first and the last the own Close is queued, with the error, unless it was queued
+    /// before. The peer's Close ends the connection too, without a fault: it is answered by the own one.
+    pub fn feed(&mut self, bytes: &[u8]) -> Fed
+        ensures { FeedsIn self.old.phase self.old bytes.now (result.events.items) result.fault self.new }
+    {
+        match self.phase {
+            Phase::Unconnected => fault_alone(self.alloc, EndpointError::NotConnected),
+            Phase::Greeting => self.feed_header(bytes),
+            Phase::Running => self.feed_frames(bytes),
+            Phase::Over => nothing_new(self.alloc),
+        }
+    }
+
+    fn feed_header(&mut self, bytes: &[u8]) -> Fed
+        requires { self.old.phase ≡ Greeting }
+        ensures { Greets self.old (self.old.rest ++ bytes.now) (result.events.items) result.fault self.new }
+    {
+        if self.input.extend_from_slice(bytes).is_err() {
+            self.break_off();
+            return fault_alone(self.alloc, EndpointError::Memory);
+        }
+        match self.take_header() {
+            Ok(true) => self.read_frames(),
+            Ok(false) => nothing_new(self.alloc),
+            Err(fault) => {
+                self.break_off();
+                fault_alone(self.alloc, fault)
+            }
+        }
+    }
+
+    /// Takes the peer's protocol header once it is whole, and queues the own Open.
+    #[tactic(auto)]
+    fn take_header(&mut self) -> Result<bool, EndpointError>
+        requires { self.old.phase ≡ Greeting }
+        ensures ok { IfOk result (λ whole. HeaderTaken whole self.old self.new) }
+        ensures err { IfErr result (λ e. HeaderRefused self.old.rest e × (self.new ≡ self.old)) }
+    {
+        let Some(header) = self.input.as_slice().get(..PROTOCOL_HEADER.len()) else {
+            return Ok(false);
+        };
+        if header != PROTOCOL_HEADER {
+            return Err(EndpointError::ProtocolHeaderMismatch);
+        }
+        let open = self.open_text.clone()?;
+        self.queue.push_back(Queued::whole(open))?;
+        self.input.advance(PROTOCOL_HEADER.len());
+        self.phase = Phase::Running;
+        Ok(true)
+    }
+
+    fn feed_frames(&mut self, bytes: &[u8]) -> Fed
+        requires { self.old.phase ≡ Running }
+        ensures { ReadsOn self.old (self.old.rest ++ bytes.now) (result.events.items) result.fault self.new }
+    {
+        if self.input.extend_from_slice(bytes).is_err() {
+            self.break_off();
+            return fault_alone(self.alloc, EndpointError::Memory);
+        }
+        self.read_frames()
+    }
+
+    /// Takes the whole frames of the input, up to the peer's Close or a fault.
+    #[tactic(auto, using(crate::proofs::FeedLaws::so_far_none, crate::proofs::FeedLaws::so_far_more, crate::proofs::FeedLaws::front_shorter, crate::proofs::FeedLaws::ends_waiting, crate::proofs::FeedLaws::ends_closed, crate::proofs::FeedLaws::ends_by_fault))]
+    fn read_frames(&mut self) -> Fed
+        requires { self.old.phase ≡ Running }
+        ensures { ReadsOn self.old self.old.rest (result.events.items) result.fault self.new }
+    {
+        let mut events = Vec::new(self.alloc);
+        while self.is_running() {
+            match self.read_frame(&mut events) {
+                Ok(true) => {}
+                Ok(false) => {
+                    return Fed {
+                        events,
+                        fault: None,
+                    };
+                }
+                Err(fault) => {
+                    let fault = self.end_by(fault);
+                    return Fed {
+                        events,
+                        fault: Some(fault),
+                    };
+                }
+            }
+        }
+        Fed {
+            events,
+            fault: None,
+        }
+    }
+
+    /// Takes the frame in front, if it is whole.
+    #[tactic(auto, using(crate::proofs::ReadingLaws::front_not_read, crate::proofs::ReadingLaws::front_refused, crate::proofs::ReadingLaws::front_taken))]
+    fn read_frame(&mut self, events: &mut Vec<Event>) -> Result<bool, EndpointError>
+        requires { self.old.phase ≡ Running }
+        ensures ok { IfOk result (λ whole. FrontTaken whole self.old events.old.items events.new.items self.new) }
+        ensures err { IfErr result (λ e. FrontRefused self.old self.old.rest e × (events.new.items ≡ events.old.items) × (self.new ≡ record self.old { rest = self.new.rest })) }
+    {
+        let Some(frame) = self.next_frame()? else {
+            return Ok(false);
+        };
+        self.take(frame.body, events)?;
+        Ok(true)
+    }
+
+    /// Splits the frame in front off the input, if it is whole.
+    #[tactic(auto, using(crate::proofs::ReadingLaws::front_size, crate::proofs::ReadingLaws::front_unread, crate::proofs::ReadingLaws::frame_split))]
+    fn next_frame(&mut self) -> Result<Option<Frame>, EndpointError>
+        ensures ok { IfOk result (λ frame. MatchOption frame (Waits self.old.settings.max_frame_size self.old.rest × (self.new ≡ self.old)) (λ f. FrameSplit self.old f self.new)) }
+        ensures err { IfErr result (λ e. FrontUnread self.old.settings.max_frame_size self.old.rest e × (self.new ≡ record self.old { rest = self.new.rest })) }
+    {
+        let Some(size) = self.next_size()? else {
+            return Ok(None);
+        };
+        let piece = self.input.freeze_to(size)?;
+        let frame = decoded(self.alloc, piece)?;
+        Ok(Some(frame))
+    }
+
+    /// The size of the frame in front, if it is whole.
+    fn next_size(&self) -> Result<Option<usize>, EndpointError>
+        ensures ok { IfOk result (λ size. MatchOption size (Waits self.now.settings.max_frame_size self.now.rest) (PieceOf self.now.settings.max_frame_size self.now.rest)) }
+        ensures err { IfErr result (SizeRefused self.now.settings.max_frame_size self.now.rest) }
+    {
+        let mut ahead = self.input.as_slice();
+        let Ok(size) = ahead.try_get_u32() else {
+            return Ok(None);
+        };
+        if size < FRAME_HEADER {
+            return Err(EndpointError::SizeUnder8);
+        }
+        if size > self.settings.max_frame_size {
+            return Err(EndpointError::SizeOverLimit);
+        }
+        if self.input.len() < size as usize {
+            return Ok(None);
+        }
+        Ok(Some(size as usize))
+    }
+
+    /// Takes what a frame says.
+    fn take(&mut self, body: FrameBody, events: &mut Vec<Event>) -> Result<(), EndpointError>
+        requires { self.old.phase ≡ Running }
+        ensures ok { OnOk result (BodyTaken self.old body events.old.items events.new.items self.new) }
+        ensures err { IfErr result (λ e. BodyRefused self.old body e × (events.new.items ≡ events.old.items) × (self.new ≡ self.old)) }
+    {
+        match body {
+            FrameBody::Empty => Ok(()),
+            FrameBody::Open(open) => self.take_open(open, events),
+            FrameBody::Close(close) => self.take_close(close, events),
+        }
+    }
+
+    fn take_open(&mut self, peer: Open, events: &mut Vec<Event>) -> Result<(), EndpointError>
+        ensures ok { OnOk result (BodyTaken self.old (FrameBody.Open peer) events.old.items events.new.items self.new) }
+        ensures err { IfErr result (λ e. BodyRefused self.old (FrameBody.Open peer) e × (events.new.items ≡ events.old.items) × (self.new ≡ self.old)) }
+    {
+        if self.peer_limit.is_some() {
+            return Err(EndpointError::Connection(ConnectionError::IllegalState));
+        }
+        if peer.max_frame_size < MIN_MAX_FRAME_SIZE {
+            return Err(EndpointError::PeerLimitUnder512);
+        }
+        events.push(Event::Opened(Opened {
+            container_id: peer.container_id,
+            max_frame_size: peer.max_frame_size,
+            channel_max: peer.channel_max,
+            idle_time_out: peer.idle_time_out,
+        }))?;
+        self.peer_limit = Some(peer.max_frame_size);
+        Ok(())
+    }
+
+    fn take_close(&mut self, close: Close, events: &mut Vec<Event>) -> Result<(), EndpointError>
+        ensures ok { OnOk result (BodyTaken self.old (FrameBody.Close close) events.old.items events.new.items self.new) }
+        ensures err { IfErr result (λ e. BodyRefused self.old (FrameBody.Close close) e × (events.new.items ≡ events.old.items) × (self.new ≡ self.old)) }
+    {
+        events.reserve(1)?;
+        self.queue_close(None)?;
+        events.push_reserved(Event::Closed(Closed { error: close.error }));
+        self.phase = Phase::Over;
+        self.peer_close = true;
+        self.input = BytesMut::new(self.alloc);
+        Ok(())
+    }
+
+    /// Ends the connection by this fault, or by want of memory for the Close that tells of it.
+    fn end_by(&mut self, fault: EndpointError) -> EndpointError
+        ensures { EndsBy fault result self.old self.new }
+    {
+        let Some(condition) = Condition::of(fault) else {
+            self.break_off();
+            return fault;
+        };
+        if self.close_with(condition).is_err() {
+            self.break_off();
+            return EndpointError::Memory;
+        }
+        self.phase = Phase::Over;
+        self.input = BytesMut::new(self.alloc);
+        fault
+    }
+
+    /// Queues the own Close with this condition, unless the own Close is queued.
+    fn close_with(&mut self, condition: Condition) -> Result<(), EndpointError>
+        ensures ok { OnOk result (self.new ≡ record self.old { own_close = true; queue = with_close self.old (written (own_close_with (Some (error_of (condition_text condition))))) }) }
+        ensures err { IfErr result (λ e. (e ≡ Memory) × (self.new ≡ self.old)) }
+    {
+        if self.own_close {
+            return Ok(());
+        }
+        let error = error_of_condition(self.alloc, condition.as_str())?;
+        self.queue_close(Some(error))
+    }
+}
+
+fn nothing_new(alloc: Global) -> Fed
+    ensures { (result.events.items ≡ []) × (result.fault ≡ None) }
+{
+    Fed {
+        events: Vec::new(alloc),
+        fault: None,
+    }
+}
+
+fn fault_alone(alloc: Global, fault: EndpointError) -> Fed
+    ensures { (result.events.items ≡ []) × (result.fault ≡ Some fault) }
+{
+    Fed {
+        events: Vec::new(alloc),
+        fault: Some(fault),
+    }
+}

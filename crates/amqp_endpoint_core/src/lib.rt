@@ -1,0 +1,9 @@
+//! One end of an AMQP 1.0 connection without a network: bytes in by `feed`, bytes out by `pull`, and calls between.
+#![tactic(auto)]
+
+mod coding;
+mod condition;
+mod endpoint;
+mod queued;
+
+pub use endpoint::Endpoint;

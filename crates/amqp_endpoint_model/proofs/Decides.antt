@@ -1,0 +1,176 @@
+-- Want of memory aside, a call's answer and what it leads to are decided by the state.
+use Rattle.std.proofs.Common.{◌≡◌, ◌≢◌, ℕ, true, List, [], ◌∷◌, ◌++◌, length, drop, refl, sym, ◌∙◌, ap, arith, subst, Option, Some, None, inl, inr}
+use Rattle.std.specs.Prelude.{◌&&◌, ◌||◌, ◌==◌, is_none}
+use Rattle.amqp_endpoint_model.specs.declared.error.EndpointError.{EndpointError}
+use Rattle.amqp_endpoint_model.specs.declared.error.EndpointError.TheVariants.{Memory}
+use Rattle.amqp_endpoint_model.specs.declared.event.Event.{Event}
+use Rattle.amqp_endpoint_model.specs.declared.phase.Phase.{Phase}
+use Rattle.amqp_endpoint_model.specs.declared.phase.Phase.TheVariants.{Unconnected, Greeting, Running, Over}
+use Rattle.amqp_endpoint_model.specs.declared.call.Call.{Call}
+use Rattle.amqp_endpoint_model.specs.declared.call.Call.TheVariants.{Connect, Feed, Pull, Queued, IsIdle, Heartbeat, BreakOff, Close as CloseCall, IsClosed, TryClose}
+use Rattle.amqp_endpoint_model.specs.Said.{Said, done, refused, fed, pulled, count, truth, tried_close, Told}
+use Rattle.amqp_endpoint_model.specs.State.{State, heartbeat, written, own_close_with}
+use Rattle.amqp_endpoint_model.specs.Step.{refusal, MayRefuse, connected, broken, opened, close_refusal, Greets, FeedsIn, Pulls, Step}
+use Rattle.amqp_endpoint_model.specs.History.{Run, HasMemory, AllHaveMemory, joined, gist}
+use Rattle.amqp_endpoint_model.proofs.Joins.{header_long}
+use Rattle.amqp_endpoint_model.proofs.Recuts.{FeedSaid, feed_said, has_memory, Joined, joined-run}
+use Rattle.amqp_endpoint_model.proofs.Endings.{SameRead, reads_on-unique}
+
+-- what a call answers and leads to where it may be refused
+abbrev answer_or : Option EndpointError → Said → Said
+answer_or (Some e) answer = refused e
+answer_or None answer = answer
+
+abbrev state_or : Option EndpointError → State → State → State
+state_or (Some e) old new = old
+state_or None old new = new
+
+pub record Decided (answer given : Said) (state reached : State) : Type 0 where
+  pub answer_is : answer ≡ given
+  pub state_is : state ≡ reached
+
+refused-decided : (s : State) (call : Call) (e : EndpointError) (given : Said) (m reached : State) → MayRefuse s call e → m ≡ s → e ≢ Memory → Decided (refused e) (answer_or (refusal s call) given) m (state_or (refusal s call) s reached)
+refused-decided s call e given m reached (inl is) same n = record {
+  answer_is = ap (λ o. answer_or o given) (sym is);
+  state_is = same ∙ ap (λ o. state_or o s reached) (sym is);
+}
+refused-decided s call e given m reached (inr (none, memory, grows)) same n = absurd (n memory)
+
+done-decided : (s : State) (call : Call) (given : Said) (m reached : State) → refusal s call ≡ None → m ≡ reached → Decided given (answer_or (refusal s call) given) m (state_or (refusal s call) s reached)
+done-decided s call given m reached none after = record {
+  answer_is = ap (λ o. answer_or o given) (sym none);
+  state_is = after ∙ ap (λ o. state_or o s reached) (sym none);
+}
+
+no_refusal : (s : State) (call : Call) (e : EndpointError) → refusal s call ≡ None → MayRefuse s call e → e ≢ Memory → ⊥
+no_refusal s call e none (inl is) n = cc
+no_refusal s call e none (inr (none2, memory, grows)) n = n memory
+
+abbrev first_text : List (List ℕ) → Option (List ℕ)
+first_text [] = None
+first_text (text ∷ texts) = Some text
+
+abbrev later_texts : List (List ℕ) → List (List ℕ)
+later_texts [] = []
+later_texts (text ∷ texts) = texts
+
+-- the answer, where it is no feed
+abbrev answer_of : State → Call → Said
+answer_of s Connect = answer_or (refusal s Connect) done
+answer_of s (Feed bytes) = done
+answer_of s Pull = pulled (first_text s.queue)
+answer_of s Queued = count (length s.queue)
+answer_of s IsIdle = truth (length s.queue == 0)
+answer_of s Heartbeat = answer_or (refusal s Heartbeat) done
+answer_of s BreakOff = done
+answer_of s CloseCall = answer_or (refusal s CloseCall) done
+answer_of s IsClosed = truth (s.own_close && s.peer_close)
+answer_of s TryClose = tried_close (close_refusal s)
+
+abbrev state_of : State → Call → State
+state_of s Connect = state_or (refusal s Connect) s (connected s)
+state_of s (Feed bytes) = s
+state_of s Pull = record s { queue = later_texts s.queue }
+state_of s Queued = s
+state_of s IsIdle = s
+state_of s Heartbeat = state_or (refusal s Heartbeat) s (record s { queue = s.queue ++ written heartbeat ∷ [] })
+state_of s BreakOff = broken s
+state_of s CloseCall = state_or (refusal s CloseCall) s (record s { own_close = true; queue = s.queue ++ written (own_close_with None) ∷ [] })
+state_of s IsClosed = s
+state_of s TryClose = record s { close_told = s.close_told || is_none (close_refusal s) }
+
+abbrev IsNoFeed : Call → Type 0
+IsNoFeed (Feed bytes) = ⊥
+IsNoFeed call = Unit {0}
+
+pulls-decided : (s : State) (o : Option (List ℕ)) (m : State) → Pulls s o m → Decided (pulled o) (pulled (first_text s.queue)) m (record s { queue = later_texts s.queue })
+pulls-decided s None m (empty, same) = record {
+  answer_is = ap (λ q. pulled (first_text q)) (sym empty);
+  state_is = same ∙ ap (λ q. record s { queue = q }) (empty ∙ ap later_texts (sym empty));
+}
+pulls-decided s (Some text) m (others, is, after) = record {
+  answer_is = ap (λ q. pulled (first_text q)) (sym is);
+  state_is = after ∙ ap (λ q. record s { queue = later_texts q }) (sym is);
+}
+
+decided : (s : State) (call : Call) (a : Said) (m : State) → IsNoFeed call → Step s call a m → HasMemory a → Decided a (answer_of s call) m (state_of s call)
+decided s (Feed bytes) a m no_feed step h = absurd no_feed
+decided s Connect (refused e) m no_feed (may, same) h = refused-decided s Connect e done m (connected s) may same h
+decided s Connect done m no_feed (none, after) h = done-decided s Connect done m (connected s) none after
+decided s Heartbeat (refused e) m no_feed (may, same) h = refused-decided s Heartbeat e done m (record s { queue = s.queue ++ written heartbeat ∷ [] }) may same h
+decided s Heartbeat done m no_feed (none, after) h = done-decided s Heartbeat done m (record s { queue = s.queue ++ written heartbeat ∷ [] }) none after
+decided s CloseCall (refused e) m no_feed (may, same) h = refused-decided s CloseCall e done m (record s { own_close = true; queue = s.queue ++ written (own_close_with None) ∷ [] }) may same h
+decided s CloseCall done m no_feed (none, after) h = done-decided s CloseCall done m (record s { own_close = true; queue = s.queue ++ written (own_close_with None) ∷ [] }) none after
+decided s Pull (refused e) m no_feed (may, same) h = absurd (no_refusal s Pull e refl may h)
+decided s Pull (pulled o) m no_feed step h = pulls-decided s o m step
+decided s Queued (refused e) m no_feed (may, same) h = absurd (no_refusal s Queued e refl may h)
+decided s Queued (count n) m no_feed (is, same) h = record { answer_is = ap count is; state_is = same }
+decided s IsIdle (refused e) m no_feed (may, same) h = absurd (no_refusal s IsIdle e refl may h)
+decided s IsIdle (truth b) m no_feed (is, same) h = record { answer_is = ap truth is; state_is = same }
+decided s BreakOff (refused e) m no_feed (may, same) h = absurd (no_refusal s BreakOff e refl may h)
+decided s BreakOff done m no_feed step h = record { answer_is = refl; state_is = step }
+decided s IsClosed (refused e) m no_feed (may, same) h = absurd (no_refusal s IsClosed e refl may h)
+decided s IsClosed (truth b) m no_feed (is, same) h = record { answer_is = ap truth is; state_is = same }
+decided s TryClose (refused e) m no_feed (may, same) h = absurd (no_refusal s TryClose e refl may h)
+decided s TryClose (tried_close o) m no_feed (is, after) h = record { answer_is = ap tried_close is; state_is = after ∙ ap (λ x. record s { close_told = s.close_told || is_none x }) is }
+decided s call a m no_feed step h = absurd step
+
+greets-unique : (s : State) (bytes : List ℕ) (es ds : List Event) (f g : Option EndpointError) (a b : State) → f ≢ Some Memory → g ≢ Some Memory → Greets s bytes es f a → Greets s bytes ds g b → SameRead es ds f g a b
+greets-unique s bytes es ds f g a b n m (inr (inr (inr (none, memory, after)))) t = absurd (n memory)
+greets-unique s bytes es ds f g a b n m r (inr (inr (inr (none, memory, after)))) = absurd (m memory)
+greets-unique s bytes es ds f g a b n m (inl (short, none, well, after)) (inl (short2, none2, well2, after2)) = record { events = none ∙ sym none2; fault = well ∙ sym well2; state = after ∙ sym after2 }
+greets-unique s bytes es ds f g a b n m (inl (short, none, well, after)) (inr (inl (long, other, none2, is, after2))) = absurd (omega arith)
+greets-unique s bytes es ds f g a b n m (inl (short, none, well, after)) (inr (inr (inl (header, reads)))) = absurd (omega (arith, header_long bytes header))
+greets-unique s bytes es ds f g a b n m (inr (inl (long, other, none2, is, after2))) (inl (short, none, well, after)) = absurd (omega arith)
+greets-unique s bytes es ds f g a b n m (inr (inl (long, other, none, is, after))) (inr (inl (long2, other2, none2, is2, after2))) = record { events = none ∙ sym none2; fault = is ∙ sym is2; state = after ∙ sym after2 }
+greets-unique s bytes es ds f g a b n m (inr (inl (long, other, none, is, after))) (inr (inr (inl (header, reads)))) = absurd (other header)
+greets-unique s bytes es ds f g a b n m (inr (inr (inl (header, reads)))) (inl (short, none, well, after)) = absurd (omega (arith, header_long bytes header))
+greets-unique s bytes es ds f g a b n m (inr (inr (inl (header, reads)))) (inr (inl (long, other, none, is, after))) = absurd (other header)
+greets-unique s bytes es ds f g a b n m (inr (inr (inl (header, reads)))) (inr (inr (inl (header2, reads2)))) = reads_on-unique (opened s) (drop 8 bytes) es ds f g a b n m reads reads2
+
+feeds-unique : (p : Phase) (s : State) (bytes : List ℕ) (es ds : List Event) (f g : Option EndpointError) (a b : State) → f ≢ Some Memory → g ≢ Some Memory → FeedsIn p s bytes es f a → FeedsIn p s bytes ds g b → SameRead es ds f g a b
+feeds-unique Unconnected s bytes es ds f g a b n m (none, is, after) (none2, is2, after2) = record { events = none ∙ sym none2; fault = is ∙ sym is2; state = after ∙ sym after2 }
+feeds-unique Greeting s bytes es ds f g a b n m r t = greets-unique s (s.rest ++ bytes) es ds f g a b n m r t
+feeds-unique Running s bytes es ds f g a b n m r t = reads_on-unique s (s.rest ++ bytes) es ds f g a b n m r t
+feeds-unique Over s bytes es ds f g a b n m (none, is, after) (none2, is2, after2) = record { events = none ∙ sym none2; fault = is ∙ sym is2; state = after ∙ sym after2 }
+
+feed-decides : (s : State) (bytes : List ℕ) (a b : Said) (m n : State) → Step s (Feed bytes) a m → Step s (Feed bytes) b n → HasMemory a → HasMemory b → (a ≡ b) × (m ≡ n)
+feed-decides s bytes a b m n r t h k =
+    let x : FeedSaid s bytes a m = feed_said s bytes a m r in
+    let y : FeedSaid s bytes b n = feed_said s bytes b n t in
+    let same : SameRead x.events y.events x.fault y.fault m n = feeds-unique s.phase s bytes x.events y.events x.fault y.fault m n (has_memory a x.events x.fault x.answer_is h) (has_memory b y.events y.fault y.answer_is k) x.feeds y.feeds in
+    (x.answer_is ∙ ap (λ es. fed es x.fault) same.events ∙ ap (λ f. fed y.events f) same.fault ∙ sym y.answer_is, same.state)
+
+other-decides : (s : State) (call : Call) (a b : Said) (m n : State) → IsNoFeed call → Step s call a m → Step s call b n → HasMemory a → HasMemory b → (a ≡ b) × (m ≡ n)
+other-decides s call a b m n no_feed r t h k =
+    let x : Decided a (answer_of s call) m (state_of s call) = decided s call a m no_feed r h in
+    let y : Decided b (answer_of s call) n (state_of s call) = decided s call b n no_feed t k in
+    (x.answer_is ∙ sym y.answer_is, x.state_is ∙ sym y.state_is)
+
+pub step-decides : (s : State) (call : Call) (a b : Said) (m n : State) → Step s call a m → Step s call b n → HasMemory a → HasMemory b → (a ≡ b) × (m ≡ n)
+step-decides s (Feed bytes) a b m n r t h k = feed-decides s bytes a b m n r t h k
+step-decides s call a b m n r t h k = other-decides s call a b m n tt r t h k
+
+told-same : (t u : Told) → t.answer ≡ u.answer → t.queued ≡ u.queued → t ≡ u
+told-same t u a b = ap (λ x. record { answer = x; queued = t.queued }) a ∙ ap (λ x. record { answer = u.answer; queued = x }) b
+
+run-decides : (s : State) (calls : List Call) (ts us : List Told) (m n : State) → Run s calls ts m → Run s calls us n → AllHaveMemory ts → AllHaveMemory us → (ts ≡ us) × (m ≡ n)
+run-decides s [] [] [] m n r t h k = (refl, r ∙ sym t)
+run-decides s [] (x ∷ ts) us m n r t h k = absurd r
+run-decides s [] [] (y ∷ us) m n r t h k = absurd t
+run-decides s (call ∷ calls) [] us m n r t h k = absurd r
+run-decides s (call ∷ calls) (x ∷ ts) [] m n r t h k = absurd t
+run-decides s (call ∷ calls) (x ∷ ts) (y ∷ us) m n (mid, one, queued, rest) (mid2, one2, queued2, rest2) (h, hs) (k, ks) =
+    let (answer, state) = step-decides s call x.answer y.answer mid mid2 one one2 h k in
+    let P : State → Type 0 = λ z. Run z calls us n in
+    let (later, end) = run-decides mid calls ts us m n rest (subst P (sym state) rest2) hs ks in
+    let same : x ≡ y = told-same x y answer (queued ∙ ap (λ z. length z.queue) state ∙ sym queued2) in
+    (ap (λ z. z ∷ ts) same ∙ ap (λ zs. y ∷ zs) later, end)
+
+-- runs of the same calls, but for how the bytes of adjacent feeds are cut
+pub recut : (s : State) (calls calls2 : List Call) (ts us : List Told) (m n : State) → Run s calls ts m → Run s calls2 us n → joined calls ≡ joined calls2 → AllHaveMemory ts → AllHaveMemory us → (gist calls ts ≡ gist calls2 us) × (m ≡ n)
+recut s calls calls2 ts us m n r t same h k =
+    let x : Joined s (joined calls) (gist calls ts) m = joined-run s calls ts m r h in
+    let y : Joined s (joined calls2) (gist calls2 us) n = joined-run s calls2 us n t k in
+    let P : List Call → Type 0 = λ z. Run s z (gist calls2 us) n in
+    run-decides s (joined calls) (gist calls ts) (gist calls2 us) m n x.run (subst P (sym same) y.run) x.memory y.memory

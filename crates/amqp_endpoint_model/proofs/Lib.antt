@@ -1,0 +1,13 @@
+pub mod Texts
+pub mod Takings
+pub mod Joins
+pub mod Recuts
+pub mod Endings
+pub mod Decides
+pub mod Stepped
+pub mod PieceLaws
+pub mod Keeping
+pub mod StandardFacts
+pub mod LimitLaws
+pub mod BytesDecide
+pub mod JudgeLaws

@@ -1,0 +1,202 @@
+-- Whole histories of one endpoint: its calls with what they answered.
+use Rattle.std.specs.Prelude.{◌≡◌, ◌≢◌, ℕ, ◌≤◌, ◌<◌, ◌||◌, ◌⊎◌, Bool, true, false, List, [], ◌∷◌, ◌++◌, length, take, Option, Some, None, if◌then◌else◌, nat_lt}
+use Rattle.amqp_session_performatives.specs.declared.open.Open.{Open as OpenFields}
+use Rattle.amqp_session_frames.specs.declared.frame.Frame.{Frame}
+use Rattle.amqp_session_frames.specs.declared.frame.FrameBody.{FrameBody}
+use Rattle.amqp_session_frames.specs.declared.frame.FrameBody.TheVariants.{Empty, Open, Close}
+use Rattle.amqp_session_types.specs.declared.ConnectionError.TheVariants.{IllegalState as OutOfOrder}
+use Rattle.amqp_session_frames.specs.Text.{FrameText}
+use Rattle.amqp_session_frames.specs.Cutting.{Cut, ReadsAs, said_size}
+use Rattle.amqp_endpoint_model.specs.declared.error.EndpointError.{EndpointError}
+use Rattle.amqp_endpoint_model.specs.declared.error.EndpointError.TheVariants.{Memory, NotConnected, ProtocolHeaderMismatch, SizeUnder8, SizeOverLimit, PeerLimitUnder512, Frame as FrameFault, Connection}
+use Rattle.amqp_endpoint_model.specs.declared.event.Event.{Event}
+use Rattle.amqp_endpoint_model.specs.declared.event.Event.TheVariants.{Opened, Closed}
+use Rattle.amqp_endpoint_model.specs.declared.call.Call.{Call}
+use Rattle.amqp_endpoint_model.specs.declared.call.Call.TheVariants.{Connect, Feed}
+use Rattle.amqp_endpoint_model.specs.Said.{Said, done, refused, fed, pulled, Told}
+use Rattle.amqp_endpoint_model.specs.State.{State, protocol_header}
+use Rattle.amqp_endpoint_model.specs.Step.{Step, Admits, Waits, Front, NoFrame}
+
+-- the calls may be answered so, one after the other
+abbrev pub Run : State → List Call → List Told → State → Type 0
+Run old [] [] new = new ≡ old
+Run old (call ∷ calls) (t ∷ ts) new = (mid : State) × Step old call t.answer mid × (t.queued ≡ length mid.queue) × Run mid calls ts new
+Run old [] (t ∷ ts) new = ⊥
+Run old (call ∷ calls) [] new = ⊥
+
+-- what a history comes to since the latest connect: read off the calls and answers alone
+pub record Summary : Type 0 where
+  -- the bytes fed; a feed with the fault NotConnected takes none
+  pub fed : List ℕ
+  pub events : List Event
+  -- the first fault
+  pub fault : Option EndpointError
+
+abbrev pub nothing : Summary
+nothing = record { fed = []; events = []; fault = None }
+
+abbrev pub first_fault : Option EndpointError → Option EndpointError → Option EndpointError
+first_fault (Some e) later = Some e
+first_fault None later = later
+
+abbrev pub note_fed : Summary → List ℕ → List Event → Option EndpointError → Summary
+note_fed σ bytes events (Some NotConnected) = σ
+note_fed σ bytes events fault = record { fed = σ.fed ++ bytes; events = σ.events ++ events; fault = first_fault σ.fault fault }
+
+abbrev pub note : Summary → Call → Said → Summary
+note σ Connect done = nothing
+note σ (Feed bytes) (fed events fault) = note_fed σ bytes events fault
+note σ call said = σ
+
+abbrev pub summary : Summary → List Call → List Told → Summary
+summary σ (call ∷ calls) (t ∷ ts) = summary (note σ call t.answer) calls ts
+summary σ calls ts = σ
+
+-- what a frame tells
+abbrev pub body_events : FrameBody → List Event
+body_events Empty = []
+body_events (Open o) = Opened (record { container_id = o.container_id; max_frame_size = o.max_frame_size; channel_max = o.channel_max; idle_time_out = o.idle_time_out }) ∷ []
+body_events (Close c) = Closed (record { error = c.error }) ∷ []
+
+abbrev pub events_of : List Frame → List Event
+events_of [] = []
+events_of (f ∷ fs) = body_events f.body ++ events_of fs
+
+abbrev pub is_open : FrameBody → Bool
+is_open (Open o) = true
+is_open body = false
+
+abbrev pub is_close : FrameBody → Bool
+is_close (Close c) = true
+is_close body = false
+
+-- whether an Open is among the frames
+abbrev pub has_open : List Frame → Bool
+has_open [] = false
+has_open (f ∷ fs) = is_open f.body || has_open fs
+
+-- whether a Close is among the frames
+abbrev pub has_close : List Frame → Bool
+has_close [] = false
+has_close (f ∷ fs) = is_close f.body || has_close fs
+
+-- nothing is read behind a Close
+abbrev pub CloseIsLast : List Frame → Type 0
+CloseIsLast [] = Unit {0}
+CloseIsLast (f ∷ fs) = (is_close f.body ≡ true → fs ≡ []) × CloseIsLast fs
+
+-- an Open has a limit of at least 512, and no other one is read behind it (part 2, 2.7.1)
+abbrev pub OpenIsTaken : FrameBody → List Frame → Type 0
+OpenIsTaken (Open o) later = (512 ≤ o.max_frame_size) × (has_open later ≡ false)
+OpenIsTaken body later = Unit {0}
+
+abbrev pub OpenIsOnce : List Frame → Type 0
+OpenIsOnce [] = Unit {0}
+OpenIsOnce (f ∷ fs) = OpenIsTaken f.body fs × OpenIsOnce fs
+
+-- a whole piece comes next, and it is this Open
+pub record NextOpen (limit : ℕ) (left : List ℕ) (o : OpenFields) : Type 0 where
+  pub piece : List ℕ
+  pub front : Front limit left piece
+  pub channel : ℕ
+  pub text : FrameText piece (record { channel = channel; body = Open o })
+
+-- why no frame more is read of what is left: there is less than a whole one, or a fault stands in front
+abbrev pub Stops : ℕ → List Frame → List ℕ → Option EndpointError → Type 0
+Stops limit frames left None = Waits limit left ⊎ (has_close frames ≡ true)
+Stops limit frames left (Some Memory) = Unit {0}
+Stops limit frames left (Some SizeUnder8) = (4 ≤ length left) × (said_size left < 8)
+Stops limit frames left (Some SizeOverLimit) = (4 ≤ length left) × (8 ≤ said_size left) × (limit < said_size left)
+Stops limit frames left (Some (FrameFault e)) = (piece : List ℕ) × Front limit left piece × NoFrame e piece
+Stops limit frames left (Some PeerLimitUnder512) = (o : OpenFields) × NextOpen limit left o × (has_open frames ≡ false) × (o.max_frame_size < 512)
+Stops limit frames left (Some (Connection OutOfOrder)) = (o : OpenFields) × NextOpen limit left o × (has_open frames ≡ true)
+Stops limit frames left (Some e) = ⊥
+
+-- behind the header the bytes fed are these frames, each once and in order, and then what is left
+pub record Framed (limit : ℕ) (σ : Summary) : Type 0 where
+  pub body : List ℕ
+  pub header : σ.fed ≡ protocol_header ++ body
+  pub frames : List Frame
+  pub left : List ℕ
+  pub read : ReadsAs (Admits limit) body frames left
+  pub told : σ.events ≡ events_of frames
+  pub closes : CloseIsLast frames
+  pub once : OpenIsOnce frames
+  pub well : has_close frames ≡ true → σ.fault ≡ None
+  pub stops : Stops limit frames left σ.fault
+
+-- the frames stepped through since the latest connect are the pieces of all bytes fed since then, up to a fault or the peer's Close (part 2, 2.2, 2.3)
+abbrev pub Pieces : ℕ → Summary → Type 0
+Pieces limit σ =
+    ((length σ.fed < 8) × (σ.events ≡ []) × (σ.fault ≡ None))
+    ⊎ ((8 ≤ length σ.fed) × (take 8 σ.fed ≢ protocol_header) × (σ.events ≡ []) × (σ.fault ≡ Some ProtocolHeaderMismatch))
+    ⊎ ((σ.events ≡ []) × (σ.fault ≡ Some Memory))
+    ⊎ Framed limit σ
+
+-- the limit that a judge of the wire holds written frames to: 512, and behind the first Open of the peer its max-frame-size, where that is at least 512 (part 2, 2.4.1, 2.7.1)
+abbrev pub agreed : ℕ → ℕ
+agreed n = if nat_lt n 512 then 512 else n
+
+pub record IsOpen (piece : List ℕ) (o : OpenFields) : Type 0 where
+  pub channel : ℕ
+  pub text : FrameText piece (record { channel = channel; body = Open o })
+
+abbrev pub JudgedBy : List (List ℕ) → ℕ → Type 0
+JudgedBy [] limit = limit ≡ 512
+JudgedBy (piece ∷ pieces) limit =
+    ((o : OpenFields) × IsOpen piece o × (limit ≡ agreed o.max_frame_size))
+    ⊎ (((o : OpenFields) → IsOpen piece o → ⊥) × JudgedBy pieces limit)
+
+-- the judge's limit behind these bytes of the peer
+abbrev pub judge_limit : List ℕ → ℕ → Type 0
+judge_limit bytes limit =
+    ((length bytes < 8) × (limit ≡ 512))
+    ⊎ ((header : List ℕ) × (pieces : List (List ℕ)) × (rest : List ℕ) × Cut bytes header pieces rest × JudgedBy pieces limit)
+
+abbrev pub IsWithin : List ℕ → Said → Type 0
+IsWithin bytes (pulled (Some text)) = (limit : ℕ) → judge_limit bytes limit → length text ≤ limit
+IsWithin bytes said = Unit {0}
+
+-- every answer of bytes is within the judge's limit as it was given
+abbrev pub KeepsLimit : Summary → List Call → List Told → Type 0
+KeepsLimit σ (call ∷ calls) (t ∷ ts) = IsWithin σ.fed t.answer × KeepsLimit (note σ call t.answer) calls ts
+KeepsLimit σ calls ts = Unit {0}
+
+-- calls with each feed joined to the one before it
+abbrev pub feed_before : List ℕ → List Call → List Call
+feed_before bytes (Feed more ∷ calls) = Feed (bytes ++ more) ∷ calls
+feed_before bytes calls = Feed bytes ∷ calls
+
+abbrev pub joined : List Call → List Call
+joined [] = []
+joined (Feed bytes ∷ calls) = feed_before bytes (joined calls)
+joined (call ∷ calls) = call ∷ joined calls
+
+-- the answers of adjacent feeds as that of one: their events, the first fault, and what is queued behind the last
+abbrev pub merged_answer : Said → Said → Said
+merged_answer (fed events fault) (fed more later) = fed (events ++ more) (first_fault fault later)
+merged_answer a b = a
+
+abbrev pub merged : Told → Told → Told
+merged t u = record { answer = merged_answer t.answer u.answer; queued = u.queued }
+
+-- what a feed told, and then what was told of these calls
+abbrev pub gist_before : Told → List Call → List Told → List Told
+gist_before t (Feed more ∷ calls) (u ∷ us) = merged t u ∷ us
+gist_before t calls us = t ∷ us
+
+-- what was told, that of adjacent feeds as one
+abbrev pub gist : List Call → List Told → List Told
+gist (Feed bytes ∷ calls) (t ∷ ts) = gist_before t (joined calls) (gist calls ts)
+gist (call ∷ calls) (t ∷ ts) = t ∷ gist calls ts
+gist calls ts = []
+
+-- no answer for want of memory
+abbrev pub HasMemory : Said → Type 0
+HasMemory (refused e) = e ≢ Memory
+HasMemory (fed events fault) = fault ≢ Some Memory
+HasMemory said = Unit {0}
+
+abbrev pub AllHaveMemory : List Told → Type 0
+AllHaveMemory [] = Unit {0}
+AllHaveMemory (t ∷ ts) = HasMemory t.answer × AllHaveMemory ts

@@ -1,0 +1,5 @@
+pub mod Numbers
+pub mod Said
+pub mod State
+pub mod Step
+pub mod History

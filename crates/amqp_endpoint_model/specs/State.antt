@@ -1,0 +1,83 @@
+-- What an endpoint is to its callers.
+use Rattle.std.specs.Prelude.{ℕ, Bool, true, false, List, [], ◌∷◌, length, Option, Some, None, nat_le}
+use Rattle.amqp_session_performatives.specs.declared.definitions.Error.{Error}
+use Rattle.amqp_session_frames.specs.declared.frame.Frame.{Frame}
+use Rattle.amqp_session_frames.specs.declared.frame.FrameBody.TheVariants.{Empty, Open, Close}
+use Rattle.amqp_session_frames.specs.Text.{frame_text}
+use Rattle.amqp_endpoint_model.specs.declared.settings.Settings.{Settings}
+use Rattle.amqp_endpoint_model.specs.declared.phase.Phase.{Phase}
+use Rattle.amqp_endpoint_model.specs.declared.phase.Phase.TheVariants.{Unconnected, Running, Over}
+
+pub record State : Type 0 where
+  pub settings : Settings
+  pub phase : Phase
+  -- the max-frame-size of the peer's Open, since the latest connect
+  pub peer_limit : Option ℕ
+  -- whether the own Close was queued, and the peer's Close taken, since the latest connect
+  pub own_close : Bool
+  pub peer_close : Bool
+  -- whether try_close has told of the peer's Close since then
+  pub close_told : Bool
+  -- the bytes fed that are no whole frame yet
+  pub rest : List ℕ
+  -- what pull will give: the protocol header, and frames with their sizes
+  pub queue : List (List ℕ)
+
+-- a new endpoint
+abbrev pub fresh : Settings → State
+fresh s = record { settings = s; phase = Unconnected; peer_limit = None; own_close = false; peer_close = false; close_told = false; rest = []; queue = [] }
+
+abbrev pub is_unconnected : Phase → Bool
+is_unconnected Unconnected = true
+is_unconnected _ = false
+
+abbrev pub is_running : Phase → Bool
+is_running Running = true
+is_running _ = false
+
+-- whether the own Open was queued
+abbrev pub has_opened : Phase → Bool
+has_opened Running = true
+has_opened Over = true
+has_opened _ = false
+
+-- AMQP, protocol id 0, version 1.0.0 (part 2, 2.2)
+abbrev pub protocol_header : List ℕ
+protocol_header = 0x41 ∷ 0x4d ∷ 0x51 ∷ 0x50 ∷ 0 ∷ 1 ∷ 0 ∷ 0 ∷ []
+
+-- what a frame is written as, on channel 0; nothing where it has no text
+abbrev pub text_or_nothing : Option (List ℕ) → List ℕ
+text_or_nothing (Some text) = text
+text_or_nothing None = []
+
+unfoldable pub written : Frame → List ℕ
+written f = text_or_nothing (frame_text f)
+
+-- the own Open (part 2, 2.7.1)
+abbrev pub own_open : Settings → Frame
+own_open s = record { channel = 0; body = Open (record { container_id = s.container_id; hostname = None; max_frame_size = s.max_frame_size; channel_max = s.channel_max; idle_time_out = s.idle_time_out; outgoing_locales = []; incoming_locales = []; offered_capabilities = []; desired_capabilities = [] }) }
+
+-- the frame that keeps a connection alive (part 2, 2.4.5)
+abbrev pub heartbeat : Frame
+heartbeat = record { channel = 0; body = Empty }
+
+-- the own Close (part 2, 2.7.9)
+abbrev pub own_close_with : Option Error → Frame
+own_close_with error = record { channel = 0; body = Close (record { error = error }) }
+
+-- an error without a description (part 2, 2.8.14)
+abbrev pub error_of : List ℕ → Error
+error_of condition = record { condition = condition; description = None }
+
+-- a frame has a text, of at most so many bytes
+abbrev pub text_fits : ℕ → Option (List ℕ) → Bool
+text_fits limit (Some text) = nat_le (length text) limit
+text_fits limit None = false
+
+abbrev pub fits : ℕ → Frame → Bool
+fits limit f = text_fits limit (frame_text f)
+
+-- the limit of written frames: 512 until the peer's Open, then the peer's (part 2, 2.4.1, 2.7.1)
+abbrev pub limit_of : Option ℕ → ℕ
+limit_of None = 512
+limit_of (Some n) = n

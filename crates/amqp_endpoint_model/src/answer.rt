@@ -1,0 +1,42 @@
+ghost use Rattle.std.specs.Prelude.{◌≡◌};
+
+use crate::error::EndpointError;
+use crate::event::Event;
+use amqp_session_types::TryCloseError;
+
+/// What `feed` answers.
+#[derive(Debug, Drop)]
+pub struct Fed {
+    /// What was found, in order.
+    pub events: Vec<Event>,
+    /// Why the feed ends the connection, or took no byte (`NotConnected`).
+    pub fault: Option<EndpointError>,
+}
+
+/// What a call answers.
+#[derive(Debug, Drop)]
+pub enum Answer {
+    /// Ok(()).
+    Done,
+    /// Err.
+    Refused(EndpointError),
+    /// What `feed` answers.
+    Fed(Fed),
+    /// What `pull` answers: the protocol header or one frame.
+    Pulled(Option<Vec<u8>>),
+    /// What `queued` answers.
+    Count(usize),
+    /// What `is_idle` or `is_closed` answers.
+    Truth(bool),
+    /// What `try_close` answers.
+    TriedClose(Result<(), TryCloseError>),
+}
+
+/// What a call answered, and how many answers of bytes `pull` still gives after it.
+#[derive(Debug, Drop)]
+pub struct Reply {
+    /// The call's answer.
+    pub answer: Answer,
+    /// `queued()` after the call.
+    pub queued: usize,
+}

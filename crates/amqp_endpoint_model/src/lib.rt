@@ -1,0 +1,22 @@
+//! What an endpoint is to its callers: its settings, calls, answers and errors, and the laws of its histories.
+#![tactic(auto)]
+
+mod answer;
+mod call;
+mod error;
+mod event;
+mod laws;
+mod phase;
+mod settings;
+#[cfg(test)]
+mod tests;
+
+pub use answer::{Answer, Fed, Reply};
+pub use call::Call;
+pub use error::{EndpointError, LinkError};
+pub use event::{Closed, Event, Opened};
+pub use laws::{
+    bytes_decide, judge_says_one_limit, limit_kept, pieces_of_all_bytes, recut, step_decides,
+};
+pub use phase::Phase;
+pub use settings::Settings;

@@ -1,0 +1,8 @@
+//! Plays calls to one end of an AMQP 1.0 connection, and gives what it answered.
+#![tactic(auto)]
+
+mod playing;
+#[cfg(test)]
+mod tests;
+
+pub use playing::play;

@@ -1,0 +1,5 @@
+pub mod Cutting
+pub mod Text
+pub mod Header
+pub mod Body
+pub mod Sizes

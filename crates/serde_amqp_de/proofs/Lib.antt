@@ -1,0 +1,11 @@
+pub mod Heads
+pub mod Scalars
+pub mod Sized
+pub mod Lists
+pub mod Arrays
+pub mod Values
+pub mod Several
+pub mod Sequences
+pub mod Descriptors
+pub mod Records
+pub mod Standard

@@ -1,0 +1,45 @@
+use Rattle.std.proofs.Common.{arith}
+use Rattle.serde_amqp_de.specs.Reads.{at_of}
+use Rattle.serde_amqp_de.proofs.Heads.{carried}
+use Rattle.serde_amqp_de.proofs.Arrays.{counted8, counted32, array8, array32, small_array8, not_bare, long_array32, no_elements8, no_elements32}
+use Rattle.serde_amqp_de.proofs.deserializer.Deserializer.array_head.Goals as goal
+
+pub returns-then-size-lt1-clause-refused : goal.returns-then-size-lt1-clause-refused
+returns-then-size-lt1-clause-refused g c =
+    let h = counted8 c.args.self.now.element (at_of g.R.Read.rest c.args.self.now) (at_of g.R.Read.rest c.code.new.self) (at_of g.R.Read.rest c.count8.new.self) c.in_ok-size-in-Array8.size c.in_ok-size-in-Array8.count (rw c.in-Array8.is at c.in_ok-code.ensures.ok) c.in_ok-size-in-Array8.ensures.ok in
+    small_array8 c.args.self.now.element (at_of g.R.Read.rest c.args.self.now) (at_of g.R.Read.rest c.code.new.self) (at_of g.R.Read.rest c.count8.new.self) c.in_ok-size-in-Array8.size c.in_ok-size-in-Array8.count h c.if-size-lt1.true
+
+pub returns-then-count-ne0-clause-refused : goal.returns-then-count-ne0-clause-refused
+returns-then-count-ne0-clause-refused g c =
+    let h = counted8 c.args.self.now.element (at_of g.R.Read.rest c.args.self.now) (at_of g.R.Read.rest c.code.new.self) (at_of g.R.Read.rest c.count8.new.self) c.in_ok-size-in-Array8.size c.in_ok-size-in-Array8.count (rw c.in-Array8.is at c.in_ok-code.ensures.ok) c.in_ok-size-in-Array8.ensures.ok in
+    not_bare c.args.self.now.element (at_of g.R.Read.rest c.args.self.now) (at_of g.R.Read.rest c.code.new.self) (at_of g.R.Read.rest c.count8.new.self) c.in_ok-size-in-Array8.size c.in_ok-size-in-Array8.count h c.if-size-eq1.true c.if-count-ne0.true
+
+pub returns-in_err-element-in-Array8-clause-refused :
+    goal.returns-in_err-element-in-Array8-clause-refused
+returns-in_err-element-in-Array8-clause-refused g c =
+    let h = counted8 c.args.self.now.element (at_of g.R.Read.rest c.args.self.now) (at_of g.R.Read.rest c.code.new.self) (at_of g.R.Read.rest c.count8.new.self) c.in_ok-size-in-Array8.size c.in_ok-size-in-Array8.count (rw c.in-Array8.is at c.in_ok-code.ensures.ok) c.in_ok-size-in-Array8.ensures.ok in
+    carried g.R.Read.faulty c.from_residual-in_err-element-in-Array8.result c.in_err-element-in-Array8.field-0.0 _ _ c.from_residual-in_err-element-in-Array8.ensures.1
+    (λ n. no_elements8 c.args.self.now.element (at_of g.R.Read.rest c.args.self.now) (at_of g.R.Read.rest c.code.new.self) (at_of g.R.Read.rest c.count8.new.self) c.in_ok-size-in-Array8.size c.in_ok-size-in-Array8.count h n (omega (arith, c.if-size-lt1.false, c.if-size-eq1.false))) c.in_err-element-in-Array8.ensures.refused
+
+pub returns-then-count-gt-MAX_ARRAY_COUNT-clause-refused :
+    goal.returns-then-count-gt-MAX_ARRAY_COUNT-clause-refused
+returns-then-count-gt-MAX_ARRAY_COUNT-clause-refused g c =
+    let h = counted32 c.args.self.now.element (at_of g.R.Read.rest c.args.self.now) (at_of g.R.Read.rest c.code.new.self) (at_of g.R.Read.rest c.count32.new.self) c.in_ok-size-in-Array32.size c.in_ok-size-in-Array32.count (rw c.in-Array32.is at c.in_ok-code.ensures.ok) c.in_ok-size-in-Array32.ensures.ok in
+    long_array32 c.args.self.now.element (at_of g.R.Read.rest c.args.self.now) (at_of g.R.Read.rest c.code.new.self) (at_of g.R.Read.rest c.count32.new.self) c.in_ok-size-in-Array32.size c.in_ok-size-in-Array32.count h c.if-count-gt-MAX_ARRAY_COUNT.true
+
+pub returns-in_err-element-in-Array32-clause-refused :
+    goal.returns-in_err-element-in-Array32-clause-refused
+returns-in_err-element-in-Array32-clause-refused g c =
+    let h = counted32 c.args.self.now.element (at_of g.R.Read.rest c.args.self.now) (at_of g.R.Read.rest c.code.new.self) (at_of g.R.Read.rest c.count32.new.self) c.in_ok-size-in-Array32.size c.in_ok-size-in-Array32.count (rw c.in-Array32.is at c.in_ok-code.ensures.ok) c.in_ok-size-in-Array32.ensures.ok in
+    carried g.R.Read.faulty c.from_residual-in_err-element-in-Array32.result c.in_err-element-in-Array32.field-0.0 _ _ c.from_residual-in_err-element-in-Array32.ensures.1
+    (λ n. no_elements32 c.args.self.now.element (at_of g.R.Read.rest c.args.self.now) (at_of g.R.Read.rest c.code.new.self) (at_of g.R.Read.rest c.count32.new.self) c.in_ok-size-in-Array32.size c.in_ok-size-in-Array32.count h n (omega (arith, c.if-size-lt5.false))) c.in_err-element-in-Array32.ensures.refused
+
+pub returns-in_ok-element-in-Array8-clause-ok : goal.returns-in_ok-element-in-Array8-clause-ok
+returns-in_ok-element-in-Array8-clause-ok g c =
+    let h = counted8 c.args.self.now.element (at_of g.R.Read.rest c.args.self.now) (at_of g.R.Read.rest c.code.new.self) (at_of g.R.Read.rest c.count8.new.self) c.in_ok-size-in-Array8.size c.in_ok-size-in-Array8.count (rw c.in-Array8.is at c.in_ok-code.ensures.ok) c.in_ok-size-in-Array8.ensures.ok in
+    array8 c.args.self.now.element (at_of g.R.Read.rest c.args.self.now) (at_of g.R.Read.rest c.code.new.self) (at_of g.R.Read.rest c.count8.new.self) (at_of g.R.Read.rest c.element_code.new.self) c.in_ok-size-in-Array8.size c.in_ok-size-in-Array8.count c.in_ok-element-in-Array8.element _ h c.in_ok-element-in-Array8.ensures.ok c.in_ok-element-in-Array8.ensures.plain (omega (arith, c.if-size-lt1.false, c.if-size-eq1.false))
+
+pub returns-in_ok-element-in-Array32-clause-ok : goal.returns-in_ok-element-in-Array32-clause-ok
+returns-in_ok-element-in-Array32-clause-ok g c =
+    let h = counted32 c.args.self.now.element (at_of g.R.Read.rest c.args.self.now) (at_of g.R.Read.rest c.code.new.self) (at_of g.R.Read.rest c.count32.new.self) c.in_ok-size-in-Array32.size c.in_ok-size-in-Array32.count (rw c.in-Array32.is at c.in_ok-code.ensures.ok) c.in_ok-size-in-Array32.ensures.ok in
+    array32 c.args.self.now.element (at_of g.R.Read.rest c.args.self.now) (at_of g.R.Read.rest c.code.new.self) (at_of g.R.Read.rest c.count32.new.self) (at_of g.R.Read.rest c.element_code-in-Array32.new.self) c.in_ok-size-in-Array32.size c.in_ok-size-in-Array32.count c.in_ok-element-in-Array32.element _ h c.in_ok-element-in-Array32.ensures.ok c.in_ok-element-in-Array32.ensures.plain (omega (arith, c.if-size-lt5.false)) (omega (arith, c.if-count-gt-MAX_ARRAY_COUNT.false))

@@ -1,0 +1,266 @@
+//! What can be read.
+ghost use Rattle.std.specs.Prelude.{◌≡◌, ◌++◌, ℕ, List, IfOk, OnOk, OnErr, MatchOption, Option, Some, None, Bool, false, refl, string_bytes};
+ghost use Rattle.serde_amqp_item.specs.Item.{Item, scalar, null, boolean, ushort, uint, ulong, string};
+ghost use Rattle.serde_amqp_item.specs.Wire.{Wire};
+ghost use Rattle.serde_amqp_item.specs.Record.{option_item};
+ghost use Rattle.serde_amqp_de.specs.Reads.{Took, Refuses, Unless, at_of, HasFailed, faultless};
+ghost use Rattle.serde_amqp_de.specs.Takes.{null_taken, boolean_taken, ushort_taken, uint_taken, ulong_taken, string_taken, option_taken, reads_as_null};
+ghost use Rattle.serde_amqp_de.specs.Decides.{Decided};
+ghost use Rattle.serde_amqp_de.specs.Deciding.{null_decided, boolean_decided, ushort_decided, uint_decided, ulong_decided, string_decided, option_decided};
+ghost use Rattle.serde_amqp_de.specs.Again.{option_again, option_faithful, boolean_faithful, ushort_faithful, uint_faithful, ulong_faithful};
+
+use crate::deserializer::Deserializer;
+use crate::reader::{Read, SliceReader};
+use serde_amqp_item::{EncodingCodes, Error};
+use std::alloc::Global;
+
+/// A type whose values are read from wire forms of items (part 1).
+pub trait Deserialize: Sized {
+    /// The item that a value is.
+    ghost item: { Self → Item };
+
+    /// Which items the type takes, and the item of the value that it makes of one.
+    ghost take: { Item → Option Item };
+
+    /// The value of a field that is absent, which is null (part 1, section 1.4); none where the field
+    /// is mandatory.
+    fn absent(alloc: Global) -> Option<Self>
+        ensures { MatchOption result (take (scalar null) ≡ None) (λ v. take (scalar null) ≡ Some (item v)) };
+
+    /// Reads a value. After an error use the reader no more: `deserialize` sees to that.
+    ///
+    /// Errors: `Memory`; a fault of the reader itself; any other exactly where no front of what is left
+    /// is a wire form of an item that the type takes.
+    fn read<R: Read>(alloc: Global, de: &mut Deserializer<R>) -> Result<Self, Error>
+        ensures ok { IfOk result (λ v. Took take de.old.element (at_of R.rest de.old) (at_of R.rest de.new) (item v)) }
+        ensures element { OnOk result (de.new.element ≡ de.old.element) }
+        ensures refused { Unless R.faulty result (Refuses take de.old.element (at_of R.rest de.old)) };
+
+    /// Reads a value. After an error the reader has failed, so that each later call is refused.
+    ///
+    /// Errors: as for `read`.
+    final fn deserialize<R: Read>(alloc: Global, de: &mut Deserializer<R>) -> Result<Self, Error>
+        ensures ok { IfOk result (λ v. Took take de.old.element (at_of R.rest de.old) (at_of R.rest de.new) (item v)) }
+        ensures element { OnOk result (de.new.element ≡ de.old.element) }
+        ensures refused { Unless R.faulty result (Refuses take de.old.element (at_of R.rest de.old)) }
+        ensures failed { OnErr result (HasFailed R.rest de.new) }
+    {
+        match Self::read(alloc, de) {
+            Ok(value) => Ok(value),
+            Err(e) => {
+                de.fail();
+                Err(e)
+            }
+        }
+    }
+
+    /// Bytes give one value, whichever of the items that they are a form of is taken.
+    ghost decided: { Decided take };
+}
+
+/// The item of a value is taken as that value, and no two values have the same item.
+pub trait RoundTrip: Deserialize {
+    ghost again: { (x : Self) → Self.take (Self.item x) ≡ Some (Self.item x) };
+
+    ghost faithful: { (x y : Self) → Self.item x ≡ Self.item y → x ≡ y };
+}
+
+/// No value is read as null.
+pub trait NeverNull: Deserialize {
+    ghost present: { (x : Self) → reads_as_null (Self.item x) ≡ false };
+}
+
+impl Deserialize for () {
+    ghost item = { λ _. scalar null };
+
+    ghost take = { null_taken };
+
+    fn absent(_alloc: Global) -> Option<()> {
+        Some(())
+    }
+
+    #[tactic(auto, using(crate::proofs::Values::taking))]
+    fn read<R: Read>(_alloc: Global, de: &mut Deserializer<R>) -> Result<(), Error> {
+        de.deserialize_unit()
+    }
+
+    ghost decided = { null_decided };
+}
+
+impl Deserialize for bool {
+    ghost item = { λ b. scalar (boolean b) };
+
+    ghost take = { boolean_taken };
+
+    fn absent(_alloc: Global) -> Option<bool> {
+        None
+    }
+
+    #[tactic(auto, using(crate::proofs::Values::taking))]
+    fn read<R: Read>(_alloc: Global, de: &mut Deserializer<R>) -> Result<bool, Error> {
+        de.deserialize_bool()
+    }
+
+    ghost decided = { boolean_decided };
+}
+
+impl Deserialize for u16 {
+    ghost item = { λ n. scalar (ushort n) };
+
+    ghost take = { ushort_taken };
+
+    fn absent(_alloc: Global) -> Option<u16> {
+        None
+    }
+
+    #[tactic(auto, using(crate::proofs::Values::taking))]
+    fn read<R: Read>(_alloc: Global, de: &mut Deserializer<R>) -> Result<u16, Error> {
+        de.deserialize_u16()
+    }
+
+    ghost decided = { ushort_decided };
+}
+
+impl Deserialize for u32 {
+    ghost item = { λ n. scalar (uint n) };
+
+    ghost take = { uint_taken };
+
+    fn absent(_alloc: Global) -> Option<u32> {
+        None
+    }
+
+    #[tactic(auto, using(crate::proofs::Values::taking))]
+    fn read<R: Read>(_alloc: Global, de: &mut Deserializer<R>) -> Result<u32, Error> {
+        de.deserialize_u32()
+    }
+
+    ghost decided = { uint_decided };
+}
+
+impl Deserialize for u64 {
+    ghost item = { λ n. scalar (ulong n) };
+
+    ghost take = { ulong_taken };
+
+    fn absent(_alloc: Global) -> Option<u64> {
+        None
+    }
+
+    #[tactic(auto, using(crate::proofs::Values::taking))]
+    fn read<R: Read>(_alloc: Global, de: &mut Deserializer<R>) -> Result<u64, Error> {
+        de.deserialize_u64()
+    }
+
+    ghost decided = { ulong_decided };
+}
+
+impl Deserialize for String {
+    ghost item = { λ s. scalar (string (string_bytes s)) };
+
+    ghost take = { string_taken };
+
+    fn absent(_alloc: Global) -> Option<String> {
+        None
+    }
+
+    #[tactic(auto, using(crate::proofs::Values::taking))]
+    fn read<R: Read>(alloc: Global, de: &mut Deserializer<R>) -> Result<String, Error> {
+        de.deserialize_string(alloc)
+    }
+
+    ghost decided = { string_decided };
+}
+
+/// None is null (part 1, section 1.4).
+impl<T: Deserialize> Deserialize for Option<T> {
+    ghost item = { option_item T.item };
+
+    ghost take = { option_taken T.take };
+
+    #[tactic(auto, unfolding(crate::specs::Takes::option_taken))]
+    fn absent(_alloc: Global) -> Option<Option<T>> {
+        Some(None)
+    }
+
+    #[tactic(auto, using(crate::proofs::Values::optional))]
+    fn read<R: Read>(alloc: Global, de: &mut Deserializer<R>) -> Result<Option<T>, Error> {
+        match de.peek()? {
+            EncodingCodes::Null => {
+                de.deserialize_unit()?;
+                Ok(None)
+            }
+            _ => Ok(Some(T::read(alloc, de)?)),
+        }
+    }
+
+    ghost decided = { option_decided T.take T.decided };
+}
+
+impl RoundTrip for () {
+    ghost again = { λ _. refl };
+
+    ghost faithful = { λ _ _ _. refl };
+}
+
+impl RoundTrip for bool {
+    ghost again = { λ _. refl };
+
+    ghost faithful = { boolean_faithful };
+}
+
+impl RoundTrip for u16 {
+    ghost again = { λ _. refl };
+
+    ghost faithful = { ushort_faithful };
+}
+
+impl RoundTrip for u32 {
+    ghost again = { λ _. refl };
+
+    ghost faithful = { uint_faithful };
+}
+
+impl RoundTrip for u64 {
+    ghost again = { λ _. refl };
+
+    ghost faithful = { ulong_faithful };
+}
+
+impl NeverNull for bool {
+    ghost present = { λ _. refl };
+}
+
+impl NeverNull for u16 {
+    ghost present = { λ _. refl };
+}
+
+impl NeverNull for u32 {
+    ghost present = { λ _. refl };
+}
+
+impl NeverNull for u64 {
+    ghost present = { λ _. refl };
+}
+
+impl NeverNull for String {
+    ghost present = { λ _. refl };
+}
+
+impl<T: RoundTrip + NeverNull> RoundTrip for Option<T> {
+    ghost again = { option_again T.take T.item T.again T.present };
+
+    ghost faithful = { option_faithful T.item T.faithful T.present };
+}
+
+/// Reads a value from the front of the bytes.
+///
+/// Errors: `Memory`; any other exactly where no front of the bytes is a wire form of an item that the
+/// type takes.
+pub fn from_slice<T: Deserialize>(alloc: Global, bytes: &[u8]) -> Result<T, Error>
+    ensures ok { IfOk result (λ v. (x : Item) × (front : List ℕ) × (more : List ℕ) × Wire x None front × (bytes.now ≡ front ++ more) × (T.take x ≡ Some (T.item v))) }
+    ensures refused { Unless faultless result ((x : Item) (front more : List ℕ) → Wire x None front → bytes.now ≡ front ++ more → T.take x ≡ None) }
+{
+    let mut de = Deserializer::new(SliceReader::new(bytes));
+    T::deserialize(alloc, &mut de)
+}

@@ -1,0 +1,252 @@
+//! Wire forms of the standard's tables, and what is refused.
+use crate::{Deserialize, Deserializer, SliceReader, from_slice, read_multiple, read_record};
+use serde_amqp_item::Error;
+use std::io::ErrorKind;
+
+const END: Error = Error::Io(ErrorKind::UnexpectedEof);
+
+#[test]
+fn reads_each_scalar(rt: HostRuntime) {
+    let alloc = rt.alloc();
+    assert_eq!(rt; from_slice::<()>(alloc, &[0x40]), Ok(()));
+    assert_eq!(rt; from_slice::<bool>(alloc, &[0x41]), Ok(true));
+    assert_eq!(rt; from_slice::<bool>(alloc, &[0x42]), Ok(false));
+    assert_eq!(rt; from_slice::<bool>(alloc, &[0x56, 0x01]), Ok(true));
+    assert_eq!(rt; from_slice::<bool>(alloc, &[0x56, 0x00]), Ok(false));
+    assert_eq!(rt; from_slice::<u16>(alloc, &[0x60, 0x01, 0x02]), Ok(258));
+    assert_eq!(rt; from_slice::<u32>(alloc, &[0x43]), Ok(0));
+    assert_eq!(rt; from_slice::<u32>(alloc, &[0x52, 0xff]), Ok(255));
+    assert_eq!(rt;
+        from_slice::<u32>(alloc, &[0x70, 0x00, 0x00, 0x01, 0x00]),
+        Ok(256)
+    );
+    assert_eq!(rt; from_slice::<u64>(alloc, &[0x44]), Ok(0));
+    assert_eq!(rt; from_slice::<u64>(alloc, &[0x53, 0x10]), Ok(16));
+    assert_eq!(rt;
+        from_slice::<u64>(alloc, &[0x80, 0, 0, 0, 1, 0, 0, 0, 0]),
+        Ok(4294967296)
+    );
+}
+
+#[test]
+fn refuses_what_is_no_form_of_a_scalar(rt: HostRuntime) {
+    let alloc = rt.alloc();
+    assert_eq!(rt; from_slice::<bool>(alloc, &[]), Err(END));
+    assert_eq!(rt; from_slice::<bool>(alloc, &[0x56]), Err(END));
+    assert_eq!(rt;
+        from_slice::<bool>(alloc, &[0x56, 0x02]),
+        Err(Error::InvalidValue)
+    );
+    assert_eq!(rt;
+        from_slice::<bool>(alloc, &[0x40]),
+        Err(Error::InvalidFormatCode)
+    );
+    assert_eq!(rt; from_slice::<u32>(alloc, &[0x70, 0, 0, 0]), Err(END));
+    assert_eq!(rt;
+        from_slice::<u32>(alloc, &[0x44]),
+        Err(Error::InvalidFormatCode)
+    );
+    assert_eq!(rt;
+        from_slice::<u64>(alloc, &[0x01]),
+        Err(Error::InvalidFormatCode)
+    );
+}
+
+#[test]
+fn reads_texts(rt: HostRuntime) -> Result<(), Error> {
+    let alloc = rt.alloc();
+    let text = from_slice::<String>(alloc, &[0xa1, 4, 0x61, 0x6d, 0x71, 0x70])?;
+    assert_eq!(rt; text.as_str(), "amqp");
+    let text = from_slice::<String>(alloc, &[0xb1, 0, 0, 0, 2, 0xc3, 0xa9])?;
+    assert_eq!(rt; text.as_str(), "é");
+    let mut de = Deserializer::new(SliceReader::new(&[0xa3, 1, 0x61, 0xb3, 0, 0, 0, 1, 0x62]));
+    let first = de.deserialize_symbol(alloc)?;
+    let second = de.deserialize_symbol(alloc)?;
+    assert_eq!(rt; first.as_str(), "a");
+    assert_eq!(rt; second.as_str(), "b");
+    let cases: [(&[u8], Error); 4] = [
+        (&[0xa1, 0x04, 0x61, 0x6d], END),
+        (&[0xa1, 0x01, 0xff], Error::InvalidUtf8Encoding),
+        (&[0xb1, 0, 0, 0, 1, 0xc3], Error::InvalidUtf8Encoding),
+        (&[0xa3, 0x01, 0x61], Error::InvalidFormatCode),
+    ];
+    for (bytes, error) in cases {
+        let Err(found) = from_slice::<String>(alloc, bytes) else {
+            panic!(rt; "a text was read");
+        };
+        assert_eq!(rt; found, error);
+    }
+    Ok(())
+}
+
+#[test]
+fn reads_options(rt: HostRuntime) {
+    let alloc = rt.alloc();
+    assert_eq!(rt; from_slice::<Option<u32>>(alloc, &[0x40]), Ok(None));
+    assert_eq!(rt;
+        from_slice::<Option<u32>>(alloc, &[0x52, 0x05]),
+        Ok(Some(5))
+    );
+    assert_eq!(rt;
+        from_slice::<Option<u32>>(alloc, &[0x41]),
+        Err(Error::InvalidFormatCode)
+    );
+}
+
+fn items_of(items: &Result<Vec<bool>, Error>) -> Result<&[bool], Error> {
+    match items {
+        Ok(items) => Ok(items.as_slice()),
+        Err(e) => Err(*e),
+    }
+}
+
+#[test]
+fn reads_lists_and_arrays(rt: HostRuntime) {
+    let alloc = rt.alloc();
+    let none: &[bool] = &[];
+    let two: &[bool] = &[true, false];
+    let cases: [(&[u8], Result<&[bool], Error>); 18] = [
+        (&[0x45], Ok(none)),
+        (&[0xc0, 0x01, 0x00], Ok(none)),
+        (&[0xc0, 0x03, 0x02, 0x41, 0x42], Ok(two)),
+        (&[0xd0, 0, 0, 0, 6, 0, 0, 0, 2, 0x41, 0x42], Ok(two)),
+        (&[0xe0, 0x01, 0x00], Ok(none)),
+        (&[0xe0, 0x02, 0x00, 0x40], Ok(none)),
+        (&[0xe0, 0x04, 0x02, 0x56, 0x01, 0x00], Ok(two)),
+        (&[0xf0, 0, 0, 0, 7, 0, 0, 0, 2, 0x56, 0x01, 0x00], Ok(two)),
+        (
+            &[0xc0, 0x04, 0x02, 0x41, 0x42, 0x40],
+            Err(Error::InvalidLength),
+        ),
+        (&[0xc0, 0x02, 0x02, 0x41, 0x42], Err(Error::InvalidLength)),
+        (&[0xc0, 0x00, 0x00], Err(Error::InvalidLength)),
+        (&[0xc0, 0x03, 0x02, 0x41], Err(END)),
+        (&[0xc0, 0x02, 0x01, 0x43], Err(Error::InvalidFormatCode)),
+        (&[0xe0, 0x01, 0x01], Err(Error::InvalidLength)),
+        (&[0xe0, 0x02, 0x00, 0x01], Err(Error::InvalidFormatCode)),
+        (&[0xe0, 0x02, 0x01, 0x40], Err(Error::InvalidFormatCode)),
+        (
+            &[0xe0, 0x04, 0x01, 0x00, 0x41, 0x41],
+            Err(Error::InvalidFormatCode),
+        ),
+        (
+            &[0xd0, 0, 0, 0, 4, 0xff, 0xff, 0xff, 0xff],
+            Err(Error::InvalidLength),
+        ),
+    ];
+    for (bytes, items) in cases {
+        let found = from_slice::<Vec<bool>>(alloc, bytes);
+        assert_eq!(rt; items_of(&found), items, "at {bytes:?}");
+    }
+}
+
+#[test]
+fn reads_at_most_65536_items(rt: HostRuntime) -> Result<(), Error> {
+    let alloc = rt.alloc();
+    let cases: [([u8; 9], usize, Result<usize, Error>); 2] = [
+        ([0xd0, 0, 1, 0, 4, 0, 1, 0, 0], 65536, Ok(65536)),
+        (
+            [0xd0, 0, 1, 0, 5, 0, 1, 0, 1],
+            65537,
+            Err(Error::InvalidLength),
+        ),
+    ];
+    for (head, count, length) in cases {
+        let mut bytes = Vec::from_slice(alloc, &head)?;
+        for _ in 0..count {
+            bytes.push(0x40)?;
+        }
+        let found = match from_slice::<Vec<Option<bool>>>(alloc, &bytes) {
+            Ok(items) => Ok(items.len()),
+            Err(e) => Err(e),
+        };
+        assert_eq!(rt; found, length);
+    }
+    Ok(())
+}
+
+#[test]
+fn reads_fields_of_several_values(rt: HostRuntime) {
+    let alloc = rt.alloc();
+    let cases: [(&[u8], Result<&[bool], Error>); 4] = [
+        (&[0x40], Ok(&[])),
+        (&[0x41], Ok(&[true])),
+        (&[0xe0, 0x04, 0x02, 0x56, 0x01, 0x00], Ok(&[true, false])),
+        (&[0x45], Err(Error::InvalidFormatCode)),
+    ];
+    for (bytes, items) in cases {
+        let mut de = Deserializer::new(SliceReader::new(bytes));
+        let found = read_multiple::<bool, SliceReader>(alloc, &mut de);
+        assert_eq!(rt; items_of(&found), items, "at {bytes:?}");
+    }
+}
+
+#[test]
+fn reads_composite_types(rt: HostRuntime) {
+    let alloc = rt.alloc();
+    let name = "a:b".as_bytes();
+    let cases: [(&[u8], Result<(u32, Option<bool>), Error>); 9] = [
+        (
+            &[0x00, 0x53, 0x11, 0xc0, 0x04, 0x02, 0x52, 0x07, 0x41],
+            Ok((7, Some(true))),
+        ),
+        (
+            &[
+                0x00, 0x80, 0, 0, 0, 0, 0, 0, 0, 0x11, 0xc0, 0x03, 0x01, 0x52, 0x07,
+            ],
+            Ok((7, None)),
+        ),
+        (
+            &[
+                0x00, 0xa3, 3, 0x61, 0x3a, 0x62, 0xc0, 0x03, 0x02, 0x43, 0x40,
+            ],
+            Ok((0, None)),
+        ),
+        (
+            &[0x00, 0x53, 0x12, 0xc0, 0x02, 0x01, 0x43],
+            Err(Error::InvalidValue),
+        ),
+        (
+            &[0x00, 0xa3, 3, 0x61, 0x3a, 0x63, 0xc0, 0x02, 0x01, 0x43],
+            Err(Error::InvalidValue),
+        ),
+        (
+            &[0x00, 0x53, 0x11, 0x45],
+            Err(Error::SequenceLengthMismatch),
+        ),
+        (
+            &[0x00, 0x53, 0x11, 0xc0, 0x04, 0x03, 0x43, 0x40, 0x40],
+            Err(Error::SequenceLengthMismatch),
+        ),
+        (
+            &[0x00, 0x53, 0x11, 0xc0, 0x03, 0x01, 0x43, 0x40],
+            Err(Error::InvalidLength),
+        ),
+        (
+            &[0x53, 0x11, 0xc0, 0x02, 0x01, 0x43],
+            Err(Error::InvalidFormatCode),
+        ),
+    ];
+    for (bytes, fields) in cases {
+        let mut de = Deserializer::new(SliceReader::new(bytes));
+        let found = read_record::<(u32, (Option<bool>, ())), SliceReader>(
+            alloc, &mut de, 0x11, name,
+        );
+        let found = match found {
+            Ok((number, (flag, ()))) => Ok((number, flag)),
+            Err(e) => Err(e),
+        };
+        assert_eq!(rt; found, fields, "at {bytes:?}");
+    }
+}
+
+#[test]
+fn has_failed_after_a_refusal(rt: HostRuntime) {
+    let alloc = rt.alloc();
+    let mut de = Deserializer::new(SliceReader::new(&[0x40, 0x41]));
+    assert_eq!(rt;
+        bool::deserialize(alloc, &mut de),
+        Err(Error::InvalidFormatCode)
+    );
+    assert_eq!(rt; bool::deserialize(alloc, &mut de), Err(END));
+}

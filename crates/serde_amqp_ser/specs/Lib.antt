@@ -1,0 +1,4 @@
+pub mod Written
+pub mod Puts
+pub mod Whole
+pub mod Sizes

@@ -1,0 +1,165 @@
+//! What can be written.
+ghost use Rattle.std.specs.Prelude.{◌≡◌, ℕ, List, map, Some, None, OnOk};
+ghost use Rattle.serde_amqp_item.specs.Item.{Item, scalar, null, boolean, ushort, uint, ulong, string, list, items_of};
+ghost use Rattle.serde_amqp_item.specs.Record.{is_null, option_item};
+ghost use Rattle.std.specs.String.{string_bytes};
+ghost use Rattle.serde_amqp_ser.specs.Written.{Written, Keeps};
+ghost use Rattle.serde_amqp_ser.specs.Puts.{State, serialized, OnlyWhere, WantsMemory, state_of};
+
+use crate::serializer::Serializer;
+use crate::sink::Sink;
+use serde_amqp_item::Error;
+
+/// A value that is written as one item.
+pub trait Serialize {
+    /// The item that a value is.
+    ghost item: { Self → Item };
+
+    /// Whether the value is written as null. A null at the end of a record is left off.
+    fn is_null(&self) -> bool
+        ensures { result ≡ is_null (item self.now) };
+
+    /// Writes the canonical text of the value's item, in an array its wide form. Any error but `Memory`
+    /// comes exactly where the item has none.
+    fn serialize<W: Sink>(&self, s: &mut Serializer<W>) -> Result<(), Error>
+        ensures ok { OnOk result (serialized (state_of W.written s.old) (item self.now) ≡ Some (state_of W.written s.new)) }
+        ensures kept { Keeps (W.written s.old.writer) (W.written s.new.writer) }
+        ensures refused { OnlyWhere result (serialized (state_of W.written s.old) (item self.now)) }
+        ensures memory { WantsMemory W.takes_memory result };
+}
+
+/// Null.
+impl Serialize for () {
+    ghost item = { λ _. scalar null };
+
+    fn is_null(&self) -> bool {
+        true
+    }
+
+    fn serialize<W: Sink>(&self, s: &mut Serializer<W>) -> Result<(), Error> {
+        s.serialize_unit()
+    }
+}
+
+/// A boolean.
+impl Serialize for bool {
+    ghost item = { λ b. scalar (boolean b) };
+
+    fn is_null(&self) -> bool {
+        false
+    }
+
+    fn serialize<W: Sink>(&self, s: &mut Serializer<W>) -> Result<(), Error> {
+        s.serialize_bool(*self)
+    }
+}
+
+/// A ushort.
+impl Serialize for u16 {
+    ghost item = { λ n. scalar (ushort n) };
+
+    fn is_null(&self) -> bool {
+        false
+    }
+
+    fn serialize<W: Sink>(&self, s: &mut Serializer<W>) -> Result<(), Error> {
+        s.serialize_u16(*self)
+    }
+}
+
+/// A uint.
+impl Serialize for u32 {
+    ghost item = { λ n. scalar (uint n) };
+
+    fn is_null(&self) -> bool {
+        false
+    }
+
+    fn serialize<W: Sink>(&self, s: &mut Serializer<W>) -> Result<(), Error> {
+        s.serialize_u32(*self)
+    }
+}
+
+/// A ulong.
+impl Serialize for u64 {
+    ghost item = { λ n. scalar (ulong n) };
+
+    fn is_null(&self) -> bool {
+        false
+    }
+
+    fn serialize<W: Sink>(&self, s: &mut Serializer<W>) -> Result<(), Error> {
+        s.serialize_u64(*self)
+    }
+}
+
+/// A string.
+impl Serialize for String {
+    ghost item = { λ text. scalar (string (string_bytes text)) };
+
+    fn is_null(&self) -> bool {
+        false
+    }
+
+    fn serialize<W: Sink>(&self, s: &mut Serializer<W>) -> Result<(), Error> {
+        s.serialize_str(self.as_str())
+    }
+}
+
+/// What it points to.
+impl<T: Serialize> Serialize for &T {
+    ghost item = { λ x. T.item x.now };
+
+    fn is_null(&self) -> bool {
+        T::is_null(*self)
+    }
+
+    fn serialize<W: Sink>(&self, s: &mut Serializer<W>) -> Result<(), Error> {
+        T::serialize(*self, s)
+    }
+}
+
+/// Null, or the value.
+impl<T: Serialize> Serialize for Option<T> {
+    ghost item = { option_item T.item };
+
+    fn is_null(&self) -> bool {
+        match self {
+            None => true,
+            Some(x) => x.is_null(),
+        }
+    }
+
+    fn serialize<W: Sink>(&self, s: &mut Serializer<W>) -> Result<(), Error> {
+        match self {
+            None => s.serialize_unit(),
+            Some(x) => x.serialize(s),
+        }
+    }
+}
+
+/// A list.
+impl<T: Serialize> Serialize for Vec<T> {
+    ghost item = { λ v. list (items_of (map T.item v.items)) };
+
+    fn is_null(&self) -> bool {
+        false
+    }
+
+    fn serialize<W: Sink>(&self, s: &mut Serializer<W>) -> Result<(), Error> {
+        s.serialize_list(self.as_slice())
+    }
+}
+
+/// A string.
+impl Serialize for &str {
+    ghost item = { λ text. scalar (string text.now) };
+
+    fn is_null(&self) -> bool {
+        false
+    }
+
+    fn serialize<W: Sink>(&self, s: &mut Serializer<W>) -> Result<(), Error> {
+        s.serialize_str(*self)
+    }
+}

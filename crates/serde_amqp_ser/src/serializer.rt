@@ -1,0 +1,207 @@
+//! The serializer and the values that hold no others.
+ghost use Rattle.std.specs.Prelude.{◌≡◌, ◌≤◌, ◌∷◌, [], ℕ, ◌+◌, List, ◌++◌, length, Some, None, OnOk};
+ghost use Rattle.serde_amqp_item.specs.Item.{scalar, null, boolean, ushort, uint, ulong, string, symbol};
+ghost use Rattle.serde_amqp_item.specs.Canon.{settled};
+ghost use Rattle.serde_amqp_ser.specs.Written.{Written, extended, inside, Keeps};
+ghost use Rattle.serde_amqp_ser.specs.Puts.{State, behind, begun, serialized, sized_placed, counted_placed, OnlyWhere, WantsMemory, place_of, state_of};
+
+use crate::place::IsArrayElement;
+use crate::sink::Sink;
+use serde_amqp_item::Error;
+
+/// Writes values, one behind the other. After an error what was written before is still there,
+/// perhaps with the beginning of the refused value behind it.
+#[derive(Debug, Drop)]
+pub struct Serializer<W> {
+    /// Where it writes to.
+    pub writer: W,
+    /// Where the next value is written.
+    pub element: IsArrayElement,
+}
+
+impl<W: Sink> Serializer<W> {
+    /// A serializer that writes values outside of arrays.
+    pub fn new(writer: W) -> Serializer<W>
+        ensures writer { result.writer ≡ writer }
+        ensures element { result.element ≡ IsArrayElement.False }
+    {
+        Serializer {
+            writer,
+            element: IsArrayElement::False,
+        }
+    }
+
+    /// What it wrote to.
+    pub fn into_inner(self) -> W
+        ensures { result ≡ self.writer }
+    {
+        self.writer
+    }
+
+    /// Writes the constructor of a wide form, where one stands at this place.
+    #[tactic(auto, using(crate::proofs::Grown::growing))]
+    fn begin_wide(&mut self, code: u8) -> Result<(), Error>
+        ensures ok { OnOk result (begun (state_of W.written self.old) code ≡ Some (state_of W.written self.new)) }
+        ensures kept { Keeps (W.written self.old.writer) (W.written self.new.writer) }
+        ensures refused { OnlyWhere result (begun (state_of W.written self.old) code) }
+        ensures memory { WantsMemory W.takes_memory result }
+    {
+        match self.element {
+            IsArrayElement::False => {
+                self.writer.put(&[code])?;
+                Ok(())
+            }
+            IsArrayElement::FirstElement => {
+                self.writer.put(&[code])?;
+                self.element = IsArrayElement::OtherElement(code);
+                Ok(())
+            }
+            IsArrayElement::OtherElement(first) => {
+                if first != code {
+                    return Err(Error::InvalidValue);
+                }
+                Ok(())
+            }
+        }
+    }
+
+    /// Writes a wide form.
+    #[tactic(auto, using(crate::proofs::Grown::growing, crate::proofs::Heads::begins))]
+    fn put_wide(&mut self, code: u8, body: &[u8]) -> Result<(), Error>
+        ensures ok { OnOk result (behind (state_of W.written self.old) (settled (place_of self.old.element) (code, body.now)) ≡ Some (state_of W.written self.new)) }
+        ensures kept { Keeps (W.written self.old.writer) (W.written self.new.writer) }
+        ensures refused { OnlyWhere result (behind (state_of W.written self.old) (settled (place_of self.old.element) (code, body.now))) }
+        ensures memory { WantsMemory W.takes_memory result }
+    {
+        self.begin_wide(code)?;
+        self.writer.put(body)?;
+        Ok(())
+    }
+
+    /// Writes a value with a size: the size in one byte up to 254 bytes and outside of arrays, else in four.
+    #[tactic(auto, using(crate::proofs::Grown::growing, crate::proofs::Heads::begins))]
+    fn put_sized(&mut self, narrow: u8, wide: u8, content: &[u8]) -> Result<(), Error>
+        ensures ok { OnOk result (behind (state_of W.written self.old) (sized_placed (place_of self.old.element) narrow wide content.now) ≡ Some (state_of W.written self.new)) }
+        ensures kept { Keeps (W.written self.old.writer) (W.written self.new.writer) }
+        ensures refused { OnlyWhere result (behind (state_of W.written self.old) (sized_placed (place_of self.old.element) narrow wide content.now)) }
+        ensures memory { WantsMemory W.takes_memory result }
+    {
+        let Ok(len) = u32::try_from(content.len()) else {
+            return Err(Error::InvalidLength);
+        };
+        if let IsArrayElement::False = self.element {
+            if len < 255 {
+                self.writer.put(&[narrow, len as u8])?;
+                self.writer.put(content)?;
+                return Ok(());
+            }
+        }
+        self.begin_wide(wide)?;
+        self.writer.put(&len.to_be_bytes())?;
+        self.writer.put(content)?;
+        Ok(())
+    }
+
+    /// Writes null, which is no element of an array (part 1, 1.6.1): there it answers `InvalidValue`.
+    #[tactic(auto, using(crate::proofs::Grown::growing))]
+    pub fn serialize_unit(&mut self) -> Result<(), Error>
+        ensures ok { OnOk result (serialized (state_of W.written self.old) (scalar null) ≡ Some (state_of W.written self.new)) }
+        ensures kept { Keeps (W.written self.old.writer) (W.written self.new.writer) }
+        ensures refused { OnlyWhere result (serialized (state_of W.written self.old) (scalar null)) }
+        ensures memory { WantsMemory W.takes_memory result }
+    {
+        if let IsArrayElement::False = self.element {
+            self.writer.put(&[0x40])?;
+            return Ok(());
+        }
+        Err(Error::InvalidValue)
+    }
+
+    /// Writes a boolean (part 1, 1.6.2).
+    #[tactic(auto, using(crate::proofs::Grown::growing))]
+    pub fn serialize_bool(&mut self, value: bool) -> Result<(), Error>
+        ensures ok { OnOk result (serialized (state_of W.written self.old) (scalar (boolean value)) ≡ Some (state_of W.written self.new)) }
+        ensures kept { Keeps (W.written self.old.writer) (W.written self.new.writer) }
+        ensures refused { OnlyWhere result (serialized (state_of W.written self.old) (scalar (boolean value))) }
+        ensures memory { WantsMemory W.takes_memory result }
+    {
+        if let IsArrayElement::False = self.element {
+            self.writer.put(&[if value { 0x41 } else { 0x42 }])?;
+            return Ok(());
+        }
+        self.put_wide(0x56, &[if value { 1 } else { 0 }])
+    }
+
+    /// Writes a ushort (part 1, 1.6.4).
+    #[tactic(auto, using(crate::proofs::Grown::growing))]
+    pub fn serialize_u16(&mut self, value: u16) -> Result<(), Error>
+        ensures ok { OnOk result (serialized (state_of W.written self.old) (scalar (ushort value)) ≡ Some (state_of W.written self.new)) }
+        ensures kept { Keeps (W.written self.old.writer) (W.written self.new.writer) }
+        ensures refused { OnlyWhere result (serialized (state_of W.written self.old) (scalar (ushort value))) }
+        ensures memory { WantsMemory W.takes_memory result }
+    {
+        self.put_wide(0x60, &value.to_be_bytes())
+    }
+
+    /// Writes a uint (part 1, 1.6.5).
+    #[tactic(auto, using(crate::proofs::Grown::growing))]
+    pub fn serialize_u32(&mut self, value: u32) -> Result<(), Error>
+        ensures ok { OnOk result (serialized (state_of W.written self.old) (scalar (uint value)) ≡ Some (state_of W.written self.new)) }
+        ensures kept { Keeps (W.written self.old.writer) (W.written self.new.writer) }
+        ensures refused { OnlyWhere result (serialized (state_of W.written self.old) (scalar (uint value))) }
+        ensures memory { WantsMemory W.takes_memory result }
+    {
+        if let IsArrayElement::False = self.element {
+            if value == 0 {
+                self.writer.put(&[0x43])?;
+                return Ok(());
+            }
+            if value < 256 {
+                self.writer.put(&[0x52, value as u8])?;
+                return Ok(());
+            }
+        }
+        self.put_wide(0x70, &value.to_be_bytes())
+    }
+
+    /// Writes a ulong (part 1, 1.6.6).
+    #[tactic(auto, using(crate::proofs::Grown::growing))]
+    pub fn serialize_u64(&mut self, value: u64) -> Result<(), Error>
+        ensures ok { OnOk result (serialized (state_of W.written self.old) (scalar (ulong value)) ≡ Some (state_of W.written self.new)) }
+        ensures kept { Keeps (W.written self.old.writer) (W.written self.new.writer) }
+        ensures refused { OnlyWhere result (serialized (state_of W.written self.old) (scalar (ulong value))) }
+        ensures memory { WantsMemory W.takes_memory result }
+    {
+        if let IsArrayElement::False = self.element {
+            if value == 0 {
+                self.writer.put(&[0x44])?;
+                return Ok(());
+            }
+            if value < 256 {
+                self.writer.put(&[0x53, value as u8])?;
+                return Ok(());
+            }
+        }
+        self.put_wide(0x80, &value.to_be_bytes())
+    }
+
+    /// Writes a string (part 1, 1.6.20), or answers `InvalidLength` where it has 2^32 bytes or more.
+    pub fn serialize_str(&mut self, value: &str) -> Result<(), Error>
+        ensures ok { OnOk result (serialized (state_of W.written self.old) (scalar (string value.now)) ≡ Some (state_of W.written self.new)) }
+        ensures kept { Keeps (W.written self.old.writer) (W.written self.new.writer) }
+        ensures refused { OnlyWhere result (serialized (state_of W.written self.old) (scalar (string value.now))) }
+        ensures memory { WantsMemory W.takes_memory result }
+    {
+        self.put_sized(0xa1, 0xb1, value.as_bytes())
+    }
+
+    /// Writes a symbol (part 1, 1.6.21), or answers `InvalidLength` where it has 2^32 bytes or more.
+    pub fn symbol(&mut self, value: &str) -> Result<(), Error>
+        ensures ok { OnOk result (serialized (state_of W.written self.old) (scalar (symbol value.now)) ≡ Some (state_of W.written self.new)) }
+        ensures kept { Keeps (W.written self.old.writer) (W.written self.new.writer) }
+        ensures refused { OnlyWhere result (serialized (state_of W.written self.old) (scalar (symbol value.now))) }
+        ensures memory { WantsMemory W.takes_memory result }
+    {
+        self.put_sized(0xa3, 0xb3, value.as_bytes())
+    }
+}

@@ -1,0 +1,136 @@
+//! What a serializer writes to.
+ghost use Rattle.std.specs.Prelude.{◌≡◌, ◌+◌, ℕ, Bool, true, false, List, [], ◌++◌, length, if◌then◌else◌, Some, None, OnOk, OnErr, IfErr, ◌^◌, nat_lt};
+ghost use Rattle.serde_amqp_ser.specs.Written.{Written, extended, inside, capped};
+ghost use Rattle.serde_amqp_ser.specs.Whole.{whole_capped};
+
+use serde_amqp_item::Error;
+
+/// A place to write bytes to. There are two: a [`Counter`], which only counts, and a `Vec<u8>`.
+pub trait Sink {
+    /// What it holds.
+    ghost written: { Self → Written };
+
+    /// From which number the bytes in a compound value are counted, by the number of bytes before it.
+    ghost begins: { ℕ → ℕ };
+
+    /// Whether it may want memory.
+    ghost takes_memory: { Bool };
+
+    /// Writes bytes behind what is there.
+    fn put(&mut self, bytes: &[u8]) -> Result<(), Error>
+        ensures ok { OnOk result (written self.new ≡ extended (written self.old) bytes.now) }
+        ensures err { OnErr result (written self.new ≡ written self.old) }
+        ensures memory { IfErr result (λ e. (e ≡ Error.Memory) × (takes_memory ≡ true)) };
+
+    /// Begins the content of a compound value, and says where it begins.
+    fn open(&mut self) -> u128
+        ensures inside { written self.new ≡ extended (inside begins (written self.old)) [] }
+        ensures start { result ≡ (written self.old).size };
+
+    /// How long the content is that began there, if that is below 2^32.
+    fn content_len(&self, start: u128) -> Option<u32>
+        ensures { (w : Written) (content : List ℕ) → written self.now ≡ extended (inside begins w) content → w.size ≡ start → result ≡ (if nat_lt (length content) (2 ^ 32) then Some (length content) else None) };
+
+    /// Ends the content that began there, with these bytes in front of it.
+    fn close(&mut self, start: u128, head: &[u8]) -> Result<(), Error>
+        ensures ok { OnOk result ((w : Written) (content : List ℕ) → written self.old ≡ extended (inside begins w) content → w.size ≡ start → written self.new ≡ extended w (head.now ++ content)) }
+        ensures err { OnErr result (written self.new ≡ written self.old) }
+        ensures memory { IfErr result (λ e. (e ≡ Error.Memory) × (takes_memory ≡ true)) };
+
+    /// No bytes change nothing.
+    ghost whole: { (s : Self) → extended (written s) [] ≡ written s };
+}
+
+/// Only counts, up to 2^64: what is longer counts as 2^64 bytes.
+#[derive(Debug, Drop)]
+pub struct Counter {
+    pub count: u128,
+}
+
+const MOST: u128 = 1 << 64;
+
+/// Adds to a count of bytes.
+fn add(count: u128, more: u128) -> u128
+    ensures { result ≡ capped (count + more) }
+{
+    count.saturating_add(more).min(MOST)
+}
+
+impl Sink for Counter {
+    ghost written = { λ s. record { size = capped s.count; bytes = None } };
+
+    ghost begins = { λ _. 0 };
+
+    ghost takes_memory = { false };
+
+    ghost whole = { λ s. whole_capped s.count None };
+
+    #[tactic(auto, unfolding(crate::specs::Written::extended))]
+    fn put(&mut self, bytes: &[u8]) -> Result<(), Error> {
+        self.count = add(self.count, bytes.len() as u128);
+        Ok(())
+    }
+
+    #[tactic(auto, unfolding(crate::specs::Written::extended, crate::specs::Written::inside))]
+    fn open(&mut self) -> u128 {
+        let start = add(self.count, 0);
+        self.count = 0;
+        start
+    }
+
+    #[tactic(auto, unfolding(crate::specs::Written::extended, crate::specs::Written::inside))]
+    fn content_len(&self, _start: u128) -> Option<u32> {
+        if self.count >= 1 << 32 {
+            return None;
+        }
+        Some(self.count as u32)
+    }
+
+    #[tactic(auto, unfolding(crate::specs::Written::extended, crate::specs::Written::inside))]
+    fn close(&mut self, start: u128, head: &[u8]) -> Result<(), Error> {
+        self.count = add(add(self.count, head.len() as u128), start);
+        Ok(())
+    }
+}
+
+impl Sink for Vec<u8> {
+    ghost written = { λ v. record { size = capped (length v.items); bytes = Some v.items } };
+
+    ghost begins = { λ n. n };
+
+    ghost takes_memory = { true };
+
+    ghost whole = { λ s. whole_capped (length s.items) (Some s.items) };
+
+    #[tactic(auto, unfolding(crate::specs::Written::extended))]
+    fn put(&mut self, bytes: &[u8]) -> Result<(), Error> {
+        self.extend_from_slice(bytes)?;
+        Ok(())
+    }
+
+    #[tactic(auto, unfolding(crate::specs::Written::extended, crate::specs::Written::inside))]
+    fn open(&mut self) -> u128 {
+        self.len() as u128
+    }
+
+    #[tactic(auto, unfolding(crate::specs::Written::extended, crate::specs::Written::inside))]
+    fn content_len(&self, start: u128) -> Option<u32> {
+        let len = (self.len() as u128).saturating_sub(start);
+        if len >= 1 << 32 {
+            return None;
+        }
+        Some(len as u32)
+    }
+
+    #[tactic(auto, unfolding(crate::specs::Written::extended, crate::specs::Written::inside))]
+    fn close(&mut self, start: u128, head: &[u8]) -> Result<(), Error> {
+        let len = self.len() as u128;
+        self.extend_from_slice(head)?;
+        if start > len {
+            return Ok(());
+        }
+        let tail = &mut self[start as usize..];
+        tail.rotate_right(head.len());
+        Ok(())
+    }
+}

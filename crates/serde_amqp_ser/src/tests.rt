@@ -1,0 +1,180 @@
+use crate::{IsArrayElement, Serializer, append_to_vec, serialize_record, serialized_size, to_vec};
+use serde_amqp_item::Error;
+use std::alloc::Global;
+use std::test::Fail;
+
+#[test]
+fn scalars(rt: HostRuntime) -> Result<(), Fail> {
+    let alloc = rt.alloc();
+    assert_eq!(rt; to_vec(alloc, &())?.as_slice(), [0x40].as_slice());
+    assert_eq!(rt; to_vec(alloc, &true)?.as_slice(), [0x41].as_slice());
+    assert_eq!(rt; to_vec(alloc, &false)?.as_slice(), [0x42].as_slice());
+    assert_eq!(rt; to_vec(alloc, &258u16)?.as_slice(), [0x60, 1, 2].as_slice());
+    assert_eq!(rt; to_vec(alloc, &0u32)?.as_slice(), [0x43].as_slice());
+    assert_eq!(rt; to_vec(alloc, &255u32)?.as_slice(), [0x52, 255].as_slice());
+    assert_eq!(rt;
+        to_vec(alloc, &256u32)?.as_slice(),
+        [0x70, 0, 0, 1, 0].as_slice()
+    );
+    assert_eq!(rt; to_vec(alloc, &0u64)?.as_slice(), [0x44].as_slice());
+    assert_eq!(rt; to_vec(alloc, &255u64)?.as_slice(), [0x53, 255].as_slice());
+    assert_eq!(rt;
+        to_vec(alloc, &256u64)?.as_slice(),
+        [0x80, 0, 0, 0, 0, 0, 0, 1, 0].as_slice()
+    );
+    assert_eq!(rt; to_vec(alloc, &Some(&true))?.as_slice(), [0x41].as_slice());
+    assert_eq!(rt; to_vec(alloc, &None::<bool>)?.as_slice(), [0x40].as_slice());
+    Ok(())
+}
+
+#[test]
+fn texts(rt: HostRuntime) -> Result<(), Fail> {
+    let alloc = rt.alloc();
+    let amqp = String::from_str(alloc, "amqp")?;
+    assert_eq!(rt;
+        to_vec(alloc, &amqp)?.as_slice(),
+        b"\xa1\x04amqp".as_slice()
+    );
+    assert_eq!(rt; to_vec(alloc, &"")?.as_slice(), [0xa1, 0].as_slice());
+    let mut s = Serializer::new(Vec::new(alloc));
+    s.symbol("amqp")?;
+    assert_eq!(rt; s.into_inner().as_slice(), b"\xa3\x04amqp".as_slice());
+
+    let mut long = String::new(alloc);
+    for _ in 0..254 {
+        long.push_str("a")?;
+    }
+    let text = to_vec(alloc, &long)?;
+    assert_eq!(rt; text.len(), 256);
+    assert!(rt; text.starts_with(&[0xa1, 254, b'a']));
+    long.push_str("a")?;
+    let text = to_vec(alloc, &long)?;
+    assert_eq!(rt; text.len(), 260);
+    assert!(rt; text.starts_with(&[0xb1, 0, 0, 0, 255, b'a']));
+    Ok(())
+}
+
+#[test]
+fn lists(rt: HostRuntime) -> Result<(), Fail> {
+    let alloc = rt.alloc();
+    let two = vec![in alloc; 1u32, 2]?;
+    assert_eq!(rt;
+        to_vec(alloc, &two)?.as_slice(),
+        [0xc0, 5, 2, 0x52, 1, 0x52, 2].as_slice()
+    );
+    assert_eq!(rt;
+        to_vec(alloc, &Vec::<u32>::new(alloc))?.as_slice(),
+        [0x45].as_slice()
+    );
+
+    let mut flags = vec![in alloc; true; 254]?;
+    let text = to_vec(alloc, &flags)?;
+    assert_eq!(rt; text.len(), 257);
+    assert!(rt; text.starts_with(&[0xc0, 255, 254, 0x41]));
+    flags.push(true)?;
+    let text = to_vec(alloc, &flags)?;
+    assert_eq!(rt; text.len(), 264);
+    assert!(rt; text.starts_with(&[0xd0, 0, 0, 1, 3, 0, 0, 0, 255, 0x41]));
+    Ok(())
+}
+
+#[test]
+fn arrays(rt: HostRuntime) -> Result<(), Fail> {
+    let alloc = rt.alloc();
+    let mut s = Serializer::new(Vec::new(alloc));
+    s.serialize_array(&[1u32, 2])?;
+    assert_eq!(rt;
+        s.into_inner().as_slice(),
+        [0xe0, 10, 2, 0x70, 0, 0, 0, 1, 0, 0, 0, 2].as_slice()
+    );
+    let mut s = Serializer::new(Vec::new(alloc));
+    s.serialize_array::<u32>(&[])?;
+    assert_eq!(rt; s.into_inner().as_slice(), [0xe0, 2, 0, 0x40].as_slice());
+
+    let mut s = Serializer::new(Vec::new(alloc));
+    assert_eq!(rt;
+        s.serialize_array(&[Some(true), None]),
+        Err(Error::InvalidValue)
+    );
+    let lists = [vec![in alloc; true]?, Vec::new(alloc)];
+    let mut s = Serializer::new(Vec::new(alloc));
+    s.serialize_array(&lists)?;
+    let wide = [
+        0xe0, 19, 2, 0xd0, 0, 0, 0, 5, 0, 0, 0, 1, 0x41, 0, 0, 0, 4, 0, 0, 0, 0,
+    ];
+    assert_eq!(rt; s.into_inner().as_slice(), wide.as_slice());
+    Ok(())
+}
+
+/// A composite type with the descriptor 17.
+#[derive(Drop)]
+struct Numbers {
+    first: Option<u16>,
+    second: u32,
+    third: Option<bool>,
+}
+
+fn record(alloc: Global, numbers: &Numbers) -> Result<Vec<u8>, Error> {
+    let mut s = Serializer::new(Vec::new(alloc));
+    serialize_record(
+        &mut s,
+        17,
+        &(&numbers.first, (&numbers.second, (&numbers.third, ()))),
+    )?;
+    Ok(s.into_inner())
+}
+
+#[test]
+fn records(rt: HostRuntime) -> Result<(), Fail> {
+    let alloc = rt.alloc();
+    let cut = Numbers {
+        first: None,
+        second: 7,
+        third: None,
+    };
+    assert_eq!(rt;
+        record(alloc, &cut)?.as_slice(),
+        [0, 0x53, 17, 0xc0, 4, 2, 0x40, 0x52, 7].as_slice()
+    );
+    let whole = Numbers {
+        first: Some(1),
+        second: 0,
+        third: Some(false),
+    };
+    assert_eq!(rt;
+        record(alloc, &whole)?.as_slice(),
+        [0, 0x53, 17, 0xc0, 6, 3, 0x60, 0, 1, 0x43, 0x42].as_slice()
+    );
+    let mut s = Serializer::new(Vec::new(alloc));
+    serialize_record(&mut s, 36, &(None::<bool>, ()))?;
+    assert_eq!(rt; s.into_inner().as_slice(), [0, 0x53, 36, 0x45].as_slice());
+    let mut s = Serializer {
+        writer: Vec::new(alloc),
+        element: IsArrayElement::FirstElement,
+    };
+    assert_eq!(rt; serialize_record(&mut s, 36, &()), Err(Error::InvalidValue));
+    Ok(())
+}
+
+#[test]
+fn whole_values(rt: HostRuntime) -> Result<(), Fail> {
+    let alloc = rt.alloc();
+    let pair = vec![in alloc; Some(1u32), None]?;
+    assert_eq!(rt; serialized_size(&pair)?, 6);
+    let mut bytes = vec![in alloc; 7u8]?;
+    append_to_vec(alloc, &pair, &mut bytes)?;
+    assert_eq!(rt; bytes.as_slice(), [7, 0xc0, 4, 2, 0x52, 1, 0x40].as_slice());
+    Ok(())
+}
+
+/// The second allocation is that of `to_vec`. No other follows, so a later one that fails changes nothing.
+#[test]
+fn memory_once(rt: HostRuntime) -> Result<(), Fail> {
+    let alloc = rt.alloc();
+    let long = vec![in alloc; true; 300]?;
+    match to_vec(alloc, &long) {
+        Ok(text) => assert_eq!(rt; text.len(), 309),
+        Err(e) => assert_eq!(rt; e, Error::Memory),
+    }
+    Ok(())
+}

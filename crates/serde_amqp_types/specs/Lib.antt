@@ -1,0 +1,4 @@
+pub mod Faithful
+pub mod Takes
+pub mod Deciding
+pub mod Again

@@ -1,0 +1,16 @@
+-- Which items an array takes.
+use Rattle.std.specs.Prelude.{[], ◌∷◌, Option, Some, None}
+use Rattle.serde_amqp_item.specs.Item.{Item, scalar, null, raw, array, items_of}
+use Rattle.serde_amqp_item.specs.Canon.{◌>>=◌}
+use Rattle.serde_amqp_de.specs.Takes.{kind_seen, each_taken, unless_several}
+
+-- an array of one element
+abbrev pub as_one : Option Item → Option Item
+as_one o = o >>= λ y. Some (array (items_of (y ∷ [])))
+
+-- the elements of an array, and any other item but null as one element
+unfoldable pub array_or_one_taken : (Item → Option Item) → Item → Option Item
+array_or_one_taken take (array xs) = each_taken take xs >>= λ ys. Some (array (items_of ys))
+array_or_one_taken take (scalar null) = None
+array_or_one_taken take (raw text) = unless_several (kind_seen (raw text)) (as_one (take (raw text)))
+array_or_one_taken take x = as_one (take x)

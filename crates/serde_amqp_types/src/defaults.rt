@@ -1,0 +1,104 @@
+//! Fields of composite types that have a default (part 1, 1.4).
+ghost use Rattle.std.specs.Prelude.{◌≡◌, ℕ, Option, Some, None, refl};
+ghost use Rattle.std.proofs.Common.{ap};
+ghost use Rattle.serde_amqp_item.specs.Item.{Item, scalar, null, ushort, uint};
+ghost use Rattle.serde_amqp_de.specs.Again.{ushort_faithful, uint_faithful, default_again, default_faithful, one_ushort, one_uint};
+ghost use Rattle.serde_amqp_de.specs.Takes.{ushort_taken, uint_taken, option_taken, mapped, or_null, is_ushort, is_uint};
+ghost use Rattle.serde_amqp_de.specs.Deciding.{ushort_decided, uint_decided, option_decided, mapped_decided};
+
+use serde_amqp_de::{Deserialize, Deserializer, Read, RoundTrip};
+use serde_amqp_item::Error;
+use serde_amqp_ser::{Serialize, Serializer, Sink};
+use std::alloc::Global;
+
+/// A uint field whose default is `D`: it is written as null where it is `D`, and null is read as `D`.
+#[derive(Debug, Clone, Copy, PartialEq, Eq)]
+pub struct UIntOr<const D: u32>(pub u32);
+
+impl<const D: u32> Serialize for UIntOr<D> {
+    ghost item = { λ x. or_null (is_uint D) (scalar (uint x.0)) };
+
+    fn is_null(&self) -> bool {
+        self.0 == D
+    }
+
+    fn serialize<W: Sink>(&self, s: &mut Serializer<W>) -> Result<(), Error> {
+        if self.0 == D {
+            return s.serialize_unit();
+        }
+        s.serialize_u32(self.0)
+    }
+}
+
+impl<const D: u32> Deserialize for UIntOr<D> {
+    ghost item = { λ x. or_null (is_uint D) (scalar (uint x.0)) };
+
+    ghost take = { mapped (or_null (is_uint D)) (option_taken uint_taken) };
+
+    #[tactic(auto, using(crate::proofs::Standard::standing))]
+    fn absent(_alloc: Global) -> Option<UIntOr<D>> {
+        Some(UIntOr(D))
+    }
+
+    #[tactic(auto, using(crate::proofs::Standard::standing))]
+    fn read<R: Read>(alloc: Global, de: &mut Deserializer<R>) -> Result<UIntOr<D>, Error> {
+        match Option::<u32>::read(alloc, de)? {
+            None => Ok(UIntOr(D)),
+            Some(value) => Ok(UIntOr(value)),
+        }
+    }
+
+    ghost decided = { mapped_decided (or_null (is_uint D)) (option_taken uint_taken) (option_decided uint_taken uint_decided) };
+}
+
+/// A ushort field whose default is `D`: it is written as null where it is `D`, and null is read as `D`.
+#[derive(Debug, Clone, Copy, PartialEq, Eq)]
+pub struct UShortOr<const D: u16>(pub u16);
+
+impl<const D: u16> Serialize for UShortOr<D> {
+    ghost item = { λ x. or_null (is_ushort D) (scalar (ushort x.0)) };
+
+    fn is_null(&self) -> bool {
+        self.0 == D
+    }
+
+    fn serialize<W: Sink>(&self, s: &mut Serializer<W>) -> Result<(), Error> {
+        if self.0 == D {
+            return s.serialize_unit();
+        }
+        s.serialize_u16(self.0)
+    }
+}
+
+impl<const D: u16> Deserialize for UShortOr<D> {
+    ghost item = { λ x. or_null (is_ushort D) (scalar (ushort x.0)) };
+
+    ghost take = { mapped (or_null (is_ushort D)) (option_taken ushort_taken) };
+
+    #[tactic(auto, using(crate::proofs::Standard::standing))]
+    fn absent(_alloc: Global) -> Option<UShortOr<D>> {
+        Some(UShortOr(D))
+    }
+
+    #[tactic(auto, using(crate::proofs::Standard::standing))]
+    fn read<R: Read>(alloc: Global, de: &mut Deserializer<R>) -> Result<UShortOr<D>, Error> {
+        match Option::<u16>::read(alloc, de)? {
+            None => Ok(UShortOr(D)),
+            Some(value) => Ok(UShortOr(value)),
+        }
+    }
+
+    ghost decided = { mapped_decided (or_null (is_ushort D)) (option_taken ushort_taken) (option_decided ushort_taken ushort_decided) };
+}
+
+impl<const D: u32> RoundTrip for UIntOr<D> {
+    ghost again = { λ x. default_again (is_uint D) uint_taken (scalar (uint x.0)) refl refl };
+
+    ghost faithful = { λ x y e. ap (λ (n : ℕ). record { 0 = n }) (uint_faithful x.0 y.0 (default_faithful (is_uint D) (scalar (uint x.0)) (scalar (uint y.0)) (one_uint D x.0 y.0) refl refl e)) };
+}
+
+impl<const D: u16> RoundTrip for UShortOr<D> {
+    ghost again = { λ x. default_again (is_ushort D) ushort_taken (scalar (ushort x.0)) refl refl };
+
+    ghost faithful = { λ x y e. ap (λ (n : ℕ). record { 0 = n }) (ushort_faithful x.0 y.0 (default_faithful (is_ushort D) (scalar (ushort x.0)) (scalar (ushort y.0)) (one_ushort D x.0 y.0) refl refl e)) };
+}
