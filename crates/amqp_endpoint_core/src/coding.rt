@@ -13,7 +13,7 @@ use bytes::Bytes;
 use serde_amqp_types::{Array, Symbol};
 use std::alloc::Global;
 
-/// The longest frame that each peer takes before it said more (part 2, 2.4.1).
+/// The longest frame that any peer takes, whatever its Open will say (part 2, 2.4.1).
 pub(crate) const MIN_MAX_FRAME_SIZE: u32 = 512;
 
 /// How many bytes the size of a frame takes (part 2, 2.3.1).

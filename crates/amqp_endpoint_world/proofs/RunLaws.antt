@@ -35,4 +35,4 @@ pub Run-whole : (start s : State) (calls : List Call) (i : ℕ) (ts : List Told)
 Run-whole start s calls i ts end is all run =
     let P : State → Type 0 = λ x. Run x calls ts end in
     let Q : List Call → Type 0 = λ cs. Run start cs ts end in
-    subst P is (subst Q (take_all calls i all) run)
+    subst P is (subst Q (take_all i calls all) run)

@@ -16,11 +16,7 @@ use std::alloc::Global;
 /// within the peer's limit as it was given (part 2, 2.4.1, 2.7.1).
 ///
 /// The errors are those of `Endpoint::new`. `Memory` also where there is no memory for the replies.
-pub fn play(
-    alloc: Global,
-    settings: Settings,
-    calls: &[Call],
-) -> Result<Vec<Reply>, EndpointError>
+pub fn play(alloc: Global, settings: Settings, calls: &[Call]) -> Result<Vec<Reply>, EndpointError>
     ensures accepted { IfOk result (λ replies. refusal_of_settings settings ≡ None) }
     ensures run { IfOk result (λ replies. (end : State) × Run (fresh settings) calls.now (map told replies.items) end) }
     ensures pieces { IfOk result (λ replies. Pieces settings.max_frame_size (summary nothing calls.now (map told replies.items))) }

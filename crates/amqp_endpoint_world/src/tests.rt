@@ -1,7 +1,7 @@
-//! Frames of the standard in and out, and the errors in each phase.
+//! Frames of the standard in and out, and the answers of each call in each phase.
 use crate::play;
 use amqp_endpoint_core::Endpoint;
-use amqp_endpoint_model::{Answer, Call, EndpointError, Event, Fed, Reply, Settings};
+use amqp_endpoint_model::{Answer, Call, EndpointError, Event, Fed, Settings};
 use amqp_session_types::TryCloseError;
 use bytes::Bytes;
 use serde_amqp_types::Text;
@@ -11,83 +11,124 @@ use std::test::Fail;
 const HEADER: &[u8] = b"AMQP\x00\x01\x00\x00";
 
 // Container "a", max-frame-size 512, channel-max 65535.
-const OPEN: &[u8] = b"\x00\x00\x00\x17\x02\x00\x00\x00\x00\x53\x10\xc0\x0a\x03\xa1\x01a\x40\x70\x00\x00\x02\x00";
+const OPEN: &[u8] =
+    b"\x00\x00\x00\x17\x02\x00\x00\x00\x00\x53\x10\xc0\x0a\x03\xa1\x01a\x40\x70\x00\x00\x02\x00";
 
 // The same with max-frame-size 511.
-const OPEN_511: &[u8] = b"\x00\x00\x00\x17\x02\x00\x00\x00\x00\x53\x10\xc0\x0a\x03\xa1\x01a\x40\x70\x00\x00\x01\xff";
+const OPEN_511: &[u8] =
+    b"\x00\x00\x00\x17\x02\x00\x00\x00\x00\x53\x10\xc0\x0a\x03\xa1\x01a\x40\x70\x00\x00\x01\xff";
+
+// Container "a", max-frame-size 262144, channel-max 255.
+const OPEN_LARGE: &[u8] =
+    b"\x00\x00\x00\x1a\x02\x00\x00\x00\x00\x53\x10\xc0\x0d\x04\xa1\x01a\x40\x70\x00\x04\x00\x00\x60\x00\xff";
 
 const CLOSE: &[u8] = b"\x00\x00\x00\x0c\x02\x00\x00\x00\x00\x53\x18\x45";
 
 const EMPTY: &[u8] = b"\x00\x00\x00\x08\x02\x00\x00\x00";
 
-const CLOSE_FRAMING: &[u8] = b"\x00\x00\x00\x33\x02\x00\x00\x00\x00\x53\x18\xc0\x26\x01\x00\x53\x1d\xc0\x20\x01\xa3\x1damqp:connection:framing-error";
+// An Open whose list names 2^32 - 1 fields.
+const NO_FRAME: &[u8] =
+    b"\x00\x00\x00\x14\x02\x00\x00\x00\x00\x53\x10\xd0\x00\x00\x00\x04\xff\xff\xff\xff";
 
-const CLOSE_DECODE: &[u8] = b"\x00\x00\x00\x27\x02\x00\x00\x00\x00\x53\x18\xc0\x1a\x01\x00\x53\x1d\xc0\x14\x01\xa3\x11amqp:decode-error";
+const CLOSE_FRAMING: &[u8] =
+    b"\x00\x00\x00\x33\x02\x00\x00\x00\x00\x53\x18\xc0\x26\x01\x00\x53\x1d\xc0\x20\x01\xa3\x1damqp:connection:framing-error";
 
-const CLOSE_NOT_ALLOWED: &[u8] = b"\x00\x00\x00\x26\x02\x00\x00\x00\x00\x53\x18\xc0\x19\x01\x00\x53\x1d\xc0\x13\x01\xa3\x10amqp:not-allowed";
+const CLOSE_DECODE: &[u8] =
+    b"\x00\x00\x00\x27\x02\x00\x00\x00\x00\x53\x18\xc0\x1a\x01\x00\x53\x1d\xc0\x14\x01\xa3\x11amqp:decode-error";
 
-fn settings(
-    alloc: Global,
-    container_id: String,
-    max_frame_size: u32,
-    channel_max: u16,
-    incoming_window: u32,
-) -> Settings {
-    Settings {
-        container_id: Text::new(container_id),
-        max_frame_size,
-        channel_max,
-        incoming_window,
-        idle_time_out: None,
-        first_transfer_number: 0,
+const CLOSE_NOT_ALLOWED: &[u8] =
+    b"\x00\x00\x00\x26\x02\x00\x00\x00\x00\x53\x18\xc0\x19\x01\x00\x53\x1d\xc0\x13\x01\xa3\x10amqp:not-allowed";
+
+// A call with what it is to answer: an error by its number, 0 for none.
+#[derive(Clone, Copy)]
+enum Row {
+    Connect(u8),
+    // The bytes, the events by their letters, and the fault.
+    Feed(&'static [u8], &'static [u8], u8),
+    Pull(&'static [u8]),
+    PullNothing,
+    Queued(usize),
+    IsIdle(bool),
+    Heartbeat(u8),
+    BreakOff,
+    Close(u8),
+    IsClosed(bool),
+    // 0 for Ok, 1 for RemoteCloseNotReceived, 2 for AlreadyClosed.
+    TryClose(u8),
+}
+
+fn holds(endpoint: &mut Endpoint, row: Row) -> bool {
+    match row {
+        Row::Connect(want) => refusal(endpoint.connect()) == want,
+        Row::Feed(bytes, events, want) => feeds(endpoint, bytes, events, want),
+        Row::Pull(bytes) => pulls(endpoint, bytes),
+        Row::PullNothing => matches!(endpoint.pull(), Ok(None)),
+        Row::Queued(want) => endpoint.queued() == want,
+        Row::IsIdle(want) => endpoint.is_idle() == want,
+        Row::Heartbeat(want) => refusal(endpoint.heartbeat()) == want,
+        Row::BreakOff => {
+            endpoint.break_off();
+            true
+        }
+        Row::Close(want) => refusal(endpoint.close()) == want,
+        Row::IsClosed(want) => endpoint.is_closed() == want,
+        Row::TryClose(want) => close_refusal(endpoint.try_close()) == want,
     }
 }
 
-fn new(alloc: Global) -> Result<Endpoint, Fail> {
-    let settings = settings(alloc, String::from_str(alloc, "a")?, 512, 65535, 2048);
-    Ok(Endpoint::new(alloc, settings)?)
-}
-
-// Connected, both headers exchanged, and the own Open pulled.
-fn greeted(alloc: Global) -> Result<Endpoint, Fail> {
-    let mut endpoint = new(alloc)?;
-    endpoint.connect()?;
-    let fed = endpoint.feed(HEADER);
-    if number(&fed) != 0 {
-        return Err(Fail::from(EndpointError::NotConnected));
-    }
-    drop(endpoint.pull()?);
-    drop(endpoint.pull()?);
-    Ok(endpoint)
-}
-
-// The peer's Open has come too.
-fn opened(alloc: Global) -> Result<Endpoint, Fail> {
-    let mut endpoint = greeted(alloc)?;
-    let fed = endpoint.feed(OPEN);
-    if number(&fed) != 0 {
-        return Err(Fail::from(EndpointError::NotConnected));
-    }
-    Ok(endpoint)
-}
-
-// The fault of a feed as a number, 0 for none.
-fn number(fed: &Fed) -> u8 {
-    match &fed.fault {
-        Some(fault) => fault.number(),
-        None => 0,
-    }
-}
-
-// The refusal of a call as a number, 0 for none.
-fn refused(outcome: Result<(), EndpointError>) -> u8 {
+fn refusal(outcome: Result<(), EndpointError>) -> u8 {
     match outcome {
         Ok(()) => 0,
         Err(error) => error.number(),
     }
 }
 
-// Whether the next answer of bytes is this.
+fn close_refusal(outcome: Result<(), TryCloseError>) -> u8 {
+    match outcome {
+        Ok(()) => 0,
+        Err(TryCloseError::RemoteCloseNotReceived) => 1,
+        Err(TryCloseError::AlreadyClosed) => 2,
+    }
+}
+
+fn feeds(endpoint: &mut Endpoint, bytes: &[u8], events: &[u8], want: u8) -> bool {
+    let fed = endpoint.feed(bytes);
+    fault(&fed) == want && says(&fed, events)
+}
+
+fn fault(fed: &Fed) -> u8 {
+    match fed.fault {
+        Some(error) => error.number(),
+        None => 0,
+    }
+}
+
+// Whether the events are these: o for Opened, c for Closed.
+fn says(fed: &Fed, letters: &[u8]) -> bool {
+    if fed.events.len() != letters.len() {
+        return false;
+    }
+    fed.events
+        .as_slice()
+        .iter()
+        .zip(letters)
+        .all(|(event, letter)| is_right(event, *letter))
+}
+
+// Container "a", max-frame-size 512, channel-max 65535; no error.
+fn is_right(event: &Event, letter: u8) -> bool {
+    match event {
+        Event::Opened(opened) => {
+            letter == b'o'
+                && opened.container_id.as_str() == "a"
+                && opened.max_frame_size == 512
+                && opened.channel_max == 65535
+                && opened.idle_time_out.is_none()
+        }
+        Event::Closed(closed) => letter == b'c' && closed.error.is_none(),
+    }
+}
+
 fn pulls(endpoint: &mut Endpoint, bytes: &[u8]) -> bool {
     match endpoint.pull() {
         Ok(Some(pulled)) => pulled.as_slice() == bytes,
@@ -95,96 +136,64 @@ fn pulls(endpoint: &mut Endpoint, bytes: &[u8]) -> bool {
     }
 }
 
-fn pulls_nothing(endpoint: &mut Endpoint) -> bool {
-    match endpoint.pull() {
-        Ok(None) => true,
-        _ => false,
-    }
+// The first row that does not hold, of an endpoint with container "a".
+fn first_wrong(
+    alloc: Global,
+    max_frame_size: u32,
+    channel_max: u16,
+    rows: &[Row],
+) -> Result<Option<usize>, EndpointError> {
+    let mut endpoint = Endpoint::new(alloc, named(alloc, "a", max_frame_size, channel_max, 2048)?)?;
+    Ok(rows.iter().position(|row| !holds(&mut endpoint, *row)))
 }
 
-fn says_opened(fed: &Fed) -> bool {
-    match fed.events.as_slice() {
-        [Event::Opened(event)] => {
-            event.container_id.as_str() == "a"
-                && event.max_frame_size == 512
-                && event.channel_max == 65535
-                && event.idle_time_out.is_none()
-        }
-        _ => false,
-    }
-}
-
-fn says_closed(fed: &Fed) -> bool {
-    match fed.events.as_slice() {
-        [Event::Closed(event)] => event.error.is_none(),
-        _ => false,
-    }
+fn named(
+    alloc: Global,
+    container_id: &str,
+    max_frame_size: u32,
+    channel_max: u16,
+    incoming_window: u32,
+) -> Result<Settings, EndpointError> {
+    Ok(Settings {
+        container_id: Text::new(String::from_str(alloc, container_id)?),
+        max_frame_size,
+        channel_max,
+        incoming_window,
+        idle_time_out: None,
+        first_transfer_number: 0,
+    })
 }
 
 #[test]
 fn opens(rt: HostRuntime) -> Result<(), Fail> {
-    let alloc = rt.alloc();
-    let mut endpoint = new(alloc)?;
-    assert!(rt; endpoint.is_idle());
-    endpoint.connect()?;
-    assert_eq!(rt; endpoint.queued(), 1);
-    assert!(rt; pulls(&mut endpoint, HEADER));
-    assert!(rt; pulls_nothing(&mut endpoint));
-    let fed = endpoint.feed(HEADER);
-    assert!(rt; number(&fed) == 0 && fed.events.is_empty());
-    assert!(rt; !endpoint.is_idle());
-    assert!(rt; pulls(&mut endpoint, OPEN));
-    let fed = endpoint.feed(OPEN);
-    assert!(rt; number(&fed) == 0 && says_opened(&fed));
-    assert!(rt; endpoint.is_idle() && !endpoint.is_closed());
-
-    let settings = settings(alloc, String::from_str(alloc, "a")?, 262144, 255, 2048);
-    let mut endpoint = Endpoint::new(alloc, settings)?;
-    endpoint.connect()?;
-    endpoint.feed(HEADER);
-    assert!(rt; pulls(&mut endpoint, HEADER));
-    assert!(rt; pulls(&mut endpoint, b"\x00\x00\x00\x1a\x02\x00\x00\x00\x00\x53\x10\xc0\x0d\x04\xa1\x01a\x40\x70\x00\x04\x00\x00\x60\x00\xff"));
-    Ok(())
-}
-
-#[test]
-fn settings_are_tested(rt: HostRuntime) -> Result<(), Fail> {
-    let alloc = rt.alloc();
     let rows = [
-        (1, 511, 2048, 4),
-        (1, 511, 0, 4),
-        (1, 512, 0, 5),
-        (1, 512, 0x8000_0000, 5),
-        (2000, 512, 0, 5),
-        (2000, 262144, 2048, 6),
-        (482, 512, 2048, 6),
-        (481, 512, 1, 0),
-        (481, 512, 0x7fff_ffff, 0),
-        (0, u32::MAX, 1, 0),
+        Row::IsIdle(true),
+        Row::PullNothing,
+        Row::Connect(0),
+        Row::Queued(1),
+        Row::Pull(HEADER),
+        Row::PullNothing,
+        Row::Feed(HEADER, b"", 0),
+        Row::IsIdle(false),
+        Row::Pull(OPEN),
+        Row::Feed(OPEN, b"o", 0),
+        Row::IsIdle(true),
+        Row::IsClosed(false),
     ];
-    for (length, max_frame_size, window, want) in rows {
-        let mut name = String::new(alloc);
-        for _ in 0..length {
-            name.push('c')?;
-        }
-        let got = match Endpoint::new(alloc, settings(alloc, name, max_frame_size, 65535, window)) {
-            Ok(mut endpoint) => {
-                endpoint.connect()?;
-                endpoint.feed(HEADER);
-                drop(endpoint.pull()?);
-                assert!(rt; length == 0 || endpoint.pull()?.is_some_and(|open| open.len() == 512));
-                0
-            }
-            Err(error) => error.number(),
-        };
-        assert_eq!(rt; got, want, "{length} {max_frame_size} {window}");
-    }
+    assert_eq!(rt; first_wrong(rt.alloc(), 512, 65535, &rows)?, None);
+    let rows = [
+        Row::Connect(0),
+        Row::Feed(HEADER, b"", 0),
+        Row::Pull(HEADER),
+        Row::Pull(OPEN_LARGE),
+    ];
+    assert_eq!(rt; first_wrong(rt.alloc(), 262144, 255, &rows)?, None);
     Ok(())
 }
 
 #[test]
 fn faults_close(rt: HostRuntime) -> Result<(), Fail> {
-    let rows: [(&[u8], u8, &[u8]); 10] = [
+    let faults: [(&[u8], u8, &[u8]); 10] = [
         (b"\x00\x00\x00\x07", 23, CLOSE_FRAMING),
         (b"\x00\x00\x00\x00\x00", 23, CLOSE_FRAMING),
         (b"\xff\xff\xff\xff", 24, CLOSE_FRAMING),
@@ -193,167 +202,254 @@ fn faults_close(rt: HostRuntime) -> Result<(), Fail> {
         (OPEN_511, 27, CLOSE_NOT_ALLOWED),
         (b"\x00\x00\x00\x08\x02\x01\x00\x00", 26, CLOSE_NOT_ALLOWED),
         (b"\x00\x00\x00\x08\x01\x00\x00\x00", 26, CLOSE_DECODE),
-        (
-            b"\x00\x00\x00\x14\x02\x00\x00\x00\x00\x53\x10\xd0\x00\x00\x00\x04\xff\xff\xff\xff",
-            26,
-            CLOSE_DECODE,
-        ),
+        (NO_FRAME, 26, CLOSE_DECODE),
         (
             b"\x00\x00\x00\x08\x02\x00\x00\x00\x00\x00\x00\x07\x02\x00\x00",
             23,
             CLOSE_FRAMING,
         ),
     ];
-    for (bytes, fault, close) in rows {
-        let mut endpoint = opened(rt.alloc())?;
-        let fed = endpoint.feed(bytes);
-        assert_eq!(rt; number(&fed), fault, "{bytes:?}");
-        assert!(rt; fed.events.is_empty());
-        assert!(rt; pulls(&mut endpoint, close), "{bytes:?}");
-        assert!(rt; pulls_nothing(&mut endpoint));
-        // Further input is dropped.
-        assert!(rt; number(&endpoint.feed(CLOSE)) == 0 && !endpoint.is_closed());
-        assert_eq!(rt; refused(endpoint.heartbeat()), 2);
-        assert_eq!(rt; refused(endpoint.close()), 17);
-        assert_eq!(rt; refused(endpoint.connect()), 3);
-        endpoint.break_off();
-        endpoint.connect()?;
-        assert!(rt; pulls(&mut endpoint, HEADER));
+    for (bytes, fault, close) in faults {
+        let rows = [
+            Row::Connect(0),
+            Row::Feed(HEADER, b"", 0),
+            Row::Pull(HEADER),
+            Row::Pull(OPEN),
+            Row::Feed(OPEN, b"o", 0),
+            Row::Feed(bytes, b"", fault),
+            Row::Pull(close),
+            Row::PullNothing,
+            Row::Feed(CLOSE, b"", 0),
+            Row::IsClosed(false),
+            Row::Heartbeat(2),
+            Row::Close(17),
+            Row::Connect(3),
+            Row::BreakOff,
+            Row::Connect(0),
+            Row::Pull(HEADER),
+        ];
+        assert_eq!(rt;
+            first_wrong(rt.alloc(), 512, 65535, &rows)?,
+            None,
+            "{bytes:?}"
+        );
     }
     Ok(())
 }
 
 #[test]
-fn faults_before_the_open(rt: HostRuntime) -> Result<(), Fail> {
-    let mut endpoint = greeted(rt.alloc())?;
-    let fed = endpoint.feed(OPEN_511);
-    assert!(rt; number(&fed) == 25 && fed.events.is_empty());
-    assert!(rt; pulls(&mut endpoint, CLOSE_FRAMING));
-
-    // Behind the own Open, where both are still queued.
-    let mut endpoint = new(rt.alloc())?;
-    endpoint.connect()?;
-    endpoint.feed(HEADER);
-    let fed = endpoint.feed(b"\x00\x00\x00\x14\x02\x00\x00\x00\x00\x53\x10\xd0\x00\x00\x00\x04\xff\xff\xff\xff");
-    assert_eq!(rt; number(&fed), 26);
-    assert!(rt; pulls(&mut endpoint, HEADER));
-    assert!(rt; pulls(&mut endpoint, OPEN));
-    assert!(rt; pulls(&mut endpoint, CLOSE_DECODE));
-
-    // Another header.
-    let mut endpoint = new(rt.alloc())?;
-    endpoint.connect()?;
-    assert_eq!(rt; number(&endpoint.feed(b"AMQP\x03\x01\x00")), 0);
-    assert_eq!(rt; number(&endpoint.feed(b"\x00")), 22);
-    assert!(rt; pulls_nothing(&mut endpoint));
-    assert_eq!(rt; number(&endpoint.feed(HEADER)), 2);
-    endpoint.connect()?;
-    assert!(rt; pulls(&mut endpoint, HEADER));
+fn faults_before_the_peers_open(rt: HostRuntime) -> Result<(), Fail> {
+    let rows = [
+        Row::Connect(0),
+        Row::Feed(HEADER, b"", 0),
+        Row::Feed(OPEN_511, b"", 25),
+        Row::Pull(HEADER),
+        Row::Pull(OPEN),
+        Row::Pull(CLOSE_FRAMING),
+        Row::BreakOff,
+        Row::Connect(0),
+        Row::Feed(HEADER, b"", 0),
+        Row::Feed(NO_FRAME, b"", 26),
+        Row::Pull(HEADER),
+        Row::Pull(OPEN),
+        Row::Pull(CLOSE_DECODE),
+        Row::BreakOff,
+        Row::Connect(0),
+        // Another header.
+        Row::Feed(b"AMQP\x03\x01\x00", b"", 0),
+        Row::Feed(b"\x00", b"", 22),
+        Row::PullNothing,
+        Row::Feed(HEADER, b"", 2),
+        Row::Connect(0),
+        Row::Pull(HEADER),
+    ];
+    assert_eq!(rt; first_wrong(rt.alloc(), 512, 65535, &rows)?, None);
     Ok(())
 }
 
 #[test]
 fn closes_both_ways(rt: HostRuntime) -> Result<(), Fail> {
-    // The own Close before the peer's Open.
-    let mut endpoint = greeted(rt.alloc())?;
-    endpoint.close()?;
-    assert!(rt; pulls(&mut endpoint, CLOSE));
-    assert_eq!(rt; refused(endpoint.close()), 17);
-    assert_eq!(rt; refused(endpoint.heartbeat()), 2);
-    let fed = endpoint.feed(OPEN);
-    assert!(rt; number(&fed) == 0 && says_opened(&fed));
-    assert!(rt; !endpoint.is_closed());
-    assert!(rt; endpoint.try_close() == Err(TryCloseError::RemoteCloseNotReceived));
-    let fed = endpoint.feed(CLOSE);
-    assert!(rt; number(&fed) == 0 && says_closed(&fed));
-    assert!(rt; endpoint.is_closed() && endpoint.is_idle());
-    assert!(rt; endpoint.try_close().is_ok());
-    assert!(rt; endpoint.try_close() == Err(TryCloseError::AlreadyClosed));
-
-    // The peer's Close first, with more behind it.
-    let mut endpoint = opened(rt.alloc())?;
-    assert_eq!(rt; number(&endpoint.feed(&CLOSE[..7])), 0);
-    let fed = endpoint.feed(b"\x00\x00\x53\x18\x45\x00\x00\x00\x00\x00");
-    assert!(rt; number(&fed) == 0 && says_closed(&fed));
-    assert!(rt; pulls(&mut endpoint, CLOSE));
-    assert!(rt; pulls_nothing(&mut endpoint) && endpoint.is_closed());
-    assert_eq!(rt; number(&endpoint.feed(b"\x00\x00\x00\x00")), 0);
-    assert_eq!(rt; refused(endpoint.close()), 17);
-    assert_eq!(rt; refused(endpoint.connect()), 3);
-    endpoint.break_off();
-    assert!(rt; endpoint.is_closed());
-    endpoint.connect()?;
-    assert!(rt; !endpoint.is_closed());
-    Ok(())
-}
-
-#[test]
-fn empty_frames_say_nothing(rt: HostRuntime) -> Result<(), Fail> {
-    let mut endpoint = opened(rt.alloc())?;
-    let fed = endpoint.feed(EMPTY);
-    assert!(rt; number(&fed) == 0 && fed.events.is_empty() && endpoint.is_idle());
-    for byte in EMPTY {
-        let fed = endpoint.feed(&[*byte]);
-        assert!(rt; number(&fed) == 0 && fed.events.is_empty() && endpoint.is_idle());
-    }
-    let fed = endpoint.feed(CLOSE);
-    assert!(rt; says_closed(&fed));
-    Ok(())
-}
-
-#[test]
-fn byte_by_byte(rt: HostRuntime) -> Result<(), Fail> {
-    let alloc = rt.alloc();
-    let mut all = Vec::new(alloc);
-    all.extend_from_slice(HEADER)?;
-    all.extend_from_slice(OPEN)?;
-    for _ in 0..2000 {
-        all.extend_from_slice(EMPTY)?;
-    }
-    all.extend_from_slice(CLOSE)?;
-    let mut endpoint = new(alloc)?;
-    endpoint.connect()?;
-    let mut events = 0;
-    for byte in all.as_slice() {
-        let fed = endpoint.feed(&[*byte]);
-        assert_eq!(rt; number(&fed), 0);
-        events += fed.events.len();
-    }
-    assert!(rt; events == 2 && endpoint.is_closed() && endpoint.queued() == 3);
-
-    // In one piece.
-    let mut endpoint = new(alloc)?;
-    endpoint.connect()?;
-    let fed = endpoint.feed(all.as_slice());
-    assert!(rt; number(&fed) == 0 && fed.events.len() == 2 && endpoint.is_closed());
+    let rows = [
+        // The own Close before the peer's Open.
+        Row::Connect(0),
+        Row::Feed(HEADER, b"", 0),
+        Row::Close(0),
+        Row::Pull(HEADER),
+        Row::Pull(OPEN),
+        Row::Pull(CLOSE),
+        Row::Close(17),
+        Row::Heartbeat(2),
+        Row::Feed(OPEN, b"o", 0),
+        Row::IsClosed(false),
+        Row::TryClose(1),
+        Row::Feed(CLOSE, b"c", 0),
+        Row::IsClosed(true),
+        Row::IsIdle(true),
+        Row::TryClose(0),
+        Row::TryClose(2),
+        Row::BreakOff,
+        Row::IsClosed(true),
+        // The peer's Close first, in two pieces and with more behind it.
+        Row::Connect(0),
+        Row::IsClosed(false),
+        Row::Feed(HEADER, b"", 0),
+        Row::Feed(OPEN, b"o", 0),
+        Row::Feed(b"\x00\x00\x00\x0c\x02\x00\x00", b"", 0),
+        Row::Feed(b"\x00\x00\x53\x18\x45\x00\x00\x00\x00\x00", b"c", 0),
+        Row::Pull(HEADER),
+        Row::Pull(OPEN),
+        Row::Pull(CLOSE),
+        Row::PullNothing,
+        Row::IsClosed(true),
+        Row::Feed(b"\x00\x00\x00\x00", b"", 0),
+        Row::Close(17),
+        Row::Heartbeat(2),
+        Row::Connect(3),
+    ];
+    assert_eq!(rt; first_wrong(rt.alloc(), 512, 65535, &rows)?, None);
     Ok(())
 }
 
 #[test]
 fn refusals_in_each_phase(rt: HostRuntime) -> Result<(), Fail> {
-    let mut endpoint = new(rt.alloc())?;
-    assert_eq!(rt; number(&endpoint.feed(HEADER)), 2);
-    assert_eq!(rt; refused(endpoint.heartbeat()), 2);
-    assert_eq!(rt; refused(endpoint.close()), 2);
-    assert!(rt; endpoint.try_close() == Err(TryCloseError::RemoteCloseNotReceived));
-    endpoint.connect()?;
-    assert_eq!(rt; refused(endpoint.connect()), 3);
-    assert_eq!(rt; refused(endpoint.heartbeat()), 2);
-    assert_eq!(rt; refused(endpoint.close()), 2);
-    endpoint.feed(HEADER);
-    assert_eq!(rt; refused(endpoint.connect()), 3);
-    assert_eq!(rt; refused(endpoint.heartbeat()), 0);
-    assert!(rt; pulls(&mut endpoint, HEADER) && pulls(&mut endpoint, OPEN) && pulls(&mut endpoint, EMPTY));
-    endpoint.break_off();
-    assert_eq!(rt; refused(endpoint.heartbeat()), 2);
-    assert_eq!(rt; number(&endpoint.feed(HEADER)), 2);
+    let rows = [
+        Row::Feed(HEADER, b"", 2),
+        Row::Heartbeat(2),
+        Row::Close(2),
+        Row::TryClose(1),
+        Row::Connect(0),
+        Row::Connect(3),
+        Row::Heartbeat(2),
+        Row::Close(2),
+        Row::TryClose(1),
+        Row::Feed(HEADER, b"", 0),
+        Row::Connect(3),
+        Row::TryClose(1),
+        Row::Heartbeat(0),
+        Row::Pull(HEADER),
+        Row::Pull(OPEN),
+        Row::Pull(EMPTY),
+        // Empty frames say nothing.
+        Row::Feed(EMPTY, b"", 0),
+        Row::Feed(b"\x00\x00\x00\x08\x02", b"", 0),
+        Row::Feed(b"\x00\x00\x00", b"", 0),
+        Row::IsIdle(true),
+        Row::BreakOff,
+        Row::Heartbeat(2),
+        Row::Feed(HEADER, b"", 2),
+    ];
+    assert_eq!(rt; first_wrong(rt.alloc(), 512, 65535, &rows)?, None);
     Ok(())
+}
+
+// The number that refuses such settings; 0 where the own Open is written, in at most so many bytes.
+fn settings_refusal(
+    alloc: Global,
+    length: usize,
+    max_frame_size: u32,
+    window: u32,
+    most: usize,
+) -> Result<u8, EndpointError> {
+    let mut name = String::new(alloc);
+    for _ in 0..length {
+        name.push('c')?;
+    }
+    let settings = named(alloc, name.as_str(), max_frame_size, 65535, window)?;
+    let mut endpoint = match Endpoint::new(alloc, settings) {
+        Ok(endpoint) => endpoint,
+        Err(error) => return Ok(error.number()),
+    };
+    endpoint.connect()?;
+    let fed = endpoint.feed(HEADER);
+    drop(endpoint.pull()?);
+    match endpoint.pull()? {
+        Some(bytes) => Ok(if bytes.len() == most {
+            fault(&fed)
+        } else {
+            255
+        }),
+        None => Ok(255),
+    }
+}
+
+#[test]
+fn settings_are_tested(rt: HostRuntime) -> Result<(), Fail> {
+    let rows = [
+        (1, 511, 2048, 0, 4),
+        (1, 511, 0, 0, 4),
+        (1, 512, 0, 0, 5),
+        (1, 512, 0x8000_0000, 0, 5),
+        (2000, 512, 0, 0, 5),
+        (2000, 262144, 2048, 0, 6),
+        (482, 512, 2048, 0, 6),
+        (481, 512, 1, 512, 0),
+        (481, 512, 0x7fff_ffff, 512, 0),
+        (1, 512, 1, 23, 0),
+    ];
+    for (length, max_frame_size, window, most, want) in rows {
+        assert_eq!(rt;
+            settings_refusal(rt.alloc(), length, max_frame_size, window, most)?,
+            want,
+            "{length} {max_frame_size} {window}"
+        );
+    }
+    Ok(())
+}
+
+// Feeds these bytes in pieces of this many; how many events they gave, and nothing where there is a fault.
+fn events_of(endpoint: &mut Endpoint, bytes: &[u8], size: usize) -> Option<usize> {
+    let mut events = 0usize;
+    for piece in bytes.chunks(size.max(1)) {
+        let fed = endpoint.feed(piece);
+        if fault(&fed) != 0 {
+            return None;
+        }
+        events = events.saturating_add(fed.events.len());
+    }
+    Some(events)
+}
+
+#[test]
+fn pieces_of_any_size(rt: HostRuntime) -> Result<(), Fail> {
+    let mut all = Vec::new(rt.alloc());
+    all.extend_from_slice(HEADER)?;
+    all.extend_from_slice(OPEN)?;
+    for _ in 0..1000 {
+        all.extend_from_slice(EMPTY)?;
+    }
+    all.extend_from_slice(CLOSE)?;
+    for size in [1, 3, 8, 1000, 10_000] {
+        let mut endpoint = Endpoint::new(rt.alloc(), named(rt.alloc(), "a", 512, 65535, 2048)?)?;
+        endpoint.connect()?;
+        assert_eq!(rt;
+            events_of(&mut endpoint, all.as_slice(), size),
+            Some(2),
+            "{size}"
+        );
+        assert_eq!(rt; endpoint.queued(), 3, "{size}");
+    }
+    Ok(())
+}
+
+// An answer as a letter and a number.
+fn summed(answer: &Answer) -> (char, usize) {
+    match answer {
+        Answer::Done => ('d', 0),
+        Answer::Refused(error) => ('r', error.number() as usize),
+        Answer::Fed(fed) => ('f', fed.events.len()),
+        Answer::Pulled(Some(bytes)) => ('p', bytes.len()),
+        Answer::Pulled(None) => ('n', 0),
+        Answer::Count(count) => ('c', *count),
+        Answer::Truth(truth) => ('t', *truth as usize),
+        Answer::TriedClose(Ok(())) => ('o', 0),
+        Answer::TriedClose(Err(_)) => ('e', 0),
+    }
 }
 
 #[test]
 fn plays_calls(rt: HostRuntime) -> Result<(), Fail> {
     let alloc = rt.alloc();
-    let calls = vec![in alloc;
+    let calls = [
         Call::Close,
         Call::Connect,
         Call::Feed(Bytes::from_static(HEADER)),
@@ -362,40 +458,37 @@ fn plays_calls(rt: HostRuntime) -> Result<(), Fail> {
         Call::Pull,
         Call::Feed(Bytes::from_static(OPEN)),
         Call::Heartbeat,
-        Call::Close,
-        Call::Pull,
-        Call::Pull,
-        Call::Pull,
+        Call::IsIdle,
         Call::TryClose,
         Call::Feed(Bytes::from_static(CLOSE)),
         Call::TryClose,
         Call::IsClosed,
-        Call::IsIdle,
         Call::BreakOff,
-    ]?;
-    let settings = settings(alloc, String::from_str(alloc, "a")?, 512, 65535, 2048);
-    let replies = play(alloc, settings, calls.as_slice())?;
-    let queued = [0, 1, 2, 2, 1, 0, 0, 1, 2, 1, 0, 0, 0, 0, 0, 0, 0, 0];
-    assert_eq!(rt; replies.len(), queued.len());
-    for (reply, want) in replies.as_slice().iter().zip(queued) {
-        assert_eq!(rt; reply.queued, want);
+        Call::Pull,
+    ];
+    let wants = [
+        ('r', 2, 0),
+        ('d', 0, 1),
+        ('f', 0, 2),
+        ('c', 2, 2),
+        ('p', 8, 1),
+        ('p', 23, 0),
+        ('f', 1, 0),
+        ('d', 0, 1),
+        ('t', 0, 1),
+        ('e', 0, 1),
+        ('f', 1, 2),
+        ('o', 0, 2),
+        ('t', 1, 2),
+        ('d', 0, 0),
+        ('n', 0, 0),
+    ];
+    let replies = play(alloc, named(alloc, "a", 512, 65535, 2048)?, &calls)?;
+    assert_eq!(rt; replies.len(), wants.len());
+    for (reply, (letter, number, queued)) in replies.as_slice().iter().zip(wants) {
+        assert_eq!(rt; summed(&reply.answer), (letter, number));
+        assert_eq!(rt; reply.queued, queued);
     }
-    assert!(rt; matches!(&replies[0].answer, Answer::Refused(EndpointError::NotConnected)));
-    assert!(rt; matches!(&replies[1].answer, Answer::Done));
-    assert!(rt; matches!(&replies[3].answer, Answer::Count(2)));
-    assert!(rt; matches!(&replies[5].answer, Answer::Pulled(Some(bytes)) if bytes.as_slice() == OPEN));
-    assert!(rt; matches!(&replies[6].answer, Answer::Fed(fed) if says_opened(fed)));
-    assert!(rt; matches!(&replies[9].answer, Answer::Pulled(Some(bytes)) if bytes.as_slice() == EMPTY));
-    assert!(rt; matches!(&replies[10].answer, Answer::Pulled(Some(bytes)) if bytes.as_slice() == CLOSE));
-    assert!(rt; matches!(&replies[11].answer, Answer::Pulled(None)));
-    assert!(rt; matches!(&replies[12].answer, Answer::TriedClose(Err(TryCloseError::RemoteCloseNotReceived))));
-    assert!(rt; matches!(&replies[13].answer, Answer::Fed(fed) if says_closed(fed)));
-    assert!(rt; matches!(&replies[14].answer, Answer::TriedClose(Ok(()))));
-    assert!(rt; matches!(&replies[15].answer, Answer::Truth(true)));
-    assert!(rt; matches!(&replies[16].answer, Answer::Truth(true)));
-
-    let settings = self::settings(alloc, String::from_str(alloc, "a")?, 511, 65535, 2048);
-    let refused = play(alloc, settings, calls.as_slice());
-    assert!(rt; matches!(&refused, Err(EndpointError::LimitUnder512)));
+    assert!(rt; play(alloc, named(alloc, "a", 511, 65535, 2048)?, &calls).is_err());
     Ok(())
 }

@@ -1,10 +1,13 @@
 -- Frames in bytes.
-use Rattle.std.proofs.Common.{◌≡◌, ℕ, List, [], ◌∷◌, Some, None, refl, arith}
+use Rattle.std.proofs.Common.{◌≡◌, ℕ, List, [], ◌∷◌, ◌++◌, length, Some, None, refl, ap, arith, length-append}
+use Rattle.std.specs.Int.{w16, w32, to_be_bytes}
 use Rattle.std.specs.Str.{is_utf8, chars}
 use Rattle.std.specs.Char.{encode_utf8}
-use Rattle.serde_amqp_item.specs.Item.{scalar, ulong, described, list, no_items}
+use Rattle.serde_amqp_item.specs.Item.{scalar, ulong, symbol, described, list, no_items}
+use Rattle.serde_amqp_de.specs.Takes.{record_taken, descriptor_taken, option_taken}
 use Rattle.serde_amqp_item.specs.Wire.{Wire, row_of, code_of}
 use Rattle.amqp_session_performatives.specs.Again.{close_again}
+use Rattle.amqp_session_performatives.specs.Close.{close_name}
 use Rattle.amqp_session_frames.specs.declared.frame.Frame.{Frame}
 use Rattle.amqp_session_frames.specs.declared.frame.FrameBody.TheVariants.{Empty, Open, Close}
 use Rattle.amqp_session_frames.specs.Text.{FrameText, IsOtherType, frame_text}
@@ -79,3 +82,33 @@ short_offset f t =
 -- another type
 other_type : IsOtherType (0x00 ∷ 0x00 ∷ 0x00 ∷ 0x08 ∷ 0x02 ∷ 0x01 ∷ 0x00 ∷ 0x00 ∷ [])
 other_type = (omega arith, λ e. cc)
+
+-- likewise by its name
+by_name : Wire (described (scalar (symbol close_name)) (list no_items)) None (0x00 ∷ 0xa3 ∷ 0x0f ∷ (close_name ++ 0x45 ∷ []))
+unfolding row_of code_of is_utf8 chars encode_utf8
+by_name = (0x00, 0xa3 ∷ 0x0f ∷ (close_name ++ 0x45 ∷ []), refl, (0xa3, 0x0f ∷ close_name, 0x45, [], refl, (close_name, record { fits = omega arith; whole = refl }, refl), (refl, refl)))
+
+named : FrameText (0x00 ∷ 0x00 ∷ 0x00 ∷ 0x1b ∷ 0x02 ∷ 0x00 ∷ 0x00 ∷ 0x00 ∷ 0x00 ∷ 0xa3 ∷ 0x0f ∷ (close_name ++ 0x45 ∷ [])) (close_of 0)
+unfolding close_of record_taken descriptor_taken option_taken
+named = record {
+  extended = [];
+  content = 0x00 ∷ 0xa3 ∷ 0x0f ∷ (close_name ++ 0x45 ∷ []);
+  layout = record { doff = 2; whole = refl; size = omega arith; offset = refl; channels = omega arith };
+  body = ([], record { item = described (scalar (symbol close_name)) (list no_items); front = 0x00 ∷ 0xa3 ∷ 0x0f ∷ (close_name ++ 0x45 ∷ []); whole = refl; form = by_name; value_is = refl });
+}
+
+-- an empty frame on any channel
+empty_read : FrameText (0x00 ∷ 0x00 ∷ 0x00 ∷ 0x08 ∷ 0x02 ∷ 0x00 ∷ 0xab ∷ 0xcd ∷ []) (record { channel = 0xabcd; body = Empty })
+empty_read = record {
+  extended = [];
+  content = [];
+  layout = record { doff = 2; whole = refl; size = omega arith; offset = refl; channels = omega arith };
+  body = refl;
+}
+
+-- a data offset behind the end of the frame
+far_offset : (f : Frame) → FrameText (0x00 ∷ 0x00 ∷ 0x00 ∷ 0x08 ∷ 0x03 ∷ 0x00 ∷ 0x00 ∷ 0x00 ∷ []) f → ⊥
+far_offset f t =
+    let whole = t.layout.whole in
+    let doff : t.layout.doff ≡ 3 = cc in
+    omega (arith, t.layout.offset, doff, ap length whole, length-append (to_be_bytes w32 8) (t.layout.doff ∷ 0 ∷ (to_be_bytes w16 f.channel ++ (t.extended ++ t.content))), length-append (to_be_bytes w16 f.channel) (t.extended ++ t.content), length-append t.extended t.content)

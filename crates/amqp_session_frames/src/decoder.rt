@@ -12,7 +12,7 @@ use serde_amqp_de::{Deserialize, from_slice};
 use std::alloc::Global;
 
 /// Reads frames.
-#[derive(Clone, Copy)]
+#[derive(Debug, Clone, Copy)]
 pub struct FrameDecoder {}
 
 impl FrameDecoder {

@@ -15,7 +15,7 @@ use std::alloc::Global;
 use std::marker::Model;
 
 /// Writes frames as pieces of at most so many bytes without their size field. A clause sees this limit.
-#[derive(Drop)]
+#[derive(Debug, Drop)]
 pub struct FrameEncoder {
     limit: usize,
 }

@@ -1,7 +1,7 @@
 use amqp_session_performatives::{Close, Open};
 
 /// A frame (part 2, 2.3).
-#[derive(Drop)]
+#[derive(Debug, Drop)]
 pub struct Frame {
     /// The channel that it is sent on. A frame of the connection may have any.
     pub channel: u16,
@@ -10,7 +10,7 @@ pub struct Frame {
 }
 
 /// What a frame says: one performative, or nothing (part 2, 2.3.2, 2.4.5).
-#[derive(Drop)]
+#[derive(Debug, Drop)]
 pub enum FrameBody {
     /// Nothing. It shows that its sender is there.
     Empty,

@@ -6,7 +6,7 @@ use std::marker::Model;
 
 /// What is sent of one frame behind its size field: the header with the performative, and a payload that is shared.
 /// A clause sees the bytes of both, joined.
-#[derive(Drop)]
+#[derive(Debug, Drop)]
 pub struct Piece {
     head: Bytes,
     payload: Bytes,

@@ -10,7 +10,7 @@ use serde_amqp_types::{Array, Multiple, Symbol, Text, UIntOr, UShortOr};
 use std::alloc::Global;
 
 /// Begins a connection (part 2, 2.7.1). The field properties is written as absent, and read as null alone.
-#[derive(Drop)]
+#[derive(Debug, Drop)]
 pub struct Open {
     /// The name of the container that sends it.
     pub container_id: Text,

@@ -64,7 +64,6 @@ impl Endpoint {
     }
 
     /// Takes the peer's protocol header once it is whole, and queues the own Open.
-    #[tactic(auto)]
     fn take_header(&mut self) -> Result<bool, EndpointError>
         requires { self.old.phase ≡ Greeting }
         ensures ok { IfOk result (λ whole. HeaderTaken whole self.old self.new) }

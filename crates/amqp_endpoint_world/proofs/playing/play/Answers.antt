@@ -16,9 +16,9 @@ loop-call-preserved c = record {
 pub returns-clause-pieces : goal.returns-clause-pieces
 returns-clause-pieces c =
     pieces c.args.settings c.args.calls.now (map told c.loop-call.replies.items) c.loop-call.endpoint
-        (Run-whole c.in_ok-endpoint.endpoint (fresh c.args.settings) c.args.calls.now c.loop-call.call-index (map told c.loop-call.replies.items) c.loop-call.endpoint c.in_ok-endpoint.ensures.ok.1 (omega arith) c.loop-call.invariant.run)
+    (Run-whole c.in_ok-endpoint.endpoint (fresh c.args.settings) c.args.calls.now c.loop-call.call-index (map told c.loop-call.replies.items) c.loop-call.endpoint c.in_ok-endpoint.ensures.ok.1 (omega arith) c.loop-call.invariant.run)
 
 pub returns-clause-limit : goal.returns-clause-limit
 returns-clause-limit c =
     limit_kept c.args.settings c.args.calls.now (map told c.loop-call.replies.items) c.loop-call.endpoint c.in_ok-endpoint.ensures.ok.0
-        (Run-whole c.in_ok-endpoint.endpoint (fresh c.args.settings) c.args.calls.now c.loop-call.call-index (map told c.loop-call.replies.items) c.loop-call.endpoint c.in_ok-endpoint.ensures.ok.1 (omega arith) c.loop-call.invariant.run)
+    (Run-whole c.in_ok-endpoint.endpoint (fresh c.args.settings) c.args.calls.now c.loop-call.call-index (map told c.loop-call.replies.items) c.loop-call.endpoint c.in_ok-endpoint.ensures.ok.1 (omega arith) c.loop-call.invariant.run)
