@@ -8,7 +8,8 @@ use std::fmt;
 const HEADER: &[u8] = b"AMQP\x00\x01\x00\x00";
 
 /// The Open of a container "a" that takes frames of 512 bytes (part 2, 2.7.1).
-const OPEN: &[u8] = b"\x00\x00\x00\x17\x02\x00\x00\x00\x00\x53\x10\xc0\x0a\x03\xa1\x01a\x40\x70\x00\x00\x02\x00";
+const OPEN: &[u8] =
+    b"\x00\x00\x00\x17\x02\x00\x00\x00\x00\x53\x10\xc0\x0a\x03\xa1\x01a\x40\x70\x00\x00\x02\x00";
 
 /// A Close without an error (part 2, 2.7.9).
 const CLOSE: &[u8] = b"\x00\x00\x00\x0c\x02\x00\x00\x00\x00\x53\x18\x45";
@@ -97,7 +98,12 @@ impl Work {
     }
 }
 
-fn feed_frames(alloc: Global, blocks: u32, piece: usize, found: &mut Found) -> Result<(), EndpointError> {
+fn feed_frames(
+    alloc: Global,
+    blocks: u32,
+    piece: usize,
+    found: &mut Found,
+) -> Result<(), EndpointError> {
     let block = block_of_frames(alloc)?;
     let mut endpoint = opened(alloc, found)?;
     for _ in 0..blocks {

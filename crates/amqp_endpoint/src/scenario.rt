@@ -43,17 +43,20 @@ impl From<AllocError> for ScenarioError {
     }
 }
 
-/// Reads a script to its end, runs it and writes what it prints. The answer is the status of a program that does this:
-/// 0 where each step was run.
+/// Reads a script to its end, runs it on one endpoint and writes what it prints. The answer is the status of a program
+/// that does this: 0 where each step was called, also where one was refused, and 1 where nothing was run.
 ///
-/// A script has one word line for each step: the end `a` and `connect`, `close`, `heartbeat`, `feed` and hex digits,
-/// `pull` or `break`. Its first word line is `one`, and the second may be `settings a`, a container, a max-frame-size,
-/// a channel-max, an incoming window and a first transfer number. Empty lines and lines that begin with `#` are left out.
+/// A line has words that are parted by one space each. The first line is `one`, and the second may be `settings a`, a
+/// container, a max-frame-size, a channel-max, an incoming window and a first transfer number. Each other line is a step:
+/// the end `a`, and `connect`, `close`, `heartbeat`, `pull`, `break`, or `feed` and hex digits, `-` for no bytes. Empty
+/// lines and lines that begin with `#` are left out, and counted.
 ///
-/// A step prints `ok` or `refused` and the number of its error, and then its events and its fault, each behind the line's
-/// number and the end. A line that can't be read, and settings that are refused, are printed alone, and nothing is run.
+/// A step prints its line's number, its end and `ok`, with the bytes that it pulled, or `refused` and the number of its
+/// error; then its events and its fault, on lines of their own. The first line that can't be read is printed alone, and
+/// so are settings that are refused, and nothing is run. A script of no lines prints nothing.
 ///
-/// The errors tell what refused; where that isn't the writer, nothing was written.
+/// `Read` where the reader refuses, `Memory` where there is no memory for the script or its answers: nothing was written.
+/// `Write` where the writer refuses: some of what is printed may be written.
 pub fn run<R: Read, W: Write>(
     alloc: Global,
     reader: &mut R,

@@ -1,5 +1,4 @@
-use Rattle.std.proofs.Common.{◌+◌, ◌≤◌, ◌≡◌, take, map, length, vec_capacity, vec_len}
-use Rattle.amqp_endpoint_model.specs.State.{fresh}
+use Rattle.std.proofs.Common.{◌≤◌, ◌≡◌, take, map, length, vec_capacity, vec_len}
 use Rattle.amqp_endpoint_model.specs.Said.{told}
 use Rattle.amqp_endpoint_model.specs.History.{Run}
 use Rattle.amqp_endpoint_world.proofs.playing.play.Given as goal
