@@ -1,7 +1,7 @@
 # The script that `run` and `try` run.
 SCENARIO ?= examples/open_close.scenario
 
-.PHONY: run try test bench
+.PHONY: run try test bench memory
 
 # Proves and builds the program, runs the script with it and prints what the endpoint answers.
 run:
@@ -19,3 +19,7 @@ test:
 # Counts the instructions that the endpoint takes, by valgrind.
 bench:
 	@crates/amqp_bench/measure
+
+# Runs the script once for each of its requests for memory, with that request refused. It takes minutes, and proves nothing.
+memory:
+	@tools/refuse_memory "$(SCENARIO)"
