@@ -5,7 +5,7 @@ ghost use Rattle.amqp_session_performatives.specs.Faithful.{close_same};
 ghost use Rattle.amqp_session_performatives.specs.Performatives.{close_decided};
 
 use crate::definitions::Error;
-use serde_amqp_de::{Deserialize, Deserializer, NeverNull, Read, RoundTrip, read_record};
+use serde_amqp_de::{Deserialize, Deserializer, Faithful, NeverNull, Read, RoundTrip, read_record};
 use serde_amqp_ser::{Serialize, Serializer, Sink, serialize_record};
 use std::alloc::Global;
 
@@ -59,8 +59,12 @@ impl Deserialize for Close {
 }
 
 impl RoundTrip for Close {
-    ghost again = { close_again };
+    ghost same = { λ _. refl };
 
+    ghost again = { close_again };
+}
+
+impl Faithful for Close {
     ghost faithful = { close_same };
 }
 

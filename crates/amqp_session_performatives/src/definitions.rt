@@ -5,7 +5,7 @@ ghost use Rattle.amqp_session_performatives.specs.Error.{error_item, error_taken
 ghost use Rattle.amqp_session_performatives.specs.Faithful.{error_same};
 ghost use Rattle.amqp_session_performatives.specs.Performatives.{error_decided};
 
-use serde_amqp_de::{Deserialize, Deserializer, NeverNull, Read, RoundTrip, read_record};
+use serde_amqp_de::{Deserialize, Deserializer, Faithful, NeverNull, Read, RoundTrip, read_record};
 use serde_amqp_ser::{Serialize, Serializer, Sink, serialize_record};
 use serde_amqp_types::{Symbol, Text};
 use std::alloc::Global;
@@ -65,8 +65,12 @@ impl Deserialize for Error {
 }
 
 impl RoundTrip for Error {
-    ghost again = { error_again };
+    ghost same = { λ _. refl };
 
+    ghost again = { error_again };
+}
+
+impl Faithful for Error {
     ghost faithful = { error_same };
 }
 

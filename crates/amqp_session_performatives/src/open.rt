@@ -4,7 +4,7 @@ ghost use Rattle.amqp_session_performatives.specs.Faithful.{open_same};
 ghost use Rattle.amqp_session_performatives.specs.Open.{open_item, open_taken};
 ghost use Rattle.amqp_session_performatives.specs.Performatives.{open_decided};
 
-use serde_amqp_de::{Deserialize, Deserializer, NeverNull, Read, RoundTrip, read_record};
+use serde_amqp_de::{Deserialize, Deserializer, Faithful, NeverNull, Read, RoundTrip, read_record};
 use serde_amqp_ser::{Serialize, Serializer, Sink, serialize_record};
 use serde_amqp_types::{Array, Multiple, Symbol, Text, UIntOr, UShortOr};
 use std::alloc::Global;
@@ -158,8 +158,12 @@ impl Deserialize for Open {
 }
 
 impl RoundTrip for Open {
-    ghost again = { open_again };
+    ghost same = { λ _. refl };
 
+    ghost again = { open_again };
+}
+
+impl Faithful for Open {
     ghost faithful = { open_same };
 }
 

@@ -10,7 +10,8 @@ use Rattle.serde_amqp_item.specs.Item.{Scalar, Item, scalar, raw, list, map, arr
 use Rattle.serde_amqp_item.specs.Wire.{Wire, Leads, own, code_of, row_at, row_of, Row, fixed, empty_list, list_of, map_of, array_of, described_by, Form, ScalarForm, IsCapped, IsStrict}
 use Rattle.serde_amqp_item.specs.Kind.{Kind, kind_at, raw_kind, described_kind}
 use Rattle.serde_amqp_item.proofs.Forms.{leads_same, append_same}
-use Rattle.serde_amqp_de.specs.Reads.{At, Moves, Begins, Head, Foresees, NoHead, Reads, Refuses, Otherwise, Refusal, Unless}
+use Rattle.serde_amqp_read.specs.Reads.{Begins, Otherwise, Refusal, Unless}
+use Rattle.serde_amqp_de.specs.Reads.{At, Moves, Head, Foresees, NoHead, Reads, Refuses}
 use Rattle.serde_amqp_de.specs.Takes.{TakesOnly, described_taken}
 use Rattle.serde_amqp_de.specs.Seen.{form_seen, seen_kind}
 use Rattle.serde_amqp_de.specs.Deciding.{no_form}

@@ -40,6 +40,24 @@ option_faithful item faithful present None (Some y) e = let w = present y in let
 option_faithful item faithful present (Some x) None e = let w = present x in let z = ap reads_as_null e in absurd cc
 option_faithful {X} item faithful present (Some x) (Some y) e = ap (λ (z : X). Some z) (faithful x y e)
 
+-- what is written of a value is its item, so it is of an optional one and of several
+pub option_same_item : {X : Type 0} (written item : X → Item) → ((x : X) → written x ≡ item x) → (o : Option X) → option_item written o ≡ option_item item o
+option_same_item written item same None = refl
+option_same_item written item same (Some x) = same x
+
+pub map_same_item : {X : Type 0} (written item : X → Item) → ((x : X) → written x ≡ item x) → (xs : List X) → map written xs ≡ map item xs
+map_same_item written item same [] = refl
+map_same_item written item same (x ∷ xs) = ap (λ (y : Item). y ∷ map written xs) (same x) ∙ ap (λ (ys : List Item). item x ∷ ys) (map_same_item written item same xs)
+
+pub list_same_item : {X : Type 0} (written item : X → Item) → ((x : X) → written x ≡ item x) → (xs : List X) → list (items_of (map written xs)) ≡ list (items_of (map item xs))
+list_same_item written item same xs = ap (λ (ys : List Item). list (items_of ys)) (map_same_item written item same xs)
+
+pub array_same_item : {X : Type 0} (written item : X → Item) → ((x : X) → written x ≡ item x) → (xs : List X) → array (items_of (map written xs)) ≡ array (items_of (map item xs))
+array_same_item written item same xs = ap (λ (ys : List Item). array (items_of ys)) (map_same_item written item same xs)
+
+pub several_same_item : {X : Type 0} (written item : X → Item) → ((x : X) → written x ≡ item x) → (xs : List X) → several (map written xs) ≡ several (map item xs)
+several_same_item written item same xs = ap several (map_same_item written item same xs)
+
 -- each field is taken as it is
 abbrev pub EachAgain : List (Item → Option Item) → List Item → Type 0
 EachAgain [] [] = Unit {0}

@@ -19,11 +19,6 @@ pub record Moves (old new : At) (front : List ℕ) : Type 0 where
   pub split : old.rest ≡ front ++ new.rest
   pub count : new.pos ≡ old.pos + length front
 
--- the first of these bytes
-pub record Begins (b : ℕ) (bytes : List ℕ) : Type 0 where
-  pub others : List ℕ
-  pub split : bytes ≡ b ∷ others
-
 -- a constructor was read, or is inherited
 pub record Head (k : Option ℕ) (old new : At) (code : EncodingCodes) : Type 0 where
   pub byte : ℕ
@@ -69,25 +64,6 @@ pub record Reads (k : Option ℕ) (old new : At) (x : Item) : Type 0 where
 -- no front is a wire form of an item that is taken
 pub record Refuses (take : Item → Option Item) (k : Option ℕ) (old : At) : Type 0 where
   pub none : (x : Item) (front more : List ℕ) → Wire x k front → old.rest ≡ front ++ more → take x ≡ None
-
--- where the reader itself is at fault nothing is said of the bytes
-abbrev pub Otherwise : Bool → Type 0 → Type 0
-Otherwise true P = Unit {0}
-Otherwise false P = P
-
--- what a refusal says: want of memory and the faults of a reader say nothing
-abbrev pub Refusal : (Error → Bool) → Error → Type 0 → Type 0
-Refusal faulty Memory P = Unit {0}
-Refusal faulty (Io kind) P = Otherwise (faulty (Io kind)) P
-Refusal faulty e P = P
-
-abbrev pub Unless : {X : Type 0} → (Error → Bool) → Result X Error → Type 0 → Type 0
-Unless faulty (Ok x) P = Unit {0}
-Unless faulty (Err e) P = Refusal faulty e P
-
--- a reader that has no faults of its own
-abbrev pub faultless : Error → Bool
-faultless e = false
 
 -- a wire form of an item that is taken was read, and y is the value's item
 pub record Took (take : Item → Option Item) (k : Option ℕ) (old new : At) (y : Item) : Type 0 where

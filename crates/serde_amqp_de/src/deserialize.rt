@@ -3,15 +3,17 @@ ghost use Rattle.std.specs.Prelude.{◌≡◌, ◌++◌, ℕ, List, IfOk, OnOk, 
 ghost use Rattle.serde_amqp_item.specs.Item.{Item, scalar, null, boolean, ushort, uint, ulong, string};
 ghost use Rattle.serde_amqp_item.specs.Wire.{Wire};
 ghost use Rattle.serde_amqp_item.specs.Record.{option_item};
-ghost use Rattle.serde_amqp_de.specs.Reads.{Took, Refuses, Unless, at_of, HasFailed, faultless};
+ghost use Rattle.serde_amqp_read.specs.Reads.{Unless, faultless};
+ghost use Rattle.serde_amqp_de.specs.Reads.{Took, Refuses, at_of, HasFailed};
 ghost use Rattle.serde_amqp_de.specs.Takes.{null_taken, boolean_taken, ushort_taken, uint_taken, ulong_taken, string_taken, option_taken, reads_as_null};
 ghost use Rattle.serde_amqp_de.specs.Decides.{Decided};
 ghost use Rattle.serde_amqp_de.specs.Deciding.{null_decided, boolean_decided, ushort_decided, uint_decided, ulong_decided, string_decided, option_decided};
-ghost use Rattle.serde_amqp_de.specs.Again.{option_again, option_faithful, boolean_faithful, ushort_faithful, uint_faithful, ulong_faithful};
+ghost use Rattle.serde_amqp_de.specs.Again.{option_same_item, option_again, option_faithful, boolean_faithful, ushort_faithful, uint_faithful, ulong_faithful};
 
 use crate::deserializer::Deserializer;
-use crate::reader::{Read, SliceReader};
+use serde_amqp_read::{Read, SliceReader};
 use serde_amqp_item::{EncodingCodes, Error};
+use serde_amqp_ser::Serialize;
 use std::alloc::Global;
 
 /// A type whose values are read from wire forms of items (part 1).
@@ -58,11 +60,18 @@ pub trait Deserialize: Sized {
     ghost decided: { Decided take };
 }
 
-/// The item of a value is taken as that value, and no two values have the same item.
-pub trait RoundTrip: Deserialize {
-    ghost again: { (x : Self) → Self.take (Self.item x) ≡ Some (Self.item x) };
+/// A value that is written is read back as the same item.
+pub trait RoundTrip: Serialize + Deserialize {
+    /// What is written is the item that the value is.
+    ghost same: { (x : Self) → Self.Serialize.item x ≡ Self.Deserialize.item x };
 
-    ghost faithful: { (x y : Self) → Self.item x ≡ Self.item y → x ≡ y };
+    /// The item of a value is taken as it is.
+    ghost again: { (x : Self) → Self.take (Self.Deserialize.item x) ≡ Some (Self.Deserialize.item x) };
+}
+
+/// No two values have the same item, so that a value that is written is read back equal.
+pub trait Faithful: RoundTrip {
+    ghost faithful: { (x y : Self) → Self.Deserialize.item x ≡ Self.Deserialize.item y → x ≡ y };
 }
 
 /// No value is read as null.
@@ -198,32 +207,52 @@ impl<T: Deserialize> Deserialize for Option<T> {
 }
 
 impl RoundTrip for () {
-    ghost again = { λ _. refl };
+    ghost same = { λ _. refl };
 
+    ghost again = { λ _. refl };
+}
+
+impl Faithful for () {
     ghost faithful = { λ _ _ _. refl };
 }
 
 impl RoundTrip for bool {
-    ghost again = { λ _. refl };
+    ghost same = { λ _. refl };
 
+    ghost again = { λ _. refl };
+}
+
+impl Faithful for bool {
     ghost faithful = { boolean_faithful };
 }
 
 impl RoundTrip for u16 {
-    ghost again = { λ _. refl };
+    ghost same = { λ _. refl };
 
+    ghost again = { λ _. refl };
+}
+
+impl Faithful for u16 {
     ghost faithful = { ushort_faithful };
 }
 
 impl RoundTrip for u32 {
-    ghost again = { λ _. refl };
+    ghost same = { λ _. refl };
 
+    ghost again = { λ _. refl };
+}
+
+impl Faithful for u32 {
     ghost faithful = { uint_faithful };
 }
 
 impl RoundTrip for u64 {
-    ghost again = { λ _. refl };
+    ghost same = { λ _. refl };
 
+    ghost again = { λ _. refl };
+}
+
+impl Faithful for u64 {
     ghost faithful = { ulong_faithful };
 }
 
@@ -247,10 +276,20 @@ impl NeverNull for String {
     ghost present = { λ _. refl };
 }
 
-impl<T: RoundTrip + NeverNull> RoundTrip for Option<T> {
-    ghost again = { option_again T.take T.item T.again T.present };
+impl RoundTrip for String {
+    ghost same = { λ _. refl };
 
-    ghost faithful = { option_faithful T.item T.faithful T.present };
+    ghost again = { λ _. refl };
+}
+
+impl<T: RoundTrip + NeverNull> RoundTrip for Option<T> {
+    ghost same = { option_same_item T.Serialize.item T.Deserialize.item T.same };
+
+    ghost again = { option_again T.take T.Deserialize.item T.again T.present };
+}
+
+impl<T: Faithful + NeverNull> Faithful for Option<T> {
+    ghost faithful = { option_faithful T.Deserialize.item T.faithful T.present };
 }
 
 /// Reads a value from the front of the bytes.

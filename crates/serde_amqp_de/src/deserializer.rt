@@ -5,10 +5,11 @@ ghost use Rattle.std.specs.Str.{is_utf8};
 ghost use Rattle.serde_amqp_item.specs.Item.{scalar, null, boolean, ushort, uint, ulong, string, symbol, list, array};
 ghost use Rattle.serde_amqp_item.specs.declared.codes.EncodingCodes.TheVariants.{DescribedType};
 ghost use Rattle.serde_amqp_item.specs.Wire.{one_byte, four_bytes, IsElementCode};
-ghost use Rattle.serde_amqp_de.specs.Reads.{At, Moves, Head, Foresees, NoHead, ReadSized, NoSized, ReadText, NoText, ReadCount, NoElementCode, Reads, Refuses, Unless, faultless, at_of, Opens, HasFailed};
+ghost use Rattle.serde_amqp_read.specs.Reads.{Unless, faultless};
+ghost use Rattle.serde_amqp_de.specs.Reads.{At, Moves, Head, Foresees, NoHead, ReadSized, NoSized, ReadText, NoText, ReadCount, NoElementCode, Reads, Refuses, at_of, Opens, HasFailed};
 ghost use Rattle.serde_amqp_de.specs.Takes.{null_taken, boolean_taken, ushort_taken, uint_taken, ulong_taken, string_taken, symbol_taken, list_taken, array_taken, described_taken};
 
-use crate::reader::Read;
+use serde_amqp_read::Read;
 use serde_amqp_item::{EncodingCodes, Error, MAX_ARRAY_COUNT, code_of};
 use std::alloc::Global;
 

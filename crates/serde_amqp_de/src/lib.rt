@@ -4,15 +4,14 @@
 mod deserialize;
 mod deserializer;
 mod laws;
-mod reader;
 mod record;
 mod sequence;
 #[cfg(test)]
 mod tests;
 
-pub use deserialize::{Deserialize, NeverNull, RoundTrip, from_slice};
+pub use deserialize::{Deserialize, Faithful, NeverNull, RoundTrip, from_slice};
 pub use deserializer::Deserializer;
-pub use laws::one_value;
-pub use reader::{Read, SliceReader};
+pub use laws::{one_value, written_is_read, written_is_read_equal};
+pub use serde_amqp_read::{Read, SliceReader};
 pub use record::{ReadFields, read_descriptor, read_record};
 pub use sequence::{read_array, read_list, read_multiple};

@@ -3,13 +3,14 @@ ghost use Rattle.std.specs.Prelude.{◌≡◌, ◌∷◌, [], ℕ, List, IfOk, O
 ghost use Rattle.serde_amqp_item.specs.Item.{Item, scalar, null, ulong, no_items};
 ghost use Rattle.serde_amqp_item.specs.Kind.{kind_at};
 ghost use Rattle.serde_amqp_item.specs.Record.{record_item};
-ghost use Rattle.serde_amqp_de.specs.Reads.{Took, Refuses, Unless, at_of, TookAll, RefusesAll, TookSized, RefusesSized};
+ghost use Rattle.serde_amqp_read.specs.Reads.{Unless};
+ghost use Rattle.serde_amqp_de.specs.Reads.{Took, Refuses, at_of, TookAll, RefusesAll, TookSized, RefusesSized};
 ghost use Rattle.serde_amqp_de.specs.Takes.{fields_taken, descriptor_taken, record_taken, is_symbol};
 ghost use Rattle.serde_amqp_de.specs.Decides.{AllDecided};
 
 use crate::deserialize::Deserialize;
 use crate::deserializer::Deserializer;
-use crate::reader::Read;
+use serde_amqp_read::Read;
 use serde_amqp_item::{EncodingCodes, Error};
 use std::alloc::Global;
 

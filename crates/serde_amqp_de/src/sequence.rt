@@ -1,13 +1,15 @@
 //! Lists, arrays and fields of several values.
 ghost use Rattle.std.specs.Prelude.{◌≡◌, ◌++◌, ℕ, List, map, IfOk, OnOk, MatchOption, Option, Some, None};
 ghost use Rattle.serde_amqp_item.specs.Item.{Item, scalar, null, list, array, items_of};
-ghost use Rattle.serde_amqp_de.specs.Reads.{At, Took, Refuses, Unless, at_of, TookAll, RefusesAll, TookOne, TookSized, RefusesSized};
+ghost use Rattle.serde_amqp_read.specs.Reads.{Unless};
+ghost use Rattle.serde_amqp_de.specs.Reads.{At, Took, Refuses, at_of, TookAll, RefusesAll, TookOne, TookSized, RefusesSized};
 ghost use Rattle.serde_amqp_de.specs.Takes.{each_taken, elements_taken, items_taken, sequence_taken, several, multiple_taken};
 ghost use Rattle.serde_amqp_de.specs.Deciding.{sequence_decided};
+ghost use Rattle.serde_amqp_de.specs.Again.{list_same_item, sequence_again};
 
-use crate::deserialize::Deserialize;
+use crate::deserialize::{Deserialize, RoundTrip};
 use crate::deserializer::Deserializer;
-use crate::reader::Read;
+use serde_amqp_read::Read;
 use serde_amqp_item::{EncodingCodes, Error};
 use std::alloc::Global;
 
@@ -152,4 +154,10 @@ impl<T: Deserialize + Drop> Deserialize for Vec<T> {
     }
 
     ghost decided = { sequence_decided T.take T.decided };
+}
+
+impl<T: RoundTrip + Drop> RoundTrip for Vec<T> {
+    ghost same = { λ v. list_same_item T.Serialize.item T.Deserialize.item T.same v.items };
+
+    ghost again = { λ v. sequence_again T.take T.Deserialize.item T.again v.items };
 }

@@ -4,6 +4,7 @@
 mod codes;
 mod constants;
 mod error;
+mod floats;
 mod laws;
 
 pub use codes::{Category, EncodingCodes, code_of};
@@ -12,6 +13,7 @@ pub use constants::{
     OFFSET_ARRAY32, OFFSET_LIST8, OFFSET_LIST32, OFFSET_MAP8, OFFSET_MAP32, UNTAGGED_ENUM, VALUE,
 };
 pub use error::Error;
+pub use floats::{Double, Float};
 pub use laws::{
     canon_is_injective, canon_is_wire, constructor_gives_type, constructor_has_one_byte, one_front,
     one_item, raw_item_in_no_array, raw_item_is_its_bytes, size_is_exact, wide_is_wire,

@@ -5,6 +5,7 @@ mod compound;
 mod edge;
 mod place;
 mod record;
+mod scalars;
 mod serialize;
 mod serializer;
 mod sink;

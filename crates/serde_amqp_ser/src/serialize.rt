@@ -1,6 +1,6 @@
 //! What can be written.
 ghost use Rattle.std.specs.Prelude.{◌≡◌, ℕ, List, map, Some, None, OnOk};
-ghost use Rattle.serde_amqp_item.specs.Item.{Item, scalar, null, boolean, ushort, uint, ulong, string, list, items_of};
+ghost use Rattle.serde_amqp_item.specs.Item.{Item, scalar, null, boolean, ubyte, ushort, uint, ulong, byte, short, int, long, float, double, char, string, list, items_of};
 ghost use Rattle.serde_amqp_item.specs.Record.{is_null, option_item};
 ghost use Rattle.std.specs.String.{string_bytes};
 ghost use Rattle.serde_amqp_ser.specs.Written.{Written, Keeps};
@@ -8,7 +8,7 @@ ghost use Rattle.serde_amqp_ser.specs.Puts.{State, serialized, OnlyWhere, WantsM
 
 use crate::serializer::Serializer;
 use crate::sink::Sink;
-use serde_amqp_item::Error;
+use serde_amqp_item::{Double, Error, Float};
 
 /// A value that is written as one item.
 pub trait Serialize {
@@ -54,6 +54,19 @@ impl Serialize for bool {
     }
 }
 
+/// A ubyte.
+impl Serialize for u8 {
+    ghost item = { λ n. scalar (ubyte n) };
+
+    fn is_null(&self) -> bool {
+        false
+    }
+
+    fn serialize<W: Sink>(&self, s: &mut Serializer<W>) -> Result<(), Error> {
+        s.serialize_u8(*self)
+    }
+}
+
 /// A ushort.
 impl Serialize for u16 {
     ghost item = { λ n. scalar (ushort n) };
@@ -90,6 +103,97 @@ impl Serialize for u64 {
 
     fn serialize<W: Sink>(&self, s: &mut Serializer<W>) -> Result<(), Error> {
         s.serialize_u64(*self)
+    }
+}
+
+/// A byte.
+impl Serialize for i8 {
+    ghost item = { λ z. scalar (byte z) };
+
+    fn is_null(&self) -> bool {
+        false
+    }
+
+    fn serialize<W: Sink>(&self, s: &mut Serializer<W>) -> Result<(), Error> {
+        s.serialize_i8(*self)
+    }
+}
+
+/// A short.
+impl Serialize for i16 {
+    ghost item = { λ z. scalar (short z) };
+
+    fn is_null(&self) -> bool {
+        false
+    }
+
+    fn serialize<W: Sink>(&self, s: &mut Serializer<W>) -> Result<(), Error> {
+        s.serialize_i16(*self)
+    }
+}
+
+/// An int.
+impl Serialize for i32 {
+    ghost item = { λ z. scalar (int z) };
+
+    fn is_null(&self) -> bool {
+        false
+    }
+
+    fn serialize<W: Sink>(&self, s: &mut Serializer<W>) -> Result<(), Error> {
+        s.serialize_i32(*self)
+    }
+}
+
+/// A long.
+impl Serialize for i64 {
+    ghost item = { λ z. scalar (long z) };
+
+    fn is_null(&self) -> bool {
+        false
+    }
+
+    fn serialize<W: Sink>(&self, s: &mut Serializer<W>) -> Result<(), Error> {
+        s.serialize_i64(*self)
+    }
+}
+
+/// A float.
+impl Serialize for Float {
+    ghost item = { λ x. scalar (float x.0) };
+
+    fn is_null(&self) -> bool {
+        false
+    }
+
+    fn serialize<W: Sink>(&self, s: &mut Serializer<W>) -> Result<(), Error> {
+        s.serialize_f32(*self)
+    }
+}
+
+/// A double.
+impl Serialize for Double {
+    ghost item = { λ x. scalar (double x.0) };
+
+    fn is_null(&self) -> bool {
+        false
+    }
+
+    fn serialize<W: Sink>(&self, s: &mut Serializer<W>) -> Result<(), Error> {
+        s.serialize_f64(*self)
+    }
+}
+
+/// A char.
+impl Serialize for char {
+    ghost item = { λ c. scalar (char c) };
+
+    fn is_null(&self) -> bool {
+        false
+    }
+
+    fn serialize<W: Sink>(&self, s: &mut Serializer<W>) -> Result<(), Error> {
+        s.serialize_char(*self)
     }
 }
 

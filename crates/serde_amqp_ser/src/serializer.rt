@@ -67,7 +67,7 @@ impl<W: Sink> Serializer<W> {
 
     /// Writes a wide form.
     #[tactic(auto, using(crate::proofs::Grown::growing, crate::proofs::Heads::begins))]
-    fn put_wide(&mut self, code: u8, body: &[u8]) -> Result<(), Error>
+    pub(crate) fn put_wide(&mut self, code: u8, body: &[u8]) -> Result<(), Error>
         ensures ok { OnOk result (behind (state_of W.written self.old) (settled (place_of self.old.element) (code, body.now)) ≡ Some (state_of W.written self.new)) }
         ensures kept { Keeps (W.written self.old.writer) (W.written self.new.writer) }
         ensures refused { OnlyWhere result (behind (state_of W.written self.old) (settled (place_of self.old.element) (code, body.now))) }
@@ -80,7 +80,7 @@ impl<W: Sink> Serializer<W> {
 
     /// Writes a value with a size: the size in one byte up to 254 bytes and outside of arrays, else in four.
     #[tactic(auto, using(crate::proofs::Grown::growing, crate::proofs::Heads::begins))]
-    fn put_sized(&mut self, narrow: u8, wide: u8, content: &[u8]) -> Result<(), Error>
+    pub(crate) fn put_sized(&mut self, narrow: u8, wide: u8, content: &[u8]) -> Result<(), Error>
         ensures ok { OnOk result (behind (state_of W.written self.old) (sized_placed (place_of self.old.element) narrow wide content.now) ≡ Some (state_of W.written self.new)) }
         ensures kept { Keeps (W.written self.old.writer) (W.written self.new.writer) }
         ensures refused { OnlyWhere result (behind (state_of W.written self.old) (sized_placed (place_of self.old.element) narrow wide content.now)) }

@@ -1,5 +1,5 @@
 use crate::{IsArrayElement, Serializer, append_to_vec, serialize_record, serialized_size, to_vec};
-use serde_amqp_item::Error;
+use serde_amqp_item::{Double, Error, Float};
 use std::alloc::Global;
 use std::test::Fail;
 
@@ -24,6 +24,123 @@ fn scalars(rt: HostRuntime) -> Result<(), Fail> {
     );
     assert_eq!(rt; to_vec(alloc, &Some(&true))?.as_slice(), [0x41].as_slice());
     assert_eq!(rt; to_vec(alloc, &None::<bool>)?.as_slice(), [0x40].as_slice());
+    Ok(())
+}
+
+#[test]
+fn signed_numbers(rt: HostRuntime) -> Result<(), Fail> {
+    let alloc = rt.alloc();
+    assert_eq!(rt; to_vec(alloc, &255u8)?.as_slice(), [0x50, 255].as_slice());
+    assert_eq!(rt; to_vec(alloc, &-1i8)?.as_slice(), [0x51, 0xff].as_slice());
+    assert_eq!(rt;
+        to_vec(alloc, &-2i16)?.as_slice(),
+        [0x61, 0xff, 0xfe].as_slice()
+    );
+    assert_eq!(rt; to_vec(alloc, &0i32)?.as_slice(), [0x54, 0].as_slice());
+    assert_eq!(rt; to_vec(alloc, &127i32)?.as_slice(), [0x54, 0x7f].as_slice());
+    assert_eq!(rt;
+        to_vec(alloc, &-128i32)?.as_slice(),
+        [0x54, 0x80].as_slice()
+    );
+    assert_eq!(rt;
+        to_vec(alloc, &128i32)?.as_slice(),
+        [0x71, 0, 0, 0, 0x80].as_slice()
+    );
+    assert_eq!(rt;
+        to_vec(alloc, &-129i32)?.as_slice(),
+        [0x71, 0xff, 0xff, 0xff, 0x7f].as_slice()
+    );
+    assert_eq!(rt; to_vec(alloc, &127i64)?.as_slice(), [0x55, 0x7f].as_slice());
+    assert_eq!(rt;
+        to_vec(alloc, &-128i64)?.as_slice(),
+        [0x55, 0x80].as_slice()
+    );
+    assert_eq!(rt;
+        to_vec(alloc, &128i64)?.as_slice(),
+        [0x81, 0, 0, 0, 0, 0, 0, 0, 0x80].as_slice()
+    );
+    assert_eq!(rt;
+        to_vec(alloc, &-129i64)?.as_slice(),
+        [0x81, 0xff, 0xff, 0xff, 0xff, 0xff, 0xff, 0xff, 0x7f].as_slice()
+    );
+    Ok(())
+}
+
+#[test]
+fn fixed_widths(rt: HostRuntime) -> Result<(), Fail> {
+    let alloc = rt.alloc();
+    assert_eq!(rt;
+        to_vec(alloc, &Float::from_bits(0x3f80_0000))?.as_slice(),
+        [0x72, 0x3f, 0x80, 0, 0].as_slice()
+    );
+    assert_eq!(rt;
+        to_vec(alloc, &Double::from_bits(0xbff0_0000_0000_0000))?.as_slice(),
+        [0x82, 0xbf, 0xf0, 0, 0, 0, 0, 0, 0].as_slice()
+    );
+    assert_eq!(rt;
+        to_vec(alloc, &'\u{10ffff}')?.as_slice(),
+        [0x73, 0, 0x10, 0xff, 0xff].as_slice()
+    );
+    let mut s = Serializer::new(Vec::new(alloc));
+    s.serialize_timestamp(-1)?;
+    assert_eq!(rt;
+        s.into_inner().as_slice(),
+        [0x83, 0xff, 0xff, 0xff, 0xff, 0xff, 0xff, 0xff, 0xff].as_slice()
+    );
+    let mut s = Serializer::new(Vec::new(alloc));
+    s.serialize_uuid(b"0123456789abcdef")?;
+    s.serialize_decimal32(&[1, 2, 3, 4])?;
+    s.serialize_decimal64(b"01234567")?;
+    s.serialize_decimal128(b"fedcba9876543210")?;
+    assert_eq!(rt;
+        s.into_inner().as_slice(),
+        b"\x980123456789abcdef\x74\x01\x02\x03\x04\x8401234567\x94fedcba9876543210".as_slice()
+    );
+    Ok(())
+}
+
+#[test]
+fn binaries(rt: HostRuntime) -> Result<(), Fail> {
+    let alloc = rt.alloc();
+    let mut bytes = vec![in alloc; 7u8; 254]?;
+    let mut s = Serializer::new(Vec::new(alloc));
+    s.serialize_bytes(&bytes)?;
+    let text = s.into_inner();
+    assert_eq!(rt; text.len(), 256);
+    assert!(rt; text.starts_with(&[0xa0, 254, 7]));
+    bytes.push(7)?;
+    let mut s = Serializer::new(Vec::new(alloc));
+    s.serialize_bytes(&bytes)?;
+    let text = s.into_inner();
+    assert_eq!(rt; text.len(), 260);
+    assert!(rt; text.starts_with(&[0xb0, 0, 0, 0, 255, 7]));
+    Ok(())
+}
+
+#[test]
+fn absent_and_raw(rt: HostRuntime) -> Result<(), Fail> {
+    let alloc = rt.alloc();
+    let mut s = Serializer::new(Vec::new(alloc));
+    s.serialize_none()?;
+    s.serialize_some(&7u8)?;
+    s.serialize_raw(&[0x53, 16])?;
+    assert_eq!(rt; s.serialize_raw(&[]), Err(Error::InvalidValue));
+    assert_eq!(rt;
+        s.into_inner().as_slice(),
+        [0x40, 0x50, 7, 0x53, 16].as_slice()
+    );
+    let mut s = Serializer {
+        writer: Vec::new(alloc),
+        element: IsArrayElement::FirstElement,
+    };
+    assert_eq!(rt; s.serialize_raw(&[0x53, 16]), Err(Error::InvalidValue));
+    assert_eq!(rt; s.serialize_none(), Err(Error::InvalidValue));
+    s.serialize_i32(-1)?;
+    s.serialize_i32(5)?;
+    assert_eq!(rt;
+        s.into_inner().as_slice(),
+        [0x71, 0xff, 0xff, 0xff, 0xff, 0, 0, 0, 5].as_slice()
+    );
     Ok(())
 }
 

@@ -1,13 +1,14 @@
 ghost use Rattle.std.specs.Prelude.{◌≡◌, ◌==◌, length, map, IfOk, OnOk, Some, None};
 ghost use Rattle.std.specs.Slice.Iter.{iter_rest};
 ghost use Rattle.serde_amqp_item.specs.Item.{array, items_of};
-ghost use Rattle.serde_amqp_de.specs.Again.{array_faithful};
-ghost use Rattle.serde_amqp_de.specs.Reads.{At, TookOne, Refuses, Unless, at_of};
+ghost use Rattle.serde_amqp_de.specs.Again.{array_faithful, array_same_item};
+ghost use Rattle.serde_amqp_read.specs.Reads.{Unless};
+ghost use Rattle.serde_amqp_de.specs.Reads.{At, TookOne, Refuses, at_of};
 ghost use Rattle.serde_amqp_types.specs.Takes.{array_or_one_taken};
 ghost use Rattle.serde_amqp_types.specs.Deciding.{array_or_one_decided};
 ghost use Rattle.serde_amqp_types.specs.Again.{array_again};
 
-use serde_amqp_de::{Deserialize, Deserializer, Read, RoundTrip, read_array};
+use serde_amqp_de::{Deserialize, Deserializer, Faithful, Read, RoundTrip, read_array};
 use serde_amqp_item::{EncodingCodes, Error};
 use serde_amqp_ser::{Serialize, Serializer, Sink};
 use std::alloc::Global;
@@ -137,7 +138,11 @@ impl<T: Deserialize + Drop> Deserialize for Array<T> {
 }
 
 impl<T: RoundTrip + Drop> RoundTrip for Array<T> {
-    ghost again = { array_again T.take T.item T.again };
+    ghost same = { array_same_item T.Serialize.item T.Deserialize.item T.same };
 
-    ghost faithful = { array_faithful T.item T.faithful };
+    ghost again = { array_again T.take T.Deserialize.item T.again };
+}
+
+impl<T: Faithful + Drop> Faithful for Array<T> {
+    ghost faithful = { array_faithful T.Deserialize.item T.faithful };
 }

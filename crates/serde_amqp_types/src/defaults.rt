@@ -6,7 +6,7 @@ ghost use Rattle.serde_amqp_de.specs.Again.{ushort_faithful, uint_faithful, defa
 ghost use Rattle.serde_amqp_de.specs.Takes.{ushort_taken, uint_taken, option_taken, mapped, or_null, is_ushort, is_uint};
 ghost use Rattle.serde_amqp_de.specs.Deciding.{ushort_decided, uint_decided, option_decided, mapped_decided};
 
-use serde_amqp_de::{Deserialize, Deserializer, Read, RoundTrip};
+use serde_amqp_de::{Deserialize, Deserializer, Faithful, Read, RoundTrip};
 use serde_amqp_item::Error;
 use serde_amqp_ser::{Serialize, Serializer, Sink};
 use std::alloc::Global;
@@ -92,13 +92,21 @@ impl<const D: u16> Deserialize for UShortOr<D> {
 }
 
 impl<const D: u32> RoundTrip for UIntOr<D> {
-    ghost again = { λ x. default_again (is_uint D) uint_taken (scalar (uint x.0)) refl refl };
+    ghost same = { λ _. refl };
 
+    ghost again = { λ x. default_again (is_uint D) uint_taken (scalar (uint x.0)) refl refl };
+}
+
+impl<const D: u32> Faithful for UIntOr<D> {
     ghost faithful = { λ x y e. ap (λ (n : ℕ). record { 0 = n }) (uint_faithful x.0 y.0 (default_faithful (is_uint D) (scalar (uint x.0)) (scalar (uint y.0)) (one_uint D x.0 y.0) refl refl e)) };
 }
 
 impl<const D: u16> RoundTrip for UShortOr<D> {
-    ghost again = { λ x. default_again (is_ushort D) ushort_taken (scalar (ushort x.0)) refl refl };
+    ghost same = { λ _. refl };
 
+    ghost again = { λ x. default_again (is_ushort D) ushort_taken (scalar (ushort x.0)) refl refl };
+}
+
+impl<const D: u16> Faithful for UShortOr<D> {
     ghost faithful = { λ x y e. ap (λ (n : ℕ). record { 0 = n }) (ushort_faithful x.0 y.0 (default_faithful (is_ushort D) (scalar (ushort x.0)) (scalar (ushort y.0)) (one_ushort D x.0 y.0) refl refl e)) };
 }

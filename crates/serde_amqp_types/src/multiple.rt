@@ -4,10 +4,10 @@ ghost use Rattle.serde_amqp_de.specs.Takes.{several, multiple_taken};
 ghost use Rattle.std.specs.Prelude.{List};
 ghost use Rattle.std.proofs.Common.{ap};
 ghost use Rattle.serde_amqp_de.specs.Deciding.{multiple_decided};
-ghost use Rattle.serde_amqp_de.specs.Again.{multiple_again, several_faithful};
+ghost use Rattle.serde_amqp_de.specs.Again.{multiple_again, several_faithful, several_same_item};
 
 use crate::array::Array;
-use serde_amqp_de::{Deserialize, Deserializer, Read, RoundTrip, read_multiple};
+use serde_amqp_de::{Deserialize, Deserializer, Faithful, Read, RoundTrip, read_multiple};
 use serde_amqp_item::Error;
 use serde_amqp_ser::{Serialize, Serializer, Sink};
 use std::alloc::Global;
@@ -64,7 +64,11 @@ impl<T: Deserialize + Drop> Deserialize for Multiple<Array<T>> {
 }
 
 impl<T: RoundTrip + Drop> RoundTrip for Multiple<Array<T>> {
-    ghost again = { λ m. multiple_again T.take T.item T.again m.0 };
+    ghost same = { λ m. several_same_item T.Serialize.item T.Deserialize.item T.same m.0 };
 
-    ghost faithful = { λ x y e. ap (λ (a : List T). record { 0 = a }) (several_faithful T.item T.faithful x.0 y.0 e) };
+    ghost again = { λ m. multiple_again T.take T.Deserialize.item T.again m.0 };
+}
+
+impl<T: Faithful + Drop> Faithful for Multiple<Array<T>> {
+    ghost faithful = { λ x y e. ap (λ (a : List T). record { 0 = a }) (several_faithful T.Deserialize.item T.faithful x.0 y.0 e) };
 }

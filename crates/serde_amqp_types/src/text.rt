@@ -8,7 +8,7 @@ ghost use Rattle.serde_amqp_de.specs.Deciding.{string_decided};
 ghost use Rattle.std.specs.Prelude.{refl};
 ghost use Rattle.serde_amqp_types.specs.Faithful.{string_faithful};
 
-use serde_amqp_de::{Deserialize, Deserializer, NeverNull, Read, RoundTrip};
+use serde_amqp_de::{Deserialize, Deserializer, Faithful, NeverNull, Read, RoundTrip};
 use serde_amqp_item::Error;
 use serde_amqp_ser::{Serialize, Serializer, Sink};
 use std::alloc::{AllocError, Global};
@@ -145,8 +145,12 @@ impl Deserialize for Text {
 }
 
 impl RoundTrip for Text {
-    ghost again = { λ _. refl };
+    ghost same = { λ _. refl };
 
+    ghost again = { λ _. refl };
+}
+
+impl Faithful for Text {
     ghost faithful = { string_faithful };
 }
 

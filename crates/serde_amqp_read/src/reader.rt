@@ -1,7 +1,7 @@
 //! What is read from.
 ghost use Rattle.std.specs.Prelude.{◌≡◌, ◌<◌, ◌∷◌, ◌++◌, [], ℕ, Bool, List, length, IfOk, OnOk, OnErr};
 ghost use Rattle.serde_amqp_item.specs.declared.error.Error.{Error};
-ghost use Rattle.serde_amqp_de.specs.Reads.{Begins, Unless, faultless};
+ghost use Rattle.serde_amqp_read.specs.Reads.{Begins, Unless, faultless};
 
 use serde_amqp_item::Error;
 use std::alloc::Global;

@@ -1,0 +1,28 @@
+-- What a source of bytes says (nothing of AMQP): what comes next, and what a refusal tells of the bytes.
+use Rattle.std.specs.Prelude.{◌≡◌, ℕ, List, ◌∷◌, Bool, true, false, Result, Ok, Err}
+use Rattle.serde_amqp_item.specs.declared.error.Error.{Error}
+use Rattle.serde_amqp_item.specs.declared.error.Error.TheVariants.{Io, Memory}
+
+-- the first of these bytes
+pub record Begins (b : ℕ) (bytes : List ℕ) : Type 0 where
+  pub others : List ℕ
+  pub split : bytes ≡ b ∷ others
+
+-- where the reader itself is at fault nothing is said of the bytes
+abbrev pub Otherwise : Bool → Type 0 → Type 0
+Otherwise true P = Unit {0}
+Otherwise false P = P
+
+-- what a refusal says: want of memory and the faults of a reader say nothing
+abbrev pub Refusal : (Error → Bool) → Error → Type 0 → Type 0
+Refusal faulty Memory P = Unit {0}
+Refusal faulty (Io kind) P = Otherwise (faulty (Io kind)) P
+Refusal faulty e P = P
+
+abbrev pub Unless : {X : Type 0} → (Error → Bool) → Result X Error → Type 0 → Type 0
+Unless faulty (Ok x) P = Unit {0}
+Unless faulty (Err e) P = Refusal faulty e P
+
+-- a reader that has no faults of its own
+abbrev pub faultless : Error → Bool
+faultless e = false
