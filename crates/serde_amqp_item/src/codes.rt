@@ -214,17 +214,22 @@ pub enum Category {
     Array(usize),
 }
 
+/// The constructor is that of described values, which are of no category: their value has one of its own.
+#[derive(Debug, Clone, Copy, PartialEq, Eq, thiserror::Error)]
+#[error("a described value has no category")]
+pub struct IsDescribed;
+
 impl TryFrom<EncodingCodes> for Category {
-    type Error = Error;
+    type Error = IsDescribed;
 
     /// The category of a constructor (part 1, section 1.6).
     ///
-    /// Errors: `InvalidFormatCode` exactly for the constructor of described values, which has none.
-    fn try_from(code: EncodingCodes) -> Result<Category, Error>
-        ensures { result ≡ ok_or (category_of (row_at (Some code))) InvalidFormatCode }
+    /// Errors: `IsDescribed` exactly for the constructor of described values, which has none.
+    fn try_from(code: EncodingCodes) -> Result<Category, IsDescribed>
+        ensures { result ≡ ok_or (category_of (row_at (Some code))) (record {}) }
     {
         match code {
-            EncodingCodes::DescribedType => Err(Error::InvalidFormatCode),
+            EncodingCodes::DescribedType => Err(IsDescribed),
             EncodingCodes::Null
             | EncodingCodes::BooleanTrue
             | EncodingCodes::BooleanFalse
@@ -343,7 +348,7 @@ mod tests {
         );
         assert_eq!(rt;
             Category::try_from(EncodingCodes::DescribedType),
-            Err(Error::InvalidFormatCode)
+            Err(IsDescribed)
         );
     }
 }

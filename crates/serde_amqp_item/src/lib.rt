@@ -7,7 +7,7 @@ mod error;
 mod floats;
 mod laws;
 
-pub use codes::{Category, EncodingCodes, code_of};
+pub use codes::{Category, EncodingCodes, IsDescribed, code_of};
 pub use constants::{
     DESCRIBED_BASIC, DESCRIBED_LIST, DESCRIBED_MAP, DESCRIPTOR, MAX_ARRAY_COUNT, OFFSET_ARRAY8,
     OFFSET_ARRAY32, OFFSET_LIST8, OFFSET_LIST32, OFFSET_MAP8, OFFSET_MAP32, UNTAGGED_ENUM, VALUE,

@@ -1,4 +1,5 @@
 pub mod Arrayed
+pub mod Begun
 pub mod Counted
 pub mod Fronts
 pub mod Grown

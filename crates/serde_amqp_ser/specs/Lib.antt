@@ -2,3 +2,4 @@ pub mod Written
 pub mod Puts
 pub mod Whole
 pub mod Sizes
+pub mod Open

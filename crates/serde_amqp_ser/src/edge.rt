@@ -15,9 +15,9 @@ fn counted<T: Serialize>(value: &T) -> Result<u128, Error>
     ensures ok { IfOk result (λ n. (text : List ℕ) × (canon (T.item value.now) ≡ Some text) × (n ≡ capped (length text))) }
     ensures refused { IfErr result (λ e. (e ≢ Error.Memory) × (canon (T.item value.now) ≡ None)) }
 {
-    let mut s = Serializer::new(Counter { count: 0 });
+    let mut s = Serializer::new(Counter::new());
     value.serialize(&mut s)?;
-    Ok(s.writer.count.min(1 << 64))
+    Ok(s.writer.count())
 }
 
 /// How many bytes the canonical text of a value has, counted without memory. Refuses a value that has

@@ -3,6 +3,8 @@
 
 mod compound;
 mod edge;
+mod maps;
+mod opened;
 mod place;
 mod record;
 mod scalars;
@@ -11,8 +13,10 @@ mod serializer;
 mod sink;
 #[cfg(test)]
 mod tests;
+mod tuples;
 
 pub use edge::{append_to_vec, serialized_size, to_vec};
+pub use opened::Opened;
 pub use place::IsArrayElement;
 pub use record::{Fields, serialize_record};
 pub use serialize::Serialize;

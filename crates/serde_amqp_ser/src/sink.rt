@@ -4,6 +4,7 @@ ghost use Rattle.serde_amqp_ser.specs.Written.{Written, extended, inside, capped
 ghost use Rattle.serde_amqp_ser.specs.Whole.{whole_capped};
 
 use serde_amqp_item::Error;
+use std::marker::Model;
 
 /// A place to write bytes to. There are two: a [`Counter`], which only counts, and a `Vec<u8>`.
 pub trait Sink {
@@ -41,45 +42,79 @@ pub trait Sink {
     ghost whole: { (s : Self) → extended (written s) [] ≡ written s };
 }
 
-/// Only counts, up to 2^64: what is longer counts as 2^64 bytes.
+/// Only counts, up to 2^64: what is longer counts as 2^64 bytes. A clause sees the number of bytes.
 #[derive(Debug, Drop)]
 pub struct Counter {
-    pub count: u128,
+    count: u64,
+    /// Whether there are 2^64 bytes or more.
+    over: bool,
 }
 
-const MOST: u128 = 1 << 64;
+impl Model for Counter {
+    ghost Value = { ℕ };
 
-/// Adds to a count of bytes.
-fn add(count: u128, more: u128) -> u128
-    ensures { result ≡ capped (count + more) }
-{
-    count.saturating_add(more).min(MOST)
+    ghost view = { λ c. if c.over then 2 ^ 64 else c.count };
+}
+
+impl Counter {
+    /// Counts from 0.
+    pub fn new() -> Counter
+        ensures { result ≡ 0 }
+    {
+        Counter {
+            count: 0,
+            over: false,
+        }
+    }
+
+    /// How many bytes there are, up to 2^64.
+    pub fn count(&self) -> u128
+        ensures { result ≡ capped self.now }
+    {
+        if self.over {
+            return 1 << 64;
+        }
+        self.count as u128
+    }
+
+    /// Counts more bytes.
+    fn add(&mut self, more: u64)
+        ensures { capped self.new ≡ capped (self.old + more) }
+    {
+        match self.count.checked_add(more) {
+            Some(count) => self.count = count,
+            None => self.over = true,
+        }
+    }
 }
 
 impl Sink for Counter {
-    ghost written = { λ s. record { size = capped s.count; bytes = None } };
+    ghost written = { λ n. record { size = capped n; bytes = None } };
 
     ghost begins = { λ _. 0 };
 
     ghost takes_memory = { false };
 
-    ghost whole = { λ s. whole_capped s.count None };
+    ghost whole = { λ n. whole_capped n None };
 
     #[tactic(auto, unfolding(crate::specs::Written::extended))]
     fn put(&mut self, bytes: &[u8]) -> Result<(), Error> {
-        self.count = add(self.count, bytes.len() as u128);
+        self.add(bytes.len() as u64);
         Ok(())
     }
 
     #[tactic(auto, unfolding(crate::specs::Written::extended, crate::specs::Written::inside))]
     fn open(&mut self) -> u128 {
-        let start = add(self.count, 0);
-        self.count = 0;
+        let start = self.count();
+        *self = Counter::new();
         start
     }
 
     #[tactic(auto, unfolding(crate::specs::Written::extended, crate::specs::Written::inside))]
     fn content_len(&self, _start: u128) -> Option<u32> {
+        if self.over {
+            return None;
+        }
         if self.count >= 1 << 32 {
             return None;
         }
@@ -88,7 +123,11 @@ impl Sink for Counter {
 
     #[tactic(auto, unfolding(crate::specs::Written::extended, crate::specs::Written::inside))]
     fn close(&mut self, start: u128, head: &[u8]) -> Result<(), Error> {
-        self.count = add(add(self.count, head.len() as u128), start);
+        self.add(head.len() as u64);
+        match u64::try_from(start) {
+            Ok(start) => self.add(start),
+            Err(_) => self.over = true,
+        }
         Ok(())
     }
 }

@@ -1,6 +1,7 @@
 use crate::{IsArrayElement, Serializer, append_to_vec, serialize_record, serialized_size, to_vec};
 use serde_amqp_item::{Double, Error, Float};
 use std::alloc::Global;
+use std::collections::BTreeMap;
 use std::test::Fail;
 
 #[test]
@@ -220,6 +221,86 @@ fn arrays(rt: HostRuntime) -> Result<(), Fail> {
         0xe0, 19, 2, 0xd0, 0, 0, 0, 5, 0, 0, 0, 1, 0x41, 0, 0, 0, 4, 0, 0, 0, 0,
     ];
     assert_eq!(rt; s.into_inner().as_slice(), wide.as_slice());
+    Ok(())
+}
+
+#[test]
+fn tuples(rt: HostRuntime) -> Result<(), Fail> {
+    let alloc = rt.alloc();
+    assert_eq!(rt;
+        to_vec(alloc, &(7u8,))?.as_slice(),
+        [0xc0, 3, 1, 0x50, 7].as_slice()
+    );
+    assert_eq!(rt;
+        to_vec(alloc, &(1u32, true))?.as_slice(),
+        [0xc0, 4, 2, 0x52, 1, 0x41].as_slice()
+    );
+    assert_eq!(rt;
+        to_vec(alloc, &(true, false, ()))?.as_slice(),
+        [0xc0, 4, 3, 0x41, 0x42, 0x40].as_slice()
+    );
+    assert_eq!(rt;
+        to_vec(alloc, &(-1i32, "a", (), 0u64))?.as_slice(),
+        [0xc0, 8, 4, 0x54, 0xff, 0xa1, 1, b'a', 0x40, 0x44].as_slice()
+    );
+    let mut s = Serializer::new(Vec::new(alloc));
+    s.serialize_array(&[(true,), (false,)])?;
+    let wide = [
+        0xe0, 20, 2, 0xd0, 0, 0, 0, 5, 0, 0, 0, 1, 0x41, 0, 0, 0, 5, 0, 0, 0, 1, 0x42,
+    ];
+    assert_eq!(rt; s.into_inner().as_slice(), wide.as_slice());
+    Ok(())
+}
+
+#[test]
+fn maps(rt: HostRuntime) -> Result<(), Fail> {
+    let alloc = rt.alloc();
+    let mut flags = BTreeMap::new(alloc);
+    assert_eq!(rt; to_vec(alloc, &flags)?.as_slice(), [0xc1, 1, 0].as_slice());
+    flags.insert(2u8, false)?;
+    flags.insert(1u8, true)?;
+    assert_eq!(rt;
+        to_vec(alloc, &flags)?.as_slice(),
+        [0xc1, 7, 4, 0x50, 1, 0x41, 0x50, 2, 0x42].as_slice()
+    );
+    for n in 0..84u8 {
+        flags.insert(n, true)?;
+    }
+    let text = to_vec(alloc, &flags)?;
+    assert_eq!(rt; text.len(), 255);
+    assert!(rt; text.starts_with(&[0xc1, 253, 168, 0x50, 0, 0x41]));
+    flags.insert(84u8, true)?;
+    let text = to_vec(alloc, &flags)?;
+    assert_eq!(rt; text.len(), 264);
+    assert!(rt; text.starts_with(&[0xd1, 0, 0, 1, 3, 0, 0, 0, 170, 0x50, 0, 0x41]));
+    Ok(())
+}
+
+#[test]
+fn maps_in_place(rt: HostRuntime) -> Result<(), Fail> {
+    let alloc = rt.alloc();
+    let mut s = Serializer::new(Vec::new(alloc));
+    let opened = s.begin_compound();
+    s.serialize_pair(&"a", &1u32)?;
+    s.serialize_pair(&(), &"b")?;
+    s.end_map(opened, 2)?;
+    assert_eq!(rt;
+        s.into_inner().as_slice(),
+        [0xc1, 10, 4, 0xa1, 1, b'a', 0x52, 1, 0x40, 0xa1, 1, b'b'].as_slice()
+    );
+    let mut s = Serializer {
+        writer: Vec::new(alloc),
+        element: IsArrayElement::OtherElement(0xd0),
+    };
+    let opened = s.begin_compound();
+    assert_eq!(rt; s.end_map(opened, 0), Err(Error::InvalidValue));
+    let opened = s.begin_compound();
+    s.serialize_none()?;
+    s.end_list(opened, 1)?;
+    assert_eq!(rt;
+        s.into_inner().as_slice(),
+        [0, 0, 0, 5, 0, 0, 0, 1, 0x40].as_slice()
+    );
     Ok(())
 }
 

@@ -1,0 +1,19 @@
+//! Writes, counts or reads a value a number of times, so that the instructions that it takes can be counted.
+//!
+//! A line of standard input has the work (`encode`, `count` or `decode`), the value, its size, and how many times it is
+//! done. The bytes of all the values together are printed.
+#![tactic(auto)]
+
+mod work;
+
+use anyhow::{Context, Result};
+use work::Work;
+
+fn main(rt: HostRuntime) -> Result<()> {
+    let mut line = String::new(rt.alloc());
+    rt.read_line(&mut line)?;
+    let work = Work::parse(line.trim()).context("no work is named so")?;
+    let bytes = work.run(rt.alloc())?;
+    println!(rt; "{bytes} bytes")?;
+    Ok(())
+}

@@ -1,0 +1,31 @@
+-- A list or a map that is being written, item by item.
+use Rattle.std.specs.Prelude.{◌≡◌, ℕ, List, [], ◌∷◌, Some}
+use Rattle.std.specs.Prelude.{map as each}
+use Rattle.serde_amqp_item.specs.Item.{Item, map, items_of, pairs_of}
+use Rattle.serde_amqp_item.specs.Canon.{alone}
+use Rattle.serde_amqp_ser.specs.Written.{Written, inside}
+use Rattle.serde_amqp_ser.specs.Puts.{State, listed, place_of}
+use Rattle.serde_amqp_ser.specs.declared.opened.Opened.{Opened}
+
+-- these items stand, outside of arrays, behind what a sink held as a list or a map began
+pub record IsOpen (begins : ℕ → ℕ) (before : Written) (xs : List Item) (now : State) : Type 0 where
+  pub items : listed (inside begins before) (items_of xs) ≡ Some now.written
+  pub outside : now.place ≡ alone
+
+-- a list or a map began at this state
+pub record IsMark (s : State) (o : Opened) : Type 0 where
+  pub start : s.written.size ≡ o.start
+  pub outer : place_of o.outer ≡ s.place
+
+-- the keys and the values of a map, in turn (section 1.6.23)
+abbrev pub in_turn : List (Item × Item) → List Item
+in_turn [] = []
+in_turn (p ∷ ps) = p.0 ∷ p.1 ∷ in_turn ps
+
+-- the items of keys and values
+abbrev pub pair_items : {K V : Type 0} → (K → Item) → (V → Item) → List (K × V) → List (Item × Item)
+pair_items key value es = each (λ e. (key e.0, value e.1)) es
+
+-- a map of these keys and values, in order
+abbrev pub map_item : {K V : Type 0} → (K → Item) → (V → Item) → List (K × V) → Item
+map_item key value es = map (pairs_of (pair_items key value es))
