@@ -9,3 +9,5 @@ pub mod Sequences
 pub mod Descriptors
 pub mod Records
 pub mod Standard
+pub mod Maps
+pub mod Pairs

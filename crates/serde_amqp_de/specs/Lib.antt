@@ -5,3 +5,5 @@ pub mod Seen
 pub mod Decides
 pub mod Deciding
 pub mod Again
+pub mod Maps
+pub mod MapLaws

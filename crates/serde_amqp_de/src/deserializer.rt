@@ -142,7 +142,7 @@ impl<R: Read> Deserializer<R> {
     }
 
     /// Reads the constructor of the next value.
-    fn code(&mut self) -> Result<EncodingCodes, Error>
+    pub(crate) fn code(&mut self) -> Result<EncodingCodes, Error>
         ensures ok { IfOk result (λ code. Head self.old.element (at_of R.rest self.old) (at_of R.rest self.new) code) }
         ensures element { self.new.element ≡ self.old.element }
         ensures refused { Unless R.faulty result (NoHead self.old.element (R.rest self.old.reader)) }
@@ -343,7 +343,7 @@ impl<R: Read> Deserializer<R> {
 
     /// Reads a size and a count of one byte each.
     #[tactic(auto, using(crate::proofs::Lists::counting))]
-    fn count8(&mut self) -> Result<(u8, u8), Error>
+    pub(crate) fn count8(&mut self) -> Result<(u8, u8), Error>
         ensures ok { IfOk result (λ s. ReadCount one_byte (at_of R.rest self.old) (at_of R.rest self.new) s.0 s.1) }
         ensures element { self.new.element ≡ self.old.element }
         ensures end { Unless R.faulty result (length (R.rest self.old.reader) < 2) }
@@ -355,7 +355,7 @@ impl<R: Read> Deserializer<R> {
 
     /// Reads a size and a count of four bytes each.
     #[tactic(auto, using(crate::proofs::Lists::counting))]
-    fn count32(&mut self) -> Result<(u32, u32), Error>
+    pub(crate) fn count32(&mut self) -> Result<(u32, u32), Error>
         ensures ok { IfOk result (λ s. ReadCount four_bytes (at_of R.rest self.old) (at_of R.rest self.new) s.0 s.1) }
         ensures element { self.new.element ≡ self.old.element }
         ensures end { Unless R.faulty result (length (R.rest self.old.reader) < 8) }

@@ -163,13 +163,15 @@ impl Sink for Vec<u8> {
 
     #[tactic(auto, unfolding(crate::specs::Written::extended, crate::specs::Written::inside))]
     fn close(&mut self, start: u128, head: &[u8]) -> Result<(), Error> {
-        let len = self.len() as u128;
+        let len = self.len();
         self.extend_from_slice(head)?;
-        if start > len {
+        if start > len as u128 {
             return Ok(());
         }
-        let tail = &mut self[start as usize..];
-        tail.rotate_right(head.len());
+        let start = start as usize;
+        let content = start + head.len();
+        self.copy_within(start..len, content);
+        self[start..content].copy_from_slice(head);
         Ok(())
     }
 }

@@ -1,0 +1,4 @@
+pub mod Compared
+pub mod Drained
+pub mod Lends
+pub mod Pairs
