@@ -4,6 +4,8 @@
 //! done. The bytes of all the values together are printed.
 #![tactic(auto)]
 
+mod record;
+mod values;
 mod work;
 
 use anyhow::{Context, Result};

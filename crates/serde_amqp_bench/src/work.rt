@@ -1,3 +1,4 @@
+use crate::values;
 use serde_amqp::{Deserialize, Error, Serialize, from_slice, serialized_size, to_vec};
 use std::alloc::Global;
 
@@ -17,6 +18,14 @@ pub enum Way {
 pub enum Shape {
     /// A list of small uints.
     List,
+    /// Composites as Open is, with two arrays of eight symbols and a map of eight entries.
+    Record,
+    /// Binary of 64 KiB, so many times.
+    Binary,
+    /// Composites nested eight deep.
+    Nested,
+    /// Composites with the fields of such a nest side by side.
+    Flat,
 }
 
 /// Work to be counted.
@@ -40,6 +49,10 @@ fn way_of(name: &str) -> Option<Way> {
 fn shape_of(name: &str) -> Option<Shape> {
     match name {
         "list" => Some(Shape::List),
+        "record" => Some(Shape::Record),
+        "binary" => Some(Shape::Binary),
+        "nested" => Some(Shape::Nested),
+        "flat" => Some(Shape::Flat),
         _ => None,
     }
 }
@@ -61,7 +74,11 @@ impl Work {
     /// Does the work, and says how many bytes were written, counted or read.
     pub fn run(self, alloc: Global) -> Result<u64, Error> {
         match self.shape {
-            Shape::List => self.repeat(alloc, &numbers(alloc, self.size)?),
+            Shape::List => self.repeat(alloc, &values::numbers(alloc, self.size)?),
+            Shape::Record => self.repeat(alloc, &values::open_likes(alloc, self.size)?),
+            Shape::Binary => self.repeat(alloc, &values::binary(alloc, self.size)?),
+            Shape::Nested => self.repeat(alloc, &values::nested(alloc, self.size)?),
+            Shape::Flat => self.repeat(alloc, &values::flat(alloc, self.size)?),
         }
     }
 
@@ -85,13 +102,4 @@ impl Work {
         }
         Ok(bytes)
     }
-}
-
-/// So many small numbers.
-fn numbers(alloc: Global, count: usize) -> Result<Vec<u32>, Error> {
-    let mut numbers = Vec::with_capacity(alloc, count)?;
-    for _ in 0..count {
-        numbers.push(7u32)?;
-    }
-    Ok(numbers)
 }

@@ -1,5 +1,6 @@
 pub mod Heads
 pub mod Scalars
+pub mod Fixed
 pub mod Sized
 pub mod Lists
 pub mod Arrays

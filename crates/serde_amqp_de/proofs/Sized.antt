@@ -3,13 +3,13 @@ use Rattle.std.proofs.Common.{◌≡◌, ◌≢◌, ℕ, ◌<◌, List, ◌++◌
 use Rattle.std.specs.Str.{IsUtf8, is_utf8}
 use Rattle.std.proofs.lemmas.Str.{IsUtf8-from_is_utf8, is_utf8-from_IsUtf8}
 use Rattle.serde_amqp_item.specs.declared.codes.EncodingCodes.{EncodingCodes}
-use Rattle.serde_amqp_item.specs.declared.codes.EncodingCodes.TheVariants.{Str8, Str32, Sym8, Sym32}
-use Rattle.serde_amqp_item.specs.Item.{Scalar, string, symbol, Item, scalar, raw, list, map, array, described}
+use Rattle.serde_amqp_item.specs.declared.codes.EncodingCodes.TheVariants.{Vbin8, Vbin32, Str8, Str32, Sym8, Sym32}
+use Rattle.serde_amqp_item.specs.Item.{Scalar, binary, string, symbol, Item, scalar, raw, list, map, array, described}
 use Rattle.serde_amqp_item.specs.Wire.{Width, one_byte, four_bytes, room, field, row_at, Row, variable, string_at, symbol_at, Form, ScalarForm, IsSized, IsCapped, IsStrict}
-use Rattle.serde_amqp_item.specs.Kind.{kind_at, string_kind, symbol_kind}
+use Rattle.serde_amqp_item.specs.Kind.{kind_at, binary_kind, string_kind, symbol_kind}
 use Rattle.serde_amqp_item.proofs.Forms.{field_same, append_same}
 use Rattle.serde_amqp_de.specs.Reads.{At, Moves, Head, Reads, Refuses, ReadSized, NoSized, ReadText, NoText}
-use Rattle.serde_amqp_de.specs.Takes.{TakesOnly, string_taken, symbol_taken}
+use Rattle.serde_amqp_de.specs.Takes.{TakesOnly, binary_taken, string_taken, symbol_taken}
 use Rattle.serde_amqp_de.proofs.Heads.{moves_then, head_form, refuse_by, wrong_kind}
 
 field_length : (w : Width) (n : ℕ) → length (field w n) ≡ length (field w 0)
@@ -144,3 +144,37 @@ pub no_symbol32 : (k : Option ℕ) (old mid : At) → Head k old mid Sym32 → N
 no_symbol32 k old mid h n = text_refuses symbol_taken k old mid Sym32 four_bytes symbol_at (λ t. refl) h refl (λ c e. rw e refl) n
 
 pub ruleset symbols = (wrong_symbol, symbol8, symbol32, no_symbol8, no_symbol32)
+
+size_refuses : (take : Item → Option Item) (k : Option ℕ) (old mid : At) (code : EncodingCodes) (w : Width) (read : List ℕ → Option Scalar) → ((text : List ℕ) → take (raw text) ≡ None) → Head k old mid code → row_at (Some code) ≡ variable w read → NoSized w mid.rest → Refuses take k old
+size_refuses take k old mid code w read plain h r n = record {
+  none = refuse_by take k old mid code plain h (λ x a more f e.
+      let v = variable_parts x w read a (subst (λ (row : Row). Form IsCapped IsStrict x None row a) r f) in
+      absurd (n.none v.0 a more v.2 e));
+}
+
+only_binary : TakesOnly binary_taken binary_kind
+only_binary (scalar (binary bs)) p = absurd (p refl)
+only_binary (scalar s) p = refl
+only_binary x p = refl
+
+not_binary : (code : EncodingCodes) → code ≢ Vbin8 → code ≢ Vbin32 → kind_at code ≢ binary_kind
+not_binary Vbin8 p q = absurd (p refl)
+not_binary Vbin32 p q = absurd (q refl)
+not_binary code p q = λ e. cc
+
+pub wrong_binary : (k : Option ℕ) (old mid : At) (code : EncodingCodes) → Head k old mid code → code ≢ Vbin8 → code ≢ Vbin32 → Refuses binary_taken k old
+wrong_binary k old mid code h p q = wrong_kind binary_taken binary_kind k old mid code only_binary (λ e. cc) h (not_binary code p q)
+
+pub binary8 : (k : Option ℕ) (old mid new : At) (content : List ℕ) → Head k old mid Vbin8 → ReadSized one_byte mid new content → Reads k old new (scalar (binary content))
+binary8 k old mid new content h z = variable_read k old mid new Vbin8 one_byte content _ (binary content) h refl z refl
+
+pub binary32 : (k : Option ℕ) (old mid new : At) (content : List ℕ) → Head k old mid Vbin32 → ReadSized four_bytes mid new content → Reads k old new (scalar (binary content))
+binary32 k old mid new content h z = variable_read k old mid new Vbin32 four_bytes content _ (binary content) h refl z refl
+
+pub no_binary8 : (k : Option ℕ) (old mid : At) → Head k old mid Vbin8 → NoSized one_byte mid.rest → Refuses binary_taken k old
+no_binary8 k old mid h n = size_refuses binary_taken k old mid Vbin8 one_byte _ (λ t. refl) h refl n
+
+pub no_binary32 : (k : Option ℕ) (old mid : At) → Head k old mid Vbin32 → NoSized four_bytes mid.rest → Refuses binary_taken k old
+no_binary32 k old mid h n = size_refuses binary_taken k old mid Vbin32 four_bytes _ (λ t. refl) h refl n
+
+pub ruleset binaries = (wrong_binary, binary8, binary32, no_binary8, no_binary32)

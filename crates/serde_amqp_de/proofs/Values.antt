@@ -1,12 +1,13 @@
 -- Values read by their types.
 use Rattle.std.proofs.Common.{◌≡◌, ◌≢◌, ℕ, List, ◌++◌, Bool, Option, Some, None, sym, ◌∙◌, ap, subst, refl}
+use Rattle.std.specs.Prelude.{ℤ}
 use Rattle.serde_amqp_item.specs.declared.codes.EncodingCodes.{EncodingCodes}
 use Rattle.serde_amqp_item.specs.declared.codes.EncodingCodes.TheVariants.{Null}
-use Rattle.serde_amqp_item.specs.Item.{Item, raw, list, map, array, described, scalar, null, boolean, ushort, uint, ulong, string}
+use Rattle.serde_amqp_item.specs.Item.{Item, raw, list, map, array, described, scalar, null, boolean, ubyte, ushort, uint, ulong, byte, short, int, long, float, double, char, string}
 use Rattle.serde_amqp_item.specs.Wire.{Wire}
 use Rattle.serde_amqp_item.specs.Kind.{Kind, kind_at, null_kind}
 use Rattle.serde_amqp_de.specs.Reads.{At, Foresees, Reads, Refuses, Took}
-use Rattle.serde_amqp_de.specs.Takes.{kind_seen, unless_null, null_taken, boolean_taken, ushort_taken, uint_taken, ulong_taken, string_taken, option_taken}
+use Rattle.serde_amqp_de.specs.Takes.{kind_seen, unless_null, null_taken, ubyte_taken, byte_taken, short_taken, int_taken, long_taken, float_taken, double_taken, char_taken, boolean_taken, ushort_taken, uint_taken, ulong_taken, string_taken, option_taken}
 use Rattle.serde_amqp_de.specs.Seen.{form_seen}
 use Rattle.serde_amqp_de.specs.Deciding.{option_same}
 use Rattle.serde_amqp_de.proofs.Heads.{behind_head, no_head_refuses}
@@ -31,6 +32,32 @@ pub took_string : (k : Option ℕ) (old new : At) (bs : List ℕ) → Reads k ol
 took_string k old new bs r = record { item = scalar (string bs); reads = r; taken = refl }
 
 pub ruleset taking = (took_null, took_boolean, took_ushort, took_uint, took_ulong, took_string)
+
+pub took_ubyte : (k : Option ℕ) (old new : At) (n : ℕ) → Reads k old new (scalar (ubyte n)) → Took ubyte_taken k old new (scalar (ubyte n))
+took_ubyte k old new n r = record { item = scalar (ubyte n); reads = r; taken = refl }
+
+pub took_byte : (k : Option ℕ) (old new : At) (z : ℤ) → Reads k old new (scalar (byte z)) → Took byte_taken k old new (scalar (byte z))
+took_byte k old new z r = record { item = scalar (byte z); reads = r; taken = refl }
+
+pub took_short : (k : Option ℕ) (old new : At) (z : ℤ) → Reads k old new (scalar (short z)) → Took short_taken k old new (scalar (short z))
+took_short k old new z r = record { item = scalar (short z); reads = r; taken = refl }
+
+pub took_int : (k : Option ℕ) (old new : At) (z : ℤ) → Reads k old new (scalar (int z)) → Took int_taken k old new (scalar (int z))
+took_int k old new z r = record { item = scalar (int z); reads = r; taken = refl }
+
+pub took_long : (k : Option ℕ) (old new : At) (z : ℤ) → Reads k old new (scalar (long z)) → Took long_taken k old new (scalar (long z))
+took_long k old new z r = record { item = scalar (long z); reads = r; taken = refl }
+
+pub took_float : (k : Option ℕ) (old new : At) (n : ℕ) → Reads k old new (scalar (float n)) → Took float_taken k old new (scalar (float n))
+took_float k old new n r = record { item = scalar (float n); reads = r; taken = refl }
+
+pub took_double : (k : Option ℕ) (old new : At) (n : ℕ) → Reads k old new (scalar (double n)) → Took double_taken k old new (scalar (double n))
+took_double k old new n r = record { item = scalar (double n); reads = r; taken = refl }
+
+pub took_char : (k : Option ℕ) (old new : At) (n : ℕ) → Reads k old new (scalar (char n)) → Took char_taken k old new (scalar (char n))
+took_char k old new n r = record { item = scalar (char n); reads = r; taken = refl }
+
+pub ruleset numbers = (took_ubyte, took_byte, took_short, took_int, took_long, took_float, took_double, took_char)
 
 -- the type of an item whose constructor was foreseen
 pub foreseen_seen : (k : Option ℕ) (old : At) (code : EncodingCodes) (x : Item) (f more : List ℕ) → Foresees k old code → Wire x k f → old.rest ≡ f ++ more → kind_seen x ≡ Some (kind_at code)

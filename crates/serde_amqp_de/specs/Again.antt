@@ -1,8 +1,10 @@
 -- A value's item is taken as that value, and says which value it is.
 use Rattle.std.proofs.Common.{◌≡◌, ◌≢◌, ℕ, List, [], ◌∷◌, length, map, Bool, true, false, Option, Some, None, sym, ◌∙◌, ap, refl, arith}
-use Rattle.std.specs.Prelude.{◌==◌, ◌&&◌, if◌then◌else◌}
+use Rattle.std.specs.Prelude.{◌==◌, ◌&&◌, if◌then◌else◌, ℤ}
 use Rattle.std.proofs.lemmas.Bool.Decides.{nat_tests}
-use Rattle.serde_amqp_item.specs.Item.{Item, scalar, raw, null, boolean, ushort, uint, ulong, list, array, items_of, no_items}
+use Rattle.serde_amqp_item.specs.declared.floats.Float.{Float}
+use Rattle.serde_amqp_item.specs.declared.floats.Double.{Double}
+use Rattle.serde_amqp_item.specs.Item.{Item, scalar, raw, null, boolean, ubyte, ushort, uint, ulong, byte, short, int, long, float, double, char, list, array, items_of, no_items}
 use Rattle.serde_amqp_item.specs.Canon.{◌>>=◌}
 use Rattle.serde_amqp_item.specs.Kind.{null_kind}
 use Rattle.serde_amqp_item.specs.Record.{is_null, option_item, all_null, trimmed, record_item}
@@ -21,6 +23,30 @@ uint_faithful x y e = cc
 
 pub ulong_faithful : (x y : ℕ) → scalar (ulong x) ≡ scalar (ulong y) → x ≡ y
 ulong_faithful x y e = cc
+
+pub ubyte_faithful : (x y : ℕ) → scalar (ubyte x) ≡ scalar (ubyte y) → x ≡ y
+ubyte_faithful x y e = cc
+
+pub byte_faithful : (x y : ℤ) → scalar (byte x) ≡ scalar (byte y) → x ≡ y
+byte_faithful x y e = cc
+
+pub short_faithful : (x y : ℤ) → scalar (short x) ≡ scalar (short y) → x ≡ y
+short_faithful x y e = cc
+
+pub int_faithful : (x y : ℤ) → scalar (int x) ≡ scalar (int y) → x ≡ y
+int_faithful x y e = cc
+
+pub long_faithful : (x y : ℤ) → scalar (long x) ≡ scalar (long y) → x ≡ y
+long_faithful x y e = cc
+
+pub char_faithful : (x y : ℕ) → scalar (char x) ≡ scalar (char y) → x ≡ y
+char_faithful x y e = cc
+
+pub float_faithful : (x y : Float) → scalar (float x.0) ≡ scalar (float y.0) → x ≡ y
+float_faithful x y e = let bits : x.0 ≡ y.0 = cc in ap (λ (n : ℕ). record { 0 = n }) bits
+
+pub double_faithful : (x y : Double) → scalar (double x.0) ≡ scalar (double y.0) → x ≡ y
+double_faithful x y e = let bits : x.0 ≡ y.0 = cc in ap (λ (n : ℕ). record { 0 = n }) bits
 
 -- an item that isn't read as null is not seen to be
 pub not_seen_null : (x : Item) → reads_as_null x ≡ false → kind_seen x ≢ Some null_kind

@@ -1,7 +1,7 @@
 -- What a type makes of bytes is one value.
 use Rattle.std.proofs.Common.{◌≡◌, ◌≢◌, ℕ, List, [], ◌∷◌, ◌++◌, Option, Some, None, sym, ◌∙◌, ap, subst, refl, arith, ◌⊎◌, inl, inr}
 use Rattle.serde_amqp_item.specs.declared.codes.EncodingCodes.{EncodingCodes}
-use Rattle.serde_amqp_item.specs.Item.{null, boolean, ushort, uint, ulong, string, symbol, Item, scalar, raw, list, map, array, described, Items, no_items, more_items, items_of, item_count}
+use Rattle.serde_amqp_item.specs.Item.{null, boolean, ubyte, ushort, uint, ulong, byte, short, int, long, float, double, decimal32, decimal64, decimal128, char, timestamp, uuid, binary, string, symbol, Item, scalar, raw, list, map, array, described, Items, no_items, more_items, items_of, item_count}
 use Rattle.serde_amqp_item.specs.Wire.{Wire, Form, Forms, ScalarForm, IsCapped, IsStrict, own, code_of, row_at, row_of, AnyCount, NoRaw}
 use Rattle.serde_amqp_item.specs.Kind.{Kind, null_kind, list_kind, array_kind}
 use Rattle.serde_amqp_item.specs.Canon.{WithoutRaw, ◌>>=◌}
@@ -10,7 +10,7 @@ use Rattle.std.proofs.lemmas.List.{append_cancel_left}
 use Rattle.serde_amqp_item.specs.Record.{record_item}
 use Rattle.serde_amqp_item.proofs.Scalars.{chosen}
 use Rattle.serde_amqp_item.proofs.Forms.{wire_same}
-use Rattle.serde_amqp_de.specs.Takes.{null_taken, boolean_taken, ushort_taken, uint_taken, ulong_taken, string_taken, symbol_taken, option_taken, mapped, kind_seen, unless_null, each_taken, fields_taken, items_taken, elements_taken, sequence_taken, several, alone, unless_several, multiple_taken, descriptor_taken, list_with, record_taken}
+use Rattle.serde_amqp_de.specs.Takes.{null_taken, ubyte_taken, byte_taken, short_taken, int_taken, long_taken, float_taken, double_taken, decimal32_taken, decimal64_taken, decimal128_taken, char_taken, timestamp_taken, uuid_taken, binary_taken, boolean_taken, ushort_taken, uint_taken, ulong_taken, string_taken, symbol_taken, option_taken, mapped, kind_seen, unless_null, each_taken, fields_taken, items_taken, elements_taken, sequence_taken, several, alone, unless_several, multiple_taken, descriptor_taken, list_with, record_taken}
 use Rattle.serde_amqp_de.specs.Decides.{Decided, AllDecided}
 use Rattle.serde_amqp_de.specs.Apart.{apart, leads_one, Together, lists_together, arrays_together, described_together}
 use Rattle.serde_amqp_de.specs.Seen.{form_seen}
@@ -80,6 +80,118 @@ symbol_as_it_is x u e = absurd cc
 
 pub symbol_decided : Decided symbol_taken
 symbol_decided = as_it_is_decided symbol_taken symbol_as_it_is
+
+ubyte_as_it_is : AsItIs ubyte_taken
+ubyte_as_it_is (scalar (ubyte n)) u e = (cc, tt)
+ubyte_as_it_is (scalar s) u e = absurd cc
+ubyte_as_it_is x u e = absurd cc
+
+pub ubyte_decided : Decided ubyte_taken
+ubyte_decided = as_it_is_decided ubyte_taken ubyte_as_it_is
+
+byte_as_it_is : AsItIs byte_taken
+byte_as_it_is (scalar (byte n)) u e = (cc, tt)
+byte_as_it_is (scalar s) u e = absurd cc
+byte_as_it_is x u e = absurd cc
+
+pub byte_decided : Decided byte_taken
+byte_decided = as_it_is_decided byte_taken byte_as_it_is
+
+short_as_it_is : AsItIs short_taken
+short_as_it_is (scalar (short n)) u e = (cc, tt)
+short_as_it_is (scalar s) u e = absurd cc
+short_as_it_is x u e = absurd cc
+
+pub short_decided : Decided short_taken
+short_decided = as_it_is_decided short_taken short_as_it_is
+
+int_as_it_is : AsItIs int_taken
+int_as_it_is (scalar (int n)) u e = (cc, tt)
+int_as_it_is (scalar s) u e = absurd cc
+int_as_it_is x u e = absurd cc
+
+pub int_decided : Decided int_taken
+int_decided = as_it_is_decided int_taken int_as_it_is
+
+long_as_it_is : AsItIs long_taken
+long_as_it_is (scalar (long n)) u e = (cc, tt)
+long_as_it_is (scalar s) u e = absurd cc
+long_as_it_is x u e = absurd cc
+
+pub long_decided : Decided long_taken
+long_decided = as_it_is_decided long_taken long_as_it_is
+
+float_as_it_is : AsItIs float_taken
+float_as_it_is (scalar (float n)) u e = (cc, tt)
+float_as_it_is (scalar s) u e = absurd cc
+float_as_it_is x u e = absurd cc
+
+pub float_decided : Decided float_taken
+float_decided = as_it_is_decided float_taken float_as_it_is
+
+double_as_it_is : AsItIs double_taken
+double_as_it_is (scalar (double n)) u e = (cc, tt)
+double_as_it_is (scalar s) u e = absurd cc
+double_as_it_is x u e = absurd cc
+
+pub double_decided : Decided double_taken
+double_decided = as_it_is_decided double_taken double_as_it_is
+
+decimal32_as_it_is : AsItIs decimal32_taken
+decimal32_as_it_is (scalar (decimal32 bs)) u e = (cc, tt)
+decimal32_as_it_is (scalar s) u e = absurd cc
+decimal32_as_it_is x u e = absurd cc
+
+pub decimal32_decided : Decided decimal32_taken
+decimal32_decided = as_it_is_decided decimal32_taken decimal32_as_it_is
+
+decimal64_as_it_is : AsItIs decimal64_taken
+decimal64_as_it_is (scalar (decimal64 bs)) u e = (cc, tt)
+decimal64_as_it_is (scalar s) u e = absurd cc
+decimal64_as_it_is x u e = absurd cc
+
+pub decimal64_decided : Decided decimal64_taken
+decimal64_decided = as_it_is_decided decimal64_taken decimal64_as_it_is
+
+decimal128_as_it_is : AsItIs decimal128_taken
+decimal128_as_it_is (scalar (decimal128 bs)) u e = (cc, tt)
+decimal128_as_it_is (scalar s) u e = absurd cc
+decimal128_as_it_is x u e = absurd cc
+
+pub decimal128_decided : Decided decimal128_taken
+decimal128_decided = as_it_is_decided decimal128_taken decimal128_as_it_is
+
+char_as_it_is : AsItIs char_taken
+char_as_it_is (scalar (char n)) u e = (cc, tt)
+char_as_it_is (scalar s) u e = absurd cc
+char_as_it_is x u e = absurd cc
+
+pub char_decided : Decided char_taken
+char_decided = as_it_is_decided char_taken char_as_it_is
+
+timestamp_as_it_is : AsItIs timestamp_taken
+timestamp_as_it_is (scalar (timestamp n)) u e = (cc, tt)
+timestamp_as_it_is (scalar s) u e = absurd cc
+timestamp_as_it_is x u e = absurd cc
+
+pub timestamp_decided : Decided timestamp_taken
+timestamp_decided = as_it_is_decided timestamp_taken timestamp_as_it_is
+
+uuid_as_it_is : AsItIs uuid_taken
+uuid_as_it_is (scalar (uuid bs)) u e = (cc, tt)
+uuid_as_it_is (scalar s) u e = absurd cc
+uuid_as_it_is x u e = absurd cc
+
+pub uuid_decided : Decided uuid_taken
+uuid_decided = as_it_is_decided uuid_taken uuid_as_it_is
+
+binary_as_it_is : AsItIs binary_taken
+binary_as_it_is (scalar (binary bs)) u e = (cc, tt)
+binary_as_it_is (scalar s) u e = absurd cc
+binary_as_it_is x u e = absurd cc
+
+pub binary_decided : Decided binary_taken
+binary_decided = as_it_is_decided binary_taken binary_as_it_is
 
 no_row_form : (x : Item) (o : Option ℕ) (a : List ℕ) → Form AnyCount NoRaw x o (row_at None) a → ⊥
 no_row_form (raw text) (Some c) a h = h.1

@@ -1,6 +1,6 @@
 -- Which items a type takes, and which item its value then is (part 1, sections 1.3 to 1.6).
 use Rattle.std.specs.Prelude.{◌≡◌, ◌≢◌, ℕ, Bool, true, false, List, [], ◌∷◌, Option, Some, None, ◌==◌, if◌then◌else◌, bytes_eq}
-use Rattle.serde_amqp_item.specs.Item.{null, boolean, ushort, uint, ulong, string, symbol, Item, scalar, raw, list, array, described, Items, no_items, more_items, items_of}
+use Rattle.serde_amqp_item.specs.Item.{null, boolean, ubyte, ushort, uint, ulong, byte, short, int, long, float, double, decimal32, decimal64, decimal128, char, timestamp, uuid, binary, string, symbol, Item, scalar, raw, list, array, described, Items, no_items, more_items, items_of}
 use Rattle.serde_amqp_item.specs.Wire.{code_of}
 use Rattle.serde_amqp_item.specs.Canon.{◌>>=◌}
 use Rattle.serde_amqp_item.specs.Kind.{Kind, kind_of, kind_at, null_kind, array_kind, symbol_kind}
@@ -49,6 +49,62 @@ array_taken _ = None
 abbrev pub described_taken : Item → Option Item
 described_taken (described d v) = Some (described d v)
 described_taken _ = None
+
+abbrev pub ubyte_taken : Item → Option Item
+ubyte_taken (scalar (ubyte n)) = Some (scalar (ubyte n))
+ubyte_taken _ = None
+
+abbrev pub byte_taken : Item → Option Item
+byte_taken (scalar (byte n)) = Some (scalar (byte n))
+byte_taken _ = None
+
+abbrev pub short_taken : Item → Option Item
+short_taken (scalar (short n)) = Some (scalar (short n))
+short_taken _ = None
+
+abbrev pub int_taken : Item → Option Item
+int_taken (scalar (int n)) = Some (scalar (int n))
+int_taken _ = None
+
+abbrev pub long_taken : Item → Option Item
+long_taken (scalar (long n)) = Some (scalar (long n))
+long_taken _ = None
+
+abbrev pub float_taken : Item → Option Item
+float_taken (scalar (float n)) = Some (scalar (float n))
+float_taken _ = None
+
+abbrev pub double_taken : Item → Option Item
+double_taken (scalar (double n)) = Some (scalar (double n))
+double_taken _ = None
+
+abbrev pub decimal32_taken : Item → Option Item
+decimal32_taken (scalar (decimal32 bs)) = Some (scalar (decimal32 bs))
+decimal32_taken _ = None
+
+abbrev pub decimal64_taken : Item → Option Item
+decimal64_taken (scalar (decimal64 bs)) = Some (scalar (decimal64 bs))
+decimal64_taken _ = None
+
+abbrev pub decimal128_taken : Item → Option Item
+decimal128_taken (scalar (decimal128 bs)) = Some (scalar (decimal128 bs))
+decimal128_taken _ = None
+
+abbrev pub char_taken : Item → Option Item
+char_taken (scalar (char n)) = Some (scalar (char n))
+char_taken _ = None
+
+abbrev pub timestamp_taken : Item → Option Item
+timestamp_taken (scalar (timestamp n)) = Some (scalar (timestamp n))
+timestamp_taken _ = None
+
+abbrev pub uuid_taken : Item → Option Item
+uuid_taken (scalar (uuid bs)) = Some (scalar (uuid bs))
+uuid_taken _ = None
+
+abbrev pub binary_taken : Item → Option Item
+binary_taken (scalar (binary bs)) = Some (scalar (binary bs))
+binary_taken _ = None
 
 -- the type that an item is seen to be of: a kept one is of its constructor's
 abbrev pub kind_seen : Item → Option Kind

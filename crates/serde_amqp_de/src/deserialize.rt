@@ -11,8 +11,8 @@ ghost use Rattle.serde_amqp_de.specs.Deciding.{null_decided, boolean_decided, us
 ghost use Rattle.serde_amqp_de.specs.Again.{option_same_item, option_again, option_faithful, boolean_faithful, ushort_faithful, uint_faithful, ulong_faithful};
 
 use crate::deserializer::Deserializer;
-use serde_amqp_read::{Read, SliceReader};
 use serde_amqp_item::{EncodingCodes, Error};
+use serde_amqp_read::{Read, SliceReader};
 use serde_amqp_ser::Serialize;
 use std::alloc::Global;
 

@@ -9,8 +9,8 @@ ghost use Rattle.serde_amqp_read.specs.Reads.{Unless, faultless};
 ghost use Rattle.serde_amqp_de.specs.Reads.{At, Moves, Head, Foresees, NoHead, ReadSized, NoSized, ReadText, NoText, ReadCount, NoElementCode, Reads, Refuses, at_of, Opens, HasFailed};
 ghost use Rattle.serde_amqp_de.specs.Takes.{null_taken, boolean_taken, ushort_taken, uint_taken, ulong_taken, string_taken, symbol_taken, list_taken, array_taken, described_taken};
 
-use serde_amqp_read::Read;
 use serde_amqp_item::{EncodingCodes, Error, MAX_ARRAY_COUNT, code_of};
+use serde_amqp_read::Read;
 use std::alloc::Global;
 
 /// Reads values from a reader.
@@ -51,7 +51,7 @@ impl<R: Read> Deserializer<R> {
         self.element = None;
     }
 
-    fn next_byte(&mut self) -> Result<u8, Error>
+    pub(crate) fn next_byte(&mut self) -> Result<u8, Error>
         ensures ok { IfOk result (λ b. Moves (at_of R.rest self.old) (at_of R.rest self.new) (b ∷ [])) }
         ensures element { self.new.element ≡ self.old.element }
         ensures end { Unless R.faulty result (R.rest self.old.reader ≡ []) }
@@ -64,7 +64,7 @@ impl<R: Read> Deserializer<R> {
         Ok(byte)
     }
 
-    fn next_bytes<const N: usize>(&mut self) -> Result<[u8; N], Error>
+    pub(crate) fn next_bytes<const N: usize>(&mut self) -> Result<[u8; N], Error>
         ensures ok { IfOk result (λ bs. Moves (at_of R.rest self.old) (at_of R.rest self.new) bs) }
         ensures len { IfOk result (λ bs. length bs ≡ N) }
         ensures element { self.new.element ≡ self.old.element }
@@ -79,7 +79,7 @@ impl<R: Read> Deserializer<R> {
         Ok(bytes)
     }
 
-    fn next_u16(&mut self) -> Result<u16, Error>
+    pub(crate) fn next_u16(&mut self) -> Result<u16, Error>
         ensures ok { IfOk result (λ n. Moves (at_of R.rest self.old) (at_of R.rest self.new) (to_be_bytes w16 n)) }
         ensures element { self.new.element ≡ self.old.element }
         ensures end { Unless R.faulty result (length (R.rest self.old.reader) < 2) }
@@ -88,7 +88,7 @@ impl<R: Read> Deserializer<R> {
         Ok(u16::from_be_bytes(bytes))
     }
 
-    fn next_u32(&mut self) -> Result<u32, Error>
+    pub(crate) fn next_u32(&mut self) -> Result<u32, Error>
         ensures ok { IfOk result (λ n. Moves (at_of R.rest self.old) (at_of R.rest self.new) (to_be_bytes w32 n)) }
         ensures element { self.new.element ≡ self.old.element }
         ensures end { Unless R.faulty result (length (R.rest self.old.reader) < 4) }
@@ -97,7 +97,7 @@ impl<R: Read> Deserializer<R> {
         Ok(u32::from_be_bytes(bytes))
     }
 
-    fn next_u64(&mut self) -> Result<u64, Error>
+    pub(crate) fn next_u64(&mut self) -> Result<u64, Error>
         ensures ok { IfOk result (λ n. Moves (at_of R.rest self.old) (at_of R.rest self.new) (to_be_bytes w64 n)) }
         ensures element { self.new.element ≡ self.old.element }
         ensures end { Unless R.faulty result (length (R.rest self.old.reader) < 8) }
@@ -247,7 +247,7 @@ impl<R: Read> Deserializer<R> {
 
     /// Reads a size of one byte, and so many bytes.
     #[tactic(auto, using(crate::proofs::Sized::sizing))]
-    fn sized8(&mut self, alloc: Global) -> Result<Vec<u8>, Error>
+    pub(crate) fn sized8(&mut self, alloc: Global) -> Result<Vec<u8>, Error>
         ensures ok { IfOk result (λ v. ReadSized one_byte (at_of R.rest self.old) (at_of R.rest self.new) v.items) }
         ensures element { self.new.element ≡ self.old.element }
         ensures refused { Unless R.faulty result (NoSized one_byte (R.rest self.old.reader)) }
@@ -258,7 +258,7 @@ impl<R: Read> Deserializer<R> {
 
     /// Reads a size of four bytes, and so many bytes.
     #[tactic(auto, using(crate::proofs::Sized::sizing))]
-    fn sized32(&mut self, alloc: Global) -> Result<Vec<u8>, Error>
+    pub(crate) fn sized32(&mut self, alloc: Global) -> Result<Vec<u8>, Error>
         ensures ok { IfOk result (λ v. ReadSized four_bytes (at_of R.rest self.old) (at_of R.rest self.new) v.items) }
         ensures element { self.new.element ≡ self.old.element }
         ensures refused { Unless R.faulty result (NoSized four_bytes (R.rest self.old.reader)) }

@@ -7,6 +7,8 @@ mod laws;
 mod map;
 #[cfg(test)]
 mod map_tests;
+mod numbers;
+mod primitives;
 mod record;
 mod sequence;
 #[cfg(test)]
@@ -16,6 +18,6 @@ pub use deserialize::{Deserialize, Faithful, NeverNull, RoundTrip, from_slice};
 pub use deserializer::Deserializer;
 pub use laws::{one_value, written_is_read, written_is_read_equal};
 pub use map::read_map;
-pub use serde_amqp_read::{Read, SliceReader};
 pub use record::{ReadFields, read_descriptor, read_record};
 pub use sequence::{read_array, read_list, read_multiple};
+pub use serde_amqp_read::{Read, SliceReader};

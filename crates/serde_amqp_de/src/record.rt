@@ -10,8 +10,8 @@ ghost use Rattle.serde_amqp_de.specs.Decides.{AllDecided};
 
 use crate::deserialize::Deserialize;
 use crate::deserializer::Deserializer;
-use serde_amqp_read::Read;
 use serde_amqp_item::{EncodingCodes, Error};
+use serde_amqp_read::Read;
 use std::alloc::Global;
 
 /// The fields of a composite type, as a pair of the first and the others.

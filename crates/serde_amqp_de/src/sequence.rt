@@ -9,8 +9,8 @@ ghost use Rattle.serde_amqp_de.specs.Again.{list_same_item, sequence_again};
 
 use crate::deserialize::{Deserialize, RoundTrip};
 use crate::deserializer::Deserializer;
-use serde_amqp_read::Read;
 use serde_amqp_item::{EncodingCodes, Error};
+use serde_amqp_read::Read;
 use std::alloc::Global;
 
 /// Reads so many items, one behind the other.

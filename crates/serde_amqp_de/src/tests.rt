@@ -1,6 +1,6 @@
 //! Wire forms of the standard's tables, and what is refused.
 use crate::{Deserialize, Deserializer, SliceReader, from_slice, read_multiple, read_record};
-use serde_amqp_item::Error;
+use serde_amqp_item::{Double, Error, Float};
 use std::io::ErrorKind;
 
 const END: Error = Error::Io(ErrorKind::UnexpectedEof);
@@ -50,6 +50,140 @@ fn refuses_what_is_no_form_of_a_scalar(rt: HostRuntime) {
         from_slice::<u64>(alloc, &[0x01]),
         Err(Error::InvalidFormatCode)
     );
+}
+
+#[test]
+fn reads_numbers_of_each_width(rt: HostRuntime) {
+    let alloc = rt.alloc();
+    assert_eq!(rt; from_slice::<u8>(alloc, &[0x50, 0x00]), Ok(0));
+    assert_eq!(rt; from_slice::<u8>(alloc, &[0x50, 0xff]), Ok(255));
+    assert_eq!(rt; from_slice::<i8>(alloc, &[0x51, 0x80]), Ok(-128));
+    assert_eq!(rt; from_slice::<i8>(alloc, &[0x51, 0x7f]), Ok(127));
+    assert_eq!(rt; from_slice::<i16>(alloc, &[0x61, 0xff, 0xfe]), Ok(-2));
+    assert_eq!(rt; from_slice::<i16>(alloc, &[0x61, 0x01, 0x00]), Ok(256));
+    assert_eq!(rt; from_slice::<i32>(alloc, &[0x54, 0x80]), Ok(-128));
+    assert_eq!(rt; from_slice::<i32>(alloc, &[0x54, 0x7f]), Ok(127));
+    assert_eq!(rt; from_slice::<i32>(alloc, &[0x71, 0, 0, 0, 0x80]), Ok(128));
+    assert_eq!(rt;
+        from_slice::<i32>(alloc, &[0x71, 0x80, 0, 0, 0]),
+        Ok(-2147483648)
+    );
+    assert_eq!(rt; from_slice::<i64>(alloc, &[0x55, 0xff]), Ok(-1));
+    assert_eq!(rt; from_slice::<i64>(alloc, &[0x55, 0x7f]), Ok(127));
+    assert_eq!(rt;
+        from_slice::<i64>(alloc, &[0x81, 0x80, 0, 0, 0, 0, 0, 0, 0]),
+        Ok(i64::MIN)
+    );
+    assert_eq!(rt;
+        from_slice::<i64>(alloc, &[0x81, 0, 0, 0, 1, 0, 0, 0, 0]),
+        Ok(4294967296)
+    );
+    let one = from_slice::<Float>(alloc, &[0x72, 0x3f, 0x80, 0, 0]);
+    assert_eq!(rt; one, Ok(Float::from_bits(0x3f800000)));
+    let two = from_slice::<Double>(alloc, &[0x82, 0x40, 0, 0, 0, 0, 0, 0, 0]);
+    assert_eq!(rt; two, Ok(Double::from_bits(0x4000000000000000)));
+}
+
+#[test]
+fn reads_scalar_values_as_chars(rt: HostRuntime) {
+    let alloc = rt.alloc();
+    assert_eq!(rt; from_slice::<char>(alloc, &[0x73, 0, 0, 0, 0x41]), Ok('A'));
+    assert_eq!(rt;
+        from_slice::<char>(alloc, &[0x73, 0, 0, 0xd7, 0xff]),
+        Ok('\u{d7ff}')
+    );
+    assert_eq!(rt;
+        from_slice::<char>(alloc, &[0x73, 0, 0, 0xe0, 0]),
+        Ok('\u{e000}')
+    );
+    assert_eq!(rt;
+        from_slice::<char>(alloc, &[0x73, 0, 0x10, 0xff, 0xff]),
+        Ok('\u{10ffff}')
+    );
+    let refused: [&[u8]; 4] = [
+        &[0x73, 0, 0, 0xd8, 0],
+        &[0x73, 0, 0, 0xdf, 0xff],
+        &[0x73, 0, 0x11, 0, 0],
+        &[0x73, 0xff, 0xff, 0xff, 0xff],
+    ];
+    for bytes in refused {
+        assert_eq!(rt; from_slice::<char>(alloc, bytes), Err(Error::InvalidValue));
+    }
+    assert_eq!(rt; from_slice::<char>(alloc, &[0x73, 0, 0, 0]), Err(END));
+}
+
+#[test]
+fn reads_scalars_that_no_type_here_has(rt: HostRuntime) -> Result<(), Error> {
+    let alloc = rt.alloc();
+    let mut de = Deserializer::new(SliceReader::new(&[
+        0x83, 0xff, 0xff, 0xff, 0xff, 0xff, 0xff, 0xff, 0xff, // one millisecond before the epoch
+        0x98, 1, 2, 3, 4, 5, 6, 7, 8, 9, 10, 11, 12, 13, 14, 15, 16, // a uuid
+        0x74, 1, 2, 3, 4, // decimals
+        0x84, 1, 2, 3, 4, 5, 6, 7, 8, //
+        0x94, 1, 2, 3, 4, 5, 6, 7, 8, 9, 10, 11, 12, 13, 14, 15, 16, //
+        0xa0, 2, 0xc3, 0x28, // binaries are of any bytes
+        0xb0, 0, 0, 0, 1, 7,
+    ]));
+    assert_eq!(rt; de.deserialize_timestamp()?, -1);
+    assert_eq!(rt;
+        de.deserialize_uuid()?,
+        [1, 2, 3, 4, 5, 6, 7, 8, 9, 10, 11, 12, 13, 14, 15, 16]
+    );
+    assert_eq!(rt; de.deserialize_decimal32()?, [1, 2, 3, 4]);
+    assert_eq!(rt; de.deserialize_decimal64()?, [1, 2, 3, 4, 5, 6, 7, 8]);
+    let widest = de.deserialize_decimal128()?;
+    assert_eq!(rt;
+        widest,
+        [1, 2, 3, 4, 5, 6, 7, 8, 9, 10, 11, 12, 13, 14, 15, 16]
+    );
+    let narrow = de.deserialize_byte_buf(alloc)?;
+    let wide = de.deserialize_byte_buf(alloc)?;
+    assert_eq!(rt; narrow.as_slice(), [0xc3, 0x28].as_slice());
+    assert_eq!(rt; wide.as_slice(), [7].as_slice());
+    assert_eq!(rt; de.deserialize_u8(), Err(END));
+    Ok(())
+}
+
+#[test]
+fn refuses_numbers_of_other_types(rt: HostRuntime) {
+    let alloc = rt.alloc();
+    assert_eq!(rt;
+        from_slice::<u8>(alloc, &[0x51, 1]),
+        Err(Error::InvalidFormatCode)
+    );
+    assert_eq!(rt;
+        from_slice::<i8>(alloc, &[0x50, 1]),
+        Err(Error::InvalidFormatCode)
+    );
+    assert_eq!(rt;
+        from_slice::<i32>(alloc, &[0x43]),
+        Err(Error::InvalidFormatCode)
+    );
+    assert_eq!(rt;
+        from_slice::<i32>(alloc, &[0x55, 1]),
+        Err(Error::InvalidFormatCode)
+    );
+    assert_eq!(rt;
+        from_slice::<i64>(alloc, &[0x83, 0, 0, 0, 0, 0, 0, 0, 1]),
+        Err(Error::InvalidFormatCode)
+    );
+    assert_eq!(rt;
+        from_slice::<Float>(alloc, &[0x74, 0, 0, 0, 0]),
+        Err(Error::InvalidFormatCode)
+    );
+    assert_eq!(rt; from_slice::<i16>(alloc, &[0x61, 1]), Err(END));
+    assert_eq!(rt; from_slice::<i32>(alloc, &[0x54]), Err(END));
+    assert_eq!(rt; from_slice::<i32>(alloc, &[0x71, 1, 2, 3]), Err(END));
+    assert_eq!(rt;
+        from_slice::<i64>(alloc, &[0x81, 1, 2, 3, 4, 5, 6, 7]),
+        Err(END)
+    );
+    let mut de = Deserializer::new(SliceReader::new(&[0xa0, 2, 1]));
+    assert!(rt; de.deserialize_byte_buf(alloc).is_err());
+    let mut de = Deserializer::new(SliceReader::new(&[0x98, 1]));
+    assert_eq!(rt; de.deserialize_uuid(), Err(END));
+    let mut de = Deserializer::new(SliceReader::new(&[0x94]));
+    assert_eq!(rt; de.deserialize_uuid(), Err(Error::InvalidFormatCode));
 }
 
 #[test]

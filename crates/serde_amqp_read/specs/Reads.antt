@@ -1,5 +1,5 @@
 -- What a source of bytes says (nothing of AMQP): what comes next, and what a refusal tells of the bytes.
-use Rattle.std.specs.Prelude.{◌≡◌, ℕ, List, ◌∷◌, Bool, true, false, Result, Ok, Err}
+use Rattle.std.specs.Prelude.{◌≡◌, ℕ, ◌+◌, ◌-◌, ◌^◌, min, List, ◌∷◌, ◌++◌, Bool, true, false, Result, Ok, Err}
 use Rattle.serde_amqp_item.specs.declared.error.Error.{Error}
 use Rattle.serde_amqp_item.specs.declared.error.Error.TheVariants.{Io, Memory}
 
@@ -7,6 +7,11 @@ use Rattle.serde_amqp_item.specs.declared.error.Error.TheVariants.{Io, Memory}
 pub record Begins (b : ℕ) (bytes : List ℕ) : Type 0 where
   pub others : List ℕ
   pub split : bytes ≡ b ∷ others
+
+-- the bytes begin with this front
+pub record Leads (front bytes : List ℕ) : Type 0 where
+  pub others : List ℕ
+  pub split : bytes ≡ front ++ others
 
 -- where the reader itself is at fault nothing is said of the bytes
 abbrev pub Otherwise : Bool → Type 0 → Type 0
@@ -26,3 +31,19 @@ Unless faulty (Err e) P = Refusal faulty e P
 -- a reader that has no faults of its own
 abbrev pub faultless : Error → Bool
 faultless e = false
+
+-- a count of bytes with so many more: it stops at 2^64 - 1
+abbrev pub with_more : ℕ → ℕ → ℕ
+with_more count more = min (count + more) (2 ^ 64 - 1)
+
+-- the count behind a call that takes so many bytes: a refused one counts nothing
+abbrev pub counted : {X : Type 0} → Result X Error → ℕ → ℕ → ℕ
+counted (Ok x) more count = with_more count more
+counted (Err e) more count = count
+
+-- a source of known bytes
+pub record Source : Type 0 where
+  -- the bytes that are left
+  pub rest : List ℕ
+  -- how many were taken
+  pub consumed : ℕ

@@ -1,6 +1,13 @@
 // Sources of bytes: slices, and readers that are in memory.
 #![tactic(auto)]
 
+mod fetching;
+mod private;
 mod reader;
+mod slice;
+#[cfg(test)]
+mod tests;
 
-pub use reader::{Read, SliceReader};
+pub use fetching::IoReader;
+pub use reader::Read;
+pub use slice::SliceReader;

@@ -1,29 +1,50 @@
 //! What is read from.
-ghost use Rattle.std.specs.Prelude.{◌≡◌, ◌<◌, ◌∷◌, ◌++◌, [], ℕ, Bool, List, length, IfOk, OnOk, OnErr};
+ghost use Rattle.std.specs.Prelude.{◌≡◌, ◌<◌, ◌+◌, ◌∷◌, ◌++◌, [], ℕ, Bool, List, length, IfOk, IfErr, OnOk, OnErr, string_bytes, false};
+ghost use Rattle.std.specs.Str.{is_utf8};
 ghost use Rattle.serde_amqp_item.specs.declared.error.Error.{Error};
-ghost use Rattle.serde_amqp_read.specs.Reads.{Begins, Unless, faultless};
+ghost use Rattle.serde_amqp_read.specs.Reads.{Begins, Leads, Unless, faultless, counted, with_more};
 
+use crate::private::Sealed;
 use serde_amqp_item::Error;
 use std::alloc::Global;
-use std::io::ErrorKind;
-use std::marker::Model;
 
 /// A source of bytes. After an error nothing is left of it: it has failed.
-pub trait Read {
+///
+/// The sources are those of this crate: no other type has this trait.
+pub trait Read: Sealed {
     /// The bytes that are left; none once the reader has failed.
     ghost rest: { Self → List ℕ };
 
     /// The errors that are the reader's own, and say nothing of its bytes.
     ghost faulty: { Error → Bool };
 
+    /// How many bytes were taken.
+    ghost consumed: { Self → ℕ };
+
+    /// How many bytes were taken by calls that answered Ok, or 2^64 - 1 where they are more.
+    fn bytes_consumed(&self) -> usize
+        ensures { result ≡ consumed self.now };
+
     /// The next byte, which stays unread.
     ///
-    /// Errors: `Io` where nothing is left.
+    /// Errors: `Io` where nothing is left; `Memory`.
     fn peek(&mut self) -> Result<u8, Error>
         ensures ok { IfOk result (λ b. Begins b (rest self.old)) }
         ensures same { OnOk result (rest self.new ≡ rest self.old) }
         ensures end { Unless faulty result (rest self.old ≡ []) }
-        ensures failed { OnErr result (rest self.new ≡ []) };
+        ensures failed { OnErr result (rest self.new ≡ []) }
+        ensures uncounted { consumed self.new ≡ consumed self.old };
+
+    /// The next bytes, as many as the buffer has, which stay unread.
+    ///
+    /// Errors: `Io` where fewer are left; `Memory`.
+    fn peek_bytes(&mut self, buffer: &mut [u8]) -> Result<(), Error>
+        ensures ok { OnOk result (Leads buffer.new (rest self.old)) }
+        ensures same { OnOk result (rest self.new ≡ rest self.old) }
+        ensures len { length buffer.new ≡ length buffer.old }
+        ensures end { Unless faulty result (length (rest self.old) < length buffer.old) }
+        ensures failed { OnErr result (rest self.new ≡ []) }
+        ensures uncounted { consumed self.new ≡ consumed self.old };
 
     /// Takes the next byte.
     ///
@@ -31,7 +52,8 @@ pub trait Read {
     fn next(&mut self) -> Result<u8, Error>
         ensures ok { IfOk result (λ b. rest self.old ≡ b ∷ rest self.new) }
         ensures end { Unless faulty result (rest self.old ≡ []) }
-        ensures failed { OnErr result (rest self.new ≡ []) };
+        ensures failed { OnErr result (rest self.new ≡ []) }
+        ensures counted { consumed self.new ≡ counted result 1 (consumed self.old) };
 
     /// Takes as many bytes as the buffer has.
     ///
@@ -40,91 +62,101 @@ pub trait Read {
         ensures ok { OnOk result (rest self.old ≡ buffer.new ++ rest self.new) }
         ensures len { length buffer.new ≡ length buffer.old }
         ensures end { Unless faulty result (length (rest self.old) < length buffer.old) }
-        ensures failed { OnErr result (rest self.new ≡ []) };
+        ensures failed { OnErr result (rest self.new ≡ []) }
+        ensures counted { consumed self.new ≡ counted result (length buffer.old) (consumed self.old) };
+
+    /// Takes so many bytes and puts them behind those that stand in `bytes`, which after an error are
+    /// as before. No more memory is taken than for the bytes that are there.
+    ///
+    /// Errors: `Io` where fewer are left; `Memory`.
+    fn append_bytes(&mut self, count: usize, bytes: &mut Vec<u8>) -> Result<(), Error>
+        ensures ok { OnOk result (bytes.new.items ++ rest self.new ≡ bytes.old.items ++ rest self.old) }
+        ensures len { OnOk result (length bytes.new.items ≡ length bytes.old.items + count) }
+        ensures kept { OnErr result (bytes.new.items ≡ bytes.old.items) }
+        ensures end { Unless faulty result (length (rest self.old) < count) }
+        ensures failed { OnErr result (rest self.new ≡ []) }
+        ensures counted { consumed self.new ≡ counted result count (consumed self.old) };
+
+    /// From here on the reader has failed: nothing is left.
+    fn fail(&mut self)
+        ensures failed { rest self.new ≡ [] }
+        ensures uncounted { consumed self.new ≡ consumed self.old };
+
+    /// Takes `N` bytes.
+    ///
+    /// Errors: `Io` where fewer are left.
+    final fn read_const_bytes<const N: usize>(&mut self) -> Result<[u8; N], Error>
+        ensures ok { IfOk result (λ bytes. rest self.old ≡ bytes ++ rest self.new) }
+        ensures len { IfOk result (λ bytes. length bytes ≡ N) }
+        ensures end { Unless faulty result (length (rest self.old) < N) }
+        ensures failed { OnErr result (rest self.new ≡ []) }
+        ensures counted { consumed self.new ≡ counted result N (consumed self.old) }
+    {
+        let mut bytes = [0; N];
+        self.read_exact(&mut bytes)?;
+        Ok(bytes)
+    }
 
     /// Takes so many bytes. No more memory is taken than for the bytes that are there.
     ///
     /// Errors: `Io` where fewer are left; `Memory`.
-    fn read_bytes(&mut self, alloc: Global, count: usize) -> Result<Vec<u8>, Error>
+    final fn read_bytes(&mut self, alloc: Global, count: usize) -> Result<Vec<u8>, Error>
         ensures ok { IfOk result (λ v. rest self.old ≡ v.items ++ rest self.new) }
         ensures len { IfOk result (λ v. length v.items ≡ count) }
         ensures end { Unless faulty result (length (rest self.old) < count) }
-        ensures failed { OnErr result (rest self.new ≡ []) };
-
-    /// From here on the reader has failed: nothing is left.
-    fn fail(&mut self)
-        ensures { rest self.new ≡ [] };
-}
-
-/// Reads a slice.
-#[derive(Debug, Drop)]
-pub struct SliceReader<'a> {
-    slice: &'a [u8],
-}
-
-// A clause sees the bytes that are left.
-impl<'a> Model for SliceReader<'a> {
-    ghost Value = { List ℕ };
-
-    ghost view = { λ s. s.slice.now };
-}
-
-impl<'a> SliceReader<'a> {
-    /// Reads the slice from its front.
-    pub fn new(slice: &'a [u8]) -> SliceReader<'a>
-        ensures { result ≡ slice.now }
+        ensures failed { OnErr result (rest self.new ≡ []) }
+        ensures counted { consumed self.new ≡ counted result count (consumed self.old) }
     {
-        SliceReader { slice }
-    }
-}
-
-impl<'a> Read for SliceReader<'a> {
-    ghost rest = { λ s. s };
-
-    ghost faulty = { faultless };
-
-    fn peek(&mut self) -> Result<u8, Error> {
-        match self.slice.split_first() {
-            None => Err(Error::Io(ErrorKind::UnexpectedEof)),
-            Some((first, _)) => Ok(*first),
-        }
-    }
-
-    fn next(&mut self) -> Result<u8, Error> {
-        match self.slice.split_first() {
-            None => Err(Error::Io(ErrorKind::UnexpectedEof)),
-            Some((byte, others)) => {
-                self.slice = others;
-                Ok(*byte)
-            }
-        }
-    }
-
-    fn read_exact(&mut self, buffer: &mut [u8]) -> Result<(), Error> {
-        let slice = self.slice;
-        self.slice = &[];
-        if slice.len() < buffer.len() {
-            return Err(Error::Io(ErrorKind::UnexpectedEof));
-        }
-        let (front, others) = slice.split_at(buffer.len());
-        buffer.copy_from_slice(front);
-        self.slice = others;
-        Ok(())
-    }
-
-    fn read_bytes(&mut self, alloc: Global, count: usize) -> Result<Vec<u8>, Error> {
-        let slice = self.slice;
-        self.slice = &[];
-        if slice.len() < count {
-            return Err(Error::Io(ErrorKind::UnexpectedEof));
-        }
-        let (front, others) = slice.split_at(count);
-        let bytes = Vec::from_slice(alloc, front)?;
-        self.slice = others;
+        let mut bytes = Vec::new(alloc);
+        self.append_bytes(count, &mut bytes)?;
         Ok(bytes)
     }
 
-    fn fail(&mut self) {
-        self.slice = &[];
+    /// Takes so many bytes, as `read_bytes`. The count may be far more than there are: it takes no memory.
+    ///
+    /// Errors: `Io` where fewer are left; `Memory`.
+    final fn forward_read_bytes_with_hint(
+        &mut self,
+        alloc: Global,
+        count: usize,
+    ) -> Result<Vec<u8>, Error>
+        ensures ok { IfOk result (λ v. rest self.old ≡ v.items ++ rest self.new) }
+        ensures len { IfOk result (λ v. length v.items ≡ count) }
+        ensures end { Unless faulty result (length (rest self.old) < count) }
+        ensures failed { OnErr result (rest self.new ≡ []) }
+        ensures counted { consumed self.new ≡ counted result count (consumed self.old) }
+    {
+        self.read_bytes(alloc, count)
+    }
+
+    /// Takes a text of so many bytes.
+    ///
+    /// Errors: `Io` where fewer are left; `InvalidUtf8Encoding` where they are not UTF-8; `Memory`.
+    #[tactic(auto, using(crate::proofs::Fronts::texts))]
+    final fn forward_read_str(&mut self, alloc: Global, count: usize) -> Result<String, Error>
+        ensures ok { IfOk result (λ s. rest self.old ≡ string_bytes s ++ rest self.new) }
+        ensures len { IfOk result (λ s. length (string_bytes s) ≡ count) }
+        ensures refused { Unless faulty result ((front more : List ℕ) → rest self.old ≡ front ++ more → length front ≡ count → is_utf8 front ≡ false) }
+        ensures failed { OnErr result (rest self.new ≡ []) }
+        ensures counted { OnOk result (consumed self.new ≡ with_more (consumed self.old) count) }
+    {
+        let bytes = self.read_bytes(alloc, count)?;
+        let text = text_of(bytes);
+        if text.is_err() {
+            self.fail();
+        }
+        text
+    }
+}
+
+/// The text that these bytes are.
+#[tactic(auto, using(crate::proofs::Fronts::texts))]
+fn text_of(bytes: Vec<u8>) -> Result<String, Error>
+    ensures ok { IfOk result (λ s. string_bytes s ≡ bytes.items) }
+    ensures refused { Unless faultless result (is_utf8 bytes.items ≡ false) }
+{
+    match String::from_utf8(bytes) {
+        Ok(text) => Ok(text),
+        Err(_) => Err(Error::InvalidUtf8Encoding),
     }
 }

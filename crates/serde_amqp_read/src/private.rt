@@ -1,0 +1,2 @@
+/// What the sources of this crate have, and no other type can have.
+pub trait Sealed {}

@@ -1,0 +1,119 @@
+//! Slices as sources.
+ghost use Rattle.std.specs.Prelude.{◌≡◌, ◌<◌, ◌++◌, [], length, IfOk, IfErr, OnErr};
+ghost use Rattle.serde_amqp_item.specs.declared.error.Error.TheVariants.{Io};
+ghost use Rattle.serde_amqp_read.specs.Reads.{Source, faultless, counted};
+
+use crate::private::Sealed;
+use crate::reader::Read;
+use serde_amqp_item::Error;
+use std::io::ErrorKind;
+use std::marker::Model;
+
+/// Reads a slice.
+#[derive(Debug, Drop)]
+pub struct SliceReader<'a> {
+    slice: &'a [u8],
+    consumed: usize,
+}
+
+// A clause sees the bytes that are left, and how many were taken.
+impl<'a> Model for SliceReader<'a> {
+    ghost Value = { Source };
+
+    ghost view = { λ s. record { rest = s.slice.now; consumed = s.consumed } };
+}
+
+impl<'a> SliceReader<'a> {
+    /// Reads the slice from its front.
+    pub fn new(slice: &'a [u8]) -> SliceReader<'a>
+        ensures { result ≡ record { rest = slice.now; consumed = 0 } }
+    {
+        SliceReader { slice, consumed: 0 }
+    }
+
+    /// Takes so many bytes, and lends them from the slice that is read.
+    ///
+    /// Errors: `Io` exactly where fewer are left.
+    pub fn get_byte_slice(&mut self, count: usize) -> Result<&'a [u8], Error>
+        ensures ok { IfOk result (λ s. self.old.rest ≡ s.now ++ self.new.rest) }
+        ensures len { IfOk result (λ s. length s.now ≡ count) }
+        ensures end { IfErr result (λ e. (e ≡ Io ErrorKind.UnexpectedEof) × (length self.old.rest < count)) }
+        ensures failed { OnErr result (self.new.rest ≡ []) }
+        ensures counted { self.new.consumed ≡ counted result count self.old.consumed }
+    {
+        let slice = self.slice;
+        self.slice = &[];
+        if slice.len() < count {
+            return Err(Error::Io(ErrorKind::UnexpectedEof));
+        }
+        let (front, others) = slice.split_at(count);
+        self.slice = others;
+        self.consumed = self.consumed.saturating_add(count);
+        Ok(front)
+    }
+}
+
+impl<'a> Sealed for SliceReader<'a> {}
+
+impl<'a> Read for SliceReader<'a> {
+    ghost rest = { λ s. s.rest };
+
+    ghost faulty = { faultless };
+
+    ghost consumed = { λ s. s.consumed };
+
+    fn bytes_consumed(&self) -> usize {
+        self.consumed
+    }
+
+    fn peek(&mut self) -> Result<u8, Error> {
+        match self.slice.split_first() {
+            None => Err(Error::Io(ErrorKind::UnexpectedEof)),
+            Some((first, _)) => Ok(*first),
+        }
+    }
+
+    fn peek_bytes(&mut self, buffer: &mut [u8]) -> Result<(), Error> {
+        if self.slice.len() < buffer.len() {
+            self.slice = &[];
+            return Err(Error::Io(ErrorKind::UnexpectedEof));
+        }
+        let (front, _) = self.slice.split_at(buffer.len());
+        buffer.copy_from_slice(front);
+        Ok(())
+    }
+
+    fn next(&mut self) -> Result<u8, Error> {
+        match self.slice.split_first() {
+            None => Err(Error::Io(ErrorKind::UnexpectedEof)),
+            Some((byte, others)) => {
+                self.slice = others;
+                self.consumed = self.consumed.saturating_add(1);
+                Ok(*byte)
+            }
+        }
+    }
+
+    fn read_exact(&mut self, buffer: &mut [u8]) -> Result<(), Error> {
+        let front = self.get_byte_slice(buffer.len())?;
+        buffer.copy_from_slice(front);
+        Ok(())
+    }
+
+    fn append_bytes(&mut self, count: usize, bytes: &mut Vec<u8>) -> Result<(), Error> {
+        let slice = self.slice;
+        self.slice = &[];
+        if slice.len() < count {
+            return Err(Error::Io(ErrorKind::UnexpectedEof));
+        }
+        let (front, others) = slice.split_at(count);
+        bytes.extend_from_slice(front)?;
+        self.slice = others;
+        self.consumed = self.consumed.saturating_add(count);
+        Ok(())
+    }
+
+    fn fail(&mut self) {
+        self.slice = &[];
+    }
+}

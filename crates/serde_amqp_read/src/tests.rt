@@ -1,0 +1,176 @@
+ghost use Rattle.std.specs.Prelude.{[], Some};
+
+use crate::{IoReader, Read, SliceReader};
+use serde_amqp_item::Error;
+use std::alloc::Global;
+use std::io;
+use std::io::{ErrorKind, Read as StdRead};
+use std::process::Abort;
+
+const END: Error = Error::Io(ErrorKind::UnexpectedEof);
+
+// A reader of no bytes that fails.
+#[derive(Drop)]
+struct Failing {
+    kind: ErrorKind,
+}
+
+impl io::Read for Failing {
+    ghost remaining = { λ _. Some [] };
+
+    fn read(&mut self, _buf: &mut [u8]) -> io::Result<usize> {
+        Err(io::Error::from(self.kind))
+    }
+}
+
+// Takes the bytes 1 to 9 by each call, and meets the end.
+fn reads_nine<R: Read + Drop>(rt: &impl Abort, alloc: Global, mut reader: R) -> Result<(), Error> {
+    assert_eq!(rt; reader.peek(), Ok(1));
+    assert_eq!(rt; reader.bytes_consumed(), 0);
+    let mut ahead = [0; 3];
+    reader.peek_bytes(&mut ahead)?;
+    assert_eq!(rt; ahead, [1, 2, 3]);
+    assert_eq!(rt; reader.next(), Ok(1));
+    let mut two = [0; 2];
+    reader.read_exact(&mut two)?;
+    assert_eq!(rt; two, [2, 3]);
+    assert_eq!(rt; reader.read_const_bytes::<1>(), Ok([4]));
+    let mut bytes = vec![in alloc; 0]?;
+    reader.append_bytes(2, &mut bytes)?;
+    assert_eq!(rt; bytes.as_slice(), [0, 5, 6].as_slice());
+    assert_eq!(rt; reader.read_bytes(alloc, 1)?.as_slice(), [7].as_slice());
+    assert_eq!(rt;
+        reader.forward_read_bytes_with_hint(alloc, 1)?.as_slice(),
+        [8].as_slice()
+    );
+    assert_eq!(rt; reader.bytes_consumed(), 8);
+    assert_eq!(rt; reader.append_bytes(2, &mut bytes), Err(END));
+    assert_eq!(rt; bytes.as_slice(), [0, 5, 6].as_slice());
+    assert_eq!(rt; reader.next(), Err(END));
+    assert_eq!(rt; reader.bytes_consumed(), 8);
+    Ok(())
+}
+
+#[test]
+fn every_call(rt: HostRuntime) -> Result<(), Error> {
+    let bytes: &[u8] = &[1, 2, 3, 4, 5, 6, 7, 8, 9];
+    reads_nine(&rt, rt.alloc(), SliceReader::new(bytes))?;
+    reads_nine(&rt, rt.alloc(), IoReader::new(rt.alloc(), bytes))?;
+    for at in 0..=9 {
+        let (front, behind) = bytes.split_at(at);
+        reads_nine(
+            &rt,
+            rt.alloc(),
+            IoReader::new(rt.alloc(), front.chain(behind)),
+        )?;
+    }
+    Ok(())
+}
+
+fn meets_the_end<R: Read + Drop>(
+    rt: &impl Abort,
+    alloc: Global,
+    mut reader: R,
+    call: u8,
+) -> Result<(), Error> {
+    let mut three = [0; 3];
+    match call {
+        0 => assert_eq!(rt; reader.read_exact(&mut three), Err(END)),
+        1 => assert_eq!(rt; reader.peek_bytes(&mut three), Err(END)),
+        2 => assert!(rt; reader.read_bytes(alloc, usize::MAX).is_err()),
+        3 => assert_eq!(rt; reader.read_const_bytes::<3>(), Err(END)),
+        4 => assert!(rt; reader.forward_read_str(alloc, 3).is_err()),
+        _ => reader.fail(),
+    }
+    assert_eq!(rt; reader.peek(), Err(END));
+    assert_eq!(rt; reader.next(), Err(END));
+    assert_eq!(rt; reader.bytes_consumed(), 0);
+    Ok(())
+}
+
+#[test]
+fn nothing_is_left_behind_a_refusal(rt: HostRuntime) -> Result<(), Error> {
+    let bytes: &[u8] = &[1, 2];
+    for call in 0..=5 {
+        meets_the_end(&rt, rt.alloc(), SliceReader::new(bytes), call)?;
+        meets_the_end(&rt, rt.alloc(), IoReader::new(rt.alloc(), bytes), call)?;
+    }
+    Ok(())
+}
+
+#[test]
+fn texts(rt: HostRuntime) -> Result<(), Error> {
+    let bytes: &[u8] = &[0xc3, 0xa9, 0xff, 0x61];
+    let mut reader = SliceReader::new(bytes);
+    assert_eq!(rt; reader.forward_read_str(rt.alloc(), 2)?.as_str(), "é");
+    match reader.forward_read_str(rt.alloc(), 1) {
+        Err(error) => assert_eq!(rt; error, Error::InvalidUtf8Encoding),
+        Ok(_) => panic!(rt; "ff is no text"),
+    }
+    assert_eq!(rt; reader.next(), Err(END));
+    Ok(())
+}
+
+#[test]
+fn lent_bytes(rt: HostRuntime) {
+    let mut reader = SliceReader::new(&[1, 2, 3]);
+    assert_eq!(rt; reader.get_byte_slice(2), Ok(&[1u8, 2][..]));
+    assert_eq!(rt; reader.bytes_consumed(), 2);
+    assert_eq!(rt; reader.get_byte_slice(2), Err(END));
+    assert_eq!(rt; reader.get_byte_slice(1), Err(END));
+}
+
+#[test]
+fn fetched_bytes(rt: HostRuntime) -> Result<(), Error> {
+    let bytes: &[u8] = &[1, 2, 3, 4];
+    let mut reader = IoReader::new(rt.alloc(), bytes);
+    assert_eq!(rt; reader.pop_first(), None);
+    reader.fill_buffer(3)?;
+    reader.fill_buffer(1)?;
+    assert_eq!(rt; reader.pop_first(), Some(1));
+    assert_eq!(rt; reader.next(), Ok(2));
+    assert_eq!(rt; reader.pop_first(), Some(3));
+    assert_eq!(rt; reader.pop_first(), None);
+    assert_eq!(rt; reader.bytes_consumed(), 3);
+    assert_eq!(rt; reader.into_inner(), [4].as_slice());
+    Ok(())
+}
+
+#[test]
+fn no_byte_is_read_too_early(rt: HostRuntime) -> Result<(), Error> {
+    let bytes: &[u8] = &[1, 2, 3, 4];
+    let mut reader = IoReader::new(rt.alloc(), bytes);
+    assert_eq!(rt; reader.peek(), Ok(1));
+    assert_eq!(rt;
+        reader.read_bytes(rt.alloc(), 2)?.as_slice(),
+        [1, 2].as_slice()
+    );
+    assert_eq!(rt; reader.into_inner(), [3, 4].as_slice());
+    Ok(())
+}
+
+#[test]
+fn long_input(rt: HostRuntime) -> Result<(), Error> {
+    let bytes = vec![in rt.alloc(); 7; 1000]?;
+    let mut reader = IoReader::new(rt.alloc(), bytes.as_slice());
+    reader.fill_buffer(600)?;
+    assert_eq!(rt; reader.read_bytes(rt.alloc(), 999)?.len(), 999);
+    assert_eq!(rt; reader.next(), Ok(7));
+    assert_eq!(rt; reader.fill_buffer(1), Err(END));
+    Ok(())
+}
+
+#[test]
+fn errors_of_the_inner_reader(rt: HostRuntime) {
+    let told = [
+        (ErrorKind::TimedOut, ErrorKind::TimedOut),
+        (ErrorKind::UnexpectedEof, ErrorKind::Other),
+    ];
+    for (kind, answered) in told {
+        let bytes: &[u8] = &[1];
+        let mut reader = IoReader::new(rt.alloc(), bytes.chain(Failing { kind }));
+        assert_eq!(rt; reader.next(), Ok(1));
+        assert_eq!(rt; reader.next(), Err(Error::Io(answered)));
+        assert_eq!(rt; reader.next(), Err(END));
+    }
+}
