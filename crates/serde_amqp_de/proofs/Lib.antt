@@ -12,3 +12,4 @@ pub mod Records
 pub mod Standard
 pub mod Maps
 pub mod Pairs
+pub mod Tuples

@@ -13,13 +13,13 @@ use Rattle.serde_amqp_de.proofs.Heads.{moves_then, head_form, behind_head, plain
 use Rattle.serde_amqp_de.proofs.Sequences.{opened_refuses}
 
 -- a descriptor and a value, one behind the other
-described_reads : (k : Option ℕ) (old m0 m1 new : At) (d v : Item) → Head k old m0 DescribedType → Reads None m0 m1 d → Reads None m1 new v → Reads k old new (described d v)
+pub described_reads : (k : Option ℕ) (old m0 m1 new : At) (d v : Item) → Head k old m0 DescribedType → Reads None m0 m1 d → Reads None m1 new v → Reads k old new (described d v)
 described_reads k old m0 m1 new d v h r s =
     let split : r.front ++ s.front ≡ r.wire.0 ∷ (r.wire.1 ++ s.wire.0 ∷ s.wire.1) = ap (λ (t : List ℕ). t ++ s.front) r.wire.2 ∙ ap (λ (t : List ℕ). (r.wire.0 ∷ r.wire.1) ++ t) s.wire.2 in
     head_form k old m0 new DescribedType (described d v) (r.front ++ s.front) h (moves_then m0 m1 new r.front s.front r.moves s.moves)
     (λ o. (r.wire.0, r.wire.1, s.wire.0, s.wire.1, split, r.wire.3, s.wire.3))
 
-described_parts : (x : Item) (a : List ℕ) → Form IsCapped IsStrict x None described_by a → (d : Item) × (v : Item) × (f : List ℕ) × (g : List ℕ) × (x ≡ described d v) × (a ≡ f ++ g) × Wire d None f × Wire v None g
+pub described_parts : (x : Item) (a : List ℕ) → Form IsCapped IsStrict x None described_by a → (d : Item) × (v : Item) × (f : List ℕ) × (g : List ℕ) × (x ≡ described d v) × (a ≡ f ++ g) × Wire d None f × Wire v None g
 described_parts (scalar s) a h = absurd h
 described_parts (raw text) a h = absurd h
 described_parts (list xs) a h = absurd h

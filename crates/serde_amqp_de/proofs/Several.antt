@@ -30,10 +30,10 @@ pub too_many : (k : Option ℕ) (at : At) (n : ℕ) → 0 < n → RefusesAll (fi
 too_many k at n l = record { none = λ xs front more f q c. some_count n xs c l }
 
 -- the whole takes the first item and then the others
-abbrev Cons : (Items → Option (List Item)) → (Item → Option Item) → (Items → Option (List Item)) → Type 0
+abbrev pub Cons : (Items → Option (List Item)) → (Item → Option Item) → (Items → Option (List Item)) → Type 0
 Cons whole take others = (x : Item) (xs : Items) → whole (more_items x xs) ≡ (take x >>= λ y. others xs >>= λ ys. Some (y ∷ ys))
 
-took_cons : (whole others : Items → Option (List Item)) (take : Item → Option Item) → Cons whole take others → (m n : ℕ) (k : Option ℕ) (old mid new : At) (y : Item) (ys : List Item) → Took take k old mid y → TookAll others m k mid new ys → n ≡ m + 1 → TookAll whole n k old new (y ∷ ys)
+pub took_cons : (whole others : Items → Option (List Item)) (take : Item → Option Item) → Cons whole take others → (m n : ℕ) (k : Option ℕ) (old mid new : At) (y : Item) (ys : List Item) → Took take k old mid y → TookAll others m k mid new ys → n ≡ m + 1 → TookAll whole n k old new (y ∷ ys)
 took_cons whole others take cons m n k old mid new y ys t s p =
     let w = t.reads.wire in
     record {
@@ -45,7 +45,7 @@ took_cons whole others take cons m n k old mid new y ys t s p =
       taken = cons t.item s.items ∙ (ap (λ (o : Option Item). o >>= λ y. others s.items >>= λ ys. Some (y ∷ ys)) t.taken ∙ ap (λ (o : Option (List Item)). o >>= λ ys. Some (y ∷ ys)) s.taken);
     }
 
-first : (whole others : Items → Option (List Item)) (take : Item → Option Item) → Cons whole take others → (n : ℕ) (k : Option ℕ) (old : At) → Refuses take k old → n ≢ 0 → (xs : Items) (front more : List ℕ) → Forms IsCapped IsStrict xs k front → old.rest ≡ front ++ more → item_count xs ≡ n → whole xs ≡ None
+pub first : (whole others : Items → Option (List Item)) (take : Item → Option Item) → Cons whole take others → (n : ℕ) (k : Option ℕ) (old : At) → Refuses take k old → n ≢ 0 → (xs : Items) (front more : List ℕ) → Forms IsCapped IsStrict xs k front → old.rest ≡ front ++ more → item_count xs ≡ n → whole xs ≡ None
 first whole others take cons n k old r p no_items front more f e c = absurd (omega arith)
 first whole others take cons n k old r p (more_items x xs) front more f e c =
     let q = apart k front f.1 f.2 f.0 f.3 in
@@ -56,7 +56,7 @@ stuck_at : (o : Option Item) (r : Option (List Item)) → r ≡ None → (o >>= 
 stuck_at None r e = refl
 stuck_at (Some y) r e = ap (λ (o : Option (List Item)). o >>= λ ys. Some (y ∷ ys)) e
 
-behind : (whole others : Items → Option (List Item)) (take : Item → Option Item) → Cons whole take others → (m n : ℕ) (k : Option ℕ) (old mid : At) (y : Item) → Took take k old mid y → RefusesAll others m k mid → n ≡ m + 1 → (xs : Items) (front more : List ℕ) → Forms IsCapped IsStrict xs k front → old.rest ≡ front ++ more → item_count xs ≡ n → whole xs ≡ None
+pub behind : (whole others : Items → Option (List Item)) (take : Item → Option Item) → Cons whole take others → (m n : ℕ) (k : Option ℕ) (old mid : At) (y : Item) → Took take k old mid y → RefusesAll others m k mid → n ≡ m + 1 → (xs : Items) (front more : List ℕ) → Forms IsCapped IsStrict xs k front → old.rest ≡ front ++ more → item_count xs ≡ n → whole xs ≡ None
 behind whole others take cons m n k old mid y t r p no_items front more f e c = absurd (omega arith)
 behind whole others take cons m n k old mid y t r p (more_items x xs) front more f e c =
     let q = apart k front f.1 f.2 f.0 f.3 in

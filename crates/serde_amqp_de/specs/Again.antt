@@ -8,7 +8,7 @@ use Rattle.serde_amqp_item.specs.Item.{Item, scalar, raw, null, boolean, ubyte, 
 use Rattle.serde_amqp_item.specs.Canon.{◌>>=◌}
 use Rattle.serde_amqp_item.specs.Kind.{null_kind}
 use Rattle.serde_amqp_item.specs.Record.{is_null, option_item, all_null, trimmed, record_item}
-use Rattle.serde_amqp_de.specs.Takes.{option_taken, mapped, or_null, is_boolean, is_ushort, is_uint, kind_seen, is_null_kind, reads_as_null, each_taken, sequence_taken, elements_taken, several, multiple_taken, fields_taken, descriptor_taken, record_taken}
+use Rattle.serde_amqp_de.specs.Takes.{option_taken, mapped, or_null, is_boolean, is_ushort, is_uint, kind_seen, is_null_kind, reads_as_null, each_taken, sequence_taken, elements_taken, several, multiple_taken, fields_taken, row_taken, tuple_taken, descriptor_taken, record_taken}
 use Rattle.serde_amqp_de.specs.Apart.{items_of_same}
 use Rattle.serde_amqp_de.specs.Deciding.{option_same}
 
@@ -265,3 +265,57 @@ several_faithful item faithful [] [] e = refl
 several_faithful item faithful [] (y ∷ ys) e = absurd cc
 several_faithful item faithful (x ∷ xs) [] e = absurd cc
 several_faithful item faithful (x ∷ xs) (y ∷ ys) e = array_faithful item faithful (x ∷ xs) (y ∷ ys) e
+
+-- tuples
+abbrev pub EachSame : List Item → List Item → Type 0
+EachSame [] [] = Unit {0}
+EachSame [] (y ∷ ys) = ⊥
+EachSame (x ∷ xs) [] = ⊥
+EachSame (x ∷ xs) (y ∷ ys) = (x ≡ y) × EachSame xs ys
+
+each_same : (xs ys : List Item) → EachSame xs ys → xs ≡ ys
+each_same [] [] e = refl
+each_same [] (y ∷ ys) e = absurd e
+each_same (x ∷ xs) [] e = absurd e
+each_same (x ∷ xs) (y ∷ ys) e = ap (λ (z : Item). z ∷ xs) e.0 ∙ ap (λ (zs : List Item). y ∷ zs) (each_same xs ys e.1)
+
+pub tuple_same_item : (xs ys : List Item) → EachSame xs ys → list (items_of xs) ≡ list (items_of ys)
+tuple_same_item xs ys e = ap (λ (zs : List Item). list (items_of zs)) (each_same xs ys e)
+
+row_again : (takes : List (Item → Option Item)) (ys : List Item) → EachAgain takes ys → row_taken takes (items_of ys) ≡ Some ys
+row_again [] [] a = refl
+row_again [] (y ∷ ys) a = absurd a
+row_again (take ∷ takes) [] a = absurd a
+row_again (take ∷ takes) (y ∷ ys) a =
+    ap (λ (o : Option Item). o >>= λ z. row_taken takes (items_of ys) >>= λ zs. Some (z ∷ zs)) a.0
+    ∙ ap (λ (o : Option (List Item)). o >>= λ zs. Some (y ∷ zs)) (row_again takes ys a.1)
+
+pub tuple_again : (takes : List (Item → Option Item)) (ys : List Item) → EachAgain takes ys → tuple_taken takes (list (items_of ys)) ≡ Some (list (items_of ys))
+unfolding tuple_taken
+tuple_again takes ys a = ap (λ (o : Option (List Item)). o >>= λ zs. Some (list (items_of zs))) (row_again takes ys a)
+
+pub one_faithful : {A : Type 0} (f : A → Item) → ((x y : A) → f x ≡ f y → x ≡ y) → (p q : record { 0 : A }) → list (items_of (f p.0 ∷ [])) ≡ list (items_of (f q.0 ∷ [])) → p ≡ q
+one_faithful {A} f one p q e =
+    let a : f p.0 ≡ f q.0 = cc in
+    ap (λ (x : A). record { 0 = x }) (one p.0 q.0 a)
+
+pub two_faithful : {A B : Type 0} (f : A → Item) (g : B → Item) → ((x y : A) → f x ≡ f y → x ≡ y) → ((x y : B) → g x ≡ g y → x ≡ y) → (p q : A × B) → list (items_of (f p.0 ∷ g p.1 ∷ [])) ≡ list (items_of (f q.0 ∷ g q.1 ∷ [])) → p ≡ q
+two_faithful {A} {B} f g one two p q e =
+    let a : f p.0 ≡ f q.0 = cc in
+    let b : g p.1 ≡ g q.1 = cc in
+    ap (λ (x : A). (x, p.1)) (one p.0 q.0 a) ∙ ap (λ (y : B). (q.0, y)) (two p.1 q.1 b)
+
+pub three_faithful : {A B C : Type 0} (f : A → Item) (g : B → Item) (h : C → Item) → ((x y : A) → f x ≡ f y → x ≡ y) → ((x y : B) → g x ≡ g y → x ≡ y) → ((x y : C) → h x ≡ h y → x ≡ y) → (p q : A × B × C) → list (items_of (f p.0 ∷ g p.1 ∷ h p.2 ∷ [])) ≡ list (items_of (f q.0 ∷ g q.1 ∷ h q.2 ∷ [])) → p ≡ q
+three_faithful {A} {B} {C} f g h one two three p q e =
+    let a : f p.0 ≡ f q.0 = cc in
+    let b : g p.1 ≡ g q.1 = cc in
+    let c : h p.2 ≡ h q.2 = cc in
+    ap (λ (x : A). (x, p.1, p.2)) (one p.0 q.0 a) ∙ (ap (λ (y : B). (q.0, y, p.2)) (two p.1 q.1 b) ∙ ap (λ (z : C). (q.0, q.1, z)) (three p.2 q.2 c))
+
+pub four_faithful : {A B C D : Type 0} (f : A → Item) (g : B → Item) (h : C → Item) (i : D → Item) → ((x y : A) → f x ≡ f y → x ≡ y) → ((x y : B) → g x ≡ g y → x ≡ y) → ((x y : C) → h x ≡ h y → x ≡ y) → ((x y : D) → i x ≡ i y → x ≡ y) → (p q : A × B × C × D) → list (items_of (f p.0 ∷ g p.1 ∷ h p.2 ∷ i p.3 ∷ [])) ≡ list (items_of (f q.0 ∷ g q.1 ∷ h q.2 ∷ i q.3 ∷ [])) → p ≡ q
+four_faithful {A} {B} {C} {D} f g h i one two three four p q e =
+    let a : f p.0 ≡ f q.0 = cc in
+    let b : g p.1 ≡ g q.1 = cc in
+    let c : h p.2 ≡ h q.2 = cc in
+    let d : i p.3 ≡ i q.3 = cc in
+    ap (λ (x : A). (x, p.1, p.2, p.3)) (one p.0 q.0 a) ∙ (ap (λ (y : B). (q.0, y, p.2, p.3)) (two p.1 q.1 b) ∙ (ap (λ (z : C). (q.0, q.1, z, p.3)) (three p.2 q.2 c) ∙ ap (λ (w : D). (q.0, q.1, q.2, w)) (four p.3 q.3 d)))

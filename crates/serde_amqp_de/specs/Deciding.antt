@@ -10,7 +10,7 @@ use Rattle.std.proofs.lemmas.List.{append_cancel_left}
 use Rattle.serde_amqp_item.specs.Record.{record_item}
 use Rattle.serde_amqp_item.proofs.Scalars.{chosen}
 use Rattle.serde_amqp_item.proofs.Forms.{wire_same}
-use Rattle.serde_amqp_de.specs.Takes.{null_taken, ubyte_taken, byte_taken, short_taken, int_taken, long_taken, float_taken, double_taken, decimal32_taken, decimal64_taken, decimal128_taken, char_taken, timestamp_taken, uuid_taken, binary_taken, boolean_taken, ushort_taken, uint_taken, ulong_taken, string_taken, symbol_taken, option_taken, mapped, kind_seen, unless_null, each_taken, fields_taken, items_taken, elements_taken, sequence_taken, several, alone, unless_several, multiple_taken, descriptor_taken, list_with, record_taken}
+use Rattle.serde_amqp_de.specs.Takes.{null_taken, ubyte_taken, byte_taken, short_taken, int_taken, long_taken, float_taken, double_taken, decimal32_taken, decimal64_taken, decimal128_taken, char_taken, timestamp_taken, uuid_taken, binary_taken, boolean_taken, ushort_taken, uint_taken, ulong_taken, string_taken, symbol_taken, option_taken, mapped, kind_seen, unless_null, each_taken, fields_taken, row_taken, tuple_taken, items_taken, elements_taken, sequence_taken, several, alone, unless_several, multiple_taken, descriptor_taken, list_with, record_taken}
 use Rattle.serde_amqp_de.specs.Decides.{Decided, AllDecided}
 use Rattle.serde_amqp_de.specs.Apart.{apart, leads_one, Together, lists_together, arrays_together, described_together}
 use Rattle.serde_amqp_de.specs.Seen.{form_seen}
@@ -320,6 +320,15 @@ fields_decided (take ∷ takes) d (more_items x xs) (more_items y ys) k a us vs 
     let counts : item_count xs ≡ item_count ys = omega arith in
     front_decided take d.0 (fields_taken takes xs) (fields_taken takes ys) x y xs ys k a us vs g h (λ b ps qs i j m n. fields_decided takes d.1 xs ys k b ps qs counts i j m n) e f
 
+row_decided : (takes : List (Item → Option Item)) → AllDecided takes → (xs ys : Items) (k : Option ℕ) (a : List ℕ) (us vs : List Item) → item_count xs ≡ item_count ys → Forms IsCapped IsStrict xs k a → Forms IsCapped IsStrict ys k a → row_taken takes xs ≡ Some us → row_taken takes ys ≡ Some vs → us ≡ vs
+row_decided takes d no_items no_items k a us vs c g h e f = let both : Some us ≡ Some vs = sym e ∙ f in cc
+row_decided takes d no_items (more_items y ys) k a us vs c g h e f = absurd (omega arith)
+row_decided takes d (more_items x xs) no_items k a us vs c g h e f = absurd (omega arith)
+row_decided [] d (more_items x xs) (more_items y ys) k a us vs c g h e f = absurd cc
+row_decided (take ∷ takes) d (more_items x xs) (more_items y ys) k a us vs c g h e f =
+    let counts : item_count xs ≡ item_count ys = omega arith in
+    front_decided take d.0 (row_taken takes xs) (row_taken takes ys) x y xs ys k a us vs g h (λ b ps qs i j m n. row_decided takes d.1 xs ys k b ps qs counts i j m n) e f
+
 -- what is made of the items
 made : (wrap : List Item → Item) (p q : Option (List Item)) (u v : Item) → ((ps qs : List Item) → p ≡ Some ps → q ≡ Some qs → ps ≡ qs) → (p >>= λ ys. Some (wrap ys)) ≡ Some u → (q >>= λ ys. Some (wrap ys)) ≡ Some v → u ≡ v
 made wrap None q u v d e f = absurd cc
@@ -331,6 +340,14 @@ together_made take d wrap xs ys u v t e f = made wrap (each_taken take xs) (each
 
 unlike : (x y : Item) (s t : Kind) (k : Option ℕ) (a : List ℕ) → Wire x k a → Wire y k a → kind_seen x ≡ Some s → kind_seen y ≡ Some t → s ≡ t
 unlike x y s t k a g h p q = let both : Some s ≡ Some t = sym p ∙ (seen_same x y k a g h ∙ q) in cc
+
+pub tuple_decided : (takes : List (Item → Option Item)) → AllDecided takes → Decided (tuple_taken takes)
+unfolding tuple_taken
+tuple_decided takes d (list xs) (list ys) k a u v g h e f =
+    let t = lists_together xs ys k a g h in
+    made (λ zs. list (items_of zs)) (row_taken takes xs) (row_taken takes ys) u v (λ ps qs m n. row_decided takes d xs ys t.element t.content ps qs t.count t.left t.right m n) e f
+tuple_decided takes d (list xs) y k a u v g h e f = absurd cc
+tuple_decided takes d x y k a u v g h e f = absurd cc
 
 pub items_decided : (take : Item → Option Item) → Decided take → Decided (items_taken take)
 unfolding items_taken

@@ -193,6 +193,18 @@ fields_taken [] (more_items x xs) = None
 fields_taken (take ∷ takes) no_items = take (scalar null) >>= λ y. fields_taken takes no_items >>= λ ys. Some (y ∷ ys)
 fields_taken (take ∷ takes) (more_items x xs) = take x >>= λ y. fields_taken takes xs >>= λ ys. Some (y ∷ ys)
 
+-- exactly these items, one behind the other
+abbrev pub row_taken : List (Item → Option Item) → Items → Option (List Item)
+row_taken [] no_items = Some []
+row_taken [] (more_items x xs) = None
+row_taken (take ∷ takes) no_items = None
+row_taken (take ∷ takes) (more_items x xs) = take x >>= λ y. row_taken takes xs >>= λ ys. Some (y ∷ ys)
+
+-- a list of exactly these items
+unfoldable pub tuple_taken : List (Item → Option Item) → Item → Option Item
+tuple_taken takes (list xs) = row_taken takes xs >>= λ ys. Some (list (items_of ys))
+tuple_taken takes _ = None
+
 abbrev pub is_symbol : Kind → Bool
 is_symbol symbol_kind = true
 is_symbol _ = false

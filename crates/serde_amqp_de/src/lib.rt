@@ -13,6 +13,7 @@ mod record;
 mod sequence;
 #[cfg(test)]
 mod tests;
+mod tuple;
 
 pub use deserialize::{Deserialize, Faithful, NeverNull, RoundTrip, from_slice};
 pub use deserializer::Deserializer;

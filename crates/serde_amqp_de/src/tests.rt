@@ -384,3 +384,42 @@ fn has_failed_after_a_refusal(rt: HostRuntime) {
     );
     assert_eq!(rt; bool::deserialize(alloc, &mut de), Err(END));
 }
+
+#[test]
+fn reads_tuples(rt: HostRuntime) {
+    let alloc = rt.alloc();
+    let one = from_slice::<(u8,)>(alloc, &[0xc0, 3, 1, 0x50, 7]);
+    assert_eq!(rt; one, Ok((7,)));
+    let two = from_slice::<(u32, bool)>(alloc, &[0xd0, 0, 0, 0, 6, 0, 0, 0, 2, 0x43, 0x41]);
+    assert_eq!(rt; two, Ok((0, true)));
+    let three = from_slice::<(u64, (), i8)>(alloc, &[0xc0, 5, 3, 0x44, 0x40, 0x51, 0xff]);
+    assert_eq!(rt; three, Ok((0, (), -1)));
+    let four = from_slice::<((bool,), u32, u32, u32)>(
+        alloc,
+        &[0xc0, 8, 4, 0xc0, 2, 1, 0x42, 0x43, 0x43, 0x43],
+    );
+    assert_eq!(rt; four, Ok(((false,), 0, 0, 0)));
+    let optional = from_slice::<(u32, Option<u32>)>(alloc, &[0xc0, 3, 2, 0x43, 0x40]);
+    assert_eq!(rt; optional, Ok((0, None)));
+}
+
+#[test]
+fn refuses_tuples_of_other_lengths(rt: HostRuntime) {
+    let alloc = rt.alloc();
+    let cases: [(&[u8], Error); 8] = [
+        (&[0x45], Error::SequenceLengthMismatch),
+        (&[0xc0, 2, 1, 0x43], Error::SequenceLengthMismatch), // an item is not left off, as a field is
+        (
+            &[0xc0, 4, 3, 0x43, 0x43, 0x43],
+            Error::SequenceLengthMismatch,
+        ),
+        (&[0xc0, 4, 2, 0x43, 0x43, 0x43], Error::InvalidLength),
+        (&[0xc0, 2, 2, 0x43, 0x43], Error::InvalidLength),
+        (&[0xc0, 3, 2, 0x43], END),
+        (&[0xc0, 3, 2, 0x43, 0x44], Error::InvalidFormatCode),
+        (&[0xe0, 4, 2, 0x52, 1, 2], Error::InvalidFormatCode),
+    ];
+    for (bytes, error) in cases {
+        assert_eq!(rt; from_slice::<(u32, Option<u32>)>(alloc, bytes), Err(error));
+    }
+}

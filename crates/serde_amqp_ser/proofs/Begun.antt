@@ -2,16 +2,17 @@
 use Rattle.std.proofs.Common.{◌≡◌, ℕ, ◌*◌, ◌≤◌, ◌^◌, inl, inr, List, [], ◌∷◌, ◌++◌, length, Some, None, sym, ◌∙◌, ap, subst, refl, arith}
 use Rattle.std.proofs.lemmas.List.{map-append}
 use Rattle.serde_amqp_item.specs.Item.{Item, Items, list, map, items_of, pairs_of, more_items, pair_count, keys_and_values}
-use Rattle.serde_amqp_item.specs.Canon.{canon_all, canon_pairs, Place, alone, first, next, placed, map_placed}
-use Rattle.serde_amqp_item.proofs.Texts.{map_is_placed, map_not_placed, pair_count-le-length}
+use Rattle.serde_amqp_item.specs.Canon.{canon, canon_all, canon_pairs, Place, alone, first, next, placed, map_placed}
+use Rattle.serde_amqp_item.proofs.Texts.{list_not_placed, canon_all_stuck, map_is_placed, map_not_placed, pair_count-le-length}
 use Rattle.serde_amqp_item.proofs.Places.{canon_pairs_stuck}
 use Rattle.serde_amqp_item.proofs.PairRows.{canon_in_turn}
 use Rattle.serde_amqp_ser.specs.Written.{Written, extended, inside, Keeps}
 use Rattle.serde_amqp_ser.specs.Puts.{State, behind, serialized, counted_placed, place_of}
 use Rattle.serde_amqp_ser.specs.Open.{IsOpen, IsMark, in_turn, pair_items}
 use Rattle.serde_amqp_ser.specs.declared.opened.Opened.{Opened}
-use Rattle.serde_amqp_ser.proofs.Listed.{alone_stays, alone_none_of, listed_text, listed_more, listed_stuck, listed_keeps}
+use Rattle.serde_amqp_ser.proofs.Listed.{item_count-items_of, alone_stays, alone_none_of, listed_text, listed_more, listed_stuck, listed_keeps}
 use Rattle.serde_amqp_ser.proofs.Counted.{counted_long}
+use Rattle.serde_amqp_ser.proofs.Fronts.{list_long}
 
 -- no items
 pub open_none : (begins : ℕ → ℕ) (w now : Written) → now ≡ extended (inside begins w) [] → IsOpen begins w [] (record { written = now; place = alone })
@@ -99,6 +100,29 @@ map_content begins s now o ps count m i n =
       room = omega (arith, pair_count-le-length (pairs_of ps) t.0 t.1, pair_count-pairs_of ps, n);
       same = ap (behind s) placed_so ∙ ap (λ (q : Place). behind (record { written = s.written; place = q }) (counted_placed q 0xc1 0xd1 count t.0)) (sym m.outer);
     }
+
+pub length-in_turn : (ps : List (Item × Item)) → length (in_turn ps) ≡ 2 * length ps
+length-in_turn [] = refl
+length-in_turn (p ∷ ps) = omega (arith, length-in_turn ps)
+
+-- more than a list or a map can count
+pub list_over : (begins : ℕ → ℕ) (w : Written) (xs : List Item) (now s : State) → IsOpen begins w xs now → 2 ^ 32 ≤ length xs → serialized s (list (items_of xs)) ≡ None
+list_over begins w xs now s o n = list_long s.written (inside begins w) now.written s.place (items_of xs) o.items (omega (arith, item_count-items_of xs, n))
+
+pub map_over : (begins : ℕ → ℕ) (w : Written) (ps : List (Item × Item)) (now s : State) → IsOpen begins w (in_turn ps) now → 2 ^ 32 ≤ length (in_turn ps) → serialized s (map (pairs_of ps)) ≡ None
+map_over begins w ps now s o n =
+    let t = pairs_text begins w ps now o in
+    map_long s ps t.0 t.1 (omega (arith, length-in_turn ps, n))
+
+-- an item, a key or a value that has no canonical text
+pub list_without : (s : State) (xs ys : List Item) (x : Item) → canon x ≡ None → serialized s (list (items_of (xs ++ x ∷ ys))) ≡ None
+list_without s xs ys x e = ap (behind s) (list_not_placed s.place (items_of (xs ++ x ∷ ys)) (canon_all_stuck xs ys x e))
+
+pub map_without_key : (s : State) (ps qs : List (Item × Item)) (x y : Item) → canon x ≡ None → serialized s (map (pairs_of (ps ++ (x, y) ∷ qs))) ≡ None
+map_without_key s ps qs x y e = ap (behind s) (map_not_placed s.place (pairs_of (ps ++ (x, y) ∷ qs)) (canon_pairs_stuck ps qs x y (inl e)))
+
+pub map_without_value : (s : State) (ps qs : List (Item × Item)) (x y : Item) → canon y ≡ None → serialized s (map (pairs_of (ps ++ (x, y) ∷ qs))) ≡ None
+map_without_value s ps qs x y e = ap (behind s) (map_not_placed s.place (pairs_of (ps ++ (x, y) ∷ qs)) (canon_pairs_stuck ps qs x y (inr e)))
 
 -- the items of the entries of a map
 pub pair_items_more : {K V : Type 0} (key : K → Item) (value : V → Item) (es : List (K × V)) (e : K × V) → pair_items key value (es ++ e ∷ []) ≡ pair_items key value es ++ (key e.0, value e.1) ∷ []

@@ -1,9 +1,11 @@
 pub mod Arrayed
 pub mod Begun
+pub mod Composed
 pub mod Counted
 pub mod Fronts
 pub mod Grown
 pub mod Heads
+pub mod Held
 pub mod Listed
 pub mod Texts
 pub mod Ends

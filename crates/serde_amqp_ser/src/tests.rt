@@ -304,6 +304,126 @@ fn maps_in_place(rt: HostRuntime) -> Result<(), Fail> {
     Ok(())
 }
 
+#[test]
+fn sequences(rt: HostRuntime) -> Result<(), Fail> {
+    let alloc = rt.alloc();
+    let mut s = Serializer::new(vec![in alloc; 7u8]?);
+    let mut seq = s.serialize_seq();
+    seq.serialize_element(&1u32)?;
+    seq.serialize_element(&"a")?;
+    seq.end()?;
+    let tuple = s.serialize_tuple();
+    tuple.end()?;
+    let mut fields = s.serialize_tuple_struct();
+    fields.serialize_field(&None::<bool>)?;
+    fields.end()?;
+    assert_eq!(rt;
+        s.into_inner().as_slice(),
+        [
+            7, 0xc0, 6, 2, 0x52, 1, 0xa1, 1, b'a', 0x45, 0xc0, 2, 1, 0x40
+        ]
+        .as_slice()
+    );
+    let mut s = Serializer {
+        writer: Vec::new(alloc),
+        element: IsArrayElement::FirstElement,
+    };
+    let mut tuple = s.serialize_tuple();
+    tuple.serialize_element(&true)?;
+    tuple.end()?;
+    assert_eq!(rt; s.element, IsArrayElement::OtherElement(0xd0));
+    assert_eq!(rt;
+        s.into_inner().as_slice(),
+        [0xd0, 0, 0, 0, 5, 0, 0, 0, 1, 0x41].as_slice()
+    );
+    Ok(())
+}
+
+#[test]
+fn map_serializers(rt: HostRuntime) -> Result<(), Fail> {
+    let alloc = rt.alloc();
+    let mut s = Serializer::new(Vec::new(alloc));
+    let mut map = s.serialize_map();
+    assert_eq!(rt;
+        map.serialize_value(&1u8),
+        Err(Error::SequenceLengthMismatch)
+    );
+    map.serialize_key(&1u8)?;
+    assert_eq!(rt; map.serialize_key(&2u8), Err(Error::SequenceLengthMismatch));
+    assert_eq!(rt;
+        map.serialize_entry(&2u8, &()),
+        Err(Error::SequenceLengthMismatch)
+    );
+    map.serialize_value(&true)?;
+    map.serialize_entry(&2u8, &())?;
+    map.end()?;
+    assert_eq!(rt;
+        s.into_inner().as_slice(),
+        [0xc1, 7, 4, 0x50, 1, 0x41, 0x50, 2, 0x40].as_slice()
+    );
+    let mut s = Serializer::new(Vec::new(alloc));
+    let mut map = s.serialize_map();
+    map.serialize_key(&1u8)?;
+    assert_eq!(rt; map.end(), Err(Error::SequenceLengthMismatch));
+    Ok(())
+}
+
+#[test]
+fn structs(rt: HostRuntime) -> Result<(), Fail> {
+    let alloc = rt.alloc();
+    let mut s = Serializer::new(Vec::new(alloc));
+    let mut plain = s.serialize_struct();
+    plain.serialize_field("x", &1u32)?;
+    plain.end()?;
+    assert_eq!(rt; s.into_inner().as_slice(), [0xc0, 3, 1, 0x52, 1].as_slice());
+    let mut s = Serializer::new(Vec::new(alloc));
+    let mut list = s.described_list(16)?;
+    list.serialize_field("x", &1u32)?;
+    list.serialize_field("y", &())?;
+    list.end()?;
+    assert_eq!(rt;
+        s.into_inner().as_slice(),
+        [0, 0x53, 16, 0xc0, 4, 2, 0x52, 1, 0x40].as_slice()
+    );
+    let mut s = Serializer::new(Vec::new(alloc));
+    let mut map = s.described_map(256)?;
+    map.serialize_field("x", &1u32)?;
+    map.end()?;
+    assert_eq!(rt;
+        s.into_inner().as_slice(),
+        [
+            0, 0x80, 0, 0, 0, 0, 0, 0, 1, 0, 0xc1, 6, 2, 0xa3, 1, b'x', 0x52, 1
+        ]
+        .as_slice()
+    );
+    let mut s = Serializer::new(Vec::new(alloc));
+    s.described_basic(0x77, &true)?;
+    assert_eq!(rt; s.into_inner().as_slice(), [0, 0x53, 0x77, 0x41].as_slice());
+    let mut s = Serializer {
+        writer: Vec::new(alloc),
+        element: IsArrayElement::FirstElement,
+    };
+    assert_eq!(rt; s.described_basic(1, &true), Err(Error::InvalidValue));
+    assert!(rt; matches!(s.described_list(1), Err(Error::InvalidValue)));
+    assert!(rt; matches!(s.described_map(1), Err(Error::InvalidValue)));
+    Ok(())
+}
+
+#[test]
+fn variants(rt: HostRuntime) -> Result<(), Fail> {
+    let alloc = rt.alloc();
+    let mut s = Serializer::new(Vec::new(alloc));
+    let mut variant = s.serialize_variant(3)?;
+    variant.serialize_field(&true)?;
+    variant.serialize_field(&0u64)?;
+    variant.end()?;
+    assert_eq!(rt;
+        s.into_inner().as_slice(),
+        [0xc1, 8, 2, 0x52, 3, 0xc0, 3, 2, 0x41, 0x44].as_slice()
+    );
+    Ok(())
+}
+
 /// A composite type with the descriptor 17.
 #[derive(Drop)]
 struct Numbers {

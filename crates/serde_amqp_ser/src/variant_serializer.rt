@@ -1,0 +1,109 @@
+//! The serializer of an enum's variants.
+ghost use Rattle.std.specs.Prelude.{◌≡◌, ◌∷◌, [], ◌++◌, ℕ, List, Some, OnOk, IfOk};
+ghost use Rattle.std.specs.Borrow.{sem, RestsIfErr};
+ghost use Rattle.serde_amqp_item.specs.Item.{Item, scalar, uint};
+ghost use Rattle.serde_amqp_ser.specs.Written.{Keeps};
+ghost use Rattle.serde_amqp_ser.specs.Puts.{State, serialized, OnlyWhere, WantsMemory, state_of};
+ghost use Rattle.serde_amqp_ser.specs.Open.{IsMark, IsOpen};
+ghost use Rattle.serde_amqp_ser.specs.Content.{Holds};
+ghost use Rattle.serde_amqp_ser.specs.Composite.{HoldsVariant, variant_item};
+ghost use Rattle.serde_amqp_ser.specs.contracts.serializer.Serializer.{the_row};
+
+use crate::content::Content;
+use crate::opened::Opened;
+use crate::serialize::Serialize;
+use crate::serializer::Serializer;
+use crate::sink::Sink;
+use serde_amqp_item::Error;
+
+/// Writes a variant with fields, as a map of one pair: the variant's index, and a list of its fields.
+#[derive(Drop)]
+pub struct VariantSerializer<'a, W> {
+    /// What writes it.
+    pub serializer: &'a mut Serializer<W>,
+    /// Where the map began.
+    pub outer: Opened,
+    /// The list of fields so far.
+    pub content: Content,
+}
+
+impl<W: Sink> Serializer<W> {
+    /// Begins the map of a variant, and writes its key.
+    #[tactic(auto, using(crate::proofs::Grown::growing, crate::proofs::Begun::opening, crate::proofs::Composed::varying))]
+    fn begin_variant(&mut self, index: u32) -> Result<Opened, Error>
+        ensures mark { IfOk result (λ opened. IsMark (state_of W.written self.old) opened) }
+        ensures key { OnOk result (IsOpen W.begins (W.written self.old.writer) (scalar (uint index) ∷ []) (state_of W.written self.new)) }
+        ensures kept { Keeps (W.written self.old.writer) (W.written self.new.writer) }
+        ensures refused { (xs : List Item) → OnlyWhere result (serialized (state_of W.written self.old) (variant_item index xs)) }
+        ensures memory { WantsMemory W.takes_memory result }
+    {
+        let opened = self.begin_compound();
+        self.serialize_u32(index)?;
+        Ok(opened)
+    }
+
+    /// Begins a variant with this index, which is written as a map of one pair: the index as a uint, and a
+    /// list of the fields.
+    #[tactic(auto, using(crate::proofs::Grown::growing, crate::proofs::Composed::varying))]
+    pub fn serialize_variant<'a>(
+        &'a mut self,
+        index: u32,
+    ) -> Result<VariantSerializer<'a, W>, Error>
+        ensures* kept { sem 𝓛 (RestsIfErr (the_row W.row) self.entry (λ it. it.serializer.ghost_name) result (λ last. Keeps (W.written self.old.writer) (W.written last.writer))) }
+        ensures same_reference { IfOk result (λ it. it.serializer.ghost_name ≡ self.entry.ghost_name) }
+        ensures begun { IfOk result (λ it. HoldsVariant W.begins (state_of W.written self.old) index [] it.outer it.content (state_of W.written it.serializer.now)) }
+        ensures refused { (xs : List Item) → OnlyWhere result (serialized (state_of W.written self.old) (variant_item index xs)) }
+        ensures memory { WantsMemory W.takes_memory result }
+    {
+        let outer = self.begin_variant(index)?;
+        Ok(VariantSerializer::begin(self, outer))
+    }
+}
+
+impl<'a, W: Sink> VariantSerializer<'a, W> {
+    /// Begins the list of the fields.
+    fn begin(serializer: &'a mut Serializer<W>, outer: Opened) -> VariantSerializer<'a, W>
+        ensures same_reference { result.serializer.ghost_name ≡ serializer.entry.ghost_name }
+        ensures outer { result.outer ≡ outer }
+        ensures begun { Holds W.begins (state_of W.written serializer.old) [] result.content (state_of W.written result.serializer.now) }
+    {
+        let content = serializer.begin_content();
+        VariantSerializer {
+            serializer,
+            outer,
+            content,
+        }
+    }
+
+    /// Writes the next field. Any error but `Memory` comes exactly where the field has no canonical text.
+    #[tactic(auto, using(crate::proofs::Grown::growing, crate::proofs::Composed::varying))]
+    pub fn serialize_field<T: Serialize>(&mut self, field: &T) -> Result<(), Error>
+        ensures same_reference { self.new.serializer.ghost_name ≡ self.old.serializer.ghost_name }
+        ensures outer { self.new.outer ≡ self.old.outer }
+        ensures ok { OnOk result ((s : State) (index : ℕ) (xs : List Item) → HoldsVariant W.begins s index xs self.old.outer self.old.content (state_of W.written self.old.serializer.now) → HoldsVariant W.begins s index (xs ++ T.item field.now ∷ []) self.old.outer self.new.content (state_of W.written self.new.serializer.now)) }
+        ensures kept { Keeps (W.written self.old.serializer.now.writer) (W.written self.new.serializer.now.writer) }
+        ensures refused { (s : State) (index : ℕ) (xs ys : List Item) → HoldsVariant W.begins s index xs self.old.outer self.old.content (state_of W.written self.old.serializer.now) → OnlyWhere result (serialized s (variant_item index (xs ++ T.item field.now ∷ ys))) }
+        ensures memory { WantsMemory W.takes_memory result }
+    {
+        self.content = self.serializer.put_item(self.content, field)?;
+        Ok(())
+    }
+
+    /// Ends the variant, or answers `InvalidLength` where its list or its map takes 2^32 - 4 bytes or more,
+    /// and `InvalidValue` in an array whose first element is no map.
+    #[tactic(auto, using(crate::proofs::Grown::growing, crate::proofs::Composed::varying))]
+    pub fn end(self) -> Result<(), Error>
+        ensures ok { OnOk result ((s : State) (index : ℕ) (xs : List Item) → HoldsVariant W.begins s index xs self.entry.outer self.entry.content (state_of W.written self.entry.serializer.now) → serialized s (variant_item index xs) ≡ Some (state_of W.written self.exit.0.now)) }
+        ensures kept { (s : State) (index : ℕ) (xs : List Item) → HoldsVariant W.begins s index xs self.entry.outer self.entry.content (state_of W.written self.entry.serializer.now) → Keeps s.written (W.written self.exit.0.now.writer) }
+        ensures refused { (s : State) (index : ℕ) (xs : List Item) → HoldsVariant W.begins s index xs self.entry.outer self.entry.content (state_of W.written self.entry.serializer.now) → OnlyWhere result (serialized s (variant_item index xs)) }
+        ensures memory { WantsMemory W.takes_memory result }
+    {
+        let VariantSerializer {
+            serializer,
+            outer,
+            content,
+        } = self;
+        serializer.finish_list(content)?;
+        serializer.end_map(outer, 1)
+    }
+}
