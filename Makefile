@@ -16,8 +16,9 @@ try:
 test:
 	rt ci
 
-# Counts the instructions that the endpoint takes, by valgrind.
+# Counts the instructions that the codec and the endpoint take, by valgrind.
 bench:
+	@crates/serde_amqp_bench/measure
 	@crates/amqp_bench/measure
 
 # Runs the script once for each of its requests for memory, with that request refused. It takes minutes, and proves nothing.

@@ -1,10 +1,10 @@
 -- What a value adds to what a serializer has written.
-use Rattle.std.specs.Prelude.{◌≡◌, ◌≢◌, ◌==◌, ℕ, List, [], ◌∷◌, Bool, true, Option, Some, None, Result, Ok, Err, if◌then◌else◌}
+use Rattle.std.specs.Prelude.{◌≡◌, ◌≢◌, ◌==◌, ℕ, List, [], ◌∷◌, length, Bool, true, Option, Some, None, Result, Ok, Err, if◌then◌else◌}
 use Rattle.serde_amqp_item.specs.Item.{Item, Items}
 use Rattle.serde_amqp_item.specs.Canon.{Place, alone, first, next, placed, settled, canon_all, sized_text, wide_sized, counted_text, counted_wide, ◌>>=◌}
 use Rattle.serde_amqp_item.specs.declared.error.Error.{Error}
 use Rattle.serde_amqp_item.specs.declared.error.Error.TheVariants.{Memory}
-use Rattle.serde_amqp_ser.specs.Written.{Written, extended}
+use Rattle.serde_amqp_ser.specs.Written.{Written, capped, extended}
 use Rattle.serde_amqp_ser.specs.declared.serializer.Serializer.{Serializer}
 use Rattle.serde_amqp_ser.specs.declared.place.IsArrayElement.{IsArrayElement}
 use Rattle.serde_amqp_ser.specs.declared.place.IsArrayElement.TheVariants.{False, FirstElement, OtherElement}
@@ -22,6 +22,10 @@ pub record State : Type 0 where
 -- the state of a serializer, by what its sink holds
 abbrev pub state_of : {W : Type 0} → (W → Written) → Serializer W → State
 state_of written s = record { written = written s.writer; place = place_of s.element }
+
+-- the state of a serializer over these bytes
+abbrev pub bytes_state : List ℕ → IsArrayElement → State
+bytes_state bytes element = record { written = record { size = capped (length bytes); bytes = Some bytes }; place = place_of element }
 
 -- the state behind what is added; none where there is nothing to add
 abbrev pub behind : State → Option (Place × List ℕ) → Option State

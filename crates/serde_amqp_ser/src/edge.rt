@@ -3,6 +3,7 @@ ghost use Rattle.std.specs.Prelude.{◌≡◌, ◌≢◌, ◌≤◌, ◌^◌, �
 ghost use Rattle.serde_amqp_item.specs.Canon.{canon};
 ghost use Rattle.serde_amqp_ser.specs.Written.{capped};
 ghost use Rattle.serde_amqp_ser.specs.Sizes.{HasLength, IsTooLong};
+ghost use Rattle.serde_amqp_ser.specs.Puts.{serialized, OnlyWhere, bytes_state};
 
 use crate::serialize::Serialize;
 use crate::serializer::Serializer;
@@ -73,4 +74,24 @@ pub fn append_to_vec<T: Serialize>(
         bytes.truncate(len);
     }
     result
+}
+
+impl Serializer<Vec<u8>> {
+    /// Writes a value, or leaves all as before: after an error the vector has the bytes that it had, and the
+    /// next value is written where this one was to be. Any error but `Memory` comes exactly where the value's
+    /// item has no canonical text, in an array no wide form.
+    pub fn write_value<T: Serialize>(&mut self, value: &T) -> Result<(), Error>
+        ensures ok { OnOk result (serialized (bytes_state self.old.writer.items self.old.element) (T.item value.now) ≡ Some (bytes_state self.new.writer.items self.new.element)) }
+        ensures err { OnErr result ((self.new.writer.items ≡ self.old.writer.items) × (self.new.element ≡ self.old.element)) }
+        ensures refused { OnlyWhere result (serialized (bytes_state self.old.writer.items self.old.element) (T.item value.now)) }
+    {
+        let len = self.writer.len();
+        let element = self.element;
+        let result = value.serialize(self);
+        if result.is_err() {
+            self.writer.truncate(len);
+            self.element = element;
+        }
+        result
+    }
 }

@@ -24,8 +24,10 @@ pub struct MapSerializer<'a, W> {
 
 impl<W: Sink> Serializer<W> {
     /// Begins a map.
+    #[tactic(auto, using(crate::proofs::Grown::growing, crate::proofs::Held::holding))]
     pub fn serialize_map<'a>(&'a mut self) -> MapSerializer<'a, W>
         ensures same_reference { result.serializer.ghost_name ≡ self.entry.ghost_name }
+        ensures kept { Keeps (W.written self.old.writer) (W.written result.serializer.now.writer) }
         ensures begun { HoldsPairs W.begins (state_of W.written self.old) [] None result.content result.keyed (state_of W.written result.serializer.now) }
     {
         let content = self.begin_content();

@@ -23,10 +23,11 @@ pub struct Opened {
 impl<W: Sink> Serializer<W> {
     /// Begins a list or a map. Its items are written next, a map's keys and values in turn, and then
     /// [`Serializer::end_list`] or [`Serializer::end_map`] ends it.
-    #[tactic(auto, using(crate::proofs::Begun::opening))]
+    #[tactic(auto, using(crate::proofs::Grown::growing, crate::proofs::Begun::opening))]
     pub fn begin_compound(&mut self) -> Opened
         ensures open { IsOpen W.begins (W.written self.old.writer) [] (state_of W.written self.new) }
         ensures mark { IsMark (state_of W.written self.old) result }
+        ensures kept { Keeps (W.written self.old.writer) (W.written self.new.writer) }
     {
         let outer = self.element;
         let start = self.writer.open();

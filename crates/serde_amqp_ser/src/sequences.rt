@@ -22,8 +22,10 @@ pub struct SeqSerializer<'a, W> {
 
 impl<W: Sink> Serializer<W> {
     /// Begins a list.
+    #[tactic(auto, using(crate::proofs::Grown::growing, crate::proofs::Held::holding))]
     pub fn serialize_seq<'a>(&'a mut self) -> SeqSerializer<'a, W>
         ensures same_reference { result.serializer.ghost_name ≡ self.entry.ghost_name }
+        ensures kept { Keeps (W.written self.old.writer) (W.written result.serializer.now.writer) }
         ensures begun { Holds W.begins (state_of W.written self.old) [] result.content (state_of W.written result.serializer.now) }
     {
         let content = self.begin_content();
@@ -75,8 +77,10 @@ pub struct TupleSerializer<'a, W> {
 
 impl<W: Sink> Serializer<W> {
     /// Begins a tuple, which is written as a list.
+    #[tactic(auto, using(crate::proofs::Grown::growing, crate::proofs::Held::holding))]
     pub fn serialize_tuple<'a>(&'a mut self) -> TupleSerializer<'a, W>
         ensures same_reference { result.serializer.ghost_name ≡ self.entry.ghost_name }
+        ensures kept { Keeps (W.written self.old.writer) (W.written result.serializer.now.writer) }
         ensures begun { Holds W.begins (state_of W.written self.old) [] result.content (state_of W.written result.serializer.now) }
     {
         let content = self.begin_content();
@@ -128,8 +132,10 @@ pub struct TupleStructSerializer<'a, W> {
 
 impl<W: Sink> Serializer<W> {
     /// Begins a struct of unnamed fields, which is written as a list.
+    #[tactic(auto, using(crate::proofs::Grown::growing, crate::proofs::Held::holding))]
     pub fn serialize_tuple_struct<'a>(&'a mut self) -> TupleStructSerializer<'a, W>
         ensures same_reference { result.serializer.ghost_name ≡ self.entry.ghost_name }
+        ensures kept { Keeps (W.written self.old.writer) (W.written result.serializer.now.writer) }
         ensures begun { Holds W.begins (state_of W.written self.old) [] result.content (state_of W.written result.serializer.now) }
     {
         let content = self.begin_content();

@@ -61,6 +61,7 @@ impl<W: Sink> Serializer<W> {
     /// Begins a struct, which is written as a list of its fields' values.
     pub fn serialize_struct<'a>(&'a mut self) -> StructSerializer<'a, W>
         ensures same_reference { result.serializer.ghost_name ≡ self.entry.ghost_name }
+        ensures kept { Keeps (W.written self.old.writer) (W.written result.serializer.now.writer) }
         ensures encoding { result.encoding ≡ StructEncoding.None }
         ensures begun { (code : ℕ) → HoldsFields W.begins (state_of W.written self.old) StructEncoding.None code [] result.content (state_of W.written result.serializer.now) }
     {
@@ -71,8 +72,9 @@ impl<W: Sink> Serializer<W> {
     /// (part 1, 1.4). In an array it answers `InvalidValue`, since a described item has no wide form.
     #[tactic(auto, using(crate::proofs::Grown::growing, crate::proofs::Composed::composing))]
     pub fn described_list<'a>(&'a mut self, code: u64) -> Result<StructSerializer<'a, W>, Error>
-        ensures* kept { sem 𝓛 (RestsIfErr (the_row W.row) self.entry (λ it. it.serializer.ghost_name) result (λ last. Keeps (W.written self.old.writer) (W.written last.writer))) }
+        ensures* kept_at_error { sem 𝓛 (RestsIfErr (the_row W.row) self.entry (λ it. it.serializer.ghost_name) result (λ last. Keeps (W.written self.old.writer) (W.written last.writer))) }
         ensures same_reference { IfOk result (λ it. it.serializer.ghost_name ≡ self.entry.ghost_name) }
+        ensures kept { IfOk result (λ it. Keeps (W.written self.old.writer) (W.written it.serializer.now.writer)) }
         ensures encoding { IfOk result (λ it. it.encoding ≡ StructEncoding.DescribedList) }
         ensures begun { IfOk result (λ it. HoldsFields W.begins (state_of W.written self.old) StructEncoding.DescribedList code [] it.content (state_of W.written it.serializer.now)) }
         ensures refused { (value : Item) → OnlyWhere result (serialized (state_of W.written self.old) (described (scalar (ulong code)) value)) }
@@ -86,8 +88,9 @@ impl<W: Sink> Serializer<W> {
     /// symbols, and values. In an array it answers `InvalidValue`, since a described item has no wide form.
     #[tactic(auto, using(crate::proofs::Grown::growing, crate::proofs::Composed::composing))]
     pub fn described_map<'a>(&'a mut self, code: u64) -> Result<StructSerializer<'a, W>, Error>
-        ensures* kept { sem 𝓛 (RestsIfErr (the_row W.row) self.entry (λ it. it.serializer.ghost_name) result (λ last. Keeps (W.written self.old.writer) (W.written last.writer))) }
+        ensures* kept_at_error { sem 𝓛 (RestsIfErr (the_row W.row) self.entry (λ it. it.serializer.ghost_name) result (λ last. Keeps (W.written self.old.writer) (W.written last.writer))) }
         ensures same_reference { IfOk result (λ it. it.serializer.ghost_name ≡ self.entry.ghost_name) }
+        ensures kept { IfOk result (λ it. Keeps (W.written self.old.writer) (W.written it.serializer.now.writer)) }
         ensures encoding { IfOk result (λ it. it.encoding ≡ StructEncoding.DescribedMap) }
         ensures begun { IfOk result (λ it. HoldsFields W.begins (state_of W.written self.old) StructEncoding.DescribedMap code [] it.content (state_of W.written it.serializer.now)) }
         ensures refused { (value : Item) → OnlyWhere result (serialized (state_of W.written self.old) (described (scalar (ulong code)) value)) }
@@ -100,8 +103,10 @@ impl<W: Sink> Serializer<W> {
 
 impl<'a, W: Sink> StructSerializer<'a, W> {
     /// Begins the list or the map of a struct.
+    #[tactic(auto, using(crate::proofs::Grown::growing, crate::proofs::Held::holding))]
     fn begin(serializer: &'a mut Serializer<W>, encoding: StructEncoding) -> StructSerializer<'a, W>
         ensures same_reference { result.serializer.ghost_name ≡ serializer.entry.ghost_name }
+        ensures kept { Keeps (W.written serializer.old.writer) (W.written result.serializer.now.writer) }
         ensures encoding { result.encoding ≡ encoding }
         ensures begun { Holds W.begins (state_of W.written serializer.old) [] result.content (state_of W.written result.serializer.now) }
     {

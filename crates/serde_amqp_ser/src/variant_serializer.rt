@@ -49,8 +49,9 @@ impl<W: Sink> Serializer<W> {
         &'a mut self,
         index: u32,
     ) -> Result<VariantSerializer<'a, W>, Error>
-        ensures* kept { sem 𝓛 (RestsIfErr (the_row W.row) self.entry (λ it. it.serializer.ghost_name) result (λ last. Keeps (W.written self.old.writer) (W.written last.writer))) }
+        ensures* kept_at_error { sem 𝓛 (RestsIfErr (the_row W.row) self.entry (λ it. it.serializer.ghost_name) result (λ last. Keeps (W.written self.old.writer) (W.written last.writer))) }
         ensures same_reference { IfOk result (λ it. it.serializer.ghost_name ≡ self.entry.ghost_name) }
+        ensures kept { IfOk result (λ it. Keeps (W.written self.old.writer) (W.written it.serializer.now.writer)) }
         ensures begun { IfOk result (λ it. HoldsVariant W.begins (state_of W.written self.old) index [] it.outer it.content (state_of W.written it.serializer.now)) }
         ensures refused { (xs : List Item) → OnlyWhere result (serialized (state_of W.written self.old) (variant_item index xs)) }
         ensures memory { WantsMemory W.takes_memory result }
@@ -62,8 +63,10 @@ impl<W: Sink> Serializer<W> {
 
 impl<'a, W: Sink> VariantSerializer<'a, W> {
     /// Begins the list of the fields.
+    #[tactic(auto, using(crate::proofs::Grown::growing, crate::proofs::Held::holding))]
     fn begin(serializer: &'a mut Serializer<W>, outer: Opened) -> VariantSerializer<'a, W>
         ensures same_reference { result.serializer.ghost_name ≡ serializer.entry.ghost_name }
+        ensures kept { Keeps (W.written serializer.old.writer) (W.written result.serializer.now.writer) }
         ensures outer { result.outer ≡ outer }
         ensures begun { Holds W.begins (state_of W.written serializer.old) [] result.content (state_of W.written result.serializer.now) }
     {
