@@ -303,3 +303,20 @@ pub fn from_slice<T: Deserialize>(alloc: Global, bytes: &[u8]) -> Result<T, Erro
     let mut de = Deserializer::new(SliceReader::new(bytes));
     T::deserialize(alloc, &mut de)
 }
+
+/// Reads a value from the front of what is left of a reader, and gives the reader back: what stands
+/// behind that front is left in it.
+///
+/// Errors: `Memory`; a fault of the reader itself; any other exactly where no front of what is left is a
+/// wire form of an item that the type takes.
+pub fn from_reader<T: Deserialize, R: Read + Drop>(
+    alloc: Global,
+    reader: R,
+) -> Result<(T, R), Error>
+    ensures ok { IfOk result (λ p. (x : Item) × (front : List ℕ) × Wire x None front × (R.rest reader ≡ front ++ R.rest p.1) × (T.take x ≡ Some (T.item p.0))) }
+    ensures refused { Unless R.faulty result ((x : Item) (front more : List ℕ) → Wire x None front → R.rest reader ≡ front ++ more → T.take x ≡ None) }
+{
+    let mut de = Deserializer::new(reader);
+    let value = T::deserialize(alloc, &mut de)?;
+    Ok((value, de.into_reader()))
+}

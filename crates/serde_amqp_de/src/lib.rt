@@ -15,10 +15,10 @@ mod sequence;
 mod tests;
 mod tuple;
 
-pub use deserialize::{Deserialize, Faithful, NeverNull, RoundTrip, from_slice};
+pub use deserialize::{Deserialize, Faithful, NeverNull, RoundTrip, from_reader, from_slice};
 pub use deserializer::Deserializer;
 pub use laws::{one_value, written_is_read, written_is_read_equal};
 pub use map::read_map;
 pub use record::{ReadFields, read_descriptor, read_record};
 pub use sequence::{read_array, read_list, read_multiple};
-pub use serde_amqp_read::{Read, SliceReader};
+pub use serde_amqp_read::{IoReader, Read, SliceReader};

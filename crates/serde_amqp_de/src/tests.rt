@@ -1,7 +1,12 @@
 //! Wire forms of the standard's tables, and what is refused.
-use crate::{Deserialize, Deserializer, SliceReader, from_slice, read_multiple, read_record};
+use crate::{
+    Deserialize, Deserializer, IoReader, Read, SliceReader, from_reader, from_slice, read_multiple,
+    read_record,
+};
 use serde_amqp_item::{Double, Error, Float};
-use std::io::ErrorKind;
+use std::alloc::Global;
+use std::io::{ErrorKind, Read as StdRead};
+use std::process::Abort;
 
 const END: Error = Error::Io(ErrorKind::UnexpectedEof);
 
@@ -422,4 +427,37 @@ fn refuses_tuples_of_other_lengths(rt: HostRuntime) {
     for (bytes, error) in cases {
         assert_eq!(rt; from_slice::<(u32, Option<u32>)>(alloc, bytes), Err(error));
     }
+}
+
+// Reads two values, and leaves the byte behind them.
+fn reads_one_behind_the_other<R: Read + Drop>(
+    rt: &impl Abort,
+    alloc: Global,
+    reader: R,
+) -> Result<(), Error> {
+    let (first, reader) = from_reader::<u32, R>(alloc, reader)?;
+    assert_eq!(rt; first, 7);
+    let (second, mut reader) = from_reader::<bool, R>(alloc, reader)?;
+    assert_eq!(rt; second, true);
+    assert_eq!(rt; reader.next(), Ok(0x99));
+    assert_eq!(rt; reader.next(), Err(END));
+    Ok(())
+}
+
+#[test]
+fn reads_from_readers(rt: HostRuntime) -> Result<(), Error> {
+    let bytes: &[u8] = &[0x52, 7, 0x41, 0x99];
+    reads_one_behind_the_other(&rt, rt.alloc(), SliceReader::new(bytes))?;
+    reads_one_behind_the_other(&rt, rt.alloc(), IoReader::new(rt.alloc(), bytes))?;
+    for at in 0..=bytes.len() {
+        let (front, behind) = bytes.split_at(at);
+        let pieces = IoReader::new(rt.alloc(), front.chain(behind));
+        reads_one_behind_the_other(&rt, rt.alloc(), pieces)?;
+    }
+    let short = from_reader::<u32, IoReader<&[u8]>>(
+        rt.alloc(),
+        IoReader::new(rt.alloc(), &[0x70, 0]),
+    );
+    assert!(rt; short.is_err());
+    Ok(())
 }

@@ -1,4 +1,7 @@
-// Writing values in AMQP's canonical encoding.
+// Writing values in AMQP's canonical encoding: whole values with `to_vec` and `append_to_vec`, and with a
+// `Serializer` value by value, field by field or item by item. A value that `append_to_vec` or
+// `Serializer::write_value` refuses leaves the bytes as they were; after any other refusal what was written
+// before the value is still there.
 #![tactic(auto)]
 
 mod compound;

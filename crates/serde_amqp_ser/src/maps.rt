@@ -1,6 +1,4 @@
 //! Maps.
-ghost use Rattle.std.specs.Prelude.{◌≡◌, Some, OnOk};
-ghost use Rattle.serde_amqp_ser.specs.Puts.{serialized, state_of};
 ghost use Rattle.serde_amqp_ser.specs.Open.{map_item};
 
 use crate::serialize::Serialize;

@@ -1,7 +1,6 @@
 //! Tuples, as lists of their parts.
-ghost use Rattle.std.specs.Prelude.{◌≡◌, ◌∷◌, [], ℕ, List, Some, OnOk};
-ghost use Rattle.serde_amqp_item.specs.Item.{Item, list, items_of};
-ghost use Rattle.serde_amqp_ser.specs.Puts.{serialized, state_of};
+ghost use Rattle.std.specs.Prelude.{◌∷◌, []};
+ghost use Rattle.serde_amqp_item.specs.Item.{list, items_of};
 
 use crate::serialize::Serialize;
 use crate::serializer::Serializer;

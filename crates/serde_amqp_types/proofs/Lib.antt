@@ -1,2 +1,3 @@
 pub mod Arrays
-pub mod Standard
+pub mod Descriptions
+pub mod Multiples

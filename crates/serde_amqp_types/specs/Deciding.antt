@@ -1,12 +1,14 @@
--- Bytes give one array.
+-- Bytes give one array, and one described value.
 use Rattle.std.proofs.Common.{◌≡◌, ◌≢◌, ℕ, List, [], ◌∷◌, Option, Some, None, sym, ◌∙◌, ap, refl}
-use Rattle.serde_amqp_item.specs.Item.{Item, scalar, null, raw, array, items_of}
+use Rattle.serde_amqp_item.specs.Item.{Item, scalar, null, ulong, symbol, raw, array, described, items_of}
 use Rattle.serde_amqp_item.specs.Wire.{Wire}
 use Rattle.serde_amqp_item.specs.Kind.{Kind, null_kind, array_kind}
 use Rattle.serde_amqp_de.specs.Takes.{kind_seen, elements_taken, unless_several}
 use Rattle.serde_amqp_de.specs.Decides.{Decided}
-use Rattle.serde_amqp_de.specs.Deciding.{seen_same, elements_decided}
-use Rattle.serde_amqp_types.specs.Takes.{as_one, array_or_one_taken}
+use Rattle.serde_amqp_item.specs.Canon.{WithoutRaw, ◌>>=◌}
+use Rattle.serde_amqp_de.specs.Apart.{described_together}
+use Rattle.serde_amqp_de.specs.Deciding.{seen_same, elements_decided, as_it_is_decided}
+use Rattle.serde_amqp_types.specs.Takes.{as_one, array_or_one_taken, any_descriptor_taken, described_with}
 
 unless_same : (t : Option Kind) (o : Option Item) → t ≢ Some null_kind → t ≢ Some array_kind → unless_several t o ≡ o
 unless_same None o n m = refl
@@ -70,3 +72,31 @@ by_kind take d x y k a u v _ (is_other p q) m n g h e f =
 
 pub array_or_one_decided : (take : Item → Option Item) → Decided take → Decided (array_or_one_taken take)
 array_or_one_decided take d x y k a u v g h e f = by_kind take d x y k a u v (kind_seen x) (three (kind_seen x)) refl (sym (seen_same x y k a g h)) g h e f
+
+descriptor_as_it_is : (x u : Item) → any_descriptor_taken x ≡ Some u → (x ≡ u) × WithoutRaw x
+unfolding any_descriptor_taken
+descriptor_as_it_is (scalar (ulong n)) u e = (cc, tt)
+descriptor_as_it_is (scalar (symbol bs)) u e = (cc, tt)
+descriptor_as_it_is (scalar s) u e = absurd cc
+descriptor_as_it_is x u e = absurd cc
+
+pub any_descriptor_decided : Decided any_descriptor_taken
+any_descriptor_decided = as_it_is_decided any_descriptor_taken descriptor_as_it_is
+
+-- what is made of a descriptor and a value
+both_taken : (o p : Option Item) (u : Item) → (o >>= λ c. p >>= λ y. Some (described c y)) ≡ Some u → (c : Item) × (y : Item) × (o ≡ Some c) × (p ≡ Some y) × (u ≡ described c y)
+both_taken None p u e = absurd cc
+both_taken (Some c) None u e = absurd cc
+both_taken (Some c) (Some y) u e = (c, y, refl, refl, cc)
+
+pub described_with_decided : (take : Item → Option Item) → Decided take → Decided (described_with take)
+unfolding described_with
+described_with_decided take all (described d v) (described e w) k a u z g h i j =
+    let t = described_together d v e w k a g h in
+    let p = both_taken (any_descriptor_taken d) (take v) u i in
+    let q = both_taken (any_descriptor_taken e) (take w) z j in
+    let first : p.0 ≡ q.0 = any_descriptor_decided d e None t.first p.0 q.0 t.first_left t.first_right p.2 q.2 in
+    let second : p.1 ≡ q.1 = all v w None t.second p.1 q.1 t.second_left t.second_right p.3 q.3 in
+    p.4 ∙ (ap (λ (c : Item). described c p.1) first ∙ (ap (λ (y : Item). described q.0 y) second ∙ sym q.4))
+described_with_decided take all (described d v) y k a u z g h i j = absurd cc
+described_with_decided take all x y k a u z g h i j = absurd cc

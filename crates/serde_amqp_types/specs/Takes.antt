@@ -1,6 +1,6 @@
--- Which items an array takes.
+-- Which items arrays and described values take.
 use Rattle.std.specs.Prelude.{[], ◌∷◌, Option, Some, None}
-use Rattle.serde_amqp_item.specs.Item.{Item, scalar, null, raw, array, items_of}
+use Rattle.serde_amqp_item.specs.Item.{Item, scalar, null, ulong, symbol, raw, array, described, items_of}
 use Rattle.serde_amqp_item.specs.Canon.{◌>>=◌}
 use Rattle.serde_amqp_de.specs.Takes.{kind_seen, each_taken, unless_several}
 
@@ -14,3 +14,14 @@ array_or_one_taken take (array xs) = each_taken take xs >>= λ ys. Some (array (
 array_or_one_taken take (scalar null) = None
 array_or_one_taken take (raw text) = unless_several (kind_seen (raw text)) (as_one (take (raw text)))
 array_or_one_taken take x = as_one (take x)
+
+-- a descriptor: a code or a name (part 1, section 1.2.1)
+unfoldable pub any_descriptor_taken : Item → Option Item
+any_descriptor_taken (scalar (ulong n)) = Some (scalar (ulong n))
+any_descriptor_taken (scalar (symbol bs)) = Some (scalar (symbol bs))
+any_descriptor_taken _ = None
+
+-- a described value, by what its value is taken as (part 1, section 1.2)
+unfoldable pub described_with : (Item → Option Item) → Item → Option Item
+described_with take (described d v) = any_descriptor_taken d >>= λ c. take v >>= λ y. Some (described c y)
+described_with take _ = None

@@ -1,5 +1,12 @@
-ghost use Rattle.std.specs.Prelude.{◌≡◌, ◌==◌, length, map, IfOk, OnOk, Some, None};
-ghost use Rattle.std.specs.Slice.Iter.{iter_rest};
+ghost use Rattle.std.specs.Cmp.Lexicographic.{pointwise, slice_cmp, slice_partial_cmp, lists_per, lists_equiv, lists_po, lists_total, lists_agrees, lists_ties};
+ghost use Rattle.std.specs.Hash as fed;
+ghost use Rattle.std.specs.Hash.{items_Alike};
+ghost use Rattle.std.specs.Iterator.Runs.{EveryRun, ItemsMapTo, ItemsAre};
+ghost use Rattle.std.specs.List.{AllZip};
+ghost use Rattle.std.specs.Prelude.{◌≡◌, ◌==◌, ◌<◌, ◌^◌, length, map, IfOk, OnOk, Some, None};
+ghost use Rattle.std.specs.Slice.Iter.{iter_rest, iter_steps};
+ghost use Rattle.std.specs.declared.alloc.Global.{Global as Heap};
+ghost use Rattle.std.specs.Vec.Iter.{into_iter_steps, into_iter_items};
 ghost use Rattle.serde_amqp_item.specs.Item.{array, items_of};
 ghost use Rattle.serde_amqp_de.specs.Again.{array_faithful, array_same_item};
 ghost use Rattle.serde_amqp_read.specs.Reads.{Unless};
@@ -11,9 +18,13 @@ ghost use Rattle.serde_amqp_types.specs.Again.{array_again};
 use serde_amqp_de::{Deserialize, Deserializer, Faithful, Read, RoundTrip, read_array};
 use serde_amqp_item::{EncodingCodes, Error};
 use serde_amqp_ser::{Serialize, Serializer, Sink};
-use std::alloc::Global;
+use std::alloc::{AllocError, Global};
+use std::cmp::Ordering;
+use std::hash::{Hash, Hasher};
 use std::marker::Model;
+use std::ops::DerefSlice;
 use std::slice::Iter;
+use std::vec::IntoIter;
 
 /// Values of one type, written as an array (part 1, 1.6.24). A clause sees the list of them.
 #[derive(Debug, Drop)]
@@ -82,6 +93,121 @@ impl<T> From<Vec<T>> for Array<T> {
 
     fn from(items: Vec<T>) -> Self {
         Array { items }
+    }
+}
+
+impl<T> From<Array<T>> for Vec<T> {
+    ghost from_gives = { λ a v. v.items ≡ a };
+
+    fn from(array: Array<T>) -> Self {
+        array.into_inner()
+    }
+}
+
+/// The values, collected. It is refused where there is no memory for them.
+impl<T: Drop> FromIterator<T> for Array<T> {
+    type Alloc = Global;
+
+    ghost from_iter_gives = { λ xs a. a ≡ xs };
+
+    fn from_iter<U: IntoIterator<Item = T>>(alloc: Global, iter: U) -> Result<Self, AllocError> {
+        Ok(Array {
+            items: Vec::from_iter(alloc, iter)?,
+        })
+    }
+}
+
+impl<T> DerefSlice for Array<T> {
+    type Elem = T;
+
+    ghost deref_gives = { λ a xs. xs ≡ a };
+
+    fn deref(&self) -> &[T] {
+        self.as_slice()
+    }
+}
+
+/// Each value once, in order.
+impl<T: Drop> IntoIterator for Array<T> {
+    type Item = T;
+
+    type IntoIter = IntoIter<T, Global>;
+
+    ghost into_iter_gives = { λ a it. (into_iter_items it ≡ a) × EveryRun (into_iter_steps {X = T} {Z = Heap}) (λ p. ItemsAre p (into_iter_items p.from)) };
+
+    fn into_iter(self) -> IntoIter<T, Global> {
+        self.items.into_iter()
+    }
+}
+
+/// Each value once, in order.
+impl<'a, T> IntoIterator for &'a Array<T> {
+    type Item = &'a T;
+
+    type IntoIter = Iter<'a, T>;
+
+    ghost into_iter_gives = { λ a it. (iter_rest it ≡ a.now) × (length (iter_rest it) < 2 ^ 64) × EveryRun (iter_steps {A = T}) (λ p. ItemsMapTo p (λ x. x.now) (iter_rest p.from)) };
+
+    fn into_iter(self) -> Iter<'a, T> {
+        self.as_slice().iter()
+    }
+}
+
+impl<T: Clone> Clone for Array<T> {
+    ghost is_clone = { AllZip T.is_clone };
+
+    fn clone(&self) -> Result<Self, AllocError> {
+        Ok(Array {
+            items: self.items.clone()?,
+        })
+    }
+}
+
+impl<T: PartialEq> PartialEq for Array<T> {
+    ghost eq = { pointwise T.eq };
+
+    ghost laws = { lists_per T.laws };
+
+    fn eq(&self, other: &Self) -> bool {
+        self.as_slice() == other.as_slice()
+    }
+}
+
+impl<T: Eq> Eq for Array<T> {
+    ghost laws = { lists_equiv T.Eq.laws };
+}
+
+impl<T: PartialOrd> PartialOrd for Array<T> {
+    ghost partial_cmp = { slice_partial_cmp T.partial_cmp };
+
+    ghost laws = { lists_po T.PartialOrd.laws };
+
+    fn partial_cmp(&self, other: &Self) -> Option<Ordering> {
+        self.as_slice().partial_cmp(&other.as_slice())
+    }
+}
+
+impl<T: Ord> Ord for Array<T> {
+    ghost cmp = { slice_cmp T.cmp };
+
+    ghost total = { lists_total T.total };
+
+    ghost matches_partial_cmp = { lists_agrees T.matches_partial_cmp };
+
+    ghost matches_eq = { lists_ties T.cmp T.matches_eq };
+
+    fn cmp(&self, other: &Self) -> Ordering {
+        self.as_slice().cmp(&other.as_slice())
+    }
+}
+
+impl<T: Hash> Hash for Array<T> {
+    ghost hash_input = { fed.slice T.hash_input };
+
+    ghost respects_eq = { (items_Alike (record { fed = T.respects_eq })).fed };
+
+    fn hash<H: Hasher>(&self, state: &mut H) {
+        self.as_slice().hash(state);
     }
 }
 

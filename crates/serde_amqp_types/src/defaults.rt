@@ -1,10 +1,10 @@
 //! Fields of composite types that have a default (part 1, 1.4).
-ghost use Rattle.std.specs.Prelude.{◌≡◌, ℕ, Option, Some, None, refl};
+ghost use Rattle.std.specs.Prelude.{◌≡◌, ℕ, Bool, Option, Some, None, refl};
 ghost use Rattle.std.proofs.Common.{ap};
-ghost use Rattle.serde_amqp_item.specs.Item.{Item, scalar, null, ushort, uint};
-ghost use Rattle.serde_amqp_de.specs.Again.{ushort_faithful, uint_faithful, default_again, default_faithful, one_ushort, one_uint};
-ghost use Rattle.serde_amqp_de.specs.Takes.{ushort_taken, uint_taken, option_taken, mapped, or_null, is_ushort, is_uint};
-ghost use Rattle.serde_amqp_de.specs.Deciding.{ushort_decided, uint_decided, option_decided, mapped_decided};
+ghost use Rattle.serde_amqp_item.specs.Item.{Item, scalar, null, boolean, ushort, uint};
+ghost use Rattle.serde_amqp_de.specs.Again.{boolean_faithful, ushort_faithful, uint_faithful, default_again, default_faithful, one_boolean, one_ushort, one_uint};
+ghost use Rattle.serde_amqp_de.specs.Takes.{boolean_taken, ushort_taken, uint_taken, option_taken, mapped, or_null, is_boolean, is_ushort, is_uint};
+ghost use Rattle.serde_amqp_de.specs.Deciding.{boolean_decided, ushort_decided, uint_decided, option_decided, mapped_decided};
 
 use serde_amqp_de::{Deserialize, Deserializer, Faithful, Read, RoundTrip};
 use serde_amqp_item::Error;
@@ -35,12 +35,12 @@ impl<const D: u32> Deserialize for UIntOr<D> {
 
     ghost take = { mapped (or_null (is_uint D)) (option_taken uint_taken) };
 
-    #[tactic(auto, using(crate::proofs::Standard::standing))]
+    #[tactic(auto, using(serde_amqp_de::proofs::Standard::defaults))]
     fn absent(_alloc: Global) -> Option<UIntOr<D>> {
         Some(UIntOr(D))
     }
 
-    #[tactic(auto, using(crate::proofs::Standard::standing))]
+    #[tactic(auto, using(serde_amqp_de::proofs::Standard::defaults))]
     fn read<R: Read>(alloc: Global, de: &mut Deserializer<R>) -> Result<UIntOr<D>, Error> {
         match Option::<u32>::read(alloc, de)? {
             None => Ok(UIntOr(D)),
@@ -75,12 +75,12 @@ impl<const D: u16> Deserialize for UShortOr<D> {
 
     ghost take = { mapped (or_null (is_ushort D)) (option_taken ushort_taken) };
 
-    #[tactic(auto, using(crate::proofs::Standard::standing))]
+    #[tactic(auto, using(serde_amqp_de::proofs::Standard::defaults))]
     fn absent(_alloc: Global) -> Option<UShortOr<D>> {
         Some(UShortOr(D))
     }
 
-    #[tactic(auto, using(crate::proofs::Standard::standing))]
+    #[tactic(auto, using(serde_amqp_de::proofs::Standard::defaults))]
     fn read<R: Read>(alloc: Global, de: &mut Deserializer<R>) -> Result<UShortOr<D>, Error> {
         match Option::<u16>::read(alloc, de)? {
             None => Ok(UShortOr(D)),
@@ -109,4 +109,54 @@ impl<const D: u16> RoundTrip for UShortOr<D> {
 
 impl<const D: u16> Faithful for UShortOr<D> {
     ghost faithful = { λ x y e. ap (λ (n : ℕ). record { 0 = n }) (ushort_faithful x.0 y.0 (default_faithful (is_ushort D) (scalar (ushort x.0)) (scalar (ushort y.0)) (one_ushort D x.0 y.0) refl refl e)) };
+}
+
+/// A boolean field whose default is `D`: it is written as null where it is `D`, and null is read as `D`.
+#[derive(Debug, Clone, Copy, PartialEq, Eq)]
+pub struct BoolOr<const D: bool>(pub bool);
+
+impl<const D: bool> Serialize for BoolOr<D> {
+    ghost item = { λ x. or_null (is_boolean D) (scalar (boolean x.0)) };
+
+    fn is_null(&self) -> bool {
+        self.0 == D
+    }
+
+    fn serialize<W: Sink>(&self, s: &mut Serializer<W>) -> Result<(), Error> {
+        if self.0 == D {
+            return s.serialize_unit();
+        }
+        s.serialize_bool(self.0)
+    }
+}
+
+impl<const D: bool> Deserialize for BoolOr<D> {
+    ghost item = { λ x. or_null (is_boolean D) (scalar (boolean x.0)) };
+
+    ghost take = { mapped (or_null (is_boolean D)) (option_taken boolean_taken) };
+
+    #[tactic(auto, using(serde_amqp_de::proofs::Standard::defaults))]
+    fn absent(_alloc: Global) -> Option<BoolOr<D>> {
+        Some(BoolOr(D))
+    }
+
+    #[tactic(auto, using(serde_amqp_de::proofs::Standard::defaults))]
+    fn read<R: Read>(alloc: Global, de: &mut Deserializer<R>) -> Result<BoolOr<D>, Error> {
+        match Option::<bool>::read(alloc, de)? {
+            None => Ok(BoolOr(D)),
+            Some(value) => Ok(BoolOr(value)),
+        }
+    }
+
+    ghost decided = { mapped_decided (or_null (is_boolean D)) (option_taken boolean_taken) (option_decided boolean_taken boolean_decided) };
+}
+
+impl<const D: bool> RoundTrip for BoolOr<D> {
+    ghost same = { λ _. refl };
+
+    ghost again = { λ x. default_again (is_boolean D) boolean_taken (scalar (boolean x.0)) refl refl };
+}
+
+impl<const D: bool> Faithful for BoolOr<D> {
+    ghost faithful = { λ x y e. ap (λ (b : Bool). record { 0 = b }) (boolean_faithful x.0 y.0 (default_faithful (is_boolean D) (scalar (boolean x.0)) (scalar (boolean y.0)) (one_boolean D x.0 y.0) refl refl e)) };
 }

@@ -1,9 +1,13 @@
 //! Types of AMQP 1.0 that have no counterpart among Rust's own. A clause sees each as plain data.
 #![tactic(auto)]
 
+mod aliases;
 mod array;
+mod borrowed;
+mod bytes;
 mod decimals;
 mod defaults;
+mod described;
 mod multiple;
 mod symbol;
 #[cfg(test)]
@@ -12,9 +16,15 @@ mod text;
 mod timestamp;
 mod uuid;
 
+pub use aliases::{
+    Binary, Boolean, Byte, Char, Int, List, Long, Short, Ubyte, Uint, Ulong, Ushort,
+};
 pub use array::Array;
+pub use borrowed::{BinaryRef, SymbolRef};
+pub use bytes::ByteBuf;
 pub use decimals::{Dec32, Dec64, Dec128, Decimal};
-pub use defaults::{UIntOr, UShortOr};
+pub use defaults::{BoolOr, UIntOr, UShortOr};
+pub use described::{Described, Descriptor};
 pub use multiple::Multiple;
 pub use symbol::Symbol;
 pub use text::Text;

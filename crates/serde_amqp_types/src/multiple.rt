@@ -19,12 +19,12 @@ pub struct Multiple<A>(pub A);
 impl<'a, T: Serialize> Serialize for Multiple<&'a Array<T>> {
     ghost item = { λ m. several (map T.item m.0.now) };
 
-    #[tactic(auto, using(crate::proofs::Standard::many))]
+    #[tactic(auto, using(crate::proofs::Multiples::many))]
     fn is_null(&self) -> bool {
         self.0.is_empty()
     }
 
-    #[tactic(auto, using(crate::proofs::Standard::many))]
+    #[tactic(auto, using(crate::proofs::Multiples::many))]
     fn serialize<W: Sink>(&self, s: &mut Serializer<W>) -> Result<(), Error> {
         if self.0.is_empty() {
             return s.serialize_unit();

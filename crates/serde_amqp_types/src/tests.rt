@@ -1,4 +1,7 @@
-use crate::{Array, Multiple, Symbol, Text, UIntOr, UShortOr};
+use crate::{
+    Array, BinaryRef, BoolOr, ByteBuf, Dec32, Dec64, Dec128, Described, Descriptor, Multiple,
+    Symbol, SymbolRef, Text, Timestamp, UIntOr, UShortOr, Uuid,
+};
 use serde_amqp_de::{Deserialize, from_slice};
 use serde_amqp_item::Error;
 use serde_amqp_ser::{Serialize, to_vec};
@@ -129,5 +132,152 @@ fn several(rt: HostRuntime) -> Result<(), Fail> {
         multiple_of(alloc, &[0x45]).err(),
         Some(Error::InvalidFormatCode)
     );
+    Ok(())
+}
+
+#[test]
+fn written_decimals(rt: HostRuntime) -> Result<(), Fail> {
+    let alloc = rt.alloc();
+    assert_eq!(rt;
+        to_vec(alloc, &Dec32::from([1, 2, 3, 4]))?.as_slice(),
+        b"\x74\x01\x02\x03\x04".as_slice()
+    );
+    assert_eq!(rt;
+        to_vec(alloc, &Dec64::from([1, 2, 3, 4, 5, 6, 7, 8]))?.as_slice(),
+        b"\x84\x01\x02\x03\x04\x05\x06\x07\x08".as_slice()
+    );
+    let long = Dec128::try_from(b"0123456789abcdef".as_slice())?;
+    assert_eq!(rt;
+        to_vec(alloc, &long)?.as_slice(),
+        b"\x940123456789abcdef".as_slice()
+    );
+    assert_eq!(rt; long.as_inner().as_slice(), b"0123456789abcdef".as_slice());
+    assert_eq!(rt;
+        Dec32::try_from(b"abc".as_slice()).err(),
+        Some(Error::InvalidLength)
+    );
+    assert_eq!(rt;
+        Dec32::try_from(b"abcde".as_slice()).err(),
+        Some(Error::InvalidLength)
+    );
+    Ok(())
+}
+
+#[test]
+fn written_uuids(rt: HostRuntime) -> Result<(), Fail> {
+    let alloc = rt.alloc();
+    let mut uuid = Uuid::try_from(b"0123456789abcdef".as_slice())?;
+    uuid.as_inner_mut()[0] = b'z';
+    assert_eq!(rt;
+        to_vec(alloc, &uuid)?.as_slice(),
+        b"\x98z123456789abcdef".as_slice()
+    );
+    assert!(rt; uuid.clone()? == uuid);
+    assert_eq!(rt; <[u8; 16]>::from(uuid), *b"z123456789abcdef");
+    assert_eq!(rt;
+        Uuid::try_from(b"0123456789abcde".as_slice()).err(),
+        Some(Error::InvalidLength)
+    );
+    Ok(())
+}
+
+#[test]
+fn written_timestamps(rt: HostRuntime) -> Result<(), Fail> {
+    let alloc = rt.alloc();
+    let before = Timestamp::from(-1);
+    assert_eq!(rt;
+        to_vec(alloc, &before)?.as_slice(),
+        [0x83, 255, 255, 255, 255, 255, 255, 255, 255].as_slice()
+    );
+    let after = Timestamp::from_milliseconds(258);
+    assert_eq!(rt;
+        to_vec(alloc, &after)?.as_slice(),
+        [0x83, 0, 0, 0, 0, 0, 0, 1, 2].as_slice()
+    );
+    assert!(rt; before < after);
+    assert_eq!(rt; after.milliseconds(), 258);
+    assert_eq!(rt; i64::from(before), -1);
+    Ok(())
+}
+
+#[test]
+fn written_bytes(rt: HostRuntime) -> Result<(), Fail> {
+    let alloc = rt.alloc();
+    let bytes = ByteBuf::from_slice(alloc, b"\x00\xff")?;
+    assert_eq!(rt;
+        to_vec(alloc, &bytes)?.as_slice(),
+        b"\xa0\x02\x00\xff".as_slice()
+    );
+    assert_eq!(rt;
+        to_vec(alloc, &BinaryRef::from(&bytes))?.as_slice(),
+        b"\xa0\x02\x00\xff".as_slice()
+    );
+    assert_eq!(rt; bytes.len(), 2);
+    assert!(rt; bytes.try_clone(alloc)? == bytes);
+    assert!(rt; ByteBuf::new(alloc) < bytes);
+    assert!(rt; ByteBuf::new(alloc).is_empty());
+    assert_eq!(rt; format!(in alloc; "{bytes:?}")?.as_str(), "[0, 255]");
+    let long = ByteBuf::from(vec![in alloc; 7u8; 255]?);
+    assert_eq!(rt;
+        &to_vec(alloc, &long)?.as_slice()[..6],
+        b"\xb0\x00\x00\x00\xff\x07".as_slice()
+    );
+    assert_eq!(rt;
+        to_vec(alloc, &SymbolRef("amqp"))?.as_slice(),
+        b"\xa3\x04amqp".as_slice()
+    );
+    Ok(())
+}
+
+#[test]
+fn described_values(rt: HostRuntime) -> Result<(), Fail> {
+    let alloc = rt.alloc();
+    let coded = Described {
+        descriptor: Descriptor::Code(0x24),
+        value: 300u16,
+    };
+    let bytes = b"\x00\x53\x24\x60\x01\x2c";
+    assert_eq!(rt; to_vec(alloc, &coded)?.as_slice(), bytes.as_slice());
+    assert!(rt; from_slice::<Described<u16>>(alloc, bytes)? == coded);
+
+    let named = Described {
+        descriptor: Descriptor::Name(Symbol::from_str(alloc, "a:b")?),
+        value: true,
+    };
+    let bytes = b"\x00\xa3\x03a:b\x41";
+    assert_eq!(rt; to_vec(alloc, &named)?.as_slice(), bytes.as_slice());
+    assert!(rt; from_slice::<Described<bool>>(alloc, bytes)? == named);
+    assert!(rt; named.clone()? == named);
+
+    assert_eq!(rt;
+        from_slice::<Described<bool>>(alloc, b"\x41").err(),
+        Some(Error::InvalidFormatCode)
+    );
+    assert_eq!(rt;
+        from_slice::<Described<bool>>(alloc, b"\x00\x52\x24\x41").err(),
+        Some(Error::InvalidFormatCode)
+    );
+    let in_array = Array::from(vec![in alloc; coded]?);
+    assert_eq!(rt; to_vec(alloc, &in_array).err(), Some(Error::InvalidValue));
+    Ok(())
+}
+
+#[test]
+fn boolean_defaults(rt: HostRuntime) -> Result<(), Fail> {
+    let alloc = rt.alloc();
+    assert_eq!(rt;
+        to_vec(alloc, &BoolOr::<true>(true))?.as_slice(),
+        [0x40].as_slice()
+    );
+    assert_eq!(rt;
+        to_vec(alloc, &BoolOr::<true>(false))?.as_slice(),
+        [0x42].as_slice()
+    );
+    assert_eq!(rt;
+        to_vec(alloc, &BoolOr::<false>(false))?.as_slice(),
+        [0x40].as_slice()
+    );
+    assert!(rt; from_slice::<BoolOr<true>>(alloc, &[0x40])?.0);
+    assert!(rt; !from_slice::<BoolOr<true>>(alloc, &[0x56, 0])?.0);
     Ok(())
 }

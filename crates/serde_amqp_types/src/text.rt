@@ -1,18 +1,23 @@
 ghost use Rattle.std.specs.Cmp.{partial_equiv_from_equiv};
-ghost use Rattle.std.specs.Prelude.{◌≡◌, IfOk, Some, string_bytes};
+ghost use Rattle.std.specs.Cmp.Lexicographic.{slice_cmp, nat_list_cmp_total, texts_ties, texts_po, same_text};
+ghost use Rattle.std.specs.Hash as fed;
+ghost use Rattle.std.specs.Ordering.{nat_cmp};
+ghost use Rattle.std.specs.Prelude.{◌≡◌, IfOk, Some, string_bytes, refl};
 ghost use Rattle.std.specs.Str.{IsUtf8, bytes_eq};
+ghost use Rattle.std.proofs.Common.{ap, sym};
 ghost use Rattle.std.proofs.lemmas.Cmp.{nat_list_eq_equiv};
 ghost use Rattle.serde_amqp_item.specs.Item.{scalar, string};
 ghost use Rattle.serde_amqp_de.specs.Takes.{string_taken};
 ghost use Rattle.serde_amqp_de.specs.Deciding.{string_decided};
-ghost use Rattle.std.specs.Prelude.{refl};
 ghost use Rattle.serde_amqp_types.specs.Faithful.{string_faithful};
 
 use serde_amqp_de::{Deserialize, Deserializer, Faithful, NeverNull, Read, RoundTrip};
 use serde_amqp_item::Error;
 use serde_amqp_ser::{Serialize, Serializer, Sink};
 use std::alloc::{AllocError, Global};
+use std::cmp::Ordering;
 use std::fmt;
+use std::hash::{Hash, Hasher};
 use std::marker::Model;
 
 /// A string of AMQP: Unicode text (part 1, 1.6.20). A clause sees its UTF-8 bytes.
@@ -40,6 +45,15 @@ impl Text {
         // What a `String` holds is UTF-8.
         let _ = text.as_str();
         Text { text }
+    }
+
+    /// The string with this text, copied. It is refused where there is no memory for it.
+    pub fn from_str(alloc: Global, text: &str) -> Result<Self, AllocError>
+        ensures { IfOk result (λ t. t ≡ text.now) }
+    {
+        Ok(Text {
+            text: String::from_str(alloc, text)?,
+        })
     }
 
     /// The text.
@@ -97,6 +111,42 @@ impl PartialEq for Text {
 
 impl Eq for Text {
     ghost laws = { nat_list_eq_equiv };
+}
+
+impl PartialOrd for Text {
+    ghost partial_cmp = { λ x y. Some (slice_cmp nat_cmp x y) };
+
+    ghost laws = { texts_po };
+
+    fn partial_cmp(&self, other: &Self) -> Option<Ordering> {
+        Some(self.cmp(other))
+    }
+}
+
+/// The order of the bytes.
+impl Ord for Text {
+    ghost cmp = { slice_cmp nat_cmp };
+
+    ghost total = { nat_list_cmp_total };
+
+    ghost matches_partial_cmp = { λ _ _. refl };
+
+    ghost matches_eq = { texts_ties };
+
+    fn cmp(&self, other: &Self) -> Ordering {
+        self.text.as_str().cmp(other.text.as_str())
+    }
+}
+
+/// The hash of the text.
+impl Hash for Text {
+    ghost hash_input = { fed.str };
+
+    ghost respects_eq = { λ x y h. ap fed.str (same_text x y (sym h)) };
+
+    fn hash<H: Hasher>(&self, state: &mut H) {
+        self.text.as_str().hash(state);
+    }
 }
 
 impl fmt::Display for Text {

@@ -1,0 +1,183 @@
+ghost use Rattle.std.specs.Cmp.{partial_equiv_from_equiv};
+ghost use Rattle.std.specs.Cmp.Lexicographic.{slice_cmp, nat_list_cmp_total, texts_ties, texts_po, same_text};
+ghost use Rattle.std.specs.Hash as fed;
+ghost use Rattle.std.specs.Ordering.{nat_cmp};
+ghost use Rattle.std.specs.Prelude.{◌≡◌, ◌==◌, length, IfOk, Some, refl};
+ghost use Rattle.std.specs.Str.{bytes_eq};
+ghost use Rattle.std.proofs.Common.{ap, sym};
+ghost use Rattle.std.proofs.lemmas.Cmp.{nat_list_eq_equiv};
+ghost use Rattle.serde_amqp_item.specs.Item.{scalar, binary};
+
+use serde_amqp_item::Error;
+use serde_amqp_ser::{Serialize, Serializer, Sink};
+use std::alloc::{AllocError, Global};
+use std::cmp::Ordering;
+use std::fmt;
+use std::hash::{Hash, Hasher};
+use std::marker::Model;
+
+/// Bytes (part 1, 1.6.19). A clause sees the list of them.
+#[derive(Drop)]
+pub struct ByteBuf {
+    bytes: Vec<u8>,
+}
+
+impl Model for ByteBuf {
+    ghost use Rattle.std.specs.Prelude.{List, ℕ};
+
+    ghost Value = { List ℕ };
+
+    ghost view = { λ b. b.bytes.items };
+}
+
+impl ByteBuf {
+    ghost use Rattle.std.specs.Prelude.{[]};
+
+    /// No bytes.
+    pub fn new(alloc: Global) -> Self
+        ensures { result ≡ [] }
+    {
+        ByteBuf {
+            bytes: Vec::new(alloc),
+        }
+    }
+
+    /// A copy of these bytes. It is refused where there is no memory for it.
+    pub fn from_slice(alloc: Global, bytes: &[u8]) -> Result<Self, AllocError>
+        ensures { IfOk result (λ b. b ≡ bytes.now) }
+    {
+        Ok(ByteBuf {
+            bytes: Vec::from_slice(alloc, bytes)?,
+        })
+    }
+
+    /// The bytes as a `Vec`.
+    pub fn into_inner(self) -> Vec<u8>
+        ensures { result.items ≡ self }
+    {
+        self.bytes
+    }
+
+    /// The bytes.
+    pub fn as_slice(&self) -> &[u8]
+        ensures { result.now ≡ self.now }
+    {
+        self.bytes.as_slice()
+    }
+
+    /// How many bytes there are.
+    pub fn len(&self) -> usize
+        ensures { result ≡ length self.now }
+    {
+        self.bytes.len()
+    }
+
+    /// Whether there are none.
+    pub fn is_empty(&self) -> bool
+        ensures { result ≡ (length self.now == 0) }
+    {
+        self.bytes.is_empty()
+    }
+
+    /// A second copy of the bytes. It is refused where there is no memory for it.
+    pub fn try_clone(&self, alloc: Global) -> Result<Self, AllocError>
+        ensures { IfOk result (λ b. b ≡ self.now) }
+    {
+        ByteBuf::from_slice(alloc, self.as_slice())
+    }
+}
+
+impl Clone for ByteBuf {
+    ghost is_clone = { λ x y. y ≡ x };
+
+    fn clone(&self) -> Result<Self, AllocError> {
+        Ok(ByteBuf {
+            bytes: self.bytes.clone()?,
+        })
+    }
+}
+
+impl From<Vec<u8>> for ByteBuf {
+    ghost from_gives = { λ v b. b ≡ v.items };
+
+    fn from(bytes: Vec<u8>) -> Self {
+        ByteBuf { bytes }
+    }
+}
+
+impl From<ByteBuf> for Vec<u8> {
+    ghost from_gives = { λ b v. v.items ≡ b };
+
+    fn from(bytes: ByteBuf) -> Self {
+        bytes.into_inner()
+    }
+}
+
+impl PartialEq for ByteBuf {
+    ghost eq = { bytes_eq };
+
+    ghost laws = { partial_equiv_from_equiv nat_list_eq_equiv };
+
+    fn eq(&self, other: &Self) -> bool {
+        self.as_slice() == other.as_slice()
+    }
+}
+
+impl Eq for ByteBuf {
+    ghost laws = { nat_list_eq_equiv };
+}
+
+impl PartialOrd for ByteBuf {
+    ghost partial_cmp = { λ x y. Some (slice_cmp nat_cmp x y) };
+
+    ghost laws = { texts_po };
+
+    fn partial_cmp(&self, other: &Self) -> Option<Ordering> {
+        Some(self.cmp(other))
+    }
+}
+
+/// The order of the bytes, the first of them first.
+impl Ord for ByteBuf {
+    ghost cmp = { slice_cmp nat_cmp };
+
+    ghost total = { nat_list_cmp_total };
+
+    ghost matches_partial_cmp = { λ _ _. refl };
+
+    ghost matches_eq = { texts_ties };
+
+    fn cmp(&self, other: &Self) -> Ordering {
+        self.as_slice().cmp(&other.as_slice())
+    }
+}
+
+/// The hash of the bytes.
+impl Hash for ByteBuf {
+    ghost hash_input = { fed.slice fed.u8 };
+
+    ghost respects_eq = { λ x y h. ap (fed.slice fed.u8) (same_text x y (sym h)) };
+
+    fn hash<H: Hasher>(&self, state: &mut H) {
+        self.as_slice().hash(state);
+    }
+}
+
+impl fmt::Debug for ByteBuf {
+    fn fmt<W: fmt::Write>(&self, f: &mut fmt::Formatter<W>) -> fmt::Result {
+        let bytes = self.as_slice();
+        write!(f, "{bytes:?}")
+    }
+}
+
+impl Serialize for ByteBuf {
+    ghost item = { λ b. scalar (binary b) };
+
+    fn is_null(&self) -> bool {
+        false
+    }
+
+    fn serialize<W: Sink>(&self, s: &mut Serializer<W>) -> Result<(), Error> {
+        s.serialize_bytes(self.as_slice())
+    }
+}
