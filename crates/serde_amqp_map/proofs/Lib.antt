@@ -1,1 +1,5 @@
+pub mod Ordered
+pub mod PairLaws
 pub mod PairLemmas
+pub mod Reading
+pub mod SameLaws

@@ -9,7 +9,6 @@ use Rattle.std.specs.contracts.hash.FoldHasher as fold_hasher
 use Rattle.std.specs.contracts.hash.BuildHasherDefault as build_hasher
 use Rattle.std.specs.contracts.impls.GlobalAllocator.TheImpl as heap
 use Rattle.std.specs.contracts.prelude.FoldHasherHasher.TheImpl as folds
-use Rattle.indexmap.specs.IndexMap.{IndexMap}
 use Rattle.indexmap.specs.contracts.map.IndexMap as index_map
 use Rattle.serde_amqp_map.specs.contracts.map.OrderedMap.{the_row}
 

@@ -2,7 +2,7 @@
 ghost use Rattle.std.specs.Borrow.{sem};
 ghost use Rattle.std.specs.Bound.{start_index, end_index};
 ghost use Rattle.std.specs.List.{remove_range};
-ghost use Rattle.std.specs.Prelude.{◌≡◌, ◌<◌, ◌≤◌, ◌^◌, length, [], None, IfOk, OnOk, IfErr, OnErr};
+ghost use Rattle.std.specs.Prelude.{◌≡◌, ◌<◌, ◌≤◌, ◌^◌, length, cond, [], None, Some, IfOk, OnOk, IfErr, OnErr};
 ghost use Rattle.std.specs.Map.{lookup, lookup_entry};
 ghost use Rattle.indexmap.specs.Drain.{drain_rest, drain_kept, drain_lender, DrainKeepsAlong};
 ghost use Rattle.indexmap.specs.IndexMap.{items_in_range};
@@ -26,6 +26,7 @@ impl<K: Eq + Hash, V> OrderedMap<K, V> {
         K: Drop,
         ensures earlier { IfOk result (λ v. v ≡ lookup (K.eq key) self.old) }
         ensures pairs { OnOk result (self.new ≡ pairs_inserted K.eq self.old key value) }
+        ensures values { OnOk result ((k : K) → lookup (K.eq k) self.new ≡ cond (K.eq key k) (Some value) (lookup (K.eq k) self.old)) }
         ensures returned { IfErr result (λ e. e.value ≡ (key, value)) }
         ensures kept { OnErr result (self.new ≡ self.old) }
         ensures absent { OnErr result (lookup (K.eq key) self.old ≡ None) }
@@ -42,6 +43,7 @@ impl<K: Eq + Hash, V> OrderedMap<K, V> {
         K: Drop,
         ensures value { result ≡ lookup (K.eq key.now) self.old }
         ensures pairs { self.new ≡ pairs_swapped K.eq self.old key.now }
+        ensures values { (k : K) → lookup (K.eq k) self.new ≡ cond (K.eq key.now k) None (lookup (K.eq k) self.old) }
         ensures apart { KeysApart K.eq self.new }
     {
         self.as_inner_mut().swap_remove(key)
@@ -54,6 +56,7 @@ impl<K: Eq + Hash, V> OrderedMap<K, V> {
         K: Drop,
         ensures value { result ≡ lookup (K.eq key.now) self.old }
         ensures pairs { self.new ≡ pairs_shifted K.eq self.old key.now }
+        ensures values { (k : K) → lookup (K.eq k) self.new ≡ cond (K.eq key.now k) None (lookup (K.eq k) self.old) }
         ensures apart { KeysApart K.eq self.new }
     {
         self.as_inner_mut().shift_remove(key)
@@ -64,6 +67,7 @@ impl<K: Eq + Hash, V> OrderedMap<K, V> {
     pub fn swap_remove_entry(&mut self, key: &K) -> Option<(K, V)>
         ensures entry { result ≡ lookup_entry (K.eq key.now) self.old }
         ensures pairs { self.new ≡ pairs_swapped K.eq self.old key.now }
+        ensures values { (k : K) → lookup (K.eq k) self.new ≡ cond (K.eq key.now k) None (lookup (K.eq k) self.old) }
         ensures apart { KeysApart K.eq self.new }
     {
         self.as_inner_mut().swap_remove_entry(key)
@@ -74,6 +78,7 @@ impl<K: Eq + Hash, V> OrderedMap<K, V> {
     pub fn shift_remove_entry(&mut self, key: &K) -> Option<(K, V)>
         ensures entry { result ≡ lookup_entry (K.eq key.now) self.old }
         ensures pairs { self.new ≡ pairs_shifted K.eq self.old key.now }
+        ensures values { (k : K) → lookup (K.eq k) self.new ≡ cond (K.eq key.now k) None (lookup (K.eq k) self.old) }
         ensures apart { KeysApart K.eq self.new }
     {
         self.as_inner_mut().shift_remove_entry(key)

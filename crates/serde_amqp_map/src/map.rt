@@ -51,6 +51,7 @@ impl<K: Eq + Hash, V> OrderedMap<K, V> {
         K: Drop,
         V: Drop,
         ensures value { IfOk result (λ m. m ≡ all_inserted K.eq [] pairs.items) }
+        ensures apart { IfOk result (KeysApart K.eq) }
     {
         Ok(OrderedMap::from_iter(alloc, pairs)?)
     }
@@ -112,7 +113,7 @@ impl<K: Eq + Hash, V> From<IndexMap<K, V>> for OrderedMap<K, V> {
 impl<K: Eq + Hash + Drop, V: Drop> FromIterator<(K, V)> for OrderedMap<K, V> {
     type Alloc = Global;
 
-    ghost from_iter_gives = { λ xs m. m ≡ all_inserted K.eq [] xs };
+    ghost from_iter_gives = { λ xs m. (m ≡ all_inserted K.eq [] xs) × KeysApart K.eq m };
 
     #[tactic(auto, using(crate::proofs::PairLemmas::all))]
     fn from_iter<I: IntoIterator<Item = (K, V)>>(

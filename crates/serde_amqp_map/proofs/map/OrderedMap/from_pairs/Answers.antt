@@ -7,4 +7,4 @@ pub returns : goal.returns
 returns g c =
     let ran = c.in_ok-from_iter.ensures.ran in
     let whole = Drains-YieldsInOrder _ _ ran.0 ran.1 ran.2.3 ((ran.3.2 tt).0, (ran.3.0, ran.3.1, (ran.3.2 tt).1)) ∙ ran.2.0 in
-    record { value = ran.4 ∙ ap (all_inserted g.K.PartialEq.eq []) whole }
+    record { value = ran.4.0 ∙ ap (all_inserted g.K.PartialEq.eq []) whole; apart = ran.4.1 }
