@@ -13,3 +13,4 @@ pub mod Standard
 pub mod Maps
 pub mod Pairs
 pub mod Tuples
+pub mod Lending

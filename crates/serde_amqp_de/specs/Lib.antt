@@ -7,3 +7,4 @@ pub mod Deciding
 pub mod Again
 pub mod Maps
 pub mod MapLaws
+pub mod Lent

@@ -1,6 +1,9 @@
 // Reading values from wire forms of AMQP's type system (part 1).
 #![tactic(auto)]
 
+mod borrow;
+#[cfg(test)]
+mod borrow_tests;
 mod deserialize;
 mod deserializer;
 mod laws;
@@ -15,6 +18,7 @@ mod sequence;
 mod tests;
 mod tuple;
 
+pub use borrow::{BorrowDeserialize, borrow_from_slice};
 pub use deserialize::{Deserialize, Faithful, NeverNull, RoundTrip, from_reader, from_slice};
 pub use deserializer::Deserializer;
 pub use laws::{one_value, written_is_read, written_is_read_equal};

@@ -1,5 +1,5 @@
 //! Slices as sources.
-ghost use Rattle.std.specs.Prelude.{◌≡◌, ◌<◌, ◌++◌, [], length, IfOk, IfErr, OnErr};
+ghost use Rattle.std.specs.Prelude.{◌≡◌, ◌<◌, ◌≤◌, ◌-◌, ◌++◌, [], length, IfOk, IfErr, OnErr};
 ghost use Rattle.serde_amqp_item.specs.declared.error.Error.TheVariants.{Io};
 ghost use Rattle.serde_amqp_read.specs.Reads.{Source, faultless, counted};
 
@@ -13,14 +13,17 @@ use std::marker::Model;
 #[derive(Debug, Drop)]
 pub struct SliceReader<'a> {
     slice: &'a [u8],
-    consumed: usize,
+    /// How many bytes were taken or are left.
+    total: usize,
 }
 
 // A clause sees the bytes that are left, and how many were taken.
 impl<'a> Model for SliceReader<'a> {
     ghost Value = { Source };
 
-    ghost view = { λ s. record { rest = s.slice.now; consumed = s.consumed } };
+    ghost view = { λ s. record { rest = s.slice.now; consumed = s.total - length s.slice.now } };
+
+    ghost invariant = { λ s. length s.slice.now ≤ s.total };
 }
 
 impl<'a> SliceReader<'a> {
@@ -28,7 +31,10 @@ impl<'a> SliceReader<'a> {
     pub fn new(slice: &'a [u8]) -> SliceReader<'a>
         ensures { result ≡ record { rest = slice.now; consumed = 0 } }
     {
-        SliceReader { slice, consumed: 0 }
+        SliceReader {
+            slice,
+            total: slice.len(),
+        }
     }
 
     /// Takes so many bytes, and lends them from the slice that is read.
@@ -41,14 +47,12 @@ impl<'a> SliceReader<'a> {
         ensures failed { OnErr result (self.new.rest ≡ []) }
         ensures counted { self.new.consumed ≡ counted result count self.old.consumed }
     {
-        let slice = self.slice;
-        self.slice = &[];
-        if slice.len() < count {
+        if self.slice.len() < count {
+            self.fail();
             return Err(Error::Io(ErrorKind::UnexpectedEof));
         }
-        let (front, others) = slice.split_at(count);
+        let (front, others) = self.slice.split_at(count);
         self.slice = others;
-        self.consumed = self.consumed.saturating_add(count);
         Ok(front)
     }
 }
@@ -63,7 +67,7 @@ impl<'a> Read for SliceReader<'a> {
     ghost consumed = { λ s. s.consumed };
 
     fn bytes_consumed(&self) -> usize {
-        self.consumed
+        self.total - self.slice.len()
     }
 
     fn peek(&mut self) -> Result<u8, Error> {
@@ -75,7 +79,7 @@ impl<'a> Read for SliceReader<'a> {
 
     fn peek_bytes(&mut self, buffer: &mut [u8]) -> Result<(), Error> {
         if self.slice.len() < buffer.len() {
-            self.slice = &[];
+            self.fail();
             return Err(Error::Io(ErrorKind::UnexpectedEof));
         }
         let (front, _) = self.slice.split_at(buffer.len());
@@ -88,7 +92,6 @@ impl<'a> Read for SliceReader<'a> {
             None => Err(Error::Io(ErrorKind::UnexpectedEof)),
             Some((byte, others)) => {
                 self.slice = others;
-                self.consumed = self.consumed.saturating_add(1);
                 Ok(*byte)
             }
         }
@@ -101,19 +104,21 @@ impl<'a> Read for SliceReader<'a> {
     }
 
     fn append_bytes(&mut self, count: usize, bytes: &mut Vec<u8>) -> Result<(), Error> {
-        let slice = self.slice;
-        self.slice = &[];
-        if slice.len() < count {
+        if self.slice.len() < count {
+            self.fail();
             return Err(Error::Io(ErrorKind::UnexpectedEof));
         }
-        let (front, others) = slice.split_at(count);
-        bytes.extend_from_slice(front)?;
+        let (front, others) = self.slice.split_at(count);
+        if bytes.extend_from_slice(front).is_err() {
+            self.fail();
+            return Err(Error::Memory);
+        }
         self.slice = others;
-        self.consumed = self.consumed.saturating_add(count);
         Ok(())
     }
 
     fn fail(&mut self) {
+        self.total -= self.slice.len();
         self.slice = &[];
     }
 }

@@ -1,3 +1,4 @@
 pub mod Arrays
+pub mod UbyteFields
 pub mod Descriptions
 pub mod Multiples

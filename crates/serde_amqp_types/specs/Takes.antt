@@ -1,6 +1,6 @@
--- Which items arrays and described values take.
-use Rattle.std.specs.Prelude.{[], ◌∷◌, Option, Some, None}
-use Rattle.serde_amqp_item.specs.Item.{Item, scalar, null, ulong, symbol, raw, array, described, items_of}
+-- Which items arrays, described values and fields with a default take.
+use Rattle.std.specs.Prelude.{ℕ, Bool, false, [], ◌∷◌, Option, Some, None, ◌==◌}
+use Rattle.serde_amqp_item.specs.Item.{Item, scalar, null, ubyte, ulong, symbol, raw, array, described, items_of}
 use Rattle.serde_amqp_item.specs.Canon.{◌>>=◌}
 use Rattle.serde_amqp_de.specs.Takes.{kind_seen, each_taken, unless_several}
 
@@ -25,3 +25,8 @@ any_descriptor_taken _ = None
 unfoldable pub described_with : (Item → Option Item) → Item → Option Item
 described_with take (described d v) = any_descriptor_taken d >>= λ c. take v >>= λ y. Some (described c y)
 described_with take _ = None
+
+-- a field's default
+abbrev pub is_ubyte : ℕ → Item → Bool
+is_ubyte d (scalar (ubyte n)) = n == d
+is_ubyte d _ = false

@@ -7,7 +7,11 @@ ghost use Rattle.std.specs.Str.{bytes_eq};
 ghost use Rattle.std.proofs.Common.{ap, sym};
 ghost use Rattle.std.proofs.lemmas.Cmp.{nat_list_eq_equiv};
 ghost use Rattle.serde_amqp_item.specs.Item.{scalar, binary};
+ghost use Rattle.serde_amqp_de.specs.Takes.{binary_taken};
+ghost use Rattle.serde_amqp_de.specs.Deciding.{binary_decided};
+ghost use Rattle.serde_amqp_types.specs.Faithful.{binary_faithful};
 
+use serde_amqp_de::{Deserialize, Deserializer, Faithful, NeverNull, Read, RoundTrip};
 use serde_amqp_item::Error;
 use serde_amqp_ser::{Serialize, Serializer, Sink};
 use std::alloc::{AllocError, Global};
@@ -180,4 +184,35 @@ impl Serialize for ByteBuf {
     fn serialize<W: Sink>(&self, s: &mut Serializer<W>) -> Result<(), Error> {
         s.serialize_bytes(self.as_slice())
     }
+}
+
+impl Deserialize for ByteBuf {
+    ghost item = { λ b. scalar (binary b) };
+
+    ghost take = { binary_taken };
+
+    fn absent(_alloc: Global) -> Option<ByteBuf> {
+        None
+    }
+
+    #[tactic(auto, using(serde_amqp_de::proofs::Values::taking))]
+    fn read<R: Read>(alloc: Global, de: &mut Deserializer<R>) -> Result<ByteBuf, Error> {
+        Ok(ByteBuf::from(de.deserialize_byte_buf(alloc)?))
+    }
+
+    ghost decided = { binary_decided };
+}
+
+impl RoundTrip for ByteBuf {
+    ghost same = { λ _. refl };
+
+    ghost again = { λ _. refl };
+}
+
+impl Faithful for ByteBuf {
+    ghost faithful = { binary_faithful };
+}
+
+impl NeverNull for ByteBuf {
+    ghost present = { λ _. refl };
 }

@@ -1,10 +1,15 @@
 //! Decimal floating point numbers (part 1, 1.6.13 to 1.6.15).
-ghost use Rattle.std.specs.Prelude.{◌≡◌, ◌≢◌, length, MatchResult};
+ghost use Rattle.std.specs.Prelude.{◌≡◌, ◌≢◌, length, MatchResult, Some, refl};
 ghost use Rattle.serde_amqp_item.specs.Item.{scalar, decimal32, decimal64, decimal128};
 ghost use Rattle.serde_amqp_item.specs.declared.error.Error.TheVariants.{InvalidLength};
+ghost use Rattle.serde_amqp_de.specs.Takes.{decimal32_taken, decimal64_taken, decimal128_taken};
+ghost use Rattle.serde_amqp_de.specs.Deciding.{decimal32_decided, decimal64_decided, decimal128_decided};
+ghost use Rattle.serde_amqp_types.specs.Faithful.{decimal32_faithful, decimal64_faithful, decimal128_faithful};
 
+use serde_amqp_de::{Deserialize, Deserializer, Faithful, NeverNull, Read, RoundTrip};
 use serde_amqp_item::Error;
 use serde_amqp_ser::{Serialize, Serializer, Sink};
+use std::alloc::Global;
 use std::marker::Model;
 
 /// A decimal floating point number, as the `N` bytes of its IEEE 754 encoding. Two are equal where their
@@ -111,4 +116,97 @@ impl Serialize for Dec128 {
     fn serialize<W: Sink>(&self, s: &mut Serializer<W>) -> Result<(), Error> {
         s.serialize_decimal128(self.as_inner())
     }
+}
+
+impl Deserialize for Dec32 {
+    ghost item = { λ d. scalar (decimal32 d) };
+
+    ghost take = { decimal32_taken };
+
+    fn absent(_alloc: Global) -> Option<Dec32> {
+        None
+    }
+
+    #[tactic(auto, using(serde_amqp_de::proofs::Values::taking))]
+    fn read<R: Read>(_alloc: Global, de: &mut Deserializer<R>) -> Result<Dec32, Error> {
+        Ok(Decimal::from(de.deserialize_decimal32()?))
+    }
+
+    ghost decided = { decimal32_decided };
+}
+
+impl RoundTrip for Dec32 {
+    ghost same = { λ _. refl };
+
+    ghost again = { λ _. refl };
+}
+
+impl Faithful for Dec32 {
+    ghost faithful = { decimal32_faithful };
+}
+
+impl NeverNull for Dec32 {
+    ghost present = { λ _. refl };
+}
+
+impl Deserialize for Dec64 {
+    ghost item = { λ d. scalar (decimal64 d) };
+
+    ghost take = { decimal64_taken };
+
+    fn absent(_alloc: Global) -> Option<Dec64> {
+        None
+    }
+
+    #[tactic(auto, using(serde_amqp_de::proofs::Values::taking))]
+    fn read<R: Read>(_alloc: Global, de: &mut Deserializer<R>) -> Result<Dec64, Error> {
+        Ok(Decimal::from(de.deserialize_decimal64()?))
+    }
+
+    ghost decided = { decimal64_decided };
+}
+
+impl RoundTrip for Dec64 {
+    ghost same = { λ _. refl };
+
+    ghost again = { λ _. refl };
+}
+
+impl Faithful for Dec64 {
+    ghost faithful = { decimal64_faithful };
+}
+
+impl NeverNull for Dec64 {
+    ghost present = { λ _. refl };
+}
+
+impl Deserialize for Dec128 {
+    ghost item = { λ d. scalar (decimal128 d) };
+
+    ghost take = { decimal128_taken };
+
+    fn absent(_alloc: Global) -> Option<Dec128> {
+        None
+    }
+
+    #[tactic(auto, using(serde_amqp_de::proofs::Values::taking))]
+    fn read<R: Read>(_alloc: Global, de: &mut Deserializer<R>) -> Result<Dec128, Error> {
+        Ok(Decimal::from(de.deserialize_decimal128()?))
+    }
+
+    ghost decided = { decimal128_decided };
+}
+
+impl RoundTrip for Dec128 {
+    ghost same = { λ _. refl };
+
+    ghost again = { λ _. refl };
+}
+
+impl Faithful for Dec128 {
+    ghost faithful = { decimal128_faithful };
+}
+
+impl NeverNull for Dec128 {
+    ghost present = { λ _. refl };
 }

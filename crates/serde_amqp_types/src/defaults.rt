@@ -1,10 +1,12 @@
 //! Fields of composite types that have a default (part 1, 1.4).
 ghost use Rattle.std.specs.Prelude.{◌≡◌, ℕ, Bool, Option, Some, None, refl};
 ghost use Rattle.std.proofs.Common.{ap};
-ghost use Rattle.serde_amqp_item.specs.Item.{Item, scalar, null, boolean, ushort, uint};
-ghost use Rattle.serde_amqp_de.specs.Again.{boolean_faithful, ushort_faithful, uint_faithful, default_again, default_faithful, one_boolean, one_ushort, one_uint};
-ghost use Rattle.serde_amqp_de.specs.Takes.{boolean_taken, ushort_taken, uint_taken, option_taken, mapped, or_null, is_boolean, is_ushort, is_uint};
-ghost use Rattle.serde_amqp_de.specs.Deciding.{boolean_decided, ushort_decided, uint_decided, option_decided, mapped_decided};
+ghost use Rattle.serde_amqp_item.specs.Item.{Item, scalar, null, boolean, ubyte, ushort, uint};
+ghost use Rattle.serde_amqp_de.specs.Again.{boolean_faithful, ubyte_faithful, ushort_faithful, uint_faithful, default_again, default_faithful, one_boolean, one_ushort, one_uint};
+ghost use Rattle.serde_amqp_de.specs.Takes.{boolean_taken, ubyte_taken, ushort_taken, uint_taken, option_taken, mapped, or_null, is_boolean, is_ushort, is_uint};
+ghost use Rattle.serde_amqp_de.specs.Deciding.{boolean_decided, ubyte_decided, ushort_decided, uint_decided, option_decided, mapped_decided};
+ghost use Rattle.serde_amqp_types.specs.Takes.{is_ubyte};
+ghost use Rattle.serde_amqp_types.specs.Again.{one_ubyte};
 
 use serde_amqp_de::{Deserialize, Deserializer, Faithful, Read, RoundTrip};
 use serde_amqp_item::Error;
@@ -159,4 +161,54 @@ impl<const D: bool> RoundTrip for BoolOr<D> {
 
 impl<const D: bool> Faithful for BoolOr<D> {
     ghost faithful = { λ x y e. ap (λ (b : Bool). record { 0 = b }) (boolean_faithful x.0 y.0 (default_faithful (is_boolean D) (scalar (boolean x.0)) (scalar (boolean y.0)) (one_boolean D x.0 y.0) refl refl e)) };
+}
+
+/// A ubyte field whose default is `D`: it is written as null where it is `D`, and null is read as `D`.
+#[derive(Debug, Clone, Copy, PartialEq, Eq)]
+pub struct UByteOr<const D: u8>(pub u8);
+
+impl<const D: u8> Serialize for UByteOr<D> {
+    ghost item = { λ x. or_null (is_ubyte D) (scalar (ubyte x.0)) };
+
+    fn is_null(&self) -> bool {
+        self.0 == D
+    }
+
+    fn serialize<W: Sink>(&self, s: &mut Serializer<W>) -> Result<(), Error> {
+        if self.0 == D {
+            return s.serialize_unit();
+        }
+        s.serialize_u8(self.0)
+    }
+}
+
+impl<const D: u8> Deserialize for UByteOr<D> {
+    ghost item = { λ x. or_null (is_ubyte D) (scalar (ubyte x.0)) };
+
+    ghost take = { mapped (or_null (is_ubyte D)) (option_taken ubyte_taken) };
+
+    #[tactic(auto, using(serde_amqp_de::proofs::Standard::defaults, crate::proofs::UbyteFields::ubytes))]
+    fn absent(_alloc: Global) -> Option<UByteOr<D>> {
+        Some(UByteOr(D))
+    }
+
+    #[tactic(auto, using(serde_amqp_de::proofs::Standard::defaults, crate::proofs::UbyteFields::ubytes))]
+    fn read<R: Read>(alloc: Global, de: &mut Deserializer<R>) -> Result<UByteOr<D>, Error> {
+        match Option::<u8>::read(alloc, de)? {
+            None => Ok(UByteOr(D)),
+            Some(value) => Ok(UByteOr(value)),
+        }
+    }
+
+    ghost decided = { mapped_decided (or_null (is_ubyte D)) (option_taken ubyte_taken) (option_decided ubyte_taken ubyte_decided) };
+}
+
+impl<const D: u8> RoundTrip for UByteOr<D> {
+    ghost same = { λ _. refl };
+
+    ghost again = { λ x. default_again (is_ubyte D) ubyte_taken (scalar (ubyte x.0)) refl refl };
+}
+
+impl<const D: u8> Faithful for UByteOr<D> {
+    ghost faithful = { λ x y e. ap (λ (n : ℕ). record { 0 = n }) (ubyte_faithful x.0 y.0 (default_faithful (is_ubyte D) (scalar (ubyte x.0)) (scalar (ubyte y.0)) (one_ubyte D x.0 y.0) refl refl e)) };
 }

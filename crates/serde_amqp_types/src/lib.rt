@@ -23,7 +23,7 @@ pub use array::Array;
 pub use borrowed::{BinaryRef, SymbolRef};
 pub use bytes::ByteBuf;
 pub use decimals::{Dec32, Dec64, Dec128, Decimal};
-pub use defaults::{BoolOr, UIntOr, UShortOr};
+pub use defaults::{BoolOr, UByteOr, UIntOr, UShortOr};
 pub use described::{Described, Descriptor};
 pub use multiple::Multiple;
 pub use symbol::Symbol;

@@ -1,8 +1,13 @@
-ghost use Rattle.std.specs.Prelude.{◌≡◌};
+ghost use Rattle.std.specs.Prelude.{◌≡◌, Some, refl};
 ghost use Rattle.serde_amqp_item.specs.Item.{scalar, timestamp};
+ghost use Rattle.serde_amqp_de.specs.Takes.{timestamp_taken};
+ghost use Rattle.serde_amqp_de.specs.Deciding.{timestamp_decided};
+ghost use Rattle.serde_amqp_types.specs.Faithful.{timestamp_faithful};
 
+use serde_amqp_de::{Deserialize, Deserializer, Faithful, NeverNull, Read, RoundTrip};
 use serde_amqp_item::Error;
 use serde_amqp_ser::{Serialize, Serializer, Sink};
+use std::alloc::Global;
 use std::marker::Model;
 
 /// A point in time, in milliseconds since the Unix epoch, 1970-01-01 00:00 UTC (part 1, 1.6.17). One before
@@ -69,4 +74,35 @@ impl Serialize for Timestamp {
     fn serialize<W: Sink>(&self, s: &mut Serializer<W>) -> Result<(), Error> {
         s.serialize_timestamp(self.milliseconds())
     }
+}
+
+impl Deserialize for Timestamp {
+    ghost item = { λ t. scalar (timestamp t) };
+
+    ghost take = { timestamp_taken };
+
+    fn absent(_alloc: Global) -> Option<Timestamp> {
+        None
+    }
+
+    #[tactic(auto, using(serde_amqp_de::proofs::Values::taking))]
+    fn read<R: Read>(_alloc: Global, de: &mut Deserializer<R>) -> Result<Timestamp, Error> {
+        Ok(Timestamp::from(de.deserialize_timestamp()?))
+    }
+
+    ghost decided = { timestamp_decided };
+}
+
+impl RoundTrip for Timestamp {
+    ghost same = { λ _. refl };
+
+    ghost again = { λ _. refl };
+}
+
+impl Faithful for Timestamp {
+    ghost faithful = { timestamp_faithful };
+}
+
+impl NeverNull for Timestamp {
+    ghost present = { λ _. refl };
 }

@@ -1,10 +1,14 @@
-ghost use Rattle.std.specs.Prelude.{◌≡◌, ◌≢◌, ⊤, length, MatchResult};
+ghost use Rattle.std.specs.Prelude.{◌≡◌, ◌≢◌, ⊤, length, MatchResult, Some, refl};
 ghost use Rattle.serde_amqp_item.specs.Item.{scalar, uuid};
 ghost use Rattle.serde_amqp_item.specs.declared.error.Error.TheVariants.{InvalidLength};
+ghost use Rattle.serde_amqp_de.specs.Takes.{uuid_taken};
+ghost use Rattle.serde_amqp_de.specs.Deciding.{uuid_decided};
+ghost use Rattle.serde_amqp_types.specs.Faithful.{uuid_faithful};
 
+use serde_amqp_de::{Deserialize, Deserializer, Faithful, NeverNull, Read, RoundTrip};
 use serde_amqp_item::Error;
 use serde_amqp_ser::{Serialize, Serializer, Sink};
-use std::alloc::AllocError;
+use std::alloc::{AllocError, Global};
 use std::marker::Model;
 
 /// A universally unique identifier, as its 16 bytes (part 1, 1.6.18). A clause sees the bytes.
@@ -98,4 +102,35 @@ impl Serialize for Uuid {
     fn serialize<W: Sink>(&self, s: &mut Serializer<W>) -> Result<(), Error> {
         s.serialize_uuid(self.as_inner())
     }
+}
+
+impl Deserialize for Uuid {
+    ghost item = { λ u. scalar (uuid u) };
+
+    ghost take = { uuid_taken };
+
+    fn absent(_alloc: Global) -> Option<Uuid> {
+        None
+    }
+
+    #[tactic(auto, using(serde_amqp_de::proofs::Values::taking))]
+    fn read<R: Read>(_alloc: Global, de: &mut Deserializer<R>) -> Result<Uuid, Error> {
+        Ok(Uuid::from(de.deserialize_uuid()?))
+    }
+
+    ghost decided = { uuid_decided };
+}
+
+impl RoundTrip for Uuid {
+    ghost same = { λ _. refl };
+
+    ghost again = { λ _. refl };
+}
+
+impl Faithful for Uuid {
+    ghost faithful = { uuid_faithful };
+}
+
+impl NeverNull for Uuid {
+    ghost present = { λ _. refl };
 }

@@ -1,0 +1,15 @@
+-- Values that are lent from a slice.
+use Rattle.std.specs.Prelude.{◌≢◌, ℕ, ◌+◌, ◌<◌, ◌^◌, length}
+use Rattle.serde_amqp_item.specs.declared.error.Error.{Error}
+use Rattle.serde_amqp_item.specs.declared.error.Error.TheVariants.{Memory}
+use Rattle.serde_amqp_read.specs.Reads.{Source}
+use Rattle.serde_amqp_de.specs.declared.deserializer.Deserializer.{Deserializer}
+use Rattle.serde_amqp_de.specs.Reads.{At}
+
+-- the bytes that are left of a slice, and how many were read
+abbrev pub slice_at : Deserializer Source → At
+slice_at d = record { rest = d.reader.rest; pos = d.pos }
+
+-- the error is not want of memory, where a number holds the bytes that were read and those that are left
+pub record NoWant (old : At) (e : Error) : Type 0 where
+  pub plain : old.pos + length old.rest < 2 ^ 64 → e ≢ Memory
