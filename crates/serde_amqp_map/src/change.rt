@@ -94,7 +94,8 @@ impl<K: Eq + Hash, V> OrderedMap<K, V> {
         self.as_inner_mut().clear();
     }
 
-    /// Takes the pairs in a range of places out and returns them. Those that are left after the range close up.
+    /// Takes the pairs in a range of places out and returns them, whose first place is 0; the range must lie
+    /// within the map. Those behind the range close up as the iterator is dropped.
     pub fn drain<R: RangeBounds<usize>>(&mut self, range: R) -> Drain<'_, K, V>
     where
         K: Drop,

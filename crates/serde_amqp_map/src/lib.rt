@@ -9,6 +9,8 @@ mod laws;
 mod lexical;
 mod look;
 mod map;
+#[cfg(test)]
+mod tests;
 mod walk;
 
 pub use key::MapKey;

@@ -22,7 +22,8 @@ impl<K: Eq + Hash, V> OrderedMap<K, V> {
         self.as_inner().iter()
     }
 
-    /// The pairs in their order, with values that can be changed.
+    /// The pairs in their order, with values that can be changed. No contract says which pairs the map has
+    /// afterwards; behind `as_inner_mut().iter_mut()` it has the same keys in the same order.
     pub fn iter_mut(&mut self) -> IterMut<'_, K, V>
         ensures ready { IterMutCanStep result }
         ensures rest { iter_mut_rest result ≡ self.old }
@@ -54,7 +55,8 @@ impl<K: Eq + Hash, V> OrderedMap<K, V> {
         self.as_inner().values()
     }
 
-    /// The values in the order of their keys, which can be changed.
+    /// The values in the order of their keys, which can be changed. Of the map afterwards the contract says as
+    /// little as that of `iter_mut`.
     pub fn values_mut(&mut self) -> ValuesMut<'_, K, V>
         ensures rest { values_mut_rest result ≡ values_of self.old }
         ensures runs { YieldsMutRefsInOrder (values_mut_steps {K = K} {V = V}) values_mut_rest }

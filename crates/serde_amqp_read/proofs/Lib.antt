@@ -1,3 +1,9 @@
+pub mod Arrayed
+pub mod Entered
 pub mod Fronts
 pub mod Known
+pub mod Numbers
+pub mod Opened
+pub mod Pendings
+pub mod Plain
 pub mod Refusals

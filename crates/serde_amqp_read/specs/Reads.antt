@@ -1,5 +1,6 @@
 -- What a source of bytes says (nothing of AMQP): what comes next, and what a refusal tells of the bytes.
 use Rattle.std.specs.Prelude.{◌≡◌, ℕ, ◌+◌, ◌-◌, ◌^◌, min, List, ◌∷◌, ◌++◌, Bool, true, false, Result, Ok, Err}
+use Rattle.serde_amqp_item.specs.Wire.{IsStrict}
 use Rattle.serde_amqp_item.specs.declared.error.Error.{Error}
 use Rattle.serde_amqp_item.specs.declared.error.Error.TheVariants.{Io, Memory}
 
@@ -47,3 +48,14 @@ pub record Source : Type 0 where
   pub rest : List ℕ
   -- how many were taken
   pub consumed : ℕ
+
+-- the bytes of one strict form (part 1, section 1.2)
+pub record StrictBytes (bytes : List ℕ) : Type 0 where
+  pub byte : ℕ
+  pub behind : List ℕ
+  pub whole : bytes ≡ byte ∷ behind
+  pub strict : IsStrict byte behind
+
+-- no strict form stands at the front
+pub record NoStrict (bytes : List ℕ) : Type 0 where
+  pub none : (c : ℕ) (a more : List ℕ) → bytes ≡ (c ∷ a) ++ more → IsStrict c a → ⊥

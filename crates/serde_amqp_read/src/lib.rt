@@ -2,6 +2,7 @@
 #![tactic(auto)]
 
 mod fetching;
+mod measure;
 mod private;
 mod reader;
 mod slice;

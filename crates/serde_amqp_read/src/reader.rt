@@ -2,8 +2,9 @@
 ghost use Rattle.std.specs.Prelude.{◌≡◌, ◌<◌, ◌+◌, ◌∷◌, ◌++◌, [], ℕ, Bool, List, length, IfOk, IfErr, OnOk, OnErr, string_bytes, false};
 ghost use Rattle.std.specs.Str.{is_utf8};
 ghost use Rattle.serde_amqp_item.specs.declared.error.Error.{Error};
-ghost use Rattle.serde_amqp_read.specs.Reads.{Begins, Leads, Unless, faultless, counted, with_more};
+ghost use Rattle.serde_amqp_read.specs.Reads.{Begins, Leads, Unless, faultless, counted, with_more, StrictBytes, NoStrict};
 
+use crate::measure::take_form;
 use crate::private::Sealed;
 use serde_amqp_item::Error;
 use std::alloc::Global;
@@ -146,6 +147,29 @@ pub trait Read: Sealed {
             self.fail();
         }
         text
+    }
+
+    /// Takes a strict form, be it as deep and as long as it may: the bytes of one value with its constructor, in
+    /// which each size and each count is exact, texts are UTF-8, and the elements of an array are neither null nor
+    /// described (part 1, section 1.2). Counts have no cap. Memory is taken for the bytes that are there, and for
+    /// the forms that hold one another.
+    ///
+    /// Errors: `Io` where the input ends; `InvalidFormatCode`, `InvalidValue`, `InvalidUtf8Encoding` and
+    /// `InvalidLength` where no strict form comes next; `Memory`.
+    final fn forward_read_byte_buf(&mut self, alloc: Global) -> Result<Vec<u8>, Error>
+    where
+        Self: Sized,
+        ensures ok { IfOk result (λ v. rest self.old ≡ v.items ++ rest self.new) }
+        ensures strict { IfOk result (λ v. StrictBytes v.items) }
+        ensures refused { Unless faulty result (NoStrict (rest self.old)) }
+        ensures failed { OnErr result (rest self.new ≡ []) }
+        ensures counted { IfOk result (λ v. with_more (consumed self.new) 0 ≡ with_more (consumed self.old) (length v.items)) }
+    {
+        let form = take_form(self, alloc);
+        if form.is_err() {
+            self.fail();
+        }
+        form
     }
 }
 

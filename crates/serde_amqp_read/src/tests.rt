@@ -174,3 +174,127 @@ fn errors_of_the_inner_reader(rt: HostRuntime) {
         assert_eq!(rt; reader.next(), Err(END));
     }
 }
+
+// Takes the form from these bytes, and from a reader that has others behind them.
+fn takes(rt: &impl Abort, alloc: Global, form: &[u8]) -> Result<(), Error> {
+    let mut reader = SliceReader::new(form);
+    assert_eq!(rt; reader.forward_read_byte_buf(alloc)?.as_slice(), form);
+    assert_eq!(rt; reader.bytes_consumed(), form.len());
+    let behind: &[u8] = &[0x40, 7];
+    let mut reader = IoReader::new(alloc, form.chain(behind));
+    assert_eq!(rt; reader.forward_read_byte_buf(alloc)?.as_slice(), form);
+    assert_eq!(rt; reader.read_const_bytes::<2>(), Ok([0x40, 7]));
+    Ok(())
+}
+
+fn refuses(rt: &impl Abort, alloc: Global, bytes: &[u8], error: Error) {
+    let mut reader = SliceReader::new(bytes);
+    match reader.forward_read_byte_buf(alloc) {
+        Ok(_) => panic!(rt; "{bytes:?} has a strict form"),
+        Err(answered) => assert_eq!(rt; answered, error, "of {bytes:?}"),
+    }
+    assert_eq!(rt; reader.peek(), Err(END));
+}
+
+// One form of each layout of part 1, section 1.2.
+#[test]
+fn strict_forms(rt: HostRuntime) -> Result<(), Error> {
+    let forms: [&[u8]; 25] = [
+        &[0x40],
+        &[0x41],
+        &[0x56, 1],
+        &[0x50, 0xff],
+        &[0x60, 1, 2],
+        &[0x70, 1, 2, 3, 4],
+        &[0x80, 1, 2, 3, 4, 5, 6, 7, 8],
+        &[0x98, 1, 2, 3, 4, 5, 6, 7, 8, 9, 10, 11, 12, 13, 14, 15, 16],
+        &[0x73, 0, 0x10, 0xff, 0xff],
+        &[0xa0, 2, 0xff, 0xfe],
+        &[0xb0, 0, 0, 0, 1, 0xff],
+        &[0xa1, 2, 0xc3, 0xa9],
+        &[0xb3, 0, 0, 0, 1, 0x61],
+        &[0x45],
+        &[0xc0, 1, 0],
+        &[0xc0, 4, 2, 0x40, 0x52, 7],
+        &[0xd0, 0, 0, 0, 5, 0, 0, 0, 1, 0x41],
+        &[0xc1, 1, 0],
+        &[0xc1, 4, 2, 0x43, 0x52, 7],
+        &[0xe0, 1, 0],
+        &[0xe0, 2, 0, 0x40],
+        &[0xe0, 4, 2, 0x50, 1, 2],
+        &[0xe0, 4, 2, 0x56, 1, 0],
+        &[0xe0, 7, 2, 0xa1, 1, 0x61, 2, 0x61, 0x62],
+        &[0x00, 0x53, 0x10, 0x00, 0x44, 0xc0, 1, 0],
+    ];
+    for form in forms {
+        takes(&rt, rt.alloc(), form)?;
+    }
+    Ok(())
+}
+
+#[test]
+fn no_strict_forms(rt: HostRuntime) {
+    let bad: [(&[u8], Error); 24] = [
+        (&[], END),
+        (&[0x3f], Error::InvalidFormatCode),
+        (&[0x60, 1], END),
+        (&[0x56, 2], Error::InvalidValue),
+        (&[0x73, 0, 0, 0xd8, 0], Error::InvalidValue),
+        (&[0x73, 0, 0x11, 0, 0], Error::InvalidValue),
+        (&[0xa1, 4, 0x61, 0x6d], END),
+        (&[0xa1, 1, 0xff], Error::InvalidUtf8Encoding),
+        (&[0xa3, 1, 0xff], Error::InvalidUtf8Encoding),
+        (&[0xb1, 0, 0, 1], END),
+        (&[0xc0, 0, 0], Error::InvalidLength),
+        (&[0xc0, 2, 0, 0x40], Error::InvalidLength),
+        (&[0xc0, 2, 2, 0x40, 0x40], Error::InvalidLength),
+        (&[0xc0, 3, 1, 0x40, 0x40], Error::InvalidLength),
+        (&[0xc0, 2, 1], END),
+        (&[0xc1, 2, 1, 0x40], Error::InvalidLength),
+        (&[0xe0, 3, 1, 0x40], Error::InvalidFormatCode),
+        (&[0xe0, 2, 1, 0x00], Error::InvalidFormatCode),
+        (&[0xe0, 2, 0, 0x3f], Error::InvalidFormatCode),
+        (&[0xe0, 3, 2, 0x50, 1], END),
+        (&[0xe0, 5, 2, 0x50, 1, 2, 3], Error::InvalidLength),
+        (&[0xe0, 4, 2, 0x56, 1, 2], Error::InvalidValue),
+        (&[0xf0, 0, 0, 0, 1, 0, 0, 0, 0], END),
+        (&[0x00, 0x53, 0x10], END),
+    ];
+    for (bytes, error) in bad {
+        refuses(&rt, rt.alloc(), bytes, error);
+    }
+}
+
+#[test]
+fn as_many_elements_as_a_count_can_say(rt: HostRuntime) -> Result<(), Error> {
+    for element in [0x43, 0x44, 0x45, 0x41, 0x42] {
+        takes(
+            &rt,
+            rt.alloc(),
+            &[0xf0, 0, 0, 0, 5, 0xff, 0xff, 0xff, 0xff, element],
+        )?;
+    }
+    refuses(
+        &rt,
+        rt.alloc(),
+        &[0xf0, 0xff, 0xff, 0xff, 0xff, 0xff, 0xff, 0xff, 0xff, 0x98],
+        END,
+    );
+    Ok(())
+}
+
+// Lists in lists: d0, a size, the count 1, and the list within; the innermost is empty.
+#[test]
+fn deep_lists(rt: HostRuntime) -> Result<(), Error> {
+    let depth: u32 = 100_000;
+    let mut form = Vec::new(rt.alloc());
+    for level in 0..depth {
+        let size = 4 + 9 * (depth - 1 - level) + 1;
+        form.push(0xd0)?;
+        form.extend_from_slice(&size.to_be_bytes())?;
+        form.extend_from_slice(&[0, 0, 0, 1])?;
+    }
+    form.push(0x45)?;
+    assert_eq!(rt; form.len(), 900_001);
+    takes(&rt, rt.alloc(), form.as_slice())
+}

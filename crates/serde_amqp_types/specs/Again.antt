@@ -1,6 +1,5 @@
 -- An array's item is taken as that array, and a default is one value.
-use Rattle.std.proofs.Common.{◌≡◌, ℕ, List, map, true, Option, Some, sym, ◌∙◌, ap, refl, arith}
-use Rattle.std.specs.Prelude.{◌==◌}
+use Rattle.std.proofs.Common.{◌≡◌, ℕ, List, map, true, Option, Some, sym, ◌∙◌, ap, refl}
 use Rattle.std.proofs.lemmas.Bool.Decides.{Decides-eqb}
 use Rattle.serde_amqp_item.specs.Item.{Item, scalar, ubyte, array, items_of}
 use Rattle.serde_amqp_de.specs.Again.{elements_again}

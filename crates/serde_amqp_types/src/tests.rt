@@ -1,6 +1,6 @@
 use crate::{
     Array, BinaryRef, BoolOr, ByteBuf, Dec32, Dec64, Dec128, Described, Descriptor, Multiple,
-    Symbol, SymbolRef, Text, Timestamp, UIntOr, UShortOr, Uuid,
+    Symbol, SymbolRef, Text, Timestamp, UByteOr, UIntOr, UShortOr, Uuid,
 };
 use serde_amqp_de::{Deserialize, from_slice};
 use serde_amqp_item::Error;
@@ -263,6 +263,20 @@ fn described_values(rt: HostRuntime) -> Result<(), Fail> {
 }
 
 #[test]
+fn iterated(rt: HostRuntime) -> Result<(), Fail> {
+    let alloc = rt.alloc();
+    let array = Array::from(vec![in alloc; 3u8, 1, 2]?);
+    assert!(rt; array.contains(&2));
+    let mut values = (&array).into_iter();
+    assert_eq!(rt; values.next().copied(), Some(3));
+    assert_eq!(rt; values.next().copied(), Some(1));
+    let again = Array::from_iter(alloc, array.clone()?)?;
+    assert!(rt; again == array);
+    assert_eq!(rt; Vec::from(again).as_slice(), [3, 1, 2].as_slice());
+    Ok(())
+}
+
+#[test]
 fn boolean_defaults(rt: HostRuntime) -> Result<(), Fail> {
     let alloc = rt.alloc();
     assert_eq!(rt;
@@ -279,5 +293,45 @@ fn boolean_defaults(rt: HostRuntime) -> Result<(), Fail> {
     );
     assert!(rt; from_slice::<BoolOr<true>>(alloc, &[0x40])?.0);
     assert!(rt; !from_slice::<BoolOr<true>>(alloc, &[0x56, 0])?.0);
+    Ok(())
+}
+
+#[test]
+fn read_fixed(rt: HostRuntime) -> Result<(), Fail> {
+    let alloc = rt.alloc();
+    let short: Dec32 = from_slice(alloc, b"\x74\x01\x02\x03\x04")?;
+    assert_eq!(rt; short, Dec32::from([1, 2, 3, 4]));
+    let middle: Dec64 = from_slice(alloc, b"\x84\x01\x02\x03\x04\x05\x06\x07\x08")?;
+    assert_eq!(rt; middle, Dec64::from([1, 2, 3, 4, 5, 6, 7, 8]));
+    let long: Dec128 = from_slice(alloc, b"\x940123456789abcdef")?;
+    assert_eq!(rt; long, Dec128::from(*b"0123456789abcdef"));
+    assert_eq!(rt;
+        from_slice::<Dec64>(alloc, b"\x74\x01\x02\x03\x04").err(),
+        Some(Error::InvalidFormatCode)
+    );
+    let uuid: Uuid = from_slice(alloc, b"\x980123456789abcdef")?;
+    assert!(rt; uuid == Uuid::from(*b"0123456789abcdef"));
+    let time: Timestamp = from_slice(alloc, b"\x83\xff\xff\xff\xff\xff\xff\xff\xfe")?;
+    assert_eq!(rt; time.into_inner(), -2);
+    assert_eq!(rt; from_slice::<UByteOr<4>>(alloc, &[0x40])?.0, 4);
+    assert_eq!(rt; from_slice::<UByteOr<4>>(alloc, &[0x50, 5])?.0, 5);
+    assert_eq!(rt;
+        to_vec(alloc, &UByteOr::<4>(4))?.as_slice(),
+        [0x40].as_slice()
+    );
+    Ok(())
+}
+
+#[test]
+fn read_bytes(rt: HostRuntime) -> Result<(), Fail> {
+    let alloc = rt.alloc();
+    let short: ByteBuf = from_slice(alloc, b"\xa0\x02\x00\xff")?;
+    assert_eq!(rt; short.as_slice(), b"\x00\xff".as_slice());
+    let wide: ByteBuf = from_slice(alloc, b"\xb0\x00\x00\x00\x02\x00\xff")?;
+    assert!(rt; wide == short);
+    assert_eq!(rt;
+        from_slice::<ByteBuf>(alloc, b"\xa1\x01a").err(),
+        Some(Error::InvalidFormatCode)
+    );
     Ok(())
 }

@@ -1,0 +1,85 @@
+use crate::OrderedMap;
+use serde_amqp_de::from_slice;
+use serde_amqp_item::Error;
+use serde_amqp_ser::to_vec;
+use std::cmp::Ordering;
+use std::hash::{DefaultHasher, Hash, Hasher};
+use std::test::Fail;
+
+#[test]
+fn encoded(rt: HostRuntime) -> Result<(), Fail> {
+    let alloc = rt.alloc();
+    let map: OrderedMap<u32, bool> = OrderedMap::from_pairs(
+        alloc,
+        vec![in alloc; (7, true), (0, false)]?,
+    )?;
+    let bytes = b"\xc1\x06\x04\x52\x07\x41\x43\x42";
+    assert_eq!(rt; to_vec(alloc, &map)?.as_slice(), bytes.as_slice());
+    assert!(rt; from_slice::<OrderedMap<u32, bool>>(alloc, bytes)? == map);
+    let read: OrderedMap<u32, bool> = from_slice(
+        alloc,
+        b"\xc1\x09\x06\x52\x07\x42\x43\x42\x52\x07\x41",
+    )?;
+    assert!(rt; read == map);
+    assert_eq!(rt;
+        from_slice::<OrderedMap<u32, bool>>(alloc, b"\xc1\x02\x01\x43").err(),
+        Some(Error::InvalidLength)
+    );
+    assert_eq!(rt;
+        from_slice::<OrderedMap<u32, bool>>(alloc, b"\xc0\x02\x01\x43").err(),
+        Some(Error::InvalidFormatCode)
+    );
+    let empty: OrderedMap<u32, bool> = OrderedMap::new(alloc);
+    assert_eq!(rt;
+        to_vec(alloc, &empty)?.as_slice(),
+        b"\xc1\x01\x00".as_slice()
+    );
+    Ok(())
+}
+
+fn hash_of(map: &OrderedMap<u32, u32>) -> u64 {
+    let mut hasher = DefaultHasher::new();
+    map.hash(&mut hasher);
+    hasher.finish()
+}
+
+#[test]
+fn compared(rt: HostRuntime) -> Result<(), Fail> {
+    let alloc = rt.alloc();
+    let one: OrderedMap<u32, u32> = OrderedMap::from_pairs(
+        alloc,
+        vec![in alloc; (1, 10), (2, 20)]?,
+    )?;
+    let two: OrderedMap<u32, u32> = OrderedMap::from_pairs(
+        alloc,
+        vec![in alloc; (2, 20), (1, 10)]?,
+    )?;
+    assert!(rt; one != two);
+    assert!(rt; one.clone()? == one);
+    assert_eq!(rt; one.cmp(&two), Ordering::Less);
+    assert_eq!(rt; two.partial_cmp(&one), Some(Ordering::Greater));
+    assert_eq!(rt; hash_of(&one.clone()?), hash_of(&one));
+    assert!(rt; hash_of(&one) != hash_of(&two));
+    Ok(())
+}
+
+#[test]
+fn changed(rt: HostRuntime) -> Result<(), Fail> {
+    let alloc = rt.alloc();
+    let mut map: OrderedMap<u32, u32> = OrderedMap::with_capacity(alloc, 3)?;
+    map.insert(5, 50)?;
+    map.insert(3, 30)?;
+    map.insert(4, 40)?;
+    assert_eq!(rt; map.insert(3, 31)?, Some(30));
+    assert_eq!(rt; map.len(), 3);
+    assert_eq!(rt; map.keys().as_slice(), [5, 3, 4].as_slice());
+    assert_eq!(rt; map.values().as_slice(), [50, 31, 40].as_slice());
+    assert!(rt; map.contains_key(&3));
+    assert_eq!(rt; map.swap_remove(&5), Some(50));
+    assert_eq!(rt; map.keys().as_slice(), [4, 3].as_slice());
+    assert_eq!(rt; map.shift_remove(&4), Some(40));
+    assert_eq!(rt; map.shift_remove_entry(&9), None);
+    assert_eq!(rt; map.swap_remove_entry(&3), Some((3, 31)));
+    assert!(rt; map.is_empty());
+    Ok(())
+}
