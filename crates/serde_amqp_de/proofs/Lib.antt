@@ -14,3 +14,4 @@ pub mod Maps
 pub mod Pairs
 pub mod Tuples
 pub mod Lending
+pub mod Opened

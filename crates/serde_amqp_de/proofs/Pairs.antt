@@ -116,7 +116,7 @@ map_took key value k old mid new count size ys o even t =
       taken = ap (λ (q : Option (List (Item × Item))). q >>= λ qs. Some (map (pairs_of qs))) t.all.taken;
     }
 
-raw_or_not : (x : Item) → ((text : List ℕ) × (x ≡ raw text)) ⊎ (kind_of x ≢ raw_kind)
+pub raw_or_not : (x : Item) → ((text : List ℕ) × (x ≡ raw text)) ⊎ (kind_of x ≢ raw_kind)
 raw_or_not (raw text) = inl (text, refl)
 raw_or_not (scalar null) = inr (λ e. cc)
 raw_or_not (scalar s) = inr (λ e. cc)

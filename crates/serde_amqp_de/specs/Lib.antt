@@ -8,3 +8,4 @@ pub mod Again
 pub mod Maps
 pub mod MapLaws
 pub mod Lent
+pub mod Open

@@ -1,9 +1,13 @@
 // Reading values from wire forms of AMQP's type system (part 1).
 #![tactic(auto)]
 
+mod access;
+#[cfg(test)]
+mod access_tests;
 mod borrow;
 #[cfg(test)]
 mod borrow_tests;
+mod content;
 mod deserialize;
 mod deserializer;
 mod laws;
@@ -18,7 +22,9 @@ mod sequence;
 mod tests;
 mod tuple;
 
+pub use access::{ArrayAccess, DescribedAccess, ListAccess, MapAccess, VariantAccess};
 pub use borrow::{BorrowDeserialize, borrow_from_slice};
+pub use content::Content;
 pub use deserialize::{Deserialize, Faithful, NeverNull, RoundTrip, from_reader, from_slice};
 pub use deserializer::Deserializer;
 pub use laws::{one_value, written_is_read, written_is_read_equal};
