@@ -206,6 +206,19 @@ impl<T: Deserialize> Deserialize for Option<T> {
     ghost decided = { option_decided T.take T.decided };
 }
 
+impl<R: Read> Deserializer<R> {
+    /// Reads null as none, and any other item as a value (part 1, section 1.4).
+    ///
+    /// Errors: as for the value's `read`.
+    pub fn deserialize_option<T: Deserialize>(&mut self, alloc: Global) -> Result<Option<T>, Error>
+        ensures ok { IfOk result (λ o. Took (option_taken T.take) self.old.element (at_of R.rest self.old) (at_of R.rest self.new) (option_item T.item o)) }
+        ensures element { OnOk result (self.new.element ≡ self.old.element) }
+        ensures refused { Unless R.faulty result (Refuses (option_taken T.take) self.old.element (at_of R.rest self.old)) }
+    {
+        <Option<T> as Deserialize>::read(alloc, self)
+    }
+}
+
 impl RoundTrip for () {
     ghost same = { λ _. refl };
 

@@ -230,6 +230,9 @@ fn reads_options(rt: HostRuntime) {
         from_slice::<Option<u32>>(alloc, &[0x41]),
         Err(Error::InvalidFormatCode)
     );
+    let mut de = Deserializer::new(SliceReader::new(&[0x40, 0x41]));
+    assert_eq!(rt; de.deserialize_option::<bool>(alloc), Ok(None));
+    assert_eq!(rt; de.deserialize_option::<bool>(alloc), Ok(Some(true)));
 }
 
 fn items_of(items: &Result<Vec<bool>, Error>) -> Result<&[bool], Error> {
