@@ -1,5 +1,5 @@
 -- Values that are lent from a slice.
-use Rattle.std.specs.Prelude.{◌≢◌, ℕ, ◌+◌, ◌<◌, ◌^◌, length}
+use Rattle.std.specs.Prelude.{◌≢◌, ◌+◌, ◌<◌, ◌^◌, length}
 use Rattle.serde_amqp_item.specs.declared.error.Error.{Error}
 use Rattle.serde_amqp_item.specs.declared.error.Error.TheVariants.{Memory}
 use Rattle.serde_amqp_read.specs.Reads.{Source}

@@ -1,25 +1,18 @@
 //! Lists, arrays, maps, variants and described values, read item by item.
-use crate::{Deserialize, Deserializer, SliceReader};
+use crate::{Deserialize, Deserializer, Read, SliceReader};
 use serde_amqp_item::Error;
 use std::alloc::Global;
 use std::io::ErrorKind;
 
 const END: Error = Error::Io(ErrorKind::UnexpectedEof);
 
-fn list(alloc: Global, bytes: &[u8]) -> Result<(u32, bool, u64), Error> {
-    let mut de = Deserializer::new(SliceReader::new(bytes));
+/// The two items of a list, and a ulong behind it.
+fn list<R: Read>(alloc: Global, de: &mut Deserializer<R>) -> Result<(u32, bool, u64), Error> {
     let mut items = de.deserialize_seq()?;
-    let Some(first) = items.next_element::<u32>(alloc)? else {
-        return Err(Error::Message);
-    };
-    let Some(second) = items.next_element::<bool>(alloc)? else {
-        return Err(Error::Message);
-    };
-    if items.next_element::<u64>(alloc)?.is_some() {
-        return Err(Error::InvalidValue);
-    }
+    let first = items.next_element::<u32>(alloc)?.unwrap_or(1000);
+    let second = items.next_element::<bool>(alloc)?.unwrap_or(false);
     items.end()?;
-    let behind = u64::deserialize(alloc, &mut de)?;
+    let behind = u64::deserialize(alloc, de)?;
     Ok((first, second, behind))
 }
 
@@ -35,14 +28,14 @@ fn reads_lists(rt: HostRuntime) {
             &[0xd0, 0, 0, 0, 7, 0, 0, 0, 2, 0x43, 0x56, 0x00, 0x53, 0x09],
             Ok((0, false, 9)),
         ),
-        (&[0x45], Err(Error::Message)),
+        (&[0x45, 0x44], Ok((1000, false, 0))),
         (
             &[0xc0, 0x03, 0x02, 0x52, 0x07, 0x41, 0x44],
             Err(Error::InvalidLength),
         ),
         (
             &[0xc0, 0x05, 0x03, 0x52, 0x07, 0x41, 0x44],
-            Err(Error::InvalidValue),
+            Err(Error::SequenceLengthMismatch),
         ),
         (
             &[0xc0, 0x03, 0x02, 0x41, 0x43],
@@ -51,75 +44,63 @@ fn reads_lists(rt: HostRuntime) {
         (&[0xc0, 0x04, 0x02, 0x52, 0x07], Err(END)),
     ];
     for (bytes, expected) in cases {
-        assert_eq!(rt; list(alloc, bytes), expected);
+        let mut de = Deserializer::new(SliceReader::new(bytes));
+        let found = list(alloc, &mut de);
+        assert_eq!(rt; found, expected);
+        if found.is_err() {
+            assert_eq!(rt; bool::deserialize(alloc, &mut de), Err(END));
+        }
     }
 }
 
-#[test]
-fn a_refused_list_fails_the_reader(rt: HostRuntime) -> Result<(), Error> {
-    let alloc = rt.alloc();
-    let mut de = Deserializer::new(SliceReader::new(&[0xc0, 0x03, 0x02, 0x41, 0x42, 0x41]));
-    let mut items = de.deserialize_seq()?;
-    assert_eq!(rt; items.next_element::<bool>(alloc), Ok(Some(true)));
-    assert_eq!(rt;
-        items.next_element::<u32>(alloc),
-        Err(Error::InvalidFormatCode)
-    );
-    assert_eq!(rt; items.next_element::<bool>(alloc), Err(END));
-    assert_eq!(rt; items.end(), Err(Error::SequenceLengthMismatch));
-    assert_eq!(rt; bool::deserialize(alloc, &mut de), Err(END));
-    let mut de = Deserializer::new(SliceReader::new(&[0xc0, 0x02, 0x01, 0x41, 0x41]));
-    let items = de.deserialize_seq()?;
-    assert_eq!(rt; items.end(), Err(Error::SequenceLengthMismatch));
-    assert_eq!(rt; bool::deserialize(alloc, &mut de), Err(END));
-    let mut de = Deserializer::new(SliceReader::new(&[0x41, 0x41]));
-    assert_eq!(rt; de.deserialize_seq().is_err(), true);
-    assert_eq!(rt; bool::deserialize(alloc, &mut de), Err(END));
-    Ok(())
+/// Whether there is a list of so many items, of which the first is a boolean.
+fn tuple<R: Read>(alloc: Global, de: &mut Deserializer<R>, len: usize) -> Result<bool, Error> {
+    let mut parts = de.deserialize_tuple(len)?;
+    let first = parts.next_element::<bool>(alloc)?.unwrap_or(false);
+    let _ = parts.next_element::<u32>(alloc)?;
+    parts.end()?;
+    Ok(first)
 }
 
 #[test]
-fn reads_tuples(rt: HostRuntime) -> Result<(), Error> {
+fn reads_tuples(rt: HostRuntime) {
     let alloc = rt.alloc();
     let bytes: &[u8] = &[0xc0, 0x03, 0x02, 0x41, 0x43];
-    let mut de = Deserializer::new(SliceReader::new(bytes));
-    let mut parts = de.deserialize_tuple(2)?;
-    assert_eq!(rt; parts.next_element::<bool>(alloc), Ok(Some(true)));
-    assert_eq!(rt; parts.next_element::<u32>(alloc), Ok(Some(0)));
-    assert_eq!(rt; parts.end(), Ok(()));
-    for len in [0, 1, 3] {
+    let cases = [
+        (2, Ok(true)),
+        (0, Err(Error::SequenceLengthMismatch)),
+        (1, Err(Error::SequenceLengthMismatch)),
+        (3, Err(Error::SequenceLengthMismatch)),
+    ];
+    for (len, expected) in cases {
         let mut de = Deserializer::new(SliceReader::new(bytes));
-        let found = match de.deserialize_tuple(len) {
-            Ok(_) => Ok(()),
-            Err(e) => Err(e),
-        };
-        assert_eq!(rt; found, Err(Error::SequenceLengthMismatch));
+        assert_eq!(rt; tuple(alloc, &mut de, len), expected);
     }
-    Ok(())
 }
 
-fn array(alloc: Global, bytes: &[u8]) -> Result<(u32, bool), Error> {
-    let mut de = Deserializer::new(SliceReader::new(bytes));
+/// The two elements of an array, and a boolean behind it.
+fn array<R: Read>(alloc: Global, de: &mut Deserializer<R>) -> Result<(u32, u32, bool), Error> {
     let mut elements = de.deserialize_array()?;
-    let mut sum = 0;
-    while let Some(element) = elements.next_element::<u32>(alloc)? {
-        sum = element;
-    }
+    let first = elements.next_element::<u32>(alloc)?.unwrap_or(1000);
+    let second = elements.next_element::<u32>(alloc)?.unwrap_or(1000);
     elements.end()?;
-    let behind = bool::deserialize(alloc, &mut de)?;
-    Ok((sum, behind))
+    let behind = bool::deserialize(alloc, de)?;
+    Ok((first, second, behind))
 }
 
 #[test]
 fn reads_arrays(rt: HostRuntime) {
     let alloc = rt.alloc();
-    let cases: [(&[u8], Result<(u32, bool), Error>); 6] = [
-        (&[0xe0, 0x01, 0x00, 0x41], Ok((0, true))),
-        (&[0xe0, 0x02, 0x00, 0x40, 0x42], Ok((0, false))),
-        (&[0xe0, 0x04, 0x02, 0x52, 0x07, 0x08, 0x41], Ok((8, true))),
+    let cases: [(&[u8], Result<(u32, u32, bool), Error>); 6] = [
+        (&[0xe0, 0x01, 0x00, 0x41], Ok((1000, 1000, true))),
+        (&[0xe0, 0x02, 0x00, 0x40, 0x42], Ok((1000, 1000, false))),
+        (
+            &[0xe0, 0x04, 0x02, 0x52, 0x07, 0x08, 0x41],
+            Ok((7, 8, true)),
+        ),
         (
             &[0xf0, 0, 0, 0, 9, 0, 0, 0, 1, 0x70, 0, 0, 1, 0, 0x41],
-            Ok((256, true)),
+            Ok((256, 1000, true)),
         ),
         (
             &[0xe0, 0x03, 0x02, 0x52, 0x07, 0x08, 0x41],
@@ -131,36 +112,39 @@ fn reads_arrays(rt: HostRuntime) {
         ),
     ];
     for (bytes, expected) in cases {
-        assert_eq!(rt; array(alloc, bytes), expected);
+        let mut de = Deserializer::new(SliceReader::new(bytes));
+        assert_eq!(rt; array(alloc, &mut de), expected);
     }
 }
 
-fn map(alloc: Global, bytes: &[u8]) -> Result<(u32, bool, bool), Error> {
-    let mut de = Deserializer::new(SliceReader::new(bytes));
+/// The two pairs of a map, and a boolean behind it.
+fn map<R: Read>(
+    alloc: Global,
+    de: &mut Deserializer<R>,
+) -> Result<(Option<(u32, bool)>, Option<(u32, bool)>, bool), Error> {
     let mut pairs = de.deserialize_map()?;
-    let mut last = 0;
-    let mut all = true;
-    while let Some((key, value)) = pairs.next_entry::<u32, bool>(alloc)? {
-        last = key;
-        all = all && value;
-    }
+    let first = pairs.next_entry::<u32, bool>(alloc)?;
+    let second = pairs.next_entry::<u32, bool>(alloc)?;
     pairs.end()?;
-    let behind = bool::deserialize(alloc, &mut de)?;
-    Ok((last, all, behind))
+    let behind = bool::deserialize(alloc, de)?;
+    Ok((first, second, behind))
 }
 
 #[test]
 fn reads_maps(rt: HostRuntime) {
     let alloc = rt.alloc();
-    let cases: [(&[u8], Result<(u32, bool, bool), Error>); 6] = [
-        (&[0xc1, 0x01, 0x00, 0x42], Ok((0, true, false))),
+    let cases: [(
+        &[u8],
+        Result<(Option<(u32, bool)>, Option<(u32, bool)>, bool), Error>,
+    ); 6] = [
+        (&[0xc1, 0x01, 0x00, 0x42], Ok((None, None, false))),
         (
-            &[0xc1, 0x07, 0x04, 0x52, 0x05, 0x41, 0x52, 0x06, 0x42, 0x41],
-            Ok((6, false, true)),
+            &[0xc1, 0x07, 0x04, 0x52, 0x05, 0x41, 0x52, 0x05, 0x42, 0x41],
+            Ok((Some((5, true)), Some((5, false)), true)),
         ),
         (
             &[0xd1, 0, 0, 0, 6, 0, 0, 0, 2, 0x43, 0x41, 0x41],
-            Ok((0, true, true)),
+            Ok((Some((0, true)), None, true)),
         ),
         (&[0xc1, 0x02, 0x01, 0x43], Err(Error::InvalidLength)),
         (
@@ -173,8 +157,16 @@ fn reads_maps(rt: HostRuntime) {
         ),
     ];
     for (bytes, expected) in cases {
-        assert_eq!(rt; map(alloc, bytes), expected);
+        let mut de = Deserializer::new(SliceReader::new(bytes));
+        assert_eq!(rt; map(alloc, &mut de), expected);
     }
+}
+
+/// A key without its value.
+fn key_alone<R: Read>(alloc: Global, de: &mut Deserializer<R>) -> Result<(), Error> {
+    let mut pairs = de.deserialize_map()?;
+    let _ = pairs.next_key::<u32>(alloc)?;
+    pairs.end()
 }
 
 #[test]
@@ -182,15 +174,17 @@ fn keys_and_values_come_in_turn(rt: HostRuntime) -> Result<(), Error> {
     let alloc = rt.alloc();
     let bytes: &[u8] = &[0xc1, 0x03, 0x02, 0x43, 0x41];
     let mut de = Deserializer::new(SliceReader::new(bytes));
+    assert_eq!(rt;
+        key_alone(alloc, &mut de),
+        Err(Error::SequenceLengthMismatch)
+    );
+    assert_eq!(rt; bool::deserialize(alloc, &mut de), Err(END));
+    let mut de = Deserializer::new(SliceReader::new(bytes));
     let mut pairs = de.deserialize_map()?;
-    assert_eq!(rt; pairs.next_key::<u32>(alloc), Ok(Some(0)));
-    assert_eq!(rt; pairs.next_value::<bool>(alloc), Ok(true));
-    assert_eq!(rt; pairs.next_key::<u32>(alloc), Ok(None));
     assert_eq!(rt;
         pairs.next_value::<bool>(alloc),
         Err(Error::SequenceLengthMismatch)
     );
-    assert_eq!(rt; pairs.end(), Err(Error::SequenceLengthMismatch));
     let mut de = Deserializer::new(SliceReader::new(bytes));
     let mut pairs = de.deserialize_map()?;
     assert_eq!(rt; pairs.next_key::<u32>(alloc), Ok(Some(0)));
@@ -198,15 +192,11 @@ fn keys_and_values_come_in_turn(rt: HostRuntime) -> Result<(), Error> {
         pairs.next_key::<bool>(alloc),
         Err(Error::SequenceLengthMismatch)
     );
-    let mut de = Deserializer::new(SliceReader::new(bytes));
-    let mut pairs = de.deserialize_map()?;
-    assert_eq!(rt; pairs.next_key::<u32>(alloc), Ok(Some(0)));
-    assert_eq!(rt; pairs.end(), Err(Error::SequenceLengthMismatch));
     Ok(())
 }
 
-fn variant(alloc: Global, bytes: &[u8]) -> Result<(u32, bool), Error> {
-    let mut de = Deserializer::new(SliceReader::new(bytes));
+/// A variant's index and its value.
+fn variant<R: Read>(alloc: Global, de: &mut Deserializer<R>) -> Result<(u32, bool), Error> {
     let mut variant = de.deserialize_enum()?;
     let index = variant.variant_index(alloc)?;
     let value = variant.newtype::<bool>(alloc)?;
@@ -215,7 +205,7 @@ fn variant(alloc: Global, bytes: &[u8]) -> Result<(u32, bool), Error> {
 }
 
 #[test]
-fn reads_variants(rt: HostRuntime) -> Result<(), Error> {
+fn reads_variants(rt: HostRuntime) {
     let alloc = rt.alloc();
     let cases: [(&[u8], Result<(u32, bool), Error>); 6] = [
         (&[0xc1, 0x04, 0x02, 0x52, 0x03, 0x41], Ok((3, true))),
@@ -238,24 +228,18 @@ fn reads_variants(rt: HostRuntime) -> Result<(), Error> {
         ),
     ];
     for (bytes, expected) in cases {
-        assert_eq!(rt; variant(alloc, bytes), expected);
+        let mut de = Deserializer::new(SliceReader::new(bytes));
+        assert_eq!(rt; variant(alloc, &mut de), expected);
     }
-    let mut de = Deserializer::new(SliceReader::new(&[0xc1, 0x03, 0x02, 0x43, 0x41]));
-    let mut variant = de.deserialize_enum()?;
-    assert_eq!(rt;
-        variant.newtype::<u32>(alloc),
-        Err(Error::SequenceLengthMismatch)
-    );
-    Ok(())
 }
 
-fn described(alloc: Global, bytes: &[u8]) -> Result<(u64, bool, bool), Error> {
-    let mut de = Deserializer::new(SliceReader::new(bytes));
+/// A descriptor and its value, and a boolean behind them.
+fn described<R: Read>(alloc: Global, de: &mut Deserializer<R>) -> Result<(u64, bool, bool), Error> {
     let mut described = de.deserialize_described()?;
     let descriptor = described.descriptor::<u64>(alloc)?;
     let value = described.value::<bool>(alloc)?;
     described.end()?;
-    let behind = bool::deserialize(alloc, &mut de)?;
+    let behind = bool::deserialize(alloc, de)?;
     Ok((descriptor, value, behind))
 }
 
@@ -276,7 +260,8 @@ fn reads_described_values(rt: HostRuntime) -> Result<(), Error> {
         (&[0x00, 0x53, 0x24], Err(END)),
     ];
     for (bytes, expected) in cases {
-        assert_eq!(rt; described(alloc, bytes), expected);
+        let mut de = Deserializer::new(SliceReader::new(bytes));
+        assert_eq!(rt; described(alloc, &mut de), expected);
     }
     let mut de = Deserializer::new(SliceReader::new(&[0x00, 0x44, 0x41]));
     let mut access = de.deserialize_described()?;
@@ -284,10 +269,5 @@ fn reads_described_values(rt: HostRuntime) -> Result<(), Error> {
         access.value::<u64>(alloc),
         Err(Error::SequenceLengthMismatch)
     );
-    let mut de = Deserializer::new(SliceReader::new(&[0x00, 0x44, 0x41]));
-    let mut access = de.deserialize_described()?;
-    assert_eq!(rt; access.descriptor::<u64>(alloc), Ok(0));
-    assert_eq!(rt; access.end(), Err(Error::SequenceLengthMismatch));
-    assert_eq!(rt; bool::deserialize(alloc, &mut de), Err(END));
     Ok(())
 }

@@ -1,5 +1,5 @@
 //! Numbers and characters as values.
-ghost use Rattle.std.specs.Prelude.{◌≡◌, Option, Some, refl};
+ghost use Rattle.std.specs.Prelude.{Option, refl};
 ghost use Rattle.serde_amqp_item.specs.Item.{scalar, ubyte, byte, short, int, long, float, double, char};
 ghost use Rattle.serde_amqp_de.specs.Takes.{ubyte_taken, byte_taken, short_taken, int_taken, long_taken, float_taken, double_taken, char_taken};
 ghost use Rattle.serde_amqp_de.specs.Deciding.{ubyte_decided, byte_decided, short_decided, int_decided, long_decided, float_decided, double_decided, char_decided};

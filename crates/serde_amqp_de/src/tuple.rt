@@ -1,5 +1,5 @@
 //! Tuples, as lists of exactly their parts.
-ghost use Rattle.std.specs.Prelude.{◌≡◌, ◌∷◌, [], ℕ, List, length, IfOk, OnOk, Option, Some, None, refl};
+ghost use Rattle.std.specs.Prelude.{◌≡◌, ◌∷◌, [], List, length, IfOk, OnOk, Option, None, refl};
 ghost use Rattle.serde_amqp_item.specs.Item.{Item, list, items_of};
 ghost use Rattle.serde_amqp_read.specs.Reads.{Unless};
 ghost use Rattle.serde_amqp_de.specs.Reads.{Took, Refuses, at_of, TookAll, RefusesAll, TookSized, RefusesSized};

@@ -3,6 +3,7 @@ ghost use Rattle.std.specs.Prelude.{◌≡◌, refl};
 ghost use Rattle.serde_amqp_map.specs.Same.{item_same};
 
 use serde_amqp_de::Deserialize;
+use serde_amqp_types::{ByteBuf, Symbol, Text};
 use std::hash::Hash;
 
 /// A type whose values can be the keys of a map that is read: two are equal exactly where their items are the
@@ -48,5 +49,17 @@ impl MapKey for char {
 }
 
 impl MapKey for String {
+    ghost equal = { λ _ _. refl };
+}
+
+impl MapKey for Text {
+    ghost equal = { λ _ _. refl };
+}
+
+impl MapKey for Symbol {
+    ghost equal = { λ _ _. refl };
+}
+
+impl MapKey for ByteBuf {
     ghost equal = { λ _ _. refl };
 }

@@ -1,4 +1,4 @@
--- Descriptors and described values (part 1, section 1.2).
+-- Descriptors and described values (part 1, sections 1.2 and 1.5).
 use Rattle.std.proofs.Common.{◌≡◌, ℕ, List, Option, Some, false, ◌∙◌, ap, refl}
 use Rattle.serde_amqp_item.specs.Item.{Item, scalar, symbol, ulong, described}
 use Rattle.serde_amqp_item.specs.Canon.{◌>>=◌}

@@ -15,7 +15,7 @@ array_or_one_taken take (scalar null) = None
 array_or_one_taken take (raw text) = unless_several (kind_seen (raw text)) (as_one (take (raw text)))
 array_or_one_taken take x = as_one (take x)
 
--- a descriptor: a code or a name (part 1, section 1.2.1)
+-- a descriptor: a code or a name (part 1, section 1.5)
 unfoldable pub any_descriptor_taken : Item → Option Item
 any_descriptor_taken (scalar (ulong n)) = Some (scalar (ulong n))
 any_descriptor_taken (scalar (symbol bs)) = Some (scalar (symbol bs))

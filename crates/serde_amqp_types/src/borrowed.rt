@@ -1,9 +1,11 @@
 //! Values that are lent by what they were read from.
-ghost use Rattle.std.specs.Prelude.{◌≡◌, refl};
+ghost use Rattle.std.specs.Prelude.{◌≡◌};
 ghost use Rattle.serde_amqp_item.specs.Item.{scalar, binary, symbol};
+ghost use Rattle.serde_amqp_de.specs.Takes.{binary_taken, symbol_taken};
 
 use crate::bytes::ByteBuf;
 use crate::symbol::Symbol;
+use serde_amqp_de::{BorrowDeserialize, Deserializer, SliceReader};
 use serde_amqp_item::Error;
 use serde_amqp_ser::{Serialize, Serializer, Sink};
 
@@ -77,5 +79,29 @@ impl<'a> Serialize for SymbolRef<'a> {
 
     fn serialize<W: Sink>(&self, s: &mut Serializer<W>) -> Result<(), Error> {
         s.symbol(self.0)
+    }
+}
+
+/// Bytes that are lent from the slice that they are read from.
+impl<'de> BorrowDeserialize<'de> for BinaryRef<'de> {
+    ghost item = { λ b. scalar (binary b.0.now) };
+
+    ghost take = { binary_taken };
+
+    #[tactic(auto, using(serde_amqp_de::proofs::Values::taking))]
+    fn read_borrowed(de: &mut Deserializer<SliceReader<'de>>) -> Result<BinaryRef<'de>, Error> {
+        Ok(BinaryRef(de.borrow_bytes()?))
+    }
+}
+
+/// A symbol whose text is lent from the slice that it is read from.
+impl<'de> BorrowDeserialize<'de> for SymbolRef<'de> {
+    ghost item = { λ t. scalar (symbol t.0.now) };
+
+    ghost take = { symbol_taken };
+
+    #[tactic(auto, using(serde_amqp_de::proofs::Values::taking))]
+    fn read_borrowed(de: &mut Deserializer<SliceReader<'de>>) -> Result<SymbolRef<'de>, Error> {
+        Ok(SymbolRef(de.borrow_symbol()?))
     }
 }

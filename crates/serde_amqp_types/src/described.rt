@@ -12,7 +12,7 @@ use serde_amqp_item::{EncodingCodes, Error};
 use serde_amqp_ser::{IsArrayElement, Serialize, Serializer, Sink};
 use std::alloc::Global;
 
-/// What says of which type a value is (part 1, section 1.2.1).
+/// What says of which type a value is (part 1, section 1.5).
 #[derive(Debug, Drop, Clone, PartialEq, Eq, PartialOrd, Ord, Hash)]
 pub enum Descriptor {
     /// The name of the type.

@@ -2,7 +2,7 @@ use crate::{
     Array, BinaryRef, BoolOr, ByteBuf, Dec32, Dec64, Dec128, Described, Descriptor, Multiple,
     Symbol, SymbolRef, Text, Timestamp, UByteOr, UIntOr, UShortOr, Uuid,
 };
-use serde_amqp_de::{Deserialize, from_slice};
+use serde_amqp_de::{Deserialize, borrow_from_slice, from_slice};
 use serde_amqp_item::Error;
 use serde_amqp_ser::{Serialize, to_vec};
 use std::alloc::Global;
@@ -331,6 +331,19 @@ fn read_bytes(rt: HostRuntime) -> Result<(), Fail> {
     assert!(rt; wide == short);
     assert_eq!(rt;
         from_slice::<ByteBuf>(alloc, b"\xa1\x01a").err(),
+        Some(Error::InvalidFormatCode)
+    );
+    Ok(())
+}
+
+#[test]
+fn lent(rt: HostRuntime) -> Result<(), Fail> {
+    let bytes: BinaryRef = borrow_from_slice(b"\xb0\x00\x00\x00\x02\x00\xff")?;
+    assert_eq!(rt; bytes.0, b"\x00\xff".as_slice());
+    let symbol: SymbolRef = borrow_from_slice(b"\xa3\x04amqp")?;
+    assert_eq!(rt; symbol.as_str(), "amqp");
+    assert_eq!(rt;
+        borrow_from_slice::<SymbolRef>(b"\xa1\x04amqp").err(),
         Some(Error::InvalidFormatCode)
     );
     Ok(())
