@@ -15,7 +15,7 @@ use Rattle.serde_amqp_de.specs.Reads.{At, Moves, Head, Reads, Refuses, Took, Ope
 use Rattle.serde_amqp_de.specs.Maps.{pairs_in, map_in, map_taken, RefusesPairs}
 use Rattle.serde_amqp_de.specs.Takes.{list_taken}
 use Rattle.serde_amqp_de.specs.Apart.{leads_split}
-use Rattle.serde_amqp_de.specs.Open.{Shape, a_list, an_array, a_map, a_described_value, whole, described_in, MayHave, tuple_taken, variant_taken, in_turn, Fills, EndsAt, AtEnd, Begun, Contains, HasRead, ReadsOn, TookNext, TookEntry, IsNot}
+use Rattle.serde_amqp_de.specs.Open.{Shape, a_list, an_array, a_map, a_described_value, whole, described_in, MayHave, counted_taken, variant_taken, in_turn, Fills, EndsAt, AtEnd, Begun, Contains, HasRead, ReadsOn, TookNext, TookEntry, IsNot}
 use Rattle.serde_amqp_de.proofs.Heads.{moves_then, stays, head_form, behind_head, refusal_weaker}
 use Rattle.serde_amqp_de.proofs.Lists.{unkept}
 use Rattle.serde_amqp_de.proofs.Maps.{twice_half, in_turn as turned}
@@ -262,18 +262,18 @@ pub on_err : {X E : Type 0} (r : Result X E) (P Q : Type 0) → (P → Q) → On
 on_err (Ok x) P Q f h = tt
 on_err (Err e) P Q f h = f h
 
-not_length : (n : ℕ) (xs : Items) (b : Bool) → (item_count xs == n) ≡ b → item_count xs ≢ n → tuple_taken n (list xs) ≡ None
-unfolding tuple_taken
+not_length : (n : ℕ) (xs : Items) (b : Bool) → (item_count xs == n) ≡ b → item_count xs ≢ n → counted_taken n (list xs) ≡ None
+unfolding counted_taken
 not_length n xs true e d = absurd (d (equal (item_count xs) n e))
 not_length n xs false e d = rw e refl
 
-not_tuple : (n : ℕ) (x : Item) → ((text : List ℕ) × (x ≡ raw text)) ⊎ (kind_of x ≢ raw_kind) → (kind_of x ≢ raw_kind → (xs : Items) × (x ≡ list xs) × (item_count xs ≢ n)) → tuple_taken n x ≡ None
-unfolding tuple_taken
-not_tuple n x (inl t) p = ap (tuple_taken n) t.1
-not_tuple n x (inr d) p = let q = p d in ap (tuple_taken n) q.1 ∙ not_length n q.0 (item_count q.0 == n) refl q.2
+not_tuple : (n : ℕ) (x : Item) → ((text : List ℕ) × (x ≡ raw text)) ⊎ (kind_of x ≢ raw_kind) → (kind_of x ≢ raw_kind → (xs : Items) × (x ≡ list xs) × (item_count xs ≢ n)) → counted_taken n x ≡ None
+unfolding counted_taken
+not_tuple n x (inl t) p = ap (counted_taken n) t.1
+not_tuple n x (inr d) p = let q = p d in ap (counted_taken n) q.1 ∙ not_length n q.0 (item_count q.0 == n) refl q.2
 
-only_lists : (n : ℕ) (x : Item) → list_taken x ≡ None → tuple_taken n x ≡ None
-unfolding tuple_taken
+only_lists : (n : ℕ) (x : Item) → list_taken x ≡ None → counted_taken n x ≡ None
+unfolding counted_taken
 only_lists n (list xs) e = absurd cc
 only_lists n x e = refl
 
@@ -291,12 +291,12 @@ only_maps (map ps) e = absurd cc
 only_maps x e = refl
 
 -- a list of another number of items
-pub other_length : (n : ℕ) (k : Option ℕ) (old mid : At) (count size : ℕ) → Opens list None k old mid count size → count ≢ n → Refuses (tuple_taken n) k old
+pub other_length : (n : ℕ) (k : Option ℕ) (old mid : At) (count size : ℕ) → Opens list None k old mid count size → count ≢ n → Refuses (counted_taken n) k old
 other_length n k old mid count size o d = record {
   none = λ x f more w e. not_tuple n x (raw_or_not x) (λ plain. let p = o.back x f more w e plain in (p.0, p.2, λ c. d (sym p.3 ∙ c)));
 }
 
-pub no_tuple : (n : ℕ) (k : Option ℕ) (old : At) → Refuses list_taken k old → Refuses (tuple_taken n) k old
+pub no_tuple : (n : ℕ) (k : Option ℕ) (old : At) → Refuses list_taken k old → Refuses (counted_taken n) k old
 no_tuple n k old r = record { none = λ x f more w e. only_lists n x (r.none x f more w e) }
 
 -- a map of another number of pairs
@@ -311,7 +311,7 @@ no_variant k old r = record { none = λ x f more w e. only_maps x (r.none x f mo
 pub ruleset turns = (took_entry, no_key_entry, no_value_entry, value_due)
 
 -- a head that was refused
-pub passed_tuple : {X : Type 0} (faulty : Error → Bool) (r : Result X Error) (n : ℕ) (k : Option ℕ) (old : At) → Unless faulty r (Refuses list_taken k old) → Unless faulty r (Refuses (tuple_taken n) k old)
+pub passed_tuple : {X : Type 0} (faulty : Error → Bool) (r : Result X Error) (n : ℕ) (k : Option ℕ) (old : At) → Unless faulty r (Refuses list_taken k old) → Unless faulty r (Refuses (counted_taken n) k old)
 passed_tuple faulty (Ok x) n k old h = tt
 passed_tuple faulty (Err e) n k old h = refusal_weaker faulty e _ _ (no_tuple n k old) h
 

@@ -34,9 +34,9 @@ MayHave a_map n = n % 2 ≡ 0
 MayHave a_described_value n = n ≡ 2
 
 -- a list of so many items
-unfoldable pub tuple_taken : ℕ → Item → Option Item
-tuple_taken n (list xs) = if item_count xs == n then Some (list xs) else None
-tuple_taken n _ = None
+unfoldable pub counted_taken : ℕ → Item → Option Item
+counted_taken n (list xs) = if item_count xs == n then Some (list xs) else None
+counted_taken n _ = None
 
 -- a map of one pair
 abbrev pub variant_taken : Item → Option Item

@@ -6,7 +6,7 @@ ghost use Rattle.serde_amqp_read.specs.Reads.{Unless};
 ghost use Rattle.serde_amqp_de.specs.Reads.{At, Reads, Refuses, HasFailed, at_of};
 ghost use Rattle.serde_amqp_de.specs.Takes.{uint_taken, list_taken, array_taken, described_taken};
 ghost use Rattle.serde_amqp_de.specs.Maps.{map_taken, RefusesPairs};
-ghost use Rattle.serde_amqp_de.specs.Open.{a_list, an_array, a_map, a_described_value, tuple_taken, variant_taken, in_turn, HasRead, TookNext, TookEntry, IsNot};
+ghost use Rattle.serde_amqp_de.specs.Open.{a_list, an_array, a_map, a_described_value, counted_taken, variant_taken, in_turn, HasRead, TookNext, TookEntry, IsNot};
 ghost use Rattle.serde_amqp_de.specs.contracts.deserializer.Deserializer.{the_row};
 
 use crate::content::Content;
@@ -57,7 +57,7 @@ impl<R: Read> Deserializer<R> {
         ensures same_reference { IfOk result (λ a. a.content.de.ghost_name ≡ self.entry.ghost_name) }
         ensures begun { IfOk result (λ a. HasRead R.rest a_list None self.old.element (at_of R.rest self.old) [] a.content) }
         ensures left { IfOk result (λ a. a.content.left ≡ len) }
-        ensures refused { Unless R.faulty result (Refuses (tuple_taken len) self.old.element (at_of R.rest self.old)) }
+        ensures refused { Unless R.faulty result (Refuses (counted_taken len) self.old.element (at_of R.rest self.old)) }
     {
         let outer = self.element;
         let head = self.list_head();

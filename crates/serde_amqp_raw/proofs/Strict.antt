@@ -1,0 +1,47 @@
+-- Bytes that are one strict form.
+use Rattle.std.proofs.Common.{◌≡◌, ◌≢◌, ℕ, List, [], ◌∷◌, ◌++◌, length, Some, sym, ◌∙◌, ap, subst, refl, arith, length-append, append-nil}
+use Rattle.serde_amqp_item.specs.Item.{scalar, null, raw}
+use Rattle.serde_amqp_item.specs.Wire.{AnyCount, IsStrict, row_of}
+use Rattle.serde_amqp_item.specs.Canon.{RawKept}
+use Rattle.serde_amqp_item.proofs.Forms.{form_same}
+use Rattle.serde_amqp_item.proofs.Constructors.{row_of_byte}
+use Rattle.serde_amqp_item.specs.declared.codes.EncodingCodes.TheVariants.{Null}
+use Rattle.serde_amqp_read.specs.Reads.{StrictBytes, NoStrict}
+
+pub null_strict : (bytes : List ℕ) → bytes ≡ 0x40 ∷ [] → StrictBytes bytes
+null_strict bytes e = record {
+  byte = 0x40;
+  behind = [];
+  whole = e;
+  strict = (scalar null, rw (row_of_byte Null) (refl, refl));
+}
+
+-- all bytes were taken
+pub all_taken : (bytes form rest : List ℕ) → bytes ≡ form ++ rest → length form ≡ length bytes → form ≡ bytes
+all_taken bytes form [] e l = sym (append-nil form) ∙ sym e
+all_taken bytes form (b ∷ rest) e l = absurd (omega (arith, l, ap length e, length-append form (b ∷ rest)))
+
+-- bytes that are a strict form are not longer than the one at their front
+pub one_form : (bytes form rest : List ℕ) → bytes ≡ form ++ rest → StrictBytes form → StrictBytes bytes → form ≡ bytes
+one_form bytes form rest e f b =
+    let led : b.byte ∷ (b.behind ++ []) ≡ f.byte ∷ (f.behind ++ rest) = ap (λ (s : List ℕ). b.byte ∷ s) (append-nil b.behind) ∙ (sym b.whole ∙ (e ∙ ap (λ (s : List ℕ). s ++ rest) f.whole)) in
+    let same : f.byte ≡ b.byte = cc in
+    let behind : b.behind ++ [] ≡ f.behind ++ rest = cc in
+    let there : IsStrict b.byte f.behind = subst (λ (c : ℕ). IsStrict c f.behind) same f.strict in
+    let z = form_same AnyCount b.strict.0 there.0 (Some b.byte) (row_of b.byte) b.behind f.behind [] rest b.strict.1 there.1 behind in
+    let fronts : f.behind ≡ b.behind = sym z.1 in
+    f.whole ∙ (ap (λ (c : ℕ). c ∷ f.behind) same ∙ (ap (λ (s : List ℕ). b.byte ∷ s) fronts ∙ sym b.whole))
+
+pub longer : (bytes form rest : List ℕ) → bytes ≡ form ++ rest → StrictBytes form → length form ≢ length bytes → StrictBytes bytes → ⊥
+longer bytes form rest e f l b = l (ap length (one_form bytes form rest e f b))
+
+pub not_strict : (bytes : List ℕ) → NoStrict bytes → StrictBytes bytes → ⊥
+not_strict bytes n b = n.none b.byte b.behind [] (b.whole ∙ sym (append-nil (b.byte ∷ b.behind))) b.strict
+
+pub kept : (bytes : List ℕ) → StrictBytes bytes → RawKept IsStrict (raw bytes)
+kept bytes b = subst (λ (t : List ℕ). RawKept IsStrict (raw t)) (sym b.whole) b.strict
+
+pub strict_same : (form bytes : List ℕ) → StrictBytes form → form ≡ bytes → StrictBytes bytes
+strict_same form bytes f e = subst StrictBytes e f
+
+pub ruleset stricts = (null_strict, all_taken, longer, not_strict, kept)
