@@ -17,6 +17,7 @@ pub use serde_amqp_item::{
     OFFSET_LIST32, OFFSET_MAP8, OFFSET_MAP32, UNTAGGED_ENUM, VALUE,
 };
 pub use serde_amqp_map::{MapKey, OrderedMap};
+pub use serde_amqp_raw::{RawValue, raw_value_is_strict};
 pub use serde_amqp_ser::{
     Counter, Fields, IsArrayElement, MapSerializer, SeqSerializer, Serialize, Serializer, Sink,
     StructEncoding, StructSerializer, TupleSerializer, TupleStructSerializer, VariantSerializer,

@@ -15,3 +15,4 @@ pub mod Pairs
 pub mod Tuples
 pub mod Lending
 pub mod Opened
+pub mod Kept

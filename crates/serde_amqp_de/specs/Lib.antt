@@ -9,3 +9,4 @@ pub mod Maps
 pub mod MapLaws
 pub mod Lent
 pub mod Open
+pub mod Kept

@@ -16,6 +16,7 @@ mod map;
 mod map_tests;
 mod numbers;
 mod primitives;
+mod raw;
 mod record;
 mod sequence;
 #[cfg(test)]

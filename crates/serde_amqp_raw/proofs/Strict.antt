@@ -1,9 +1,9 @@
 -- Bytes that are one strict form.
-use Rattle.std.proofs.Common.{◌≡◌, ◌≢◌, ℕ, List, [], ◌∷◌, ◌++◌, length, Some, sym, ◌∙◌, ap, subst, refl, arith, length-append, append-nil}
-use Rattle.serde_amqp_item.specs.Item.{scalar, null, raw}
-use Rattle.serde_amqp_item.specs.Wire.{AnyCount, IsStrict, row_of}
+use Rattle.std.proofs.Common.{◌≡◌, ◌≢◌, ℕ, List, [], ◌∷◌, ◌++◌, length, Option, Some, None, sym, ◌∙◌, ap, subst, refl, arith, length-append, append-nil}
+use Rattle.serde_amqp_item.specs.Item.{Item, scalar, null, raw}
+use Rattle.serde_amqp_item.specs.Wire.{Wire, AnyCount, IsStrict, row_of}
 use Rattle.serde_amqp_item.specs.Canon.{RawKept}
-use Rattle.serde_amqp_item.proofs.Forms.{form_same}
+use Rattle.serde_amqp_item.proofs.Forms.{form_same, wire_strict}
 use Rattle.serde_amqp_item.proofs.Constructors.{row_of_byte}
 use Rattle.serde_amqp_item.specs.declared.codes.EncodingCodes.TheVariants.{Null}
 use Rattle.serde_amqp_read.specs.Reads.{StrictBytes, NoStrict}
@@ -43,5 +43,18 @@ kept bytes b = subst (λ (t : List ℕ). RawKept IsStrict (raw t)) (sym b.whole)
 
 pub strict_same : (form bytes : List ℕ) → StrictBytes form → form ≡ bytes → StrictBytes bytes
 strict_same form bytes f e = subst StrictBytes e f
+
+form_strict : (x : Item) (front : List ℕ) → Wire x None front → StrictBytes front
+form_strict x front (c, a, l, f) = record { byte = c; behind = a; whole = l; strict = wire_strict x c a (c, a, refl, f) }
+
+-- of a strict form a type reads all
+pub all_read : (x : Item) (bytes front more : List ℕ) → StrictBytes bytes → Wire x None front → bytes ≡ front ++ more → Wire x None bytes
+all_read x bytes front more b w e = subst (λ (t : List ℕ). Wire x None t) (one_form bytes front more e (form_strict x front w) b) w
+
+-- in all of its bytes nothing is taken where in no front of them is
+pub none_read : (bytes : List ℕ) (take : Item → Option Item) → ((x : Item) (front more : List ℕ) → Wire x None front → bytes ≡ front ++ more → take x ≡ None) → (x : Item) → Wire x None bytes → take x ≡ None
+none_read bytes take n x w = n x bytes [] w (sym (append-nil bytes))
+
+pub ruleset readings = (all_read, none_read)
 
 pub ruleset stricts = (null_strict, all_taken, longer, not_strict, kept)

@@ -1,16 +1,24 @@
 ghost use Rattle.std.specs.Cmp.{partial_equiv_from_equiv};
-ghost use Rattle.std.specs.Prelude.{◌≡◌, ◌∷◌, [], ℕ, List, IfOk, Some};
+ghost use Rattle.std.specs.Cmp.Lexicographic.{same_text};
+ghost use Rattle.std.specs.Hash as fed;
+ghost use Rattle.std.specs.Prelude.{◌≡◌, ◌∷◌, [], ℕ, List, IfOk, Option, Some, None, refl};
 ghost use Rattle.std.specs.Str.{bytes_eq};
 ghost use Rattle.std.proofs.lemmas.Cmp.{nat_list_eq_equiv};
-ghost use Rattle.serde_amqp_item.specs.Item.{raw};
+ghost use Rattle.std.proofs.Common.{ap, sym};
+ghost use Rattle.serde_amqp_item.specs.Item.{Item, raw};
+ghost use Rattle.serde_amqp_item.specs.Wire.{Wire};
 ghost use Rattle.serde_amqp_item.specs.Canon.{canon};
 ghost use Rattle.serde_amqp_read.specs.Reads.{StrictBytes, Unless, faultless};
+ghost use Rattle.serde_amqp_de.specs.Kept.{raw_taken, raw_decided, raw_faithful};
 
+use serde_amqp_de::{Deserialize, Deserializer, Faithful, RoundTrip, from_slice};
 use serde_amqp_item::Error;
+use serde_amqp_map::MapKey;
 use serde_amqp_read::{Read, SliceReader};
 use serde_amqp_ser::{Serialize, Serializer, Sink, to_vec};
 use std::alloc::{AllocError, Global};
 use std::fmt;
+use std::hash::{Hash, Hasher};
 use std::marker::Model;
 
 /// A value of any type, kept as the bytes of one strict form: its constructor and what stands behind it, with exact
@@ -93,6 +101,17 @@ impl RawValue {
         self.bytes.as_slice() == [0x40].as_slice()
     }
 
+    /// Reads the bytes, all of them, as a value of a type.
+    ///
+    /// Errors: `Memory`; any other exactly where the bytes are a wire form of no item that the type takes.
+    #[tactic(auto, using(crate::proofs::Strict::readings))]
+    pub fn read<T: Deserialize>(&self, alloc: Global) -> Result<T, Error>
+        ensures ok { IfOk result (λ v. (x : Item) × Wire x None self.now × (T.take x ≡ Some (T.item v))) }
+        ensures refused { Unless faultless result ((x : Item) → Wire x None self.now → T.take x ≡ None) }
+    {
+        from_slice(alloc, self.as_bytes())
+    }
+
     /// A second copy of the value. It is refused where there is no memory for it.
     pub fn try_clone(&self, alloc: Global) -> Result<Self, AllocError>
         ensures { IfOk result (λ v. v ≡ self.now) }
@@ -143,5 +162,50 @@ impl Serialize for RawValue {
 
     fn serialize<W: Sink>(&self, s: &mut Serializer<W>) -> Result<(), Error> {
         s.serialize_raw(self.as_bytes())
+    }
+}
+
+/// The bytes of one value, whatever its type. No element of an array is read so, since it has no constructor.
+impl Deserialize for RawValue {
+    ghost item = { λ v. raw v };
+
+    ghost take = { raw_taken };
+
+    fn absent(_alloc: Global) -> Option<RawValue> {
+        None
+    }
+
+    #[tactic(auto, using(serde_amqp_de::proofs::Values::taking))]
+    fn read<R: Read>(alloc: Global, de: &mut Deserializer<R>) -> Result<RawValue, Error> {
+        Ok(RawValue {
+            bytes: de.deserialize_raw(alloc)?,
+        })
+    }
+
+    ghost decided = { raw_decided };
+}
+
+impl RoundTrip for RawValue {
+    ghost same = { λ _. refl };
+
+    ghost again = { λ _. refl };
+}
+
+impl Faithful for RawValue {
+    ghost faithful = { raw_faithful };
+}
+
+impl MapKey for RawValue {
+    ghost equal = { λ _ _. refl };
+}
+
+/// The hash of the bytes.
+impl Hash for RawValue {
+    ghost hash_input = { fed.slice fed.u8 };
+
+    ghost respects_eq = { λ x y h. ap (fed.slice fed.u8) (same_text x y (sym h)) };
+
+    fn hash<H: Hasher>(&self, state: &mut H) {
+        self.as_bytes().hash(state);
     }
 }
