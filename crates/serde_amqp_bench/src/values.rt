@@ -16,8 +16,15 @@ type Two<T> = (u32, (Symbol, T));
 pub type Flat = Record<Two<Two<Two<Two<Two<Two<Two<Two<()>>>>>>>>>;
 
 /// A composite as Open is: a name, two arrays of symbols, and a map.
-pub type OpenLike =
-    Record<(String, (Array<Symbol>, (Array<Symbol>, (OrderedMap<Symbol, u32>, ()))))>;
+pub type OpenLike = Record<
+    (
+        String,
+        (
+            Array<Symbol>,
+            (Array<Symbol>, (OrderedMap<Symbol, u32>, ())),
+        ),
+    ),
+>;
 
 fn symbol(alloc: Global, text: &str) -> Result<Symbol, Error> {
     Ok(Symbol::new(String::from_str(alloc, text)?))
@@ -52,7 +59,16 @@ fn symbols(alloc: Global) -> Result<Array<Symbol>, Error> {
 
 fn entries(alloc: Global) -> Result<OrderedMap<Symbol, u32>, Error> {
     let mut entries = OrderedMap::new(alloc);
-    for name in ["product", "version", "platform", "copyright", "host", "port", "user", "group"] {
+    for name in [
+        "product",
+        "version",
+        "platform",
+        "copyright",
+        "host",
+        "port",
+        "user",
+        "group",
+    ] {
         entries.insert(symbol(alloc, name)?, 7u32)?;
     }
     Ok(entries)
@@ -63,7 +79,10 @@ pub fn open_likes(alloc: Global, count: usize) -> Result<Vec<OpenLike>, Error> {
     let mut values = Vec::with_capacity(alloc, count)?;
     for _ in 0..count {
         let name = String::from_str(alloc, "container")?;
-        let fields = (name, (symbols(alloc)?, (symbols(alloc)?, (entries(alloc)?, ()))));
+        let fields = (
+            name,
+            (symbols(alloc)?, (symbols(alloc)?, (entries(alloc)?, ()))),
+        );
         values.push(Record(fields))?;
     }
     Ok(values)
@@ -73,10 +92,7 @@ fn layer<T: Drop>(alloc: Global, inner: T) -> Result<Layer<T>, Error> {
     Ok(Record((7, (symbol(alloc, "layer")?, (inner, ())))))
 }
 
-fn four<T: Drop>(
-    alloc: Global,
-    inner: T,
-) -> Result<Layer<Layer<Layer<Layer<T>>>>, Error> {
+fn four<T: Drop>(alloc: Global, inner: T) -> Result<Layer<Layer<Layer<Layer<T>>>>, Error> {
     let two = layer(alloc, layer(alloc, inner)?)?;
     layer(alloc, layer(alloc, two)?)
 }
