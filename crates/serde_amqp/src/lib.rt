@@ -28,3 +28,6 @@ pub use serde_amqp_types::{
     Described, Descriptor, Int, List, Long, Multiple, Short, Symbol, SymbolRef, Text, Timestamp,
     UByteOr, UIntOr, UShortOr, Ubyte, Uint, Ulong, Ushort, Uuid,
 };
+
+#[cfg(test)]
+mod tests;

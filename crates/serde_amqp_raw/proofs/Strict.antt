@@ -1,12 +1,15 @@
 -- Bytes that are one strict form.
 use Rattle.std.proofs.Common.{◌≡◌, ◌≢◌, ℕ, List, [], ◌∷◌, ◌++◌, length, Option, Some, None, sym, ◌∙◌, ap, subst, refl, arith, length-append, append-nil}
+use Rattle.std.specs.Prelude.{Result, Ok, Err, IfOk}
 use Rattle.serde_amqp_item.specs.Item.{Item, scalar, null, raw}
 use Rattle.serde_amqp_item.specs.Wire.{Wire, AnyCount, IsStrict, row_of}
 use Rattle.serde_amqp_item.specs.Canon.{RawKept}
 use Rattle.serde_amqp_item.proofs.Forms.{form_same, wire_strict}
 use Rattle.serde_amqp_item.proofs.Constructors.{row_of_byte}
 use Rattle.serde_amqp_item.specs.declared.codes.EncodingCodes.TheVariants.{Null}
-use Rattle.serde_amqp_read.specs.Reads.{StrictBytes, NoStrict}
+use Rattle.serde_amqp_item.specs.declared.error.Error.{Error}
+use Rattle.serde_amqp_read.specs.Reads.{StrictBytes, NoStrict, Unless, faultless}
+use Rattle.serde_amqp_read.proofs.Refusals.{refusal_weaker}
 
 pub null_strict : (bytes : List ℕ) → bytes ≡ 0x40 ∷ [] → StrictBytes bytes
 null_strict bytes e = record {
@@ -55,6 +58,12 @@ all_read x bytes front more b w e = subst (λ (t : List ℕ). Wire x None t) (on
 pub none_read : (bytes : List ℕ) (take : Item → Option Item) → ((x : Item) (front more : List ℕ) → Wire x None front → bytes ≡ front ++ more → take x ≡ None) → (x : Item) → Wire x None bytes → take x ≡ None
 none_read bytes take n x w = n x bytes [] w (sym (append-nil bytes))
 
-pub ruleset readings = (all_read, none_read)
+pub ok_read : {X : Type 0} (r : Result X Error) (item : X → Item) (take : Item → Option Item) (bytes : List ℕ) → StrictBytes bytes → IfOk r (λ v. (x : Item) × (front : List ℕ) × (more : List ℕ) × Wire x None front × (bytes ≡ front ++ more) × (take x ≡ Some (item v))) → IfOk r (λ v. (x : Item) × Wire x None bytes × (take x ≡ Some (item v)))
+ok_read (Ok v) item take bytes b (x, front, more, w, e, t) = (x, all_read x bytes front more b w e, t)
+ok_read (Err e) item take bytes b h = tt
+
+pub refused_read : {X : Type 0} (r : Result X Error) (take : Item → Option Item) (bytes : List ℕ) → Unless faultless r ((x : Item) (front more : List ℕ) → Wire x None front → bytes ≡ front ++ more → take x ≡ None) → Unless faultless r ((x : Item) → Wire x None bytes → take x ≡ None)
+refused_read (Ok v) take bytes h = tt
+refused_read (Err e) take bytes h = refusal_weaker faultless e _ _ (none_read bytes take) h
 
 pub ruleset stricts = (null_strict, all_taken, longer, not_strict, kept)

@@ -104,7 +104,6 @@ impl RawValue {
     /// Reads the bytes, all of them, as a value of a type.
     ///
     /// Errors: `Memory`; any other exactly where the bytes are a wire form of no item that the type takes.
-    #[tactic(auto, using(crate::proofs::Strict::readings))]
     pub fn read<T: Deserialize>(&self, alloc: Global) -> Result<T, Error>
         ensures ok { IfOk result (λ v. (x : Item) × Wire x None self.now × (T.take x ≡ Some (T.item v))) }
         ensures refused { Unless faultless result ((x : Item) → Wire x None self.now → T.take x ≡ None) }
