@@ -2,10 +2,13 @@
 mod compounds;
 mod constructors;
 mod described;
+mod elements;
 mod fixed;
 mod fronts;
 mod lengths;
 mod limits;
+mod maps;
+mod memory;
 mod numbers;
 mod readers;
 mod round_trips;
