@@ -7,9 +7,10 @@
 
 pub use serde_amqp_de::{
     ArrayAccess, BorrowDeserialize, DescribedAccess, Deserialize, Deserializer, Faithful, IoReader,
-    ListAccess, MapAccess, NeverNull, Read, ReadFields, RoundTrip, SliceReader, VariantAccess,
-    borrow_from_slice, from_reader, from_slice, one_value, read_array, read_descriptor, read_list,
-    read_map, read_multiple, read_record, written_is_read, written_is_read_equal,
+    ListAccess, MapAccess, NeverNull, Read, ReadFields, RoundTrip, SliceReader, SortedKey,
+    VariantAccess, borrow_from_slice, from_reader, from_slice, one_value, read_array,
+    read_descriptor, read_list, read_map, read_multiple, read_record, written_is_read,
+    written_is_read_equal,
 };
 pub use serde_amqp_item::{
     Category, DESCRIBED_BASIC, DESCRIBED_LIST, DESCRIBED_MAP, DESCRIPTOR, Double, EncodingCodes,

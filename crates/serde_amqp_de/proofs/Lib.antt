@@ -16,3 +16,4 @@ pub mod Tuples
 pub mod Lending
 pub mod Opened
 pub mod Kept
+pub mod Sorting

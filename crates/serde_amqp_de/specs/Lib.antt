@@ -10,3 +10,5 @@ pub mod MapLaws
 pub mod Lent
 pub mod Open
 pub mod Kept
+pub mod Sorted
+pub mod SortedLaws

@@ -19,6 +19,9 @@ mod primitives;
 mod raw;
 mod record;
 mod sequence;
+mod sorted;
+#[cfg(test)]
+mod sorted_tests;
 #[cfg(test)]
 mod tests;
 mod tuple;
@@ -33,3 +36,4 @@ pub use map::read_map;
 pub use record::{ReadFields, read_descriptor, read_record};
 pub use sequence::{read_array, read_list, read_multiple};
 pub use serde_amqp_read::{IoReader, Read, SliceReader};
+pub use sorted::SortedKey;

@@ -8,6 +8,7 @@ mod bytes;
 mod decimals;
 mod defaults;
 mod described;
+mod keys;
 mod multiple;
 mod symbol;
 #[cfg(test)]
