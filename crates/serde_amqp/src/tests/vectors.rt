@@ -1,8 +1,8 @@
 //! Whole values and their bytes.
 use super::{both_ways, filled, is_read, is_refused, is_written, repeated};
 use crate::{
-    Array, ByteBuf, Deserialize, Deserializer, Error, SliceReader, Symbol, append_to_vec,
-    serialized_size, to_vec,
+    Array, ByteBuf, Deserialize, Deserializer, Error, Serializer, SliceReader, Symbol,
+    append_to_vec, serialized_size, to_vec,
 };
 use std::io::ErrorKind;
 
@@ -87,5 +87,19 @@ fn an_array_that_is_refused(rt: HostRuntime) -> Result<(), Error> {
     assert_eq!(rt; bytes.as_slice(), [7, 8].as_slice());
     append_to_vec(alloc, &256u32, &mut bytes)?;
     assert_eq!(rt; bytes.as_slice(), [7, 8, 0x70, 0, 0, 1, 0].as_slice());
+    Ok(())
+}
+
+/// A serializer over bytes that refuses a value has the bytes that it had, and writes the next one behind them.
+#[test]
+fn a_serializer_that_refuses(rt: HostRuntime) -> Result<(), Error> {
+    let alloc = rt.alloc();
+    let array = Array::from(vec![in alloc; Some(1u32), None]?);
+    let list = vec![in alloc; array]?;
+    let mut s = Serializer::new(Vec::from_slice(alloc, &[7, 8])?);
+    assert_eq!(rt; s.write_value(&list), Err(Error::InvalidValue));
+    assert_eq!(rt; s.writer.as_slice(), [7, 8].as_slice());
+    s.write_value(&256u32)?;
+    assert_eq!(rt; s.writer.as_slice(), [7, 8, 0x70, 0, 0, 1, 0].as_slice());
     Ok(())
 }
