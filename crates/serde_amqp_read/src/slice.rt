@@ -37,6 +37,13 @@ impl<'a> SliceReader<'a> {
         }
     }
 
+    /// The bytes that are left, which stay unread.
+    pub fn left(&self) -> &'a [u8]
+        ensures { result.now ≡ self.now.rest }
+    {
+        self.slice
+    }
+
     /// Takes so many bytes, and lends them from the slice that is read.
     ///
     /// Errors: `Io` exactly where fewer are left.

@@ -1,0 +1,4 @@
+pub mod Choice
+pub mod Rows
+pub mod Deciding
+pub mod Again
