@@ -1,12 +1,12 @@
 -- Maps in the order of their keys: which items they take.
 use Rattle.std.specs.Prelude.{List, [], ◌∷◌, Option, Some}
-use Rattle.std.specs.BTreeMap.{insert_entry}
 use Rattle.std.specs.Cmp.Lexicographic.{slice_cmp}
 use Rattle.std.specs.Ordering.{nat_cmp, int_cmp, bool_cmp}
 use Rattle.std.specs.declared.cmp.Ordering.{Ordering}
 use Rattle.std.specs.declared.cmp.Ordering.TheVariants.{Equal}
 use Rattle.serde_amqp_item.specs.Item.{Scalar, boolean, ubyte, ushort, uint, ulong, byte, short, int, long, char, timestamp, uuid, binary, string, symbol, Item, scalar, map, Pairs, no_pairs, more_pairs, pairs_of}
 use Rattle.serde_amqp_item.specs.Canon.{◌>>=◌}
+use Rattle.serde_amqp_ser.specs.Placed.{all_placed}
 use Rattle.serde_amqp_de.specs.Maps.{pairs_taken}
 
 -- numbers by their value, characters by their code point, and bytes by the first that differ and else by their
@@ -32,12 +32,6 @@ scalar_order _ _ = Equal
 abbrev pub item_order : Item → Item → Ordering
 item_order (scalar s) (scalar t) = scalar_order s t
 item_order _ _ = Equal
-
--- es with each of the pairs put in its place in turn: a key that comes again keeps its place, and takes the later
--- value
-abbrev pub all_placed : {K V : Type 0} → (K → K → Ordering) → List (K × V) → List (K × V) → List (K × V)
-all_placed order es [] = es
-all_placed order es (p ∷ ps) = all_placed order (insert_entry order es p.0 p.1) ps
 
 -- the pairs in a row
 abbrev pub pairs_in_row : Pairs → List (Item × Item)

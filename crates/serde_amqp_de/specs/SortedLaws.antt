@@ -1,15 +1,19 @@
--- Bytes give one map in the order of its keys, and its pairs are the items' pairs put in order.
+-- Bytes give one map in the order of its keys, its pairs are the items' pairs put in order, and the item of such a
+-- map is taken as it is.
 use Rattle.std.proofs.Common.{◌≡◌, List, [], ◌∷◌, Option, Some, None, sym, ◌∙◌, ap, refl}
 use Rattle.std.specs.BTreeMap.{insert_entry}
+use Rattle.std.specs.Cmp.{IsTotalOrder}
 use Rattle.std.specs.Ordering.{match_ordering}
 use Rattle.std.specs.declared.cmp.Ordering.{Ordering}
 use Rattle.std.specs.declared.cmp.Ordering.TheVariants.{Less, Equal, Greater}
 use Rattle.serde_amqp_item.specs.Item.{Item, map, pairs_of}
 use Rattle.serde_amqp_item.specs.Canon.{◌>>=◌}
+use Rattle.serde_amqp_ser.specs.Placed.{all_placed, sorted_item}
+use Rattle.serde_amqp_ser.proofs.Placing.{placed_once}
 use Rattle.serde_amqp_de.specs.Decides.{Decided}
 use Rattle.serde_amqp_de.specs.Maps.{pairs_taken, pair_items, map_item}
-use Rattle.serde_amqp_de.specs.MapLaws.{pairs_decided}
-use Rattle.serde_amqp_de.specs.Sorted.{item_order, all_placed, pairs_in_row, by_key, sorted_taken}
+use Rattle.serde_amqp_de.specs.MapLaws.{pairs_decided, pairs_again, map_item_same}
+use Rattle.serde_amqp_de.specs.Sorted.{item_order, pairs_in_row, by_key, sorted_taken}
 
 ordered_one : (o p : Option Item) (u v : Item) → ((y z : Item) → o ≡ Some y → p ≡ Some z → y ≡ z) → (o >>= λ y. Some (by_key y)) ≡ Some u → (p >>= λ y. Some (by_key y)) ≡ Some v → u ≡ v
 ordered_one None p u v d e f = absurd cc
@@ -52,3 +56,17 @@ module _ {K V : Type 0} (order : K → K → Ordering) (key : K → Item) (value
   placed_item ps =
       ap (λ (qs : List (Item × Item)). map (pairs_of (all_placed item_order [] qs))) (in_row_same (pair_items key value ps))
       ∙ ap (λ (qs : List (Item × Item)). map (pairs_of qs)) (sym (items_placed [] ps))
+
+  -- the pairs of such a map, put in order again, are the map's
+  pub sorted_item_placed : IsTotalOrder order → (es : List (K × V)) → by_key (sorted_item order key value es) ≡ sorted_item order key value es
+  sorted_item_placed total es =
+      placed_item (all_placed order [] es) ∙ ap (λ (l : List (K × V)). map_item key value l) (placed_once order total es)
+
+pub sorted_same : {K V : Type 0} (order : K → K → Ordering) (f g : K → Item) (h i : V → Item) → ((k : K) → f k ≡ g k) → ((v : V) → h v ≡ i v) → (es : List (K × V)) → sorted_item order f h es ≡ sorted_item order g i es
+sorted_same order f g h i a b es = map_item_same f g h i a b (all_placed order [] es)
+
+pub sorted_again : {K V : Type 0} (order : K → K → Ordering) (key value : Item → Option Item) (first : K → Item) (second : V → Item) → IsTotalOrder order → ((x y : K) → order x y ≡ item_order (first x) (first y)) → ((k : K) → key (first k) ≡ Some (first k)) → ((v : V) → value (second v) ≡ Some (second v)) → (es : List (K × V)) → sorted_taken key value (sorted_item order first second es) ≡ Some (sorted_item order first second es)
+unfolding sorted_taken
+sorted_again order key value first second total ordered a b es =
+    ap (λ (o : Option Item). o >>= λ y. Some (by_key y)) (pairs_again key value first second a b (all_placed order [] es))
+    ∙ ap (λ (y : Item). Some y) (sorted_item_placed order first second ordered total es)

@@ -105,6 +105,7 @@ impl Deserialize for bool {
         None
     }
 
+    #[inline(always)]
     #[tactic(auto, using(crate::proofs::Values::taking))]
     fn read<R: Read>(_alloc: Global, de: &mut Deserializer<R>) -> Result<bool, Error> {
         de.deserialize_bool()
@@ -139,6 +140,7 @@ impl Deserialize for u32 {
         None
     }
 
+    #[inline(always)]
     #[tactic(auto, using(crate::proofs::Values::taking))]
     fn read<R: Read>(_alloc: Global, de: &mut Deserializer<R>) -> Result<u32, Error> {
         de.deserialize_u32()
@@ -156,6 +158,7 @@ impl Deserialize for u64 {
         None
     }
 
+    #[inline(always)]
     #[tactic(auto, using(crate::proofs::Values::taking))]
     fn read<R: Read>(_alloc: Global, de: &mut Deserializer<R>) -> Result<u64, Error> {
         de.deserialize_u64()

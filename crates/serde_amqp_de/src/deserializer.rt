@@ -9,6 +9,7 @@ ghost use Rattle.serde_amqp_read.specs.Reads.{Unless, faultless};
 ghost use Rattle.serde_amqp_de.specs.Reads.{At, Moves, Head, Foresees, NoHead, ReadSized, NoSized, ReadText, NoText, ReadCount, NoElementCode, Reads, Refuses, at_of, Opens, HasFailed};
 ghost use Rattle.serde_amqp_de.specs.Takes.{null_taken, boolean_taken, ushort_taken, uint_taken, ulong_taken, string_taken, symbol_taken, list_taken, array_taken, described_taken};
 
+use crate::constructor::constructor_of;
 use serde_amqp_item::{EncodingCodes, Error, MAX_ARRAY_COUNT, code_of};
 use serde_amqp_read::Read;
 use std::alloc::Global;
@@ -51,6 +52,7 @@ impl<R: Read> Deserializer<R> {
         self.element = None;
     }
 
+    #[inline(always)]
     pub(crate) fn next_byte(&mut self) -> Result<u8, Error>
         ensures ok { IfOk result (λ b. Moves (at_of R.rest self.old) (at_of R.rest self.new) (b ∷ [])) }
         ensures element { self.new.element ≡ self.old.element }
@@ -124,6 +126,7 @@ impl<R: Read> Deserializer<R> {
     /// The constructor of the next value, which stays unread.
     ///
     /// Errors: `Io` where nothing is left; `InvalidFormatCode` where the byte is no constructor.
+    #[inline(always)]
     #[tactic(auto, using(crate::proofs::Heads::foreseeing))]
     pub fn peek(&mut self) -> Result<EncodingCodes, Error>
         ensures ok { IfOk result (λ code. Foresees self.old.element (at_of R.rest self.old) code) }
@@ -135,13 +138,14 @@ impl<R: Read> Deserializer<R> {
             Some(c) => c,
             None => self.reader.peek()?,
         };
-        match code_of(byte) {
+        match constructor_of(byte) {
             Some(code) => Ok(code),
             None => Err(Error::InvalidFormatCode),
         }
     }
 
     /// Reads the constructor of the next value.
+    #[inline(always)]
     pub(crate) fn code(&mut self) -> Result<EncodingCodes, Error>
         ensures ok { IfOk result (λ code. Head self.old.element (at_of R.rest self.old) (at_of R.rest self.new) code) }
         ensures element { self.new.element ≡ self.old.element }
@@ -151,7 +155,7 @@ impl<R: Read> Deserializer<R> {
             Some(c) => c,
             None => self.next_byte()?,
         };
-        match code_of(byte) {
+        match constructor_of(byte) {
             Some(code) => Ok(code),
             None => Err(Error::InvalidFormatCode),
         }
@@ -214,6 +218,7 @@ impl<R: Read> Deserializer<R> {
     /// Reads an unsigned number of 32 bits (part 1, section 1.6.5).
     ///
     /// Errors: `Io` where the input ends; `InvalidFormatCode` for any other type.
+    #[inline(always)]
     #[tactic(auto, using(crate::proofs::Heads::refusing, crate::proofs::Scalars::uints))]
     pub fn deserialize_u32(&mut self) -> Result<u32, Error>
         ensures ok { IfOk result (λ n. Reads self.old.element (at_of R.rest self.old) (at_of R.rest self.new) (scalar (uint n))) }
@@ -231,6 +236,7 @@ impl<R: Read> Deserializer<R> {
     /// Reads an unsigned number of 64 bits (part 1, section 1.6.6).
     ///
     /// Errors: `Io` where the input ends; `InvalidFormatCode` for any other type.
+    #[inline(always)]
     #[tactic(auto, using(crate::proofs::Heads::refusing, crate::proofs::Scalars::ulongs))]
     pub fn deserialize_u64(&mut self) -> Result<u64, Error>
         ensures ok { IfOk result (λ n. Reads self.old.element (at_of R.rest self.old) (at_of R.rest self.new) (scalar (ulong n))) }

@@ -7,6 +7,7 @@ mod access_tests;
 mod borrow;
 #[cfg(test)]
 mod borrow_tests;
+mod constructor;
 mod content;
 mod deserialize;
 mod deserializer;

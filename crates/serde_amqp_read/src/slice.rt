@@ -77,6 +77,7 @@ impl<'a> Read for SliceReader<'a> {
         self.total - self.slice.len()
     }
 
+    #[inline(always)]
     fn peek(&mut self) -> Result<u8, Error> {
         match self.slice.split_first() {
             None => Err(Error::Io(ErrorKind::UnexpectedEof)),
@@ -94,6 +95,7 @@ impl<'a> Read for SliceReader<'a> {
         Ok(())
     }
 
+    #[inline(always)]
     fn next(&mut self) -> Result<u8, Error> {
         match self.slice.split_first() {
             None => Err(Error::Io(ErrorKind::UnexpectedEof)),

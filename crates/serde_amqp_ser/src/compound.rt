@@ -46,6 +46,7 @@ impl<W: Sink> Serializer<W> {
 
     /// Puts a constructor, a size and a count in front of the content that began there: each number in
     /// one byte up to 254 bytes of content and outside of arrays, else in four (part 1, 1.6.22 to 1.6.24).
+    #[inline(always)]
     #[tactic(auto, using(crate::proofs::Grown::growing))]
     pub(crate) fn close_counted(
         &mut self,

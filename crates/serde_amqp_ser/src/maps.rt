@@ -1,5 +1,5 @@
 //! Maps.
-ghost use Rattle.serde_amqp_ser.specs.Open.{map_item};
+ghost use Rattle.serde_amqp_ser.specs.Placed.{sorted_item};
 
 use crate::serialize::Serialize;
 use crate::serializer::Serializer;
@@ -9,7 +9,7 @@ use std::collections::BTreeMap;
 
 /// A map of the pairs, in the order of the keys.
 impl<K: Serialize + Ord, V: Serialize> Serialize for BTreeMap<K, V> {
-    ghost item = { λ m. map_item K.item V.item m.entries };
+    ghost item = { λ m. sorted_item K.cmp K.item V.item m.entries };
 
     fn is_null(&self) -> bool {
         false

@@ -49,6 +49,7 @@ impl Serialize for bool {
         false
     }
 
+    #[inline(always)]
     fn serialize<W: Sink>(&self, s: &mut Serializer<W>) -> Result<(), Error> {
         s.serialize_bool(*self)
     }
@@ -88,6 +89,7 @@ impl Serialize for u32 {
         false
     }
 
+    #[inline(always)]
     fn serialize<W: Sink>(&self, s: &mut Serializer<W>) -> Result<(), Error> {
         s.serialize_u32(*self)
     }
@@ -101,6 +103,7 @@ impl Serialize for u64 {
         false
     }
 
+    #[inline(always)]
     fn serialize<W: Sink>(&self, s: &mut Serializer<W>) -> Result<(), Error> {
         s.serialize_u64(*self)
     }

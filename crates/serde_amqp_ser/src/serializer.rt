@@ -103,6 +103,7 @@ impl<W: Sink> Serializer<W> {
     }
 
     /// Writes null, which is no element of an array (part 1, 1.6.1): there it answers `InvalidValue`.
+    #[inline(always)]
     #[tactic(auto, using(crate::proofs::Grown::growing))]
     pub fn serialize_unit(&mut self) -> Result<(), Error>
         ensures ok { OnOk result (serialized (state_of W.written self.old) (scalar null) ≡ Some (state_of W.written self.new)) }
@@ -118,6 +119,7 @@ impl<W: Sink> Serializer<W> {
     }
 
     /// Writes a boolean (part 1, 1.6.2).
+    #[inline(always)]
     #[tactic(auto, using(crate::proofs::Grown::growing))]
     pub fn serialize_bool(&mut self, value: bool) -> Result<(), Error>
         ensures ok { OnOk result (serialized (state_of W.written self.old) (scalar (boolean value)) ≡ Some (state_of W.written self.new)) }
@@ -144,6 +146,7 @@ impl<W: Sink> Serializer<W> {
     }
 
     /// Writes a uint (part 1, 1.6.5).
+    #[inline(always)]
     #[tactic(auto, using(crate::proofs::Grown::growing))]
     pub fn serialize_u32(&mut self, value: u32) -> Result<(), Error>
         ensures ok { OnOk result (serialized (state_of W.written self.old) (scalar (uint value)) ≡ Some (state_of W.written self.new)) }
@@ -161,10 +164,12 @@ impl<W: Sink> Serializer<W> {
                 return Ok(());
             }
         }
-        self.put_wide(0x70, &value.to_be_bytes())
+        self.put_wide(0x70, &value.to_be_bytes())?;
+        Ok(())
     }
 
     /// Writes a ulong (part 1, 1.6.6).
+    #[inline(always)]
     #[tactic(auto, using(crate::proofs::Grown::growing))]
     pub fn serialize_u64(&mut self, value: u64) -> Result<(), Error>
         ensures ok { OnOk result (serialized (state_of W.written self.old) (scalar (ulong value)) ≡ Some (state_of W.written self.new)) }
@@ -182,7 +187,8 @@ impl<W: Sink> Serializer<W> {
                 return Ok(());
             }
         }
-        self.put_wide(0x80, &value.to_be_bytes())
+        self.put_wide(0x80, &value.to_be_bytes())?;
+        Ok(())
     }
 
     /// Writes a string (part 1, 1.6.20), or answers `InvalidLength` where it has 2^32 bytes or more.

@@ -18,21 +18,25 @@ pub trait Sink {
     ghost takes_memory: { Bool };
 
     /// Writes bytes behind what is there.
+    #[inline(always)]
     fn put(&mut self, bytes: &[u8]) -> Result<(), Error>
         ensures ok { OnOk result (written self.new ≡ extended (written self.old) bytes.now) }
         ensures err { OnErr result (written self.new ≡ written self.old) }
         ensures memory { IfErr result (λ e. (e ≡ Error.Memory) × (takes_memory ≡ true)) };
 
     /// Begins the content of a compound value, and says where it begins.
+    #[inline(always)]
     fn open(&mut self) -> u128
         ensures inside { written self.new ≡ extended (inside begins (written self.old)) [] }
         ensures start { result ≡ (written self.old).size };
 
     /// How long the content is that began there, if that is below 2^32.
+    #[inline(always)]
     fn content_len(&self, start: u128) -> Option<u32>
         ensures { (w : Written) (content : List ℕ) → written self.now ≡ extended (inside begins w) content → w.size ≡ start → result ≡ (if nat_lt (length content) (2 ^ 32) then Some (length content) else None) };
 
     /// Ends the content that began there, with these bytes in front of it.
+    #[inline(always)]
     fn close(&mut self, start: u128, head: &[u8]) -> Result<(), Error>
         ensures ok { OnOk result ((w : Written) (content : List ℕ) → written self.old ≡ extended (inside begins w) content → w.size ≡ start → written self.new ≡ extended w (head.now ++ content)) }
         ensures err { OnErr result (written self.new ≡ written self.old) }
@@ -78,12 +82,14 @@ impl Counter {
     }
 
     /// Counts more bytes.
+    #[inline(always)]
     fn add(&mut self, more: u64)
         ensures { capped self.new ≡ capped (self.old + more) }
     {
-        match self.count.checked_add(more) {
-            Some(count) => self.count = count,
-            None => self.over = true,
+        let (count, over) = self.count.overflowing_add(more);
+        self.count = count;
+        if over {
+            self.over = true;
         }
     }
 }
@@ -97,12 +103,14 @@ impl Sink for Counter {
 
     ghost whole = { λ n. whole_capped n None };
 
+    #[inline(always)]
     #[tactic(auto, unfolding(crate::specs::Written::extended))]
     fn put(&mut self, bytes: &[u8]) -> Result<(), Error> {
         self.add(bytes.len() as u64);
         Ok(())
     }
 
+    #[inline(always)]
     #[tactic(auto, unfolding(crate::specs::Written::extended, crate::specs::Written::inside))]
     fn open(&mut self) -> u128 {
         let start = self.count();
@@ -110,6 +118,7 @@ impl Sink for Counter {
         start
     }
 
+    #[inline(always)]
     #[tactic(auto, unfolding(crate::specs::Written::extended, crate::specs::Written::inside))]
     fn content_len(&self, _start: u128) -> Option<u32> {
         if self.over {
@@ -121,6 +130,7 @@ impl Sink for Counter {
         Some(self.count as u32)
     }
 
+    #[inline(always)]
     #[tactic(auto, unfolding(crate::specs::Written::extended, crate::specs::Written::inside))]
     fn close(&mut self, start: u128, head: &[u8]) -> Result<(), Error> {
         self.add(head.len() as u64);
@@ -141,34 +151,43 @@ impl Sink for Vec<u8> {
 
     ghost whole = { λ s. whole_capped (length s.items) (Some s.items) };
 
+    #[inline(always)]
     #[tactic(auto, unfolding(crate::specs::Written::extended))]
     fn put(&mut self, bytes: &[u8]) -> Result<(), Error> {
         self.extend_from_slice(bytes)?;
         Ok(())
     }
 
+    #[inline(always)]
     #[tactic(auto, unfolding(crate::specs::Written::extended, crate::specs::Written::inside))]
     fn open(&mut self) -> u128 {
         self.len() as u128
     }
 
+    #[inline(always)]
     #[tactic(auto, unfolding(crate::specs::Written::extended, crate::specs::Written::inside))]
     fn content_len(&self, start: u128) -> Option<u32> {
-        let len = (self.len() as u128).saturating_sub(start);
+        let Ok(start) = usize::try_from(start) else {
+            return None;
+        };
+        let len = self.len().saturating_sub(start);
         if len >= 1 << 32 {
             return None;
         }
         Some(len as u32)
     }
 
+    #[inline(always)]
     #[tactic(auto, unfolding(crate::specs::Written::extended, crate::specs::Written::inside))]
     fn close(&mut self, start: u128, head: &[u8]) -> Result<(), Error> {
         let len = self.len();
         self.extend_from_slice(head)?;
-        if start > len as u128 {
+        let Ok(start) = usize::try_from(start) else {
+            return Ok(());
+        };
+        if start > len {
             return Ok(());
         }
-        let start = start as usize;
         let content = start + head.len();
         self.copy_within(start..len, content);
         self[start..content].copy_from_slice(head);

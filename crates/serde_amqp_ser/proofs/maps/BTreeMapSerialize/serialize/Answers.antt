@@ -1,10 +1,11 @@
-use Rattle.std.proofs.Common.{◌≡◌, ◌++◌, ◌∷◌, [], length, sym, ◌∙◌, ap, subst, append_assoc, append-nil}
+use Rattle.std.proofs.Common.{◌≡◌, ◌++◌, ◌∷◌, [], length, sym, ◌∙◌, ap, subst, append_assoc, append-nil, OnOk, Some}
 use Rattle.std.proofs.lemmas.List.{length-map}
 use Rattle.std.proofs.lemmas.Result.{on_ok_weaker, err_from_is_err_and}
-use Rattle.serde_amqp_ser.specs.Puts.{state_of}
-use Rattle.serde_amqp_ser.specs.Open.{IsOpen, in_turn, pair_items}
+use Rattle.serde_amqp_ser.specs.Puts.{serialized, OnlyWhere, state_of}
+use Rattle.serde_amqp_ser.specs.Open.{IsOpen, in_turn, pair_items, map_item}
 use Rattle.serde_amqp_ser.proofs.Grown.{keeps_then}
 use Rattle.serde_amqp_ser.proofs.Begun.{open_keeps, pair_items_more, pair_items_split}
+use Rattle.serde_amqp_ser.proofs.Placing.{sorted_stays}
 use Rattle.serde_amqp_ser.proofs.maps.BTreeMapSerialize.serialize.Goals as goal
 
 pub loop-key-init : goal.loop-key-init
@@ -32,7 +33,10 @@ returns-in_err-serialize_pair-clause-refused g c =
     let left = c.next.new.self in
     let all : c.args.self.now.entries ≡ done ++ (c.in-Some.key.now, c.in-Some.value.now) ∷ left = c.loop-key.invariant.1 ∙ ap (λ es. done ++ es) c.in-Some.ensures.steps in
     let split = pair_items_split g.K.Serialize.item g.V.Serialize.item c.args.self.now.entries done left (c.in-Some.key.now, c.in-Some.value.now) all in
-    rw (p.1, p.2, split) (c.in_err-serialize_pair.ensures.refused (g.W.Sink.written c.args.s.now.writer) (pair_items g.K.Serialize.item g.V.Serialize.item done) (pair_items g.K.Serialize.item g.V.Serialize.item left) (state_of g.W.Sink.written c.args.s.now) c.loop-key.invariant.2)
+    let stays = sorted_stays g.K.Ord.cmp g.met.K.Ord.total c.args.self.now.entries c.iter-key-items.ensures.ordered in
+    subst (λ es. OnlyWhere c.from_residual.result (serialized (state_of g.W.Sink.written c.args.s.now) (map_item g.K.Serialize.item g.V.Serialize.item es))) (sym stays) (
+        rw (p.1, p.2, split) (c.in_err-serialize_pair.ensures.refused (g.W.Sink.written c.args.s.now.writer) (pair_items g.K.Serialize.item g.V.Serialize.item done) (pair_items g.K.Serialize.item g.V.Serialize.item left) (state_of g.W.Sink.written c.args.s.now) c.loop-key.invariant.2)
+    )
 
 pub returns-clause-ok : goal.returns-clause-ok
 returns-clause-ok g c =
@@ -40,7 +44,8 @@ returns-clause-ok g c =
     let whole : done ≡ c.args.self.now.entries = sym (c.loop-key.invariant.1 ∙ (ap (λ es. done ++ es) c.in-None.ensures.steps.0 ∙ append-nil done)) in
     let o = subst (λ es. IsOpen g.W.Sink.begins (g.W.Sink.written c.args.s.now.writer) (in_turn (pair_items g.K.Serialize.item g.V.Serialize.item es)) (state_of g.W.Sink.written c.loop-key.s)) whole c.loop-key.invariant.2 in
     let count : length (pair_items g.K.Serialize.item g.V.Serialize.item c.args.self.now.entries) ≡ c.len.result = length-map c.args.self.now.entries _ ∙ sym c.len.ensures.len in
-    on_ok_weaker c.end_map.result (λ f. f (state_of g.W.Sink.written c.args.s.now) (pair_items g.K.Serialize.item g.V.Serialize.item c.args.self.now.entries) c.begin_compound-opened.ensures.mark o count) c.end_map.ensures.ok
+    let stays = sorted_stays g.K.Ord.cmp g.met.K.Ord.total c.args.self.now.entries c.iter-key-items.ensures.ordered in
+    subst (λ es. OnOk c.end_map.result (serialized (state_of g.W.Sink.written c.args.s.now) (map_item g.K.Serialize.item g.V.Serialize.item es) ≡ Some (state_of g.W.Sink.written c.end_map.new.self))) (sym stays) (on_ok_weaker c.end_map.result (λ f. f (state_of g.W.Sink.written c.args.s.now) (pair_items g.K.Serialize.item g.V.Serialize.item c.args.self.now.entries) c.begin_compound-opened.ensures.mark o count) c.end_map.ensures.ok)
 
 pub returns-clause-kept : goal.returns-clause-kept
 returns-clause-kept g c =
@@ -52,4 +57,5 @@ returns-clause-refused g c =
     let whole : done ≡ c.args.self.now.entries = sym (c.loop-key.invariant.1 ∙ (ap (λ es. done ++ es) c.in-None.ensures.steps.0 ∙ append-nil done)) in
     let o = subst (λ es. IsOpen g.W.Sink.begins (g.W.Sink.written c.args.s.now.writer) (in_turn (pair_items g.K.Serialize.item g.V.Serialize.item es)) (state_of g.W.Sink.written c.loop-key.s)) whole c.loop-key.invariant.2 in
     let count : length (pair_items g.K.Serialize.item g.V.Serialize.item c.args.self.now.entries) ≡ c.len.result = length-map c.args.self.now.entries _ ∙ sym c.len.ensures.len in
-    c.end_map.ensures.refused (state_of g.W.Sink.written c.args.s.now) (pair_items g.K.Serialize.item g.V.Serialize.item c.args.self.now.entries) c.begin_compound-opened.ensures.mark o count
+    let stays = sorted_stays g.K.Ord.cmp g.met.K.Ord.total c.args.self.now.entries c.iter-key-items.ensures.ordered in
+    subst (λ es. OnlyWhere c.end_map.result (serialized (state_of g.W.Sink.written c.args.s.now) (map_item g.K.Serialize.item g.V.Serialize.item es))) (sym stays) (c.end_map.ensures.refused (state_of g.W.Sink.written c.args.s.now) (pair_items g.K.Serialize.item g.V.Serialize.item c.args.self.now.entries) c.begin_compound-opened.ensures.mark o count)

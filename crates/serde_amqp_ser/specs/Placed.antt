@@ -1,0 +1,16 @@
+-- Maps in the order of their keys.
+use Rattle.std.specs.Prelude.{List, [], ◌∷◌}
+use Rattle.std.specs.BTreeMap.{insert_entry}
+use Rattle.std.specs.declared.cmp.Ordering.{Ordering}
+use Rattle.serde_amqp_item.specs.Item.{Item}
+use Rattle.serde_amqp_ser.specs.Open.{map_item}
+
+-- es with each of the pairs put in its place in turn: a key that comes again keeps its place, and takes the later
+-- value
+abbrev pub all_placed : {K V : Type 0} → (K → K → Ordering) → List (K × V) → List (K × V) → List (K × V)
+all_placed order es [] = es
+all_placed order es (p ∷ ps) = all_placed order (insert_entry order es p.0 p.1) ps
+
+-- a map of these keys and values, in the order of the keys, each key once with its last value
+abbrev pub sorted_item : {K V : Type 0} → (K → K → Ordering) → (K → Item) → (V → Item) → List (K × V) → Item
+sorted_item order key value es = map_item key value (all_placed order [] es)
