@@ -1,4 +1,5 @@
 //! Cases of the standard's tables (part 1), over all crates of the codec.
+mod accesses;
 mod compounds;
 mod constructors;
 mod described;
@@ -15,6 +16,7 @@ mod raw;
 mod readers;
 mod round_trips;
 mod serializers;
+mod variants;
 mod vectors;
 
 use crate::{

@@ -2,6 +2,7 @@
 use super::{both_ways, filled, is_read, is_refused, is_written, repeated};
 use crate::{ByteBuf, Error, OrderedMap, from_slice};
 use std::alloc::Global;
+use std::collections::BTreeMap;
 use std::io::ErrorKind;
 
 /// A map of so many pairs, whose keys count from 0.
@@ -104,6 +105,24 @@ fn pairs_in_their_order(rt: HostRuntime) -> Result<(), Error> {
     )?;
     assert!(rt; map != other);
     Ok(())
+}
+
+/// A map that is sorted is written in the order of its keys.
+#[test]
+fn pairs_in_the_order_of_their_keys(rt: HostRuntime) -> Result<(), Error> {
+    let alloc = rt.alloc();
+    let mut map = BTreeMap::new(alloc);
+    both_ways(&rt, alloc, &map, &[0xc1, 1, 0])?;
+    let _ = map.insert(2u8, false)?;
+    let _ = map.insert(1u8, true)?;
+    let sorted = [0xc1, 7, 4, 0x50, 1, 0x41, 0x50, 2, 0x42];
+    both_ways(&rt, alloc, &map, &sorted)?;
+    is_read(
+        &rt,
+        alloc,
+        &map,
+        &[0xc1, 7, 4, 0x50, 2, 0x42, 0x50, 1, 0x41],
+    )
 }
 
 #[test]

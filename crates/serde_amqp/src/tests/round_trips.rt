@@ -4,6 +4,7 @@ use crate::{
     Uuid, from_slice, to_vec,
 };
 use std::alloc::Global;
+use std::collections::BTreeMap;
 use std::fmt::Debug;
 use std::process::Abort;
 
@@ -68,6 +69,21 @@ fn values_in_others(rt: HostRuntime) -> Result<(), Error> {
         alloc,
         &Array::from(vec![in alloc; (1u8, true), (2, false)]?),
     )
+}
+
+#[test]
+fn maps_in_the_order_of_their_keys(rt: HostRuntime) -> Result<(), Error> {
+    let alloc = rt.alloc();
+    let mut numbers = BTreeMap::new(alloc);
+    comes_back(&rt, alloc, &numbers)?;
+    for key in [256u32, 0, 255] {
+        let _ = numbers.insert(key, Some(true))?;
+    }
+    comes_back(&rt, alloc, &numbers)?;
+    let mut texts = BTreeMap::new(alloc);
+    let _ = texts.insert(String::from_str(alloc, "b")?, vec![in alloc; -1i32]?)?;
+    let _ = texts.insert(String::from_str(alloc, "a")?, Vec::new(alloc))?;
+    comes_back(&rt, alloc, &texts)
 }
 
 #[test]

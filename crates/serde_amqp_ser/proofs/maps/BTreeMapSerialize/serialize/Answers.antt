@@ -35,7 +35,7 @@ returns-in_err-serialize_pair-clause-refused g c =
     let split = pair_items_split g.K.Serialize.item g.V.Serialize.item c.args.self.now.entries done left (c.in-Some.key.now, c.in-Some.value.now) all in
     let stays = sorted_stays g.K.Ord.cmp g.met.K.Ord.total c.args.self.now.entries c.iter-key-items.ensures.ordered in
     subst (λ es. OnlyWhere c.from_residual.result (serialized (state_of g.W.Sink.written c.args.s.now) (map_item g.K.Serialize.item g.V.Serialize.item es))) (sym stays) (
-        rw (p.1, p.2, split) (c.in_err-serialize_pair.ensures.refused (g.W.Sink.written c.args.s.now.writer) (pair_items g.K.Serialize.item g.V.Serialize.item done) (pair_items g.K.Serialize.item g.V.Serialize.item left) (state_of g.W.Sink.written c.args.s.now) c.loop-key.invariant.2)
+    rw (p.1, p.2, split) (c.in_err-serialize_pair.ensures.refused (g.W.Sink.written c.args.s.now.writer) (pair_items g.K.Serialize.item g.V.Serialize.item done) (pair_items g.K.Serialize.item g.V.Serialize.item left) (state_of g.W.Sink.written c.args.s.now) c.loop-key.invariant.2)
     )
 
 pub returns-clause-ok : goal.returns-clause-ok
