@@ -9,8 +9,6 @@ pub mod laws;
 mod routes;
 mod sessions;
 mod state;
-#[cfg(test)]
-mod tests;
 
 pub use connection::Connection;
 pub use state::ConnectionState;

@@ -17,10 +17,6 @@ mod frame;
 mod header;
 pub mod laws;
 mod piece;
-#[cfg(test)]
-mod tests;
-#[cfg(test)]
-mod transfer_tests;
 
 pub use decoder::FrameDecoder;
 pub use encoder::FrameEncoder;
