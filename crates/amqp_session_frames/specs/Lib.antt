@@ -1,6 +1,5 @@
 pub mod Cutting
 pub mod Text
-pub mod Parts
 pub mod Header
 pub mod Body
 pub mod Sizes

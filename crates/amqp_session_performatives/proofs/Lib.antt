@@ -1,3 +1,1 @@
-pub mod Clones
-pub mod Reading
 pub mod Within

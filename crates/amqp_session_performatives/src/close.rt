@@ -1,48 +1,29 @@
-ghost use Rattle.std.specs.Prelude.{◌≡◌, refl};
+ghost use Rattle.std.specs.Prelude.{refl};
+ghost use Rattle.amqp_session_performatives.specs.Again.{close_again};
 ghost use Rattle.amqp_session_performatives.specs.Close.{close_item, close_taken};
-ghost use Rattle.amqp_session_performatives.specs.CloseLaws.{close_decided, close_again, close_same};
+ghost use Rattle.amqp_session_performatives.specs.Faithful.{close_same};
+ghost use Rattle.amqp_session_performatives.specs.Performatives.{close_decided};
 
-use crate::composite::Composite;
-use amqp_session_types::definitions::Error;
+use crate::definitions::Error;
 use serde_amqp_de::{Deserialize, Deserializer, Faithful, NeverNull, Read, RoundTrip, read_record};
 use serde_amqp_ser::{Serialize, Serializer, Sink, serialize_record};
-use std::alloc::{AllocError, Global};
+use std::alloc::Global;
 
 /// Ends a connection (part 2, 2.7.9).
-#[derive(Debug, PartialEq, Drop)]
+#[derive(Debug, Clone, Drop)]
 pub struct Close {
     /// Why the connection is closed, where it is closed for an error.
     pub error: Option<Error>,
 }
 
 /// The descriptor's code.
-pub(crate) const CODE: u64 = 0x18;
+const CODE: u64 = 0x18;
 
 /// The descriptor's name.
-pub(crate) const NAME: &[u8] = b"amqp:close:list";
+const NAME: &[u8] = b"amqp:close:list";
 
-impl Clone for Close {
-    ghost is_clone = { λ x y. y ≡ x };
-
-    fn clone(&self) -> Result<Self, AllocError> {
-        Ok(Close {
-            error: self.error.clone()?,
-        })
-    }
-}
-
-impl Composite for Close {
-    type Row = (Option<Error>, ());
-
-    ghost item = { close_item };
-
-    ghost code = { 0x18 };
-
-    fn from_row(row: Self::Row) -> Close {
-        let row_pattern![error] = row;
-        Close { error }
-    }
-}
+/// The fields in their order.
+type Fields = (Option<Error>, ());
 
 impl Serialize for Close {
     ghost item = { close_item };
@@ -52,7 +33,7 @@ impl Serialize for Close {
     }
 
     fn serialize<W: Sink>(&self, s: &mut Serializer<W>) -> Result<(), serde_amqp_item::Error> {
-        serialize_record(s, CODE, &row![&self.error])
+        serialize_record(s, CODE, &(&self.error, ()))
     }
 }
 
@@ -70,8 +51,8 @@ impl Deserialize for Close {
         alloc: Global,
         de: &mut Deserializer<R>,
     ) -> Result<Close, serde_amqp_item::Error> {
-        let row = read_record::<<Close as Composite>::Row, R>(alloc, de, CODE, NAME)?;
-        Ok(Close::from_row(row))
+        let (error, ()) = read_record::<Fields, R>(alloc, de, CODE, NAME)?;
+        Ok(Close { error })
     }
 
     ghost decided = { close_decided };

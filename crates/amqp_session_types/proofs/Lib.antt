@@ -1,3 +1,0 @@
-pub mod Limiting
-pub mod Defaults
-pub mod Clones
