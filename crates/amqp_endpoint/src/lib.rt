@@ -11,6 +11,8 @@ pub use amqp_endpoint_world::play;
 pub use amqp_session_frames::{
     Error as FrameError, Frame, FrameBody, FrameDecoder, FrameEncoder, Piece,
 };
-pub use amqp_session_performatives::{Close, Open, definitions};
-pub use amqp_session_types::{ConnectionError, SessionError, TryCloseError};
+pub use amqp_session_performatives::{
+    Attach, Begin, Close, Detach, Disposition, End, Flow, Open, Transfer,
+};
+pub use amqp_session_types::{ConnectionError, Fields, SessionError, TryCloseError, definitions};
 pub use serde_amqp_types::{Symbol, Text};

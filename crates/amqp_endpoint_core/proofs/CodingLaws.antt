@@ -1,5 +1,5 @@
 -- Laws of frames as they are queued.
-use Rattle.std.proofs.Common.{◌≡◌, ℕ, ◌+◌, ◌-◌, ◌≤◌, ◌<◌, List, [], ◌∷◌, ◌++◌, length, map, Option, Some, None, true, refl, sym, ◌∙◌, ap, arith, subst, option_to_list, All}
+use Rattle.std.proofs.Common.{◌≡◌, ℕ, ◌+◌, ◌-◌, ◌≤◌, ◌<◌, List, [], ◌∷◌, ◌++◌, length, map, inl, inr, Option, Some, None, true, refl, sym, ◌∙◌, ap, arith, subst, option_to_list, All}
 use Rattle.std.proofs.lemmas.List.{length-append}
 use Rattle.std.specs.Int.{w32, to_be_bytes}
 use Rattle.std.proofs.lemmas.Bool.Decides.{nat_tests}
@@ -7,19 +7,40 @@ use Rattle.std.specs.Char.{encode_utf8}
 use Rattle.std.specs.Str.{is_utf8, chars}
 use Rattle.amqp_session_frames.specs.declared.frame.Frame.{Frame}
 use Rattle.amqp_session_frames.specs.Cutting.{with_size}
-use Rattle.amqp_session_frames.specs.Text.{IsWritten, frame_text}
+use Rattle.amqp_session_frames.specs.Text.{frame_text}
+use Rattle.amqp_session_frames.specs.Parts.{IsWritten}
+use Rattle.amqp_session_frames.specs.declared.frame.FrameBody.{FrameBody}
+use Rattle.amqp_session_frames.specs.declared.frame.FrameBody.TheVariants.{Transfer}
+use Rattle.amqp_session_performatives.specs.declared.transfer.Transfer.{Transfer as TransferFields}
 use Rattle.amqp_endpoint_model.specs.State.{written, text_or_nothing, text_fits, fits, own_close_with, error_of}
+use Rattle.amqp_endpoint_model.specs.Step.{session_refusal}
 use Rattle.amqp_endpoint_core.specs.declared.condition.Condition.{Condition}
-use Rattle.amqp_endpoint_core.specs.declared.condition.Condition.TheVariants.{FramingError, DecodeError, NotAllowed}
+use Rattle.amqp_endpoint_core.specs.declared.condition.Condition.TheVariants.{FramingError, DecodeError, NotAllowed, NotFound}
 use Rattle.amqp_endpoint_core.specs.Reading.{condition_text}
 
+-- the pieces are all of the frame's text
+abbrev pub IsAll : Frame → List (List ℕ) → Type 0
+IsAll f pieces = map (λ p. Some (with_size p)) pieces ≡ frame_text f ∷ []
+
+-- a transfer belongs to a session
+no_transfer : (body : FrameBody) (t : TransferFields) (payload : List ℕ) → body ≡ Transfer t payload → session_refusal body ≡ None → ⊥
+no_transfer body t payload is none = let x : session_refusal (Transfer t payload) ≡ None = sym (ap session_refusal is) ∙ none in cc
+
+-- a frame of no session isn't parted
+pub in_one_piece : (limit : ℕ) (f : Frame) (pieces : List (List ℕ)) → IsWritten limit f pieces → session_refusal f.body ≡ None → IsAll f pieces
+in_one_piece limit f pieces w none =
+    elim w.goes [
+      | inl one ↦ w.texts ∙ ap (map frame_text) one
+      | inr (t, payload, is, over, two, carries) ↦ absurd (no_transfer f.body t payload is none)
+    ]
+
 -- the pieces of a frame are one
-pub some_piece : (f : Frame) (pieces : List (List ℕ)) → IsWritten f pieces → 0 < length pieces
+pub some_piece : (f : Frame) (pieces : List (List ℕ)) → IsAll f pieces → 0 < length pieces
 some_piece f [] w = absurd (let e : [] ≡ frame_text f ∷ [] = w in cc)
 some_piece f (p ∷ ps) w = omega arith
 
 -- the last piece of a frame is all of it
-pub last_piece : (f : Frame) (front : List (List ℕ)) (piece : List ℕ) → IsWritten f (front ++ piece ∷ []) → frame_text f ≡ Some (with_size piece)
+pub last_piece : (f : Frame) (front : List (List ℕ)) (piece : List ℕ) → IsAll f (front ++ piece ∷ []) → frame_text f ≡ Some (with_size piece)
 last_piece f [] piece w = let e : Some (with_size piece) ∷ [] ≡ frame_text f ∷ [] = w in cc
 last_piece f (p ∷ []) piece w = absurd (let e : Some (with_size p) ∷ Some (with_size piece) ∷ [] ≡ frame_text f ∷ [] = w in cc)
 last_piece f (p ∷ q ∷ ps) piece w = absurd (let e : Some (with_size p) ∷ Some (with_size q) ∷ map (λ x. Some (with_size x)) (ps ++ piece ∷ []) ≡ frame_text f ∷ [] = w in cc)
@@ -52,21 +73,23 @@ unfolding is_utf8 chars encode_utf8
 close_fits FramingError = refl
 close_fits DecodeError = refl
 close_fits NotAllowed = refl
+close_fits NotFound = refl
 
-alone : (f : Frame) (front : List (List ℕ)) (piece : List ℕ) → IsWritten f (front ++ piece ∷ []) → front ≡ []
+alone : (f : Frame) (front : List (List ℕ)) (piece : List ℕ) → IsAll f (front ++ piece ∷ []) → front ≡ []
 alone f [] piece w = refl
 alone f (p ∷ []) piece w = absurd (let e : Some (with_size p) ∷ Some (with_size piece) ∷ [] ≡ frame_text f ∷ [] = w in cc)
 alone f (p ∷ q ∷ ps) piece w = absurd (let e : Some (with_size p) ∷ Some (with_size q) ∷ map (λ x. Some (with_size x)) (ps ++ piece ∷ []) ≡ frame_text f ∷ [] = w in cc)
 
 -- what was encoded is the frame, within the limit
-pub encoded_is : (f : Frame) (pieces front : List (List ℕ)) (popped : Option (List ℕ)) (piece queued : List ℕ) (limit : ℕ)
-    → IsWritten f pieces → All (λ p. length p ≤ limit - 4) pieces → 4 ≤ limit → pieces ≡ front ++ option_to_list popped → popped ≡ Some piece → queued ≡ with_size piece
+pub encoded_is : (least : ℕ) (f : Frame) (pieces front : List (List ℕ)) (popped : Option (List ℕ)) (piece queued : List ℕ) (limit : ℕ)
+    → IsWritten least f pieces → session_refusal f.body ≡ None → All (λ p. length p ≤ limit - 4) pieces → 4 ≤ limit → pieces ≡ front ++ option_to_list popped → popped ≡ Some piece → queued ≡ with_size piece
     → (queued ≡ written f) × (fits limit f ≡ true)
-encoded_is f pieces front popped piece queued limit w short four split last is =
+encoded_is least f pieces front popped piece queued limit w none short four split last is =
+    let all : IsAll f pieces = in_one_piece least f pieces w none in
     let e : pieces ≡ front ++ piece ∷ [] = split ∙ ap (λ o. front ++ option_to_list o) last in
-    let P : List (List ℕ) → Type 0 = IsWritten f in
-    let text = last_piece f front piece (subst P e w) in
-    let one : pieces ≡ piece ∷ [] = e ∙ ap (λ x. x ++ piece ∷ []) (alone f front piece (subst P e w)) in
+    let P : List (List ℕ) → Type 0 = IsAll f in
+    let text = last_piece f front piece (subst P e all) in
+    let one : pieces ≡ piece ∷ [] = e ∙ ap (λ x. x ++ piece ∷ []) (alone f front piece (subst P e all)) in
     let Q : List (List ℕ) → Type 0 = All (λ p. length p ≤ limit - 4) in
     let h : length piece ≤ limit - 4 = subst Q one short 0 [] (omega arith) in
     (is ∙ sym (written_is f (with_size piece) text), fits_is f (with_size piece) limit text (omega (arith, length-with_size piece)))

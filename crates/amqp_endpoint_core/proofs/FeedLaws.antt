@@ -4,7 +4,7 @@ use Rattle.std.proofs.lemmas.List.{append-nil}
 use Rattle.amqp_session_frames.specs.declared.frame.Frame.{Frame}
 use Rattle.amqp_session_frames.specs.declared.frame.FrameBody.{FrameBody}
 use Rattle.amqp_session_frames.specs.declared.frame.FrameBody.TheVariants.{Empty, Open, Close}
-use Rattle.amqp_session_types.specs.declared.ConnectionError.TheVariants.{IllegalState as OutOfOrder}
+use Rattle.amqp_session_types.specs.declared.refusals.ConnectionError.TheVariants.{IllegalState as OutOfOrder}
 use Rattle.amqp_session_frames.specs.Cutting.{ReadsAs}
 use Rattle.amqp_endpoint_model.specs.declared.event.Event.{Event}
 use Rattle.amqp_endpoint_model.specs.declared.error.EndpointError.{EndpointError}
@@ -12,7 +12,7 @@ use Rattle.amqp_endpoint_model.specs.declared.error.EndpointError.TheVariants.{M
 use Rattle.amqp_endpoint_model.specs.declared.phase.Phase.{Phase}
 use Rattle.amqp_endpoint_model.specs.declared.phase.Phase.TheVariants.{Unconnected, Greeting, Running, Over}
 use Rattle.amqp_endpoint_model.specs.State.{State, is_running}
-use Rattle.amqp_endpoint_model.specs.Step.{RefusesOpen, Admits, TakesBody, Takes, TakesAll, Waits, Ends, EndsRunning, ReadsOn, broken}
+use Rattle.amqp_endpoint_model.specs.Step.{RefusesBody, Admits, TakesBody, Takes, TakesAll, Waits, Ends, EndsRunning, ReadsOn, broken}
 use Rattle.amqp_endpoint_core.specs.Reading.{FrontRefused, TakesFront, SoFar, EndsBy, after_fault, condition_of}
 
 chosen : (b : Bool) (x y : State) → b ≡ true → (if b then x else y) ≡ x
@@ -39,6 +39,7 @@ body_keeps : (s : State) (b : FrameBody) (events : List Event) (new : State) →
 body_keeps s Empty events new none run (told, e) = record { settings = ap (λ x. x.settings) e; rest = ap (λ x. x.rest) e ∙ none; phase = inl (ap (λ x. x.phase) e ∙ run) }
 body_keeps s (Open o) events new none run (fresh, least, told, e) = record { settings = ap (λ x. x.settings) e; rest = ap (λ x. x.rest) e ∙ none; phase = inl (ap (λ x. x.phase) e ∙ run) }
 body_keeps s (Close c) events new none run (told, e) = record { settings = ap (λ x. x.settings) e; rest = ap (λ x. x.rest) e; phase = inr (ap (λ x. x.phase) e) }
+body_keeps s b events new none run t = absurd t
 
 -- one more frame is read
 ReadsAs-more : (P : List ℕ → Frame → Type 0) (bytes : List ℕ) (fs : List Frame) (left piece : List ℕ) (f : Frame) (more : List ℕ)
@@ -154,10 +155,11 @@ ends_closed start now events x stopped =
     ]
 
 -- the bytes kept make no difference to what a frame is refused for
-refuses_open : (m : State) (r : List ℕ) (e : EndpointError) (b : FrameBody) → RefusesOpen (record m { rest = r }) e b → RefusesOpen m e b
-refuses_open m r PeerLimitUnder512 (Open o) h = h
-refuses_open m r (Connection OutOfOrder) (Open o) h = h
-refuses_open m r e b h = absurd h
+refuses_body : (m : State) (r : List ℕ) (e : EndpointError) (b : FrameBody) → RefusesBody (record m { rest = r }) e b → RefusesBody m e b
+refuses_body m r PeerLimitUnder512 (Open o) h = h
+refuses_body m r (Connection OutOfOrder) (Open o) h = h
+refuses_body m r (Connection e) b h = h
+refuses_body m r e b h = absurd h
 
 -- a fault ends it
 fault_ends : (m : State) (r left : List ℕ) (e : EndpointError) (new : State) → FrontRefused (record m { rest = r }) left e → new ≡ after_fault (condition_of e) m → EndsRunning m left (Some e) new
@@ -165,8 +167,8 @@ fault_ends m r left Memory new h after = after
 fault_ends m r left SizeUnder8 new h after = (h.0, h.1, after)
 fault_ends m r left SizeOverLimit new h after = (h.0, h.1, h.2, after)
 fault_ends m r left (FrameFault e) new h after = (h.0, h.1, h.2, after)
-fault_ends m r left PeerLimitUnder512 new h after = (h.0, h.1, h.2, h.3, refuses_open m r PeerLimitUnder512 (h.1.body) h.4, after)
-fault_ends m r left (Connection e) new h after = (h.0, h.1, h.2, h.3, refuses_open m r (Connection e) (h.1.body) h.4, after)
+fault_ends m r left PeerLimitUnder512 new h after = (h.0, h.1, h.2, h.3, refuses_body m r PeerLimitUnder512 (h.1.body) h.4, after)
+fault_ends m r left (Connection e) new h after = (h.0, h.1, h.2, h.3, refuses_body m r (Connection e) (h.1.body) h.4, after)
 fault_ends m r left e new h after = absurd h
 
 after_fault-rest : (condition : Option (List ℕ)) (m : State) (r : List ℕ) → after_fault condition (record m { rest = r }) ≡ after_fault condition m

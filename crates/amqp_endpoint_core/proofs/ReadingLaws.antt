@@ -78,6 +78,7 @@ after_body s more (Open o) events new run (fresh, least, told, after) =
     (record s { rest = []; peer_limit = Some o.max_frame_size }, (fresh, least, told, refl), after ∙ sym (chosen (is_running s.phase) _ _ (ap is_running run)))
 after_body s more (Close c) events new run (told, after) =
     (closed (record s { rest = [] }), (told, refl), after)
+after_body s more b events new run t = absurd t
 
 -- the frame in front is taken
 pub front_taken : (s m new : State) (f : Frame) (before behind : List Event) → s.phase ≡ Running → FrameSplit s f m → BodyTaken m f.body before behind new

@@ -9,9 +9,9 @@ use Rattle.amqp_endpoint_model.specs.declared.error.EndpointError.TheVariants.{M
 use Rattle.amqp_endpoint_model.specs.declared.event.Event.{Event}
 use Rattle.amqp_endpoint_model.specs.declared.phase.Phase.TheVariants.{Running, Over}
 use Rattle.amqp_endpoint_model.specs.State.{State, is_running, protocol_header}
-use Rattle.amqp_endpoint_model.specs.Step.{Admits, TakesBody, TakesAll, Front, NoFrame, RefusesOpen, Waits, opened, broken, faulted, framing_error, decode_error, not_allowed, condition_of_frame}
+use Rattle.amqp_endpoint_model.specs.Step.{Admits, TakesBody, TakesAll, Front, NoFrame, RefusesBody, Waits, opened, broken, faulted, framing_error, decode_error, not_allowed, not_found, condition_of_frame, condition_of_connection}
 use Rattle.amqp_endpoint_core.specs.declared.condition.Condition.{Condition}
-use Rattle.amqp_endpoint_core.specs.declared.condition.Condition.TheVariants.{FramingError, DecodeError, NotAllowed}
+use Rattle.amqp_endpoint_core.specs.declared.condition.Condition.TheVariants.{FramingError, DecodeError, NotAllowed, NotFound}
 
 -- the peer's header was whole and right, and the own Open is queued; or it isn't whole yet
 abbrev pub HeaderTaken : Bool → State → State → Type 0
@@ -45,8 +45,8 @@ pub record PieceOf (limit : ℕ) (left : List ℕ) (size : ℕ) : Type 0 where
 -- a frame that is read is refused for what it says
 abbrev pub BodyRefused : State → FrameBody → EndpointError → Type 0
 BodyRefused s body Memory = Unit {0}
-BodyRefused s body PeerLimitUnder512 = RefusesOpen s PeerLimitUnder512 body
-BodyRefused s body (Connection e) = RefusesOpen s (Connection e) body
+BodyRefused s body PeerLimitUnder512 = RefusesBody s PeerLimitUnder512 body
+BodyRefused s body (Connection e) = RefusesBody s (Connection e) body
 BodyRefused s body e = ⊥
 
 -- what a frame says is taken, and its events are behind those before
@@ -65,7 +65,7 @@ FrontUnread limit left e = ⊥
 
 -- a frame in front that is refused for what it says
 abbrev pub FrontBarred : State → List ℕ → EndpointError → Type 0
-FrontBarred s left e = (piece : List ℕ) × (f : Frame) × Front s.settings.max_frame_size left piece × FrameText piece f × RefusesOpen s e f.body
+FrontBarred s left e = (piece : List ℕ) × (f : Frame) × Front s.settings.max_frame_size left piece × FrameText piece f × RefusesBody s e f.body
 
 -- why the frame in front is not taken
 abbrev pub FrontRefused : State → List ℕ → EndpointError → Type 0
@@ -100,6 +100,7 @@ abbrev pub condition_text : Condition → List ℕ
 condition_text FramingError = framing_error
 condition_text DecodeError = decode_error
 condition_text NotAllowed = not_allowed
+condition_text NotFound = not_found
 
 abbrev pub told_by : Option Condition → Option (List ℕ)
 told_by (Some c) = Some (condition_text c)
@@ -111,7 +112,7 @@ condition_of SizeUnder8 = Some framing_error
 condition_of SizeOverLimit = Some framing_error
 condition_of PeerLimitUnder512 = Some framing_error
 condition_of (FrameFault e) = Some (condition_of_frame e)
-condition_of (Connection e) = Some not_allowed
+condition_of (Connection e) = Some (condition_of_connection e)
 condition_of e = None
 
 -- the state behind a fault

@@ -1,14 +1,16 @@
-ghost use Rattle.std.specs.Prelude.{◌≡◌, ◌≤◌, ◌⊎◌, true, false, IfOk, IfErr};
+ghost use Rattle.std.specs.Prelude.{◌≡◌, ◌≤◌, ◌⊎◌, true, false, None, IfOk, IfErr};
 ghost use Rattle.amqp_session_frames.specs.Text.{FrameText};
 ghost use Rattle.amqp_session_frames.specs.Cutting.{IsPiece};
 ghost use Rattle.amqp_endpoint_model.specs.State.{written, fits, own_open, own_close_with, error_of};
+ghost use Rattle.amqp_endpoint_model.specs.Step.{session_refusal};
 ghost use Rattle.amqp_endpoint_model.specs.declared.error.EndpointError.TheVariants.{Memory, FrameTooLarge};
 ghost use Rattle.amqp_endpoint_core.specs.Reading.{NotTaken};
 
 use crate::queued::Queued;
 use amqp_endpoint_model::{EndpointError, Settings};
 use amqp_session_frames::{Error as FrameError, Frame, FrameBody, FrameDecoder, FrameEncoder};
-use amqp_session_performatives::{Close, Open, definitions};
+use amqp_session_performatives::{Close, Open};
+use amqp_session_types::definitions;
 use bytes::Bytes;
 use serde_amqp_types::{Array, Symbol};
 use std::alloc::Global;
@@ -19,9 +21,10 @@ pub(crate) const MIN_MAX_FRAME_SIZE: u32 = 512;
 /// How many bytes the size of a frame takes (part 2, 2.3.1).
 pub(crate) const SIZE_FIELD: usize = 4;
 
-/// A frame of one piece as it is queued, within this limit.
+/// A frame of no session as it is queued, in one piece within this limit.
 pub(crate) fn encoded(alloc: Global, limit: u32, frame: Frame) -> Result<Queued, EndpointError>
-    requires { 512 ≤ limit }
+    requires limit { 512 ≤ limit }
+    requires own { session_refusal frame.body ≡ None }
     ensures ok { IfOk result (λ q. (q ≡ written frame) × (fits limit frame ≡ true)) }
     ensures err { IfErr result (λ e. (e ≡ Memory) ⊎ ((e ≡ FrameTooLarge) × (fits limit frame ≡ false))) }
 {
@@ -48,6 +51,7 @@ pub(crate) fn open_frame(alloc: Global, settings: &Settings) -> Result<Frame, En
         incoming_locales: Array::new(alloc),
         offered_capabilities: Array::new(alloc),
         desired_capabilities: Array::new(alloc),
+        properties: None,
     };
     Ok(Frame {
         channel: 0,
@@ -65,7 +69,7 @@ pub(crate) fn close_frame(error: Option<definitions::Error>) -> Frame
     }
 }
 
-/// An error of this condition, without a description (part 2, 2.8.14).
+/// An error that says this condition alone (part 2, 2.8.14).
 pub(crate) fn error_of_condition(
     alloc: Global,
     condition: &str,
@@ -76,6 +80,7 @@ pub(crate) fn error_of_condition(
     Ok(definitions::Error {
         condition: Symbol::new(String::from_str(alloc, condition)?),
         description: None,
+        info: None,
     })
 }
 

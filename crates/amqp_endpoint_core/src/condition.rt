@@ -3,6 +3,7 @@ ghost use Rattle.amqp_endpoint_core.specs.Reading.{condition_of, condition_text,
 
 use amqp_endpoint_model::EndpointError;
 use amqp_session_frames::Error as FrameError;
+use amqp_session_types::ConnectionError;
 
 /// Why this end closes a connection (part 2, 2.8.15, 2.8.16).
 #[derive(Clone, Copy, Drop)]
@@ -10,12 +11,13 @@ pub(crate) enum Condition {
     FramingError,
     DecodeError,
     NotAllowed,
+    NotFound,
 }
 
 impl Condition {
     /// What the own Close says of a fault. None where it is broken off without one.
-    pub(crate) fn of(fault: EndpointError) -> Option<Condition>
-        ensures { told_by result ≡ condition_of fault }
+    pub(crate) fn of(fault: &EndpointError) -> Option<Condition>
+        ensures { told_by result ≡ condition_of fault.now }
     {
         match fault {
             EndpointError::SizeUnder8 => Some(Condition::FramingError),
@@ -23,6 +25,7 @@ impl Condition {
             EndpointError::PeerLimitUnder512 => Some(Condition::FramingError),
             EndpointError::Frame(FrameError::DecodeError) => Some(Condition::DecodeError),
             EndpointError::Frame(_) => Some(Condition::NotAllowed),
+            EndpointError::Connection(ConnectionError::NotFound) => Some(Condition::NotFound),
             EndpointError::Connection(_) => Some(Condition::NotAllowed),
             _ => None,
         }
@@ -36,6 +39,7 @@ impl Condition {
             Condition::FramingError => "amqp:connection:framing-error",
             Condition::DecodeError => "amqp:decode-error",
             Condition::NotAllowed => "amqp:not-allowed",
+            Condition::NotFound => "amqp:not-found",
         }
     }
 }

@@ -1,15 +1,14 @@
 ghost use Rattle.std.specs.Prelude.{◌≡◌, ◌==◌, ◌&&◌, ◌⊎◌, ◌++◌, ◌∷◌, [], true, length, Some, None, IfOk, IfErr, OnOk, MatchOption, MatchResult};
 ghost use Rattle.amqp_endpoint_model.specs.State.{fresh, is_running, written, heartbeat, fits, own_close_with};
 ghost use Rattle.amqp_endpoint_model.specs.Said.{said};
-ghost use Rattle.amqp_endpoint_model.specs.Step.{refusal_of_settings, refusal, MayRefuse, Pulls, Step, broken, close_refusal, connected, with_close};
+ghost use Rattle.amqp_endpoint_model.specs.Step.{refusal_of_settings, refusal, MayRefuse, Pulls, Step, broken, close_refusal, connected, session_refusal, with_close};
 ghost use Rattle.amqp_endpoint_model.specs.declared.error.EndpointError.TheVariants.{Memory};
 
 use crate::coding::{MIN_MAX_FRAME_SIZE, close_frame, encoded, open_frame};
 use crate::queued::Queued;
 use amqp_endpoint_model::{Answer, Call, EndpointError, Phase, Settings};
 use amqp_session_frames::{Frame, FrameBody};
-use amqp_session_performatives::definitions;
-use amqp_session_types::TryCloseError;
+use amqp_session_types::{TryCloseError, definitions};
 use bytes::{Bytes, BytesMut};
 use std::alloc::Global;
 use std::collections::VecDeque;
@@ -242,9 +241,10 @@ impl Endpoint {
         self.phase == Phase::Running
     }
 
-    /// Queues a frame that fits any peer's limit.
+    /// Queues a frame of no session that fits any peer's limit.
     fn queue_frame(&mut self, frame: Frame) -> Result<(), EndpointError>
-        requires { fits 512 frame ≡ true }
+        requires short { fits 512 frame ≡ true }
+        requires own { session_refusal frame.body ≡ None }
         ensures ok { OnOk result (self.new ≡ record self.old { queue = self.old.queue ++ written frame ∷ [] }) }
         ensures err { IfErr result (λ e. (e ≡ Memory) × (self.new ≡ self.old)) }
     {

@@ -1,7 +1,7 @@
 -- The bytes fed decide the events and the fault.
 use Rattle.std.proofs.Common.{◌≡◌, ◌≢◌, ℕ, Bool, true, false, List, [], ◌∷◌, length, take, refl, sym, ◌∙◌, ap, arith, subst, Option, Some, None, inl, inr}
 use Rattle.std.specs.Prelude.{◌||◌, is_some}
-use Rattle.amqp_session_types.specs.declared.ConnectionError.TheVariants.{IllegalState as OutOfOrder}
+use Rattle.amqp_session_types.specs.declared.refusals.ConnectionError.TheVariants.{IllegalState as OutOfOrder}
 use Rattle.amqp_session_frames.specs.declared.frame.Frame.{Frame}
 use Rattle.amqp_session_frames.specs.declared.frame.FrameBody.{FrameBody}
 use Rattle.amqp_session_frames.specs.declared.frame.FrameBody.TheVariants.{Empty, Open, Close}
@@ -14,8 +14,8 @@ use Rattle.amqp_endpoint_model.specs.declared.settings.Settings.{Settings}
 use Rattle.amqp_endpoint_model.specs.declared.call.Call.{Call}
 use Rattle.amqp_endpoint_model.specs.Said.{Told}
 use Rattle.amqp_endpoint_model.specs.State.{State, protocol_header, fresh}
-use Rattle.amqp_endpoint_model.specs.Step.{TakesBody, TakesAll, EndsRunning, Ends, opened, closed, faulted, condition_of_frame, framing_error, not_allowed}
-use Rattle.amqp_endpoint_model.specs.History.{Run, Summary, nothing, summary, body_events, events_of, is_open, is_close, has_open, has_close, CloseIsLast, OpenIsTaken, OpenIsOnce, Stops, Framed, Pieces}
+use Rattle.amqp_endpoint_model.specs.Step.{TakesBody, TakesAll, EndsRunning, Ends, opened, closed, faulted, condition_of_frame, condition_of_connection, session_refusal, framing_error, not_allowed}
+use Rattle.amqp_endpoint_model.specs.History.{Run, Summary, nothing, summary, body_events, events_of, is_open, is_close, has_open, has_close, CloseIsLast, OpenIsTaken, OpenIsOnce, NoneOfSessions, Stops, Framed, Pieces}
 use Rattle.amqp_endpoint_model.proofs.Joins.{header_long}
 use Rattle.amqp_endpoint_model.proofs.Takings.{same_settings}
 use Rattle.amqp_endpoint_model.proofs.Endings.{Read, SameRead, read-unique}
@@ -24,9 +24,9 @@ use Rattle.amqp_endpoint_model.proofs.Keeping.{pieces}
 
 -- the state behind a frame
 abbrev after_body : State → FrameBody → State
-after_body s Empty = s
 after_body s (Open o) = record s { peer_limit = Some o.max_frame_size }
 after_body s (Close c) = closed s
+after_body s body = s
 
 abbrev after_all : State → List Frame → State
 after_all s [] = s
@@ -36,10 +36,11 @@ unopened : (o : Option ℕ) (b : Bool) → (is_some o ≡ true → b ≡ false) 
 unopened None b n e = refl
 unopened (Some m) b n e = absurd (let x : true ≡ false = sym e ∙ n refl in cc)
 
-takes-after : (s : State) (body : FrameBody) (later : List Frame) → (is_some s.peer_limit ≡ true → is_open body ≡ false) → OpenIsTaken body later → TakesBody s body (body_events body) (after_body s body)
-takes-after s Empty later n t = (refl, refl)
-takes-after s (Open o) later n (least, last) = (unopened s.peer_limit true n refl, least, refl, refl)
-takes-after s (Close c) later n t = (refl, refl)
+takes-after : (s : State) (body : FrameBody) (later : List Frame) → (is_some s.peer_limit ≡ true → is_open body ≡ false) → OpenIsTaken body later → session_refusal body ≡ None → TakesBody s body (body_events body) (after_body s body)
+takes-after s Empty later n t k = (refl, refl)
+takes-after s (Open o) later n (least, last) k = (unopened s.peer_limit true n refl, least, refl, refl)
+takes-after s (Close c) later n t k = (refl, refl)
+takes-after s body later n t k = absurd cc
 
 no_or : (a b : Bool) → (a || b) ≡ false → (a ≡ false) × (b ≡ false)
 no_or true b e = cc
@@ -47,26 +48,26 @@ no_or false b e = (refl, e)
 
 -- behind a frame no Open is read, if there was one before
 open-after : (s : State) (body : FrameBody) (fs : List Frame) → (is_some s.peer_limit ≡ true → (is_open body || has_open fs) ≡ false) → OpenIsTaken body fs → is_some (after_body s body).peer_limit ≡ true → has_open fs ≡ false
-open-after s Empty fs n t e = n e
 open-after s (Open o) fs n (least, last) e = last
 open-after s (Close c) fs n t e = n e
+open-after s body fs n t e = n e
 
 running-after : (s : State) (body : FrameBody) (f : Frame) (fs : List Frame) → s.phase ≡ Running → (is_close body ≡ true → f ∷ fs ≡ []) → (after_body s body).phase ≡ Running
-running-after s Empty f fs is n = is
 running-after s (Open o) f fs is n = is
 running-after s (Close c) f fs is n = absurd (let x : f ∷ fs ≡ [] = n refl in cc)
+running-after s body f fs is n = is
 
 -- frames that are no refusal are taken
-takes_all-after : (s : State) (fs : List Frame) → s.phase ≡ Running → CloseIsLast fs → OpenIsOnce fs → (is_some s.peer_limit ≡ true → has_open fs ≡ false) → TakesAll s fs (events_of fs) (after_all s fs)
-takes_all-after s [] is closes once n = (refl, refl)
-takes_all-after s (f ∷ []) is closes once n =
-    (after_body s f.body, body_events f.body, [], (is, takes-after s f.body [] (λ e. (no_or (is_open f.body) false (n e)).0) once.0), (refl, refl), refl)
-takes_all-after s (f ∷ g ∷ fs) is closes once n = (
+takes_all-after : (s : State) (fs : List Frame) → s.phase ≡ Running → CloseIsLast fs → OpenIsOnce fs → NoneOfSessions fs → (is_some s.peer_limit ≡ true → has_open fs ≡ false) → TakesAll s fs (events_of fs) (after_all s fs)
+takes_all-after s [] is closes once known n = (refl, refl)
+takes_all-after s (f ∷ []) is closes once known n =
+    (after_body s f.body, body_events f.body, [], (is, takes-after s f.body [] (λ e. (no_or (is_open f.body) false (n e)).0) once.0 known.0), (refl, refl), refl)
+takes_all-after s (f ∷ g ∷ fs) is closes once known n = (
   after_body s f.body,
   body_events f.body,
   events_of (g ∷ fs),
-  (is, takes-after s f.body (g ∷ fs) (λ e. (no_or (is_open f.body) (has_open (g ∷ fs)) (n e)).0) once.0),
-  takes_all-after (after_body s f.body) (g ∷ fs) (running-after s f.body g fs is closes.0) closes.1 once.1 (open-after s f.body (g ∷ fs) n once.0),
+  (is, takes-after s f.body (g ∷ fs) (λ e. (no_or (is_open f.body) (has_open (g ∷ fs)) (n e)).0) once.0 known.0),
+  takes_all-after (after_body s f.body) (g ∷ fs) (running-after s f.body g fs is closes.0) closes.1 once.1 known.1 (open-after s f.body (g ∷ fs) n once.0),
   refl,
 )
 
@@ -77,6 +78,7 @@ after_fault s left (Some SizeUnder8) = faulted framing_error s
 after_fault s left (Some SizeOverLimit) = faulted framing_error s
 after_fault s left (Some (FrameFault e)) = faulted (condition_of_frame e) s
 after_fault s left (Some PeerLimitUnder512) = faulted framing_error s
+after_fault s left (Some (Connection e)) = faulted (condition_of_connection e) s
 after_fault s left (Some e) = faulted not_allowed s
 
 none-is : (o : Option ℕ) → is_some o ≡ false → o ≡ None
@@ -95,6 +97,7 @@ stops-ends s fs left (Some PeerLimitUnder512) opens still n (o, next, none, less
     (next.piece, (record { channel = next.channel; body = Open o }), next.front, next.text, (none-is s.peer_limit (opens ∙ none), less), refl)
 stops-ends s fs left (Some (Connection OutOfOrder)) opens still n (o, next, there) =
     (next.piece, (record { channel = next.channel; body = Open o }), next.front, next.text, opens ∙ there, refl)
+stops-ends s fs left (Some (Connection e)) opens still n (body, next, r) = (next.piece, (record { channel = next.channel; body = body }), next.front, next.text, r, refl)
 stops-ends s fs left (Some e) opens still n t = absurd t
 
 closing : (s : State) (left : List ℕ) (fault : Option EndpointError) → fault ≡ None → Ends s Over left fault s
@@ -118,7 +121,7 @@ or-none false = refl
 framed-read : (s : State) (limit : ℕ) (σ : Summary) (f : Framed limit σ) → s.settings.max_frame_size ≡ limit → s.phase ≡ Running → s.peer_limit ≡ None → σ.fault ≢ Some Memory
     → Read limit s f.body f.frames f.left (events_of f.frames) (after_all s f.frames) σ.fault (end_of (has_close f.frames) (after_all s f.frames) f.left σ.fault)
 framed-read s limit σ f l is none n =
-    let taken : TakesAll s f.frames (events_of f.frames) (after_all s f.frames) = takes_all-after s f.frames is f.closes f.once (λ e. absurd (let x : true ≡ false = sym e ∙ ap is_some none in cc)) in
+    let taken : TakesAll s f.frames (events_of f.frames) (after_all s f.frames) = takes_all-after s f.frames is f.closes f.once f.known (λ e. absurd (let x : true ≡ false = sym e ∙ ap is_some none in cc)) in
     let t : Stepped false s f.frames (events_of f.frames) (after_all s f.frames) = stepped false s f.frames (events_of f.frames) (after_all s f.frames) is taken in
     let kept : (after_all s f.frames).settings ≡ s.settings = same_settings s f.frames (events_of f.frames) (after_all s f.frames) taken in
     let opens : is_some (after_all s f.frames).peer_limit ≡ has_open f.frames = t.opens ∙ ap (λ o. has_open f.frames || is_some o) none ∙ or-none (has_open f.frames) in

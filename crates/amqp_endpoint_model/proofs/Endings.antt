@@ -2,8 +2,8 @@
 use Rattle.std.proofs.Common.{◌≡◌, ◌≢◌, ℕ, ◌+◌, ◌<◌, ◌≤◌, List, [], ◌∷◌, ◌++◌, length, refl, sym, ◌∙◌, ap, arith, length-append, subst, Option, Some, None, inl, inr}
 use Rattle.std.specs.Prelude.{IsSome}
 use Rattle.std.proofs.lemmas.List.{append-nil}
-use Rattle.amqp_session_types.specs.declared.ConnectionError.{ConnectionError}
-use Rattle.amqp_session_types.specs.declared.ConnectionError.TheVariants.{IllegalState as OutOfOrder}
+use Rattle.amqp_session_types.specs.declared.refusals.ConnectionError.{ConnectionError}
+use Rattle.amqp_session_types.specs.declared.refusals.ConnectionError.TheVariants.{IllegalState as OutOfOrder}
 use Rattle.amqp_session_performatives.specs.declared.open.Open.{Open as OpenFields}
 use Rattle.amqp_session_frames.specs.declared.error.Error.{Error as FrameError}
 use Rattle.amqp_session_frames.specs.declared.error.Error.TheVariants.{DecodeError, NotImplemented, TooLarge, Memory as FrameMemory}
@@ -21,8 +21,8 @@ use Rattle.amqp_endpoint_model.specs.declared.event.Event.{Event}
 use Rattle.amqp_endpoint_model.specs.declared.phase.Phase.{Phase}
 use Rattle.amqp_endpoint_model.specs.declared.phase.Phase.TheVariants.{Running, Over}
 use Rattle.amqp_endpoint_model.specs.State.{State}
-use Rattle.amqp_endpoint_model.specs.Step.{Admits, Front, NoFrame, RefusesOpen, Waits, EndsRunning, Ends, ReadsOn, TakesBody, Takes, TakesAll, faulted, condition_of_frame, framing_error, decode_error, not_allowed}
-use Rattle.amqp_endpoint_model.proofs.Takings.{same_settings}
+use Rattle.amqp_endpoint_model.specs.Step.{Admits, Front, NoFrame, RefusesBody, session_refusal, condition_of_connection, Waits, EndsRunning, Ends, ReadsOn, TakesBody, Takes, TakesAll, faulted, condition_of_frame, framing_error, decode_error, not_allowed}
+use Rattle.amqp_endpoint_model.proofs.Takings.{same_settings, taken_known}
 
 -- why the piece in front is refused
 pub data Refused (s : State) (piece : List ℕ) (fault : Option EndpointError) (new : State) : Type 0 where
@@ -30,6 +30,7 @@ pub data Refused (s : State) (piece : List ℕ) (fault : Option EndpointError) (
   no_frame : (IsOtherType piece → ⊥) → ((f : Frame) → FrameText piece f → ⊥) → fault ≡ Some (FrameFault DecodeError) → new ≡ faulted decode_error s → Refused s piece fault new
   small : (o : OpenFields) (f : Frame) → FrameText piece f → f.body ≡ Open o → s.peer_limit ≡ None → o.max_frame_size < 512 → fault ≡ Some PeerLimitUnder512 → new ≡ faulted framing_error s → Refused s piece fault new
   second : (o : OpenFields) (f : Frame) → FrameText piece f → f.body ≡ Open o → IsSome s.peer_limit → fault ≡ Some (Connection OutOfOrder) → new ≡ faulted not_allowed s → Refused s piece fault new
+  unknown : (f : Frame) (e : ConnectionError) → FrameText piece f → session_refusal f.body ≡ Some e → fault ≡ Some (Connection e) → new ≡ faulted (condition_of_connection e) s → Refused s piece fault new
 
 -- why no frame more is taken
 pub data Ending (s : State) (left : List ℕ) (fault : Option EndpointError) (new : State) : Type 0 where
@@ -44,14 +45,13 @@ no_frame-refused s piece DecodeError new n after = no_frame n.0 n.1 refl after
 no_frame-refused s piece TooLarge new n after = absurd n
 no_frame-refused s piece FrameMemory new n after = absurd n
 
-small-refused : (s : State) (piece : List ℕ) (f : Frame) (body : FrameBody) (new : State) → f.body ≡ body → FrameText piece f → RefusesOpen s PeerLimitUnder512 body → new ≡ faulted framing_error s → Refused s piece (Some PeerLimitUnder512) new
+small-refused : (s : State) (piece : List ℕ) (f : Frame) (body : FrameBody) (new : State) → f.body ≡ body → FrameText piece f → RefusesBody s PeerLimitUnder512 body → new ≡ faulted framing_error s → Refused s piece (Some PeerLimitUnder512) new
 small-refused s piece f (Open o) new is text (none, less) after = small o f text is none less refl after
-small-refused s piece f Empty new is text r after = absurd r
-small-refused s piece f (Close c) new is text r after = absurd r
+small-refused s piece f body new is text r after = absurd r
 
-second-refused : (s : State) (piece : List ℕ) (f : Frame) (e : ConnectionError) (body : FrameBody) (new : State) → f.body ≡ body → FrameText piece f → RefusesOpen s (Connection e) body → new ≡ faulted not_allowed s → Refused s piece (Some (Connection e)) new
-second-refused s piece f OutOfOrder (Open o) new is text there after = second o f text is there refl after
-second-refused s piece f e body new is text r after = absurd r
+connection-refused : (s : State) (piece : List ℕ) (f : Frame) (e : ConnectionError) (body : FrameBody) (new : State) → f.body ≡ body → FrameText piece f → RefusesBody s (Connection e) body → new ≡ faulted (condition_of_connection e) s → Refused s piece (Some (Connection e)) new
+connection-refused s piece f OutOfOrder (Open o) new is text there after = second o f text is there refl after
+connection-refused s piece f e body new is text r after = unknown f e text (ap session_refusal is ∙ r) refl after
 
 pub ending : (s : State) (left : List ℕ) (fault : Option EndpointError) (new : State) → fault ≢ Some Memory → EndsRunning s left fault new → Ending s left fault new
 ending s left None new n (w, after) = waits w refl after
@@ -60,7 +60,7 @@ ending s left (Some SizeUnder8) new n (four, less, after) = under four less refl
 ending s left (Some SizeOverLimit) new n (four, least, more, after) = over four least more refl after
 ending s left (Some (FrameFault e)) new n (piece, f, none, after) = front piece f (no_frame-refused s piece e new none after)
 ending s left (Some PeerLimitUnder512) new n (piece, frame, f, text, refuses, after) = front piece f (small-refused s piece frame frame.body new refl text refuses after)
-ending s left (Some (Connection e)) new n (piece, frame, f, text, refuses, after) = front piece f (second-refused s piece frame e frame.body new refl text refuses after)
+ending s left (Some (Connection e)) new n (piece, frame, f, text, refuses, after) = front piece f (connection-refused s piece frame e frame.body new refl text refuses after)
 ending s left (Some e) new n r = absurd r
 
 -- a whole piece in front of what is left has the size that is said there
@@ -93,23 +93,42 @@ some_none : (o : Option ℕ) → IsSome o → o ≡ None → ⊥
 some_none (Some n) is e = cc
 some_none None is e = cc
 
+-- an Open is no performative of a session
+no_session-open : (f : Frame) (o : OpenFields) (e : ConnectionError) → f.body ≡ Open o → session_refusal f.body ≡ Some e → ⊥
+no_session-open f o e is r = let x : None ≡ Some e = sym (ap session_refusal is) ∙ r in cc
+
+-- a frame is refused for one thing
+one-refusal : (f g : Frame) (d e : ConnectionError) → f ≡ g → session_refusal f.body ≡ Some d → session_refusal g.body ≡ Some e → d ≡ e
+one-refusal f g d e is r t = let x : Some d ≡ Some e = sym r ∙ ap (λ h. session_refusal h.body) is ∙ t in cc
+
 refused-unique : (s : State) (piece : List ℕ) (f g : Option EndpointError) (a b : State) → Refused s piece f a → Refused s piece g b → Same f g a b
 refused-unique s piece f g a b (other_type t is after) (other_type u is2 after2) = record { fault = is ∙ sym is2; state = after ∙ sym after2 }
 refused-unique s piece f g a b (other_type t is after) (no_frame u none is2 after2) = absurd (u t)
 refused-unique s piece f g a b (other_type t is after) (small o h text body first less is2 after2) = absurd (frame_type piece h text t)
 refused-unique s piece f g a b (other_type t is after) (second o h text body there is2 after2) = absurd (frame_type piece h text t)
+refused-unique s piece f g a b (other_type t is after) (unknown h e text r is2 after2) = absurd (frame_type piece h text t)
 refused-unique s piece f g a b (no_frame t none is after) (other_type u is2 after2) = absurd (t u)
 refused-unique s piece f g a b (no_frame t none is after) (no_frame u none2 is2 after2) = record { fault = is ∙ sym is2; state = after ∙ sym after2 }
 refused-unique s piece f g a b (no_frame t none is after) (small o h text body first less is2 after2) = absurd (none h text)
 refused-unique s piece f g a b (no_frame t none is after) (second o h text body there is2 after2) = absurd (none h text)
+refused-unique s piece f g a b (no_frame t none is after) (unknown h e text r is2 after2) = absurd (none h text)
 refused-unique s piece f g a b (small o h text body first less is after) (other_type t is2 after2) = absurd (frame_type piece h text t)
 refused-unique s piece f g a b (small o h text body first less is after) (no_frame t none is2 after2) = absurd (none h text)
 refused-unique s piece f g a b (small o h text body first less is after) (small o2 h2 text2 body2 first2 less2 is2 after2) = record { fault = is ∙ sym is2; state = after ∙ sym after2 }
 refused-unique s piece f g a b (small o h text body first less is after) (second o2 h2 text2 body2 there is2 after2) = absurd (some_none s.peer_limit there first)
+refused-unique s piece f g a b (small o h text body first less is after) (unknown h2 e text2 r is2 after2) = absurd (no_session-open h o e body (ap (λ x. session_refusal x.body) (frame_same piece h h2 text text2) ∙ r))
 refused-unique s piece f g a b (second o h text body there is after) (other_type t is2 after2) = absurd (frame_type piece h text t)
 refused-unique s piece f g a b (second o h text body there is after) (no_frame t none is2 after2) = absurd (none h text)
 refused-unique s piece f g a b (second o h text body there is after) (small o2 h2 text2 body2 first less is2 after2) = absurd (some_none s.peer_limit there first)
 refused-unique s piece f g a b (second o h text body there is after) (second o2 h2 text2 body2 there2 is2 after2) = record { fault = is ∙ sym is2; state = after ∙ sym after2 }
+refused-unique s piece f g a b (second o h text body there is after) (unknown h2 e text2 r is2 after2) = absurd (no_session-open h o e body (ap (λ x. session_refusal x.body) (frame_same piece h h2 text text2) ∙ r))
+refused-unique s piece f g a b (unknown h e text r is after) (other_type t is2 after2) = absurd (frame_type piece h text t)
+refused-unique s piece f g a b (unknown h e text r is after) (no_frame t none is2 after2) = absurd (none h text)
+refused-unique s piece f g a b (unknown h e text r is after) (small o h2 text2 body first less is2 after2) = absurd (no_session-open h2 o e body (ap (λ x. session_refusal x.body) (frame_same piece h2 h text2 text) ∙ r))
+refused-unique s piece f g a b (unknown h e text r is after) (second o h2 text2 body there is2 after2) = absurd (no_session-open h2 o e body (ap (λ x. session_refusal x.body) (frame_same piece h2 h text2 text) ∙ r))
+refused-unique s piece f g a b (unknown h e text r is after) (unknown h2 d text2 r2 is2 after2) =
+    let same : e ≡ d = one-refusal h h2 e d (frame_same piece h h2 text text2) r r2 in
+    record { fault = is ∙ ap (λ x. Some (Connection x)) same ∙ sym is2; state = after ∙ ap (λ x. faulted (condition_of_connection x) s) same ∙ sym after2 }
 
 pub ending-unique : (s : State) (left : List ℕ) (f g : Option EndpointError) (a b : State) → Ending s left f a → Ending s left g b → Same f g a b
 ending-unique s left f g a b (waits w is after) (waits w2 is2 after2) = record { fault = is ∙ sym is2; state = after ∙ sym after2 }
@@ -150,6 +169,9 @@ taken_refused s piece f es mid fault new text takes (second o h text2 body there
     let P : FrameBody → Type 0 = λ x. TakesBody s x es mid in
     let (none, least, told, next) = subst P same takes.1 in
     some_none s.peer_limit there none
+taken_refused s piece f es mid fault new text takes (unknown h e text2 r is after) =
+    let x : None ≡ Some e = sym (taken_known f.body s mid es takes.1) ∙ (ap (λ x. session_refusal x.body) (frame_same piece f h text text2) ∙ r) in
+    cc
 
 pub admitted-front : (limit : ℕ) (left piece more : List ℕ) (f : Frame) → left ≡ piece ++ more → Admits limit piece f → Front limit left piece
 admitted-front limit left piece more f whole a = record { more = more; whole = whole; piece_is = frame_piece piece f a.text; short = a.short }
@@ -175,6 +197,7 @@ body-unique : (body : FrameBody) (s : State) (es ds : List Event) (a b : State) 
 body-unique Empty s es ds a b (told, after) (told2, after2) = (told ∙ sym told2, after ∙ sym after2)
 body-unique (Open o) s es ds a b (none, least, told, after) (none2, least2, told2, after2) = (told ∙ sym told2, after ∙ sym after2)
 body-unique (Close c) s es ds a b (told, after) (told2, after2) = (told ∙ sym told2, after ∙ sym after2)
+body-unique body s es ds a b t u = absurd t
 
 -- what reading some bytes came to
 pub record Read (limit : ℕ) (s : State) (bytes : List ℕ) (frames : List Frame) (left : List ℕ) (events : List Event) (mid : State) (fault : Option EndpointError) (new : State) : Type 0 where

@@ -2,6 +2,8 @@
 use Rattle.std.proofs.Common.{◌≡◌, ℕ, ◌≤◌, Bool, true, false, List, [], ◌∷◌, ◌++◌, length, refl, sym, ap, arith, subst, Option, Some, None, inl, inr}
 use Rattle.std.specs.Prelude.{if◌then◌else◌, ◌==◌, ◌||◌, is_none, nat_lt, nat_le, ◌^◌}
 use Rattle.std.proofs.lemmas.Bool.Decides.{nat_tests}
+use Rattle.amqp_session_types.specs.declared.refusals.ConnectionError.{ConnectionError}
+use Rattle.amqp_session_types.specs.declared.refusals.ConnectionError.TheVariants.{NotFound}
 use Rattle.amqp_session_frames.specs.declared.error.Error.{Error as FrameError}
 use Rattle.amqp_session_frames.specs.declared.error.Error.TheVariants.{DecodeError}
 use Rattle.amqp_session_frames.specs.declared.frame.Frame.{Frame}
@@ -18,11 +20,11 @@ use Rattle.amqp_endpoint_model.specs.declared.call.Call.{Call}
 use Rattle.amqp_endpoint_model.specs.declared.call.Call.TheVariants.{Connect, Feed, Pull, Queued, IsIdle, Heartbeat, BreakOff, Close as CloseCall, IsClosed, TryClose}
 use Rattle.amqp_endpoint_model.specs.Said.{Said, done, refused, fed, pulled, count, truth, tried_close, Told}
 use Rattle.amqp_endpoint_model.specs.State.{State, fresh, written, text_or_nothing, text_fits, fits, own_open, own_close_with, heartbeat, error_of}
-use Rattle.amqp_endpoint_model.specs.Step.{TakesBody, TakesAll, EndsRunning, Ends, ReadsOn, FeedsIn, opened, faulted, condition_of_frame, framing_error, decode_error, not_allowed, refusal_of_settings, Step}
+use Rattle.amqp_endpoint_model.specs.Step.{TakesBody, TakesAll, EndsRunning, Ends, ReadsOn, FeedsIn, opened, faulted, condition_of_frame, condition_of_connection, framing_error, decode_error, not_allowed, not_found, refusal_of_settings, Step}
 use Rattle.amqp_endpoint_model.specs.History.{Run, Summary, nothing, note, agreed, JudgedBy, judge_limit, IsWithin, KeepsLimit}
 use Rattle.amqp_endpoint_model.proofs.Recuts.{FeedSaid}
 use Rattle.amqp_endpoint_model.proofs.Keeping.{step-settings}
-use Rattle.amqp_endpoint_model.proofs.StandardFacts.{heartbeat_text, close_text, framing_error_text, decode_error_text, not_allowed_text}
+use Rattle.amqp_endpoint_model.proofs.StandardFacts.{heartbeat_text, close_text, framing_error_text, decode_error_text, not_allowed_text, not_found_text}
 
 -- no text is longer than any peer allows
 pub record IsShort (text : List ℕ) : Type 0 where
@@ -51,9 +53,16 @@ decode_error-short = record { short = omega (arith, ap length decode_error_text)
 not_allowed-short : IsShort (written (own_close_with (Some (error_of not_allowed))))
 not_allowed-short = record { short = omega (arith, ap length not_allowed_text) }
 
+not_found-short : IsShort (written (own_close_with (Some (error_of not_found))))
+not_found-short = record { short = omega (arith, ap length not_found_text) }
+
 condition-short : (e : FrameError) → IsShort (written (own_close_with (Some (error_of (condition_of_frame e)))))
 condition-short DecodeError = decode_error-short
 condition-short e = not_allowed-short
+
+connection-short : (e : ConnectionError) → IsShort (written (own_close_with (Some (error_of (condition_of_connection e)))))
+connection-short NotFound = not_found-short
+connection-short e = not_allowed-short
 
 -- what the settings promise
 fitting-short : (text : Option (List ℕ)) → text_fits 512 text ≡ true → length (text_or_nothing text) ≤ 512
@@ -97,6 +106,7 @@ body-short : (body : FrameBody) (old : State) (es : List Event) (new : State) �
 body-short Empty old es new h (a, b) = to old new b h
 body-short (Open o) old es new h (a, b, c, d) = to (record old { peer_limit = Some o.max_frame_size }) new d (record { all = h.all })
 body-short (Close c) old es new h (a, b) = to _ new b (record { all = with_close-short old.own_close old.queue _ h.all close-short })
+body-short body old es new h t = absurd t
 
 all-short : (old : State) (fs : List Frame) (es : List Event) (new : State) → QueueShort old → TakesAll old fs es new → QueueShort new
 all-short old [] es new h (none, same) = to old new same h
@@ -109,7 +119,7 @@ running-short mid left (Some SizeUnder8) new h (four, less, after) = faulted-sho
 running-short mid left (Some SizeOverLimit) new h (four, least, more, after) = faulted-short framing_error mid new h framing_error-short after
 running-short mid left (Some (FrameFault e)) new h (piece, front, none, after) = faulted-short (condition_of_frame e) mid new h (condition-short e) after
 running-short mid left (Some PeerLimitUnder512) new h (piece, f, front, text, refuses, after) = faulted-short framing_error mid new h framing_error-short after
-running-short mid left (Some (Connection e)) new h (piece, f, front, text, refuses, after) = faulted-short not_allowed mid new h not_allowed-short after
+running-short mid left (Some (Connection e)) new h (piece, f, front, text, refuses, after) = faulted-short (condition_of_connection e) mid new h (connection-short e) after
 running-short mid left (Some e) new h r = absurd r
 
 ends-short : (p : Phase) (mid : State) (left : List ℕ) (fault : Option EndpointError) (new : State) → QueueShort mid → Ends mid p left fault new → QueueShort new

@@ -2,12 +2,11 @@
 use Rattle.std.proofs.Common.{◌≡◌, ◌≢◌, ℕ, ◌<◌, Bool, true, false, List, [], ◌++◌, length, drop, refl, sym, ◌∙◌, ap, arith, length-append, subst, Option, Some, None, inl, inr, take-append-drop}
 use Rattle.std.specs.Prelude.{◌||◌, is_some, IsSome}
 use Rattle.std.proofs.lemmas.List.{append-nil}
-use Rattle.amqp_session_types.specs.declared.ConnectionError.{ConnectionError}
-use Rattle.amqp_session_types.specs.declared.ConnectionError.TheVariants.{IllegalState as OutOfOrder}
-use Rattle.amqp_session_performatives.specs.declared.open.Open.{Open as OpenFields}
+use Rattle.amqp_session_types.specs.declared.refusals.ConnectionError.{ConnectionError}
+use Rattle.amqp_session_types.specs.declared.refusals.ConnectionError.TheVariants.{IllegalState as OutOfOrder}
 use Rattle.amqp_session_frames.specs.declared.frame.Frame.{Frame}
 use Rattle.amqp_session_frames.specs.declared.frame.FrameBody.{FrameBody}
-use Rattle.amqp_session_frames.specs.declared.frame.FrameBody.TheVariants.{Empty, Open, Close}
+use Rattle.amqp_session_frames.specs.declared.frame.FrameBody.TheVariants.{Empty, Open, Begin}
 use Rattle.amqp_session_frames.specs.Cutting.{ReadsAs}
 use Rattle.amqp_session_frames.specs.Text.{FrameText}
 use Rattle.amqp_session_frames.proofs.CuttingLaws.{said_size-append, reads-append}
@@ -20,12 +19,12 @@ use Rattle.amqp_endpoint_model.specs.declared.call.Call.{Call}
 use Rattle.amqp_endpoint_model.specs.declared.call.Call.TheVariants.{Connect, Feed, Pull, Queued, IsIdle, Heartbeat, BreakOff, Close as CloseCall, IsClosed, TryClose}
 use Rattle.amqp_endpoint_model.specs.Said.{Said, done, refused, pulled, count, truth, tried_close}
 use Rattle.amqp_endpoint_model.specs.State.{State, protocol_header}
-use Rattle.amqp_endpoint_model.specs.Step.{Admits, Waits, Front, RefusesOpen, TakesAll, EndsRunning, Ends, ReadsOn, Greets, FeedsIn, broken, opened, faulted, Step}
-use Rattle.amqp_endpoint_model.specs.History.{Summary, nothing, first_fault, note_fed, note, events_of, has_open, has_close, CloseIsLast, OpenIsOnce, NextOpen, Stops, Framed, Pieces}
+use Rattle.amqp_endpoint_model.specs.Step.{Admits, Waits, Front, RefusesBody, session_refusal, begin_refusal, TakesAll, EndsRunning, Ends, ReadsOn, Greets, FeedsIn, broken, opened, faulted, Step}
+use Rattle.amqp_endpoint_model.specs.History.{Summary, nothing, first_fault, note_fed, note, events_of, has_open, has_close, CloseIsLast, OpenIsOnce, NoneOfSessions, Next, Stops, Framed, Pieces}
 use Rattle.amqp_endpoint_model.proofs.Takings.{same_settings}
 use Rattle.amqp_endpoint_model.proofs.Joins.{Front-more, none_later}
 use Rattle.amqp_endpoint_model.proofs.Recuts.{FeedSaid, feed_said}
-use Rattle.amqp_endpoint_model.proofs.Stepped.{phase_after, Stepped, stepped, events_of-append, has_open-append, has_close-append, CloseIsLast-append, OpenIsOnce-append, no_open_behind}
+use Rattle.amqp_endpoint_model.proofs.Stepped.{phase_after, Stepped, stepped, events_of-append, has_open-append, has_close-append, CloseIsLast-append, OpenIsOnce-append, NoneOfSessions-append, no_open_behind}
 
 -- while frames are read
 pub record Reading (limit : ℕ) (rest : List ℕ) (peer_limit : Option ℕ) (σ : Summary) : Type 0 where
@@ -38,6 +37,7 @@ pub record Reading (limit : ℕ) (rest : List ℕ) (peer_limit : Option ℕ) (σ
   pub opens : has_open frames ≡ is_some peer_limit
   pub closes : CloseIsLast frames
   pub once : OpenIsOnce frames
+  pub known : NoneOfSessions frames
   pub waits : Waits limit rest
   pub well : σ.fault ≡ None
 
@@ -70,6 +70,7 @@ stands-pieces Running limit rest peer_limit σ h =
       told = h.told;
       closes = h.closes;
       once = h.once;
+      known = h.known;
       well = λ e. h.well;
       stops = subst P (sym h.well) (inl h.waits);
     })))
@@ -87,6 +88,8 @@ stops-more limit frames left more (Some PeerLimitUnder512) why (o, next, none, l
     (o, (record { piece = next.piece; front = Front-more limit left next.piece more next.front; channel = next.channel; text = next.text }), none, less)
 stops-more limit frames left more (Some (Connection OutOfOrder)) why (o, next, there) =
     (o, (record { piece = next.piece; front = Front-more limit left next.piece more next.front; channel = next.channel; text = next.text }), there)
+stops-more limit frames left more (Some (Connection e)) why (body, next, r) =
+    (body, (record { piece = next.piece; front = Front-more limit left next.piece more next.front; channel = next.channel; text = next.text }), r)
 stops-more limit frames left more (Some e) why s = absurd s
 
 closed-more : (limit : ℕ) (σ : Summary) (bytes : List ℕ) (es : List Event) (fault : Option EndpointError) → Closed limit σ → es ≡ [] → fault ≡ None → Closed limit (record { fed = σ.fed ++ bytes; events = σ.events ++ es; fault = first_fault σ.fault fault })
@@ -105,14 +108,15 @@ closed-more limit σ bytes es fault c none is =
         told = ap (λ x. σ.events ++ x) none ∙ append-nil σ.events ∙ f.told;
         closes = f.closes;
         once = f.once;
+        known = f.known;
         well = λ e. same ∙ f.well e;
         stops = subst Q (sym same) (stops-more limit f.frames f.left bytes σ.fault c.why f.stops);
       };
       why = λ e. c.why (sym same ∙ e);
     }
 
-next_open : (limit : ℕ) (left piece : List ℕ) (f : Frame) (o : OpenFields) → f.body ≡ Open o → Front limit left piece → FrameText piece f → NextOpen limit left o
-next_open limit left piece f o is front text =
+next_is : (limit : ℕ) (left piece : List ℕ) (f : Frame) (body : FrameBody) → f.body ≡ body → Front limit left piece → FrameText piece f → Next limit left body
+next_is limit left piece f body is front text =
     let P : Frame → Type 0 = λ x. FrameText piece x in
     record { piece = piece; front = front; channel = f.channel; text = subst P (ap (λ b. record { channel = f.channel; body = b }) is) text }
 
@@ -120,15 +124,25 @@ some_true : (o : Option ℕ) → IsSome o → is_some o ≡ true
 some_true o h = h
 
 stops-small : (limit : ℕ) (s : State) (frames : List Frame) (left piece : List ℕ) (f : Frame) (body : FrameBody) → has_open frames ≡ is_some s.peer_limit → f.body ≡ body → Front limit left piece → FrameText piece f
-    → RefusesOpen s PeerLimitUnder512 body → Stops limit frames left (Some PeerLimitUnder512)
-stops-small limit s frames left piece f (Open o) opens is front text (none, less) = (o, next_open limit left piece f o is front text, opens ∙ ap is_some none, less)
-stops-small limit s frames left piece f Empty opens is front text r = absurd r
-stops-small limit s frames left piece f (Close c) opens is front text r = absurd r
+    → RefusesBody s PeerLimitUnder512 body → Stops limit frames left (Some PeerLimitUnder512)
+stops-small limit s frames left piece f (Open o) opens is front text (none, less) = (o, next_is limit left piece f (Open o) is front text, opens ∙ ap is_some none, less)
+stops-small limit s frames left piece f body opens is front text r = absurd r
 
-stops-second : (limit : ℕ) (s : State) (frames : List Frame) (left piece : List ℕ) (f : Frame) (e : ConnectionError) (body : FrameBody) → has_open frames ≡ is_some s.peer_limit → f.body ≡ body → Front limit left piece → FrameText piece f
-    → RefusesOpen s (Connection e) body → Stops limit frames left (Some (Connection e))
-stops-second limit s frames left piece f OutOfOrder (Open o) opens is front text there = (o, next_open limit left piece f o is front text, opens ∙ some_true s.peer_limit there)
-stops-second limit s frames left piece f e body opens is front text r = absurd r
+begin-in_order : (remote : Option ℕ) → begin_refusal remote ≡ OutOfOrder → ⊥
+begin-in_order None e = cc
+begin-in_order (Some channel) e = cc
+
+-- no performative of a session is out of order
+session-in_order : (body : FrameBody) → session_refusal body ≡ Some OutOfOrder → ⊥
+session-in_order (Begin b) e = begin-in_order b.remote_channel (let x : Some (begin_refusal b.remote_channel) ≡ Some OutOfOrder = e in cc)
+session-in_order Empty e = cc
+session-in_order body e = cc
+
+stops-connection : (limit : ℕ) (s : State) (frames : List Frame) (left piece : List ℕ) (f : Frame) (e : ConnectionError) (body : FrameBody) → has_open frames ≡ is_some s.peer_limit → f.body ≡ body → Front limit left piece → FrameText piece f
+    → RefusesBody s (Connection e) body → Stops limit frames left (Some (Connection e))
+stops-connection limit s frames left piece f OutOfOrder (Open o) opens is front text there = (o, next_is limit left piece f (Open o) is front text, opens ∙ some_true s.peer_limit there)
+stops-connection limit s frames left piece f OutOfOrder body opens is front text r = absurd (session-in_order body r)
+stops-connection limit s frames left piece f e body opens is front text r = (body, next_is limit left piece f body is front text, r)
 
 -- how reading frames ended, in one of three ways
 pub data Ended (limit : ℕ) (s : State) (frames : List Frame) (left : List ℕ) (fault : Option EndpointError) (new : State) : Type 0 where
@@ -148,7 +162,7 @@ ended s frames left (Some (FrameFault e)) new opens (piece, front, none, after) 
 ended s frames left (Some PeerLimitUnder512) new opens (piece, f, front, text, refuses, after) =
     ends (no_none PeerLimitUnder512) _ (stops-small s.settings.max_frame_size s frames left piece f f.body opens refl front text refuses) after
 ended s frames left (Some (Connection e)) new opens (piece, f, front, text, refuses, after) =
-    ends (no_none (Connection e)) _ (stops-second s.settings.max_frame_size s frames left piece f e f.body opens refl front text refuses) after
+    ends (no_none (Connection e)) _ (stops-connection s.settings.max_frame_size s frames left piece f e f.body opens refl front text refuses) after
 ended s frames left (Some e) new opens r = absurd r
 
 -- the frames read since the header
@@ -157,6 +171,7 @@ pub record SoFar (limit : ℕ) (fs : List Frame) (body left : List ℕ) (peer_li
   pub told : events ≡ events_of fs
   pub closes : CloseIsLast fs
   pub once : OpenIsOnce fs
+  pub known : NoneOfSessions fs
   pub opens : has_open fs ≡ is_some peer_limit
   pub phase_is : phase ≡ phase_after (has_close fs)
 
@@ -176,6 +191,7 @@ all-more limit old mid fs gs body bytes rest left events es a still read is take
       told = ap (λ x. x ++ es) a.told ∙ ap (λ x. events_of fs ++ x) t.events ∙ sym (events_of-append fs gs);
       closes = CloseIsLast-append fs gs still t.closes;
       once = OpenIsOnce-append fs gs (λ e. no_open_behind old gs es mid (sym a.opens ∙ e) taken) a.once t.once;
+      known = NoneOfSessions-append fs gs a.known t.known;
       opens = has_open-append fs gs ∙ ap (λ x. x || has_open gs) a.opens ∙ or_comm (is_some old.peer_limit) (has_open gs) ∙ sym t.opens;
       phase_is = t.phase ∙ ap phase_after (sym (has_close-append fs gs ∙ ap (λ x. x || has_close gs) still));
     }
@@ -205,6 +221,7 @@ all-running limit fs body left mid events fault new a is (goes_on none w after) 
       opens = a.opens;
       closes = a.closes;
       once = a.once;
+      known = a.known;
       waits = w;
       well = none;
     }))
@@ -221,6 +238,7 @@ all-running limit fs body left mid events fault new a is (lost memory after) =
       told = a.told;
       closes = a.closes;
       once = a.once;
+      known = a.known;
       well = λ e. absurd (let x : true ≡ false = sym e ∙ still in cc);
       stops = subst Q (sym memory) tt;
     }))))
@@ -237,6 +255,7 @@ all-running limit fs body left mid events fault new a is (ends some condition st
         told = a.told;
         closes = a.closes;
         once = a.once;
+        known = a.known;
         well = λ e. absurd (let x : true ≡ false = sym e ∙ still in cc);
         stops = stops;
       };
@@ -255,7 +274,7 @@ all-ended limit fs body left mid events None new Over l a is same =
     let Q : Phase → Type 0 = λ q. Stands q limit mid.rest mid.peer_limit (record { fed = protocol_header ++ body; events = events; fault = None }) in
     let closed : has_close fs ≡ true = over-closed (has_close fs) mid.phase a.phase_is is in
     subst P (sym same) (subst Q (sym is) (record {
-      framed = record { body = body; header = refl; frames = fs; left = left; read = a.read; told = a.told; closes = a.closes; once = a.once; well = λ x. refl; stops = inr closed };
+      framed = record { body = body; header = refl; frames = fs; left = left; read = a.read; told = a.told; closes = a.closes; once = a.once; known = a.known; well = λ x. refl; stops = inr closed };
       why = λ x. closed;
     }))
 all-ended limit fs body left mid events fault new Running l a is e =
@@ -275,7 +294,7 @@ running-feed : (limit : ℕ) (σ : Summary) (old : State) (bytes : List ℕ) (es
     → Reading limit old.rest old.peer_limit σ → ReadsOn old (old.rest ++ bytes) es fault new
     → StandsAt limit (record { fed = σ.fed ++ bytes; events = σ.events ++ es; fault = first_fault σ.fault fault }) new
 running-feed limit σ old bytes es fault new l is h r =
-    let a : SoFar limit h.frames h.body old.rest old.peer_limit Running σ.events = record { read = h.read; told = h.told; closes = h.closes; once = h.once; opens = h.opens; phase_is = ap phase_after (sym h.open_yet) } in
+    let a : SoFar limit h.frames h.body old.rest old.peer_limit Running σ.events = record { read = h.read; told = h.told; closes = h.closes; once = h.once; known = h.known; opens = h.opens; phase_is = ap phase_after (sym h.open_yet) } in
     let s : StandsAt limit (record { fed = protocol_header ++ (h.body ++ bytes); events = σ.events ++ es; fault = fault }) new = reads_on-stands limit old h.frames h.body old.rest bytes σ.events es fault new l is a h.open_yet r in
     let P : List ℕ → Type 0 = λ x. StandsAt limit (record { fed = x; events = σ.events ++ es; fault = fault }) new in
     let Q : Option EndpointError → Type 0 = λ x. StandsAt limit (record { fed = σ.fed ++ bytes; events = σ.events ++ es; fault = x }) new in
@@ -299,7 +318,7 @@ greeting-feed limit σ old bytes es fault new l is none well unopened (inr (inr 
     subst P (sym after) (inr (inr (inl (ap (λ x. x ++ es) none ∙ silent, ap (λ x. first_fault x fault) well ∙ memory))))
 greeting-feed limit σ old bytes es fault new l is none well unopened (inr (inr (inl (header, r)))) =
     let body : List ℕ = drop 8 (σ.fed ++ bytes) in
-    let a : SoFar limit [] [] [] old.peer_limit Running [] = record { read = refl; told = refl; closes = tt; once = tt; opens = ap is_some (sym unopened); phase_is = refl } in
+    let a : SoFar limit [] [] [] old.peer_limit Running [] = record { read = refl; told = refl; closes = tt; once = tt; known = tt; opens = ap is_some (sym unopened); phase_is = refl } in
     let s : StandsAt limit (record { fed = protocol_header ++ body; events = es; fault = fault }) new = reads_on-stands limit (opened old) [] [] [] body [] es fault new l refl a refl r in
     let P : List ℕ → Type 0 = λ x. StandsAt limit (record { fed = x; events = es; fault = fault }) new in
     let Q : Option EndpointError → Type 0 = λ x. StandsAt limit (record { fed = σ.fed ++ bytes; events = es; fault = x }) new in

@@ -4,7 +4,7 @@ use Rattle.std.specs.Str.{is_utf8, chars}
 use Rattle.std.specs.Char.{encode_utf8}
 use Rattle.amqp_endpoint_model.specs.declared.settings.Settings.{Settings}
 use Rattle.amqp_endpoint_model.specs.State.{written, heartbeat, own_open, own_close_with, error_of}
-use Rattle.amqp_endpoint_model.specs.Step.{framing_error, decode_error, not_allowed}
+use Rattle.amqp_endpoint_model.specs.Step.{framing_error, decode_error, not_allowed, not_found}
 
 -- the empty frame (part 2, 2.4.5)
 pub heartbeat_text : written heartbeat ≡ 0 ∷ 0 ∷ 0 ∷ 8 ∷ 2 ∷ 0 ∷ 0 ∷ 0 ∷ []
@@ -36,6 +36,13 @@ pub not_allowed_text : written (own_close_with (Some (error_of not_allowed))) �
     ∷ 0x61 ∷ 0x6d ∷ 0x71 ∷ 0x70 ∷ 0x3a ∷ 0x6e ∷ 0x6f ∷ 0x74 ∷ 0x2d ∷ 0x61 ∷ 0x6c ∷ 0x6c ∷ 0x6f ∷ 0x77 ∷ 0x65 ∷ 0x64 ∷ []
 unfolding written is_utf8 chars encode_utf8
 not_allowed_text = refl
+
+-- a Close with amqp:not-found (part 2, 2.7.9, 2.8.15)
+pub not_found_text : written (own_close_with (Some (error_of not_found))) ≡
+    0 ∷ 0 ∷ 0 ∷ 0x24 ∷ 2 ∷ 0 ∷ 0 ∷ 0 ∷ 0 ∷ 0x53 ∷ 0x18 ∷ 0xc0 ∷ 0x17 ∷ 1 ∷ 0 ∷ 0x53 ∷ 0x1d ∷ 0xc0 ∷ 0x11 ∷ 1 ∷ 0xa3 ∷ 0x0e
+    ∷ 0x61 ∷ 0x6d ∷ 0x71 ∷ 0x70 ∷ 0x3a ∷ 0x6e ∷ 0x6f ∷ 0x74 ∷ 0x2d ∷ 0x66 ∷ 0x6f ∷ 0x75 ∷ 0x6e ∷ 0x64 ∷ []
+unfolding written is_utf8 chars encode_utf8
+not_found_text = refl
 
 -- the Open of the container "a", with the max-frame-size 512 and the channel-max 65535 (part 2, 2.7.1)
 abbrev small : Settings

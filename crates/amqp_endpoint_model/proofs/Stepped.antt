@@ -9,7 +9,8 @@ use Rattle.amqp_endpoint_model.specs.declared.phase.Phase.{Phase}
 use Rattle.amqp_endpoint_model.specs.declared.phase.Phase.TheVariants.{Running, Over}
 use Rattle.amqp_endpoint_model.specs.State.{State}
 use Rattle.amqp_endpoint_model.specs.Step.{TakesBody, TakesAll}
-use Rattle.amqp_endpoint_model.specs.History.{body_events, events_of, is_open, is_close, has_open, has_close, CloseIsLast, OpenIsTaken, OpenIsOnce}
+use Rattle.amqp_endpoint_model.specs.History.{body_events, events_of, is_open, is_close, has_open, has_close, CloseIsLast, OpenIsTaken, OpenIsOnce, NoneOfSessions}
+use Rattle.amqp_endpoint_model.proofs.Takings.{taken_known}
 
 -- where the connection stands behind these frames
 abbrev pub phase_after : Bool → Phase
@@ -25,6 +26,7 @@ stepped-one : (old : State) (body : FrameBody) (es : List Event) (new : State) �
 stepped-one old Empty es new is (none, same) = record { events = none; phase = ap (λ s. s.phase) same ∙ is; opens = ap (λ s. is_some s.peer_limit) same }
 stepped-one old (Open o) es new is (first, least, told, after) = record { events = told; phase = ap (λ s. s.phase) after ∙ is; opens = ap (λ s. is_some s.peer_limit) after }
 stepped-one old (Close c) es new is (told, after) = record { events = told; phase = ap (λ s. s.phase) after; opens = ap (λ s. is_some s.peer_limit) after }
+stepped-one old body es new is t = absurd t
 
 or_assoc : (a b c : Bool) → (a || (b || c)) ≡ ((b || a) || c)
 or_assoc true true c = refl
@@ -42,6 +44,7 @@ no_open_here : (body : FrameBody) (old : State) (es : List Event) (mid : State) 
 no_open_here Empty old es mid there (none, same) = (refl, ap (λ s. s.peer_limit) same)
 no_open_here (Open o) old es mid there (unopened, least, told, after) = absurd (let x : true ≡ false = sym there ∙ ap is_some unopened in cc)
 no_open_here (Close c) old es mid there (told, after) = (refl, ap (λ s. s.peer_limit) after)
+no_open_here body old es mid there t = absurd t
 
 -- behind an Open no other one is taken
 pub no_open_behind : (old : State) (fs : List Frame) (es : List Event) (new : State) → is_some old.peer_limit ≡ true → TakesAll old fs es new → has_open fs ≡ false
@@ -51,9 +54,8 @@ no_open_behind old (f ∷ fs) es new there (mid, first, others, one, all, split)
     ap (λ b. b || has_open fs) here ∙ no_open_behind mid fs others new (ap is_some limit_is ∙ there) all
 
 open-taken : (body : FrameBody) (old mid : State) (es first : List Event) (fs : List Frame) (new : State) → TakesBody old body first mid → TakesAll mid fs es new → OpenIsTaken body fs
-open-taken Empty old mid es first fs new t all = tt
 open-taken (Open o) old mid es first fs new (unopened, least, told, after) all = (least, no_open_behind mid fs es new (ap (λ s. is_some s.peer_limit) after) all)
-open-taken (Close c) old mid es first fs new t all = tt
+open-taken body old mid es first fs new t all = tt
 
 -- what frames tell and leave that are taken behind a Close, if any
 pub record Stepped (closed : Bool) (old : State) (fs : List Frame) (es : List Event) (new : State) : Type 0 where
@@ -61,6 +63,7 @@ pub record Stepped (closed : Bool) (old : State) (fs : List Frame) (es : List Ev
   pub phase : new.phase ≡ phase_after (closed || has_close fs)
   pub closes : CloseIsLast fs
   pub once : OpenIsOnce fs
+  pub known : NoneOfSessions fs
   pub opens : is_some new.peer_limit ≡ (has_open fs || is_some old.peer_limit)
 
 or-false : (b : Bool) → b ≡ (b || false)
@@ -73,6 +76,7 @@ stepped closed old [] es new is (none, same) = record {
   phase = ap (λ s. s.phase) same ∙ is ∙ ap phase_after (or-false closed);
   closes = tt;
   once = tt;
+  known = tt;
   opens = ap (λ s. is_some s.peer_limit) same;
 }
 stepped true old (f ∷ fs) es new is (mid, first, others, one, all, split) = absurd (let x : Over ≡ Running = sym is ∙ one.0 in cc)
@@ -84,6 +88,7 @@ stepped false old (f ∷ fs) es new is (mid, first, others, one, all, split) =
       phase = b.phase;
       closes = (none_behind (is_close f.body) mid fs others new a.phase all, b.closes);
       once = (open-taken f.body old mid others first fs new one.1 all, b.once);
+      known = (taken_known f.body old mid first one.1, b.known);
       opens = b.opens ∙ ap (λ x. has_open fs || x) a.opens ∙ or_assoc (has_open fs) (is_open f.body) (is_some old.peer_limit);
     }
 
@@ -117,9 +122,8 @@ later-open : (a b : List Frame) → has_open a ≡ false → has_open b ≡ fals
 later-open a b none still = has_open-append a b ∙ ap (λ x. x || has_open b) none ∙ still
 
 taken-append : (body : FrameBody) (a b : List Frame) → (is_open body ≡ true → has_open b ≡ false) → OpenIsTaken body a → OpenIsTaken body (a ++ b)
-taken-append Empty a b none t = tt
 taken-append (Open o) a b none (least, last) = (least, later-open a b last (none refl))
-taken-append (Close c) a b none t = tt
+taken-append body a b none t = tt
 
 or_left : (a b : Bool) → a ≡ true → (a || b) ≡ true
 or_left true b e = refl
@@ -133,3 +137,7 @@ pub OpenIsOnce-append : (a b : List Frame) → (has_open a ≡ true → has_open
 OpenIsOnce-append [] b none x y = y
 OpenIsOnce-append (f ∷ a) b none (here, later) y =
     (taken-append f.body a b (λ e. none (or_left (is_open f.body) (has_open a) e)) here, OpenIsOnce-append a b (λ e. none (or_right (is_open f.body) (has_open a) e)) later y)
+
+pub NoneOfSessions-append : (a b : List Frame) → NoneOfSessions a → NoneOfSessions b → NoneOfSessions (a ++ b)
+NoneOfSessions-append [] b x y = y
+NoneOfSessions-append (f ∷ a) b (here, later) y = (here, NoneOfSessions-append a b later y)

@@ -1,12 +1,12 @@
 -- Laws of frames taken one behind the other.
-use Rattle.std.proofs.Common.{◌≡◌, List, [], ◌∷◌, ◌++◌, refl, sym, ◌∙◌, ap, append_assoc, subst}
+use Rattle.std.proofs.Common.{◌≡◌, List, [], ◌∷◌, ◌++◌, refl, sym, ◌∙◌, ap, append_assoc, subst, None}
 use Rattle.std.proofs.lemmas.List.{append-nil}
 use Rattle.amqp_session_frames.specs.declared.frame.Frame.{Frame}
 use Rattle.amqp_session_frames.specs.declared.frame.FrameBody.{FrameBody}
 use Rattle.amqp_session_frames.specs.declared.frame.FrameBody.TheVariants.{Empty, Open, Close}
 use Rattle.amqp_endpoint_model.specs.declared.event.Event.{Event}
 use Rattle.amqp_endpoint_model.specs.State.{State}
-use Rattle.amqp_endpoint_model.specs.Step.{TakesBody, Takes, TakesAll}
+use Rattle.amqp_endpoint_model.specs.Step.{TakesBody, Takes, TakesAll, session_refusal}
 
 pub TakesAll-append : (old : State) (fs : List Frame) (es : List Event) (mid : State) (gs : List Frame) (ds : List Event) (new : State) → TakesAll old fs es mid → TakesAll mid gs ds new → TakesAll old (fs ++ gs) (es ++ ds) new
 TakesAll-append old [] es mid gs ds new (none, same) t =
@@ -28,6 +28,7 @@ rest_none-body : (body : FrameBody) (old new : State) (es : List Event) → old.
 rest_none-body Empty old new es e (a, b) = ap (λ s. s.rest) b ∙ e
 rest_none-body (Open o) old new es e (a, b, c, d) = ap (λ s. s.rest) d ∙ e
 rest_none-body (Close c) old new es e (a, b) = ap (λ s. s.rest) b
+rest_none-body body old new es e t = absurd t
 
 -- where nothing was left over, taking frames leaves nothing over
 pub rest_none : (old : State) (fs : List Frame) (es : List Event) (new : State) → old.rest ≡ [] → TakesAll old fs es new → new.rest ≡ []
@@ -38,6 +39,14 @@ same_settings-body : (body : FrameBody) (old new : State) (es : List Event) → 
 same_settings-body Empty old new es (a, b) = ap (λ s. s.settings) b
 same_settings-body (Open o) old new es (a, b, c, d) = ap (λ s. s.settings) d
 same_settings-body (Close c) old new es (a, b) = ap (λ s. s.settings) b
+same_settings-body body old new es t = absurd t
+
+-- no performative of a session is taken
+pub taken_known : (body : FrameBody) (old new : State) (es : List Event) → TakesBody old body es new → session_refusal body ≡ None
+taken_known Empty old new es t = refl
+taken_known (Open o) old new es t = refl
+taken_known (Close c) old new es t = refl
+taken_known body old new es t = absurd t
 
 pub same_settings : (old : State) (fs : List Frame) (es : List Event) (new : State) → TakesAll old fs es new → new.settings ≡ old.settings
 same_settings old [] es new (none, same) = ap (λ s. s.settings) same

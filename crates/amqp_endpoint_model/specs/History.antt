@@ -3,8 +3,8 @@ use Rattle.std.specs.Prelude.{◌≡◌, ◌≢◌, ℕ, ◌≤◌, ◌<◌, ◌
 use Rattle.amqp_session_performatives.specs.declared.open.Open.{Open as OpenFields}
 use Rattle.amqp_session_frames.specs.declared.frame.Frame.{Frame}
 use Rattle.amqp_session_frames.specs.declared.frame.FrameBody.{FrameBody}
-use Rattle.amqp_session_frames.specs.declared.frame.FrameBody.TheVariants.{Empty, Open, Close}
-use Rattle.amqp_session_types.specs.declared.ConnectionError.TheVariants.{IllegalState as OutOfOrder}
+use Rattle.amqp_session_frames.specs.declared.frame.FrameBody.TheVariants.{Open, Close}
+use Rattle.amqp_session_types.specs.declared.refusals.ConnectionError.TheVariants.{IllegalState as OutOfOrder}
 use Rattle.amqp_session_frames.specs.Text.{FrameText}
 use Rattle.amqp_session_frames.specs.Cutting.{Cut, ReadsAs, said_size}
 use Rattle.amqp_endpoint_model.specs.declared.error.EndpointError.{EndpointError}
@@ -15,7 +15,7 @@ use Rattle.amqp_endpoint_model.specs.declared.call.Call.{Call}
 use Rattle.amqp_endpoint_model.specs.declared.call.Call.TheVariants.{Connect, Feed}
 use Rattle.amqp_endpoint_model.specs.Said.{Said, done, refused, fed, pulled, Told}
 use Rattle.amqp_endpoint_model.specs.State.{State, protocol_header}
-use Rattle.amqp_endpoint_model.specs.Step.{Step, Admits, Waits, Front, NoFrame}
+use Rattle.amqp_endpoint_model.specs.Step.{Step, Admits, Waits, Front, NoFrame, session_refusal}
 
 -- the calls may be answered so, one after the other
 abbrev pub Run : State → List Call → List Told → State → Type 0
@@ -52,11 +52,11 @@ abbrev pub summary : Summary → List Call → List Told → Summary
 summary σ (call ∷ calls) (t ∷ ts) = summary (note σ call t.answer) calls ts
 summary σ calls ts = σ
 
--- what a frame tells
+-- what a frame tells that is taken
 abbrev pub body_events : FrameBody → List Event
-body_events Empty = []
 body_events (Open o) = Opened (record { container_id = o.container_id; max_frame_size = o.max_frame_size; channel_max = o.channel_max; idle_time_out = o.idle_time_out }) ∷ []
 body_events (Close c) = Closed (record { error = c.error }) ∷ []
+body_events body = []
 
 abbrev pub events_of : List Frame → List Event
 events_of [] = []
@@ -94,12 +94,17 @@ abbrev pub OpenIsOnce : List Frame → Type 0
 OpenIsOnce [] = Unit {0}
 OpenIsOnce (f ∷ fs) = OpenIsTaken f.body fs × OpenIsOnce fs
 
--- a whole piece comes next, and it is this Open
-pub record NextOpen (limit : ℕ) (left : List ℕ) (o : OpenFields) : Type 0 where
+-- no performative of a session is among the frames
+abbrev pub NoneOfSessions : List Frame → Type 0
+NoneOfSessions [] = Unit {0}
+NoneOfSessions (f ∷ fs) = (session_refusal f.body ≡ None) × NoneOfSessions fs
+
+-- a whole piece comes next, and it is a frame with this body
+pub record Next (limit : ℕ) (left : List ℕ) (body : FrameBody) : Type 0 where
   pub piece : List ℕ
   pub front : Front limit left piece
   pub channel : ℕ
-  pub text : FrameText piece (record { channel = channel; body = Open o })
+  pub text : FrameText piece (record { channel = channel; body = body })
 
 -- why no frame more is read of what is left: there is less than a whole one, or a fault stands in front
 abbrev pub Stops : ℕ → List Frame → List ℕ → Option EndpointError → Type 0
@@ -108,8 +113,9 @@ Stops limit frames left (Some Memory) = Unit {0}
 Stops limit frames left (Some SizeUnder8) = (4 ≤ length left) × (said_size left < 8)
 Stops limit frames left (Some SizeOverLimit) = (4 ≤ length left) × (8 ≤ said_size left) × (limit < said_size left)
 Stops limit frames left (Some (FrameFault e)) = (piece : List ℕ) × Front limit left piece × NoFrame e piece
-Stops limit frames left (Some PeerLimitUnder512) = (o : OpenFields) × NextOpen limit left o × (has_open frames ≡ false) × (o.max_frame_size < 512)
-Stops limit frames left (Some (Connection OutOfOrder)) = (o : OpenFields) × NextOpen limit left o × (has_open frames ≡ true)
+Stops limit frames left (Some PeerLimitUnder512) = (o : OpenFields) × Next limit left (Open o) × (has_open frames ≡ false) × (o.max_frame_size < 512)
+Stops limit frames left (Some (Connection OutOfOrder)) = (o : OpenFields) × Next limit left (Open o) × (has_open frames ≡ true)
+Stops limit frames left (Some (Connection e)) = (body : FrameBody) × Next limit left body × (session_refusal body ≡ Some e)
 Stops limit frames left (Some e) = ⊥
 
 -- behind the header the bytes fed are these frames, each once and in order, and then what is left
@@ -122,6 +128,7 @@ pub record Framed (limit : ℕ) (σ : Summary) : Type 0 where
   pub told : σ.events ≡ events_of frames
   pub closes : CloseIsLast frames
   pub once : OpenIsOnce frames
+  pub known : NoneOfSessions frames
   pub well : has_close frames ≡ true → σ.fault ≡ None
   pub stops : Stops limit frames left σ.fault
 

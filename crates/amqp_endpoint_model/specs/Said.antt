@@ -1,6 +1,6 @@
 -- What calls answer, as plain data.
 use Rattle.std.specs.Prelude.{ℕ, Bool, List, Option, Some, None, Ok, Err}
-use Rattle.amqp_session_types.specs.declared.TryCloseError.{TryCloseError}
+use Rattle.amqp_session_types.specs.declared.refusals.TryCloseError.{TryCloseError}
 use Rattle.amqp_endpoint_model.specs.declared.error.EndpointError.{EndpointError}
 use Rattle.amqp_endpoint_model.specs.declared.event.Event.{Event}
 use Rattle.amqp_endpoint_model.specs.declared.answer.Answer.{Answer}

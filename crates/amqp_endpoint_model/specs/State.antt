@@ -1,6 +1,6 @@
 -- What an endpoint is to its callers.
 use Rattle.std.specs.Prelude.{ℕ, Bool, true, false, List, [], ◌∷◌, length, Option, Some, None, nat_le}
-use Rattle.amqp_session_performatives.specs.declared.definitions.Error.{Error}
+use Rattle.amqp_session_types.specs.declared.error.Error.{Error}
 use Rattle.amqp_session_frames.specs.declared.frame.Frame.{Frame}
 use Rattle.amqp_session_frames.specs.declared.frame.FrameBody.TheVariants.{Empty, Open, Close}
 use Rattle.amqp_session_frames.specs.Text.{frame_text}
@@ -55,7 +55,7 @@ written f = text_or_nothing (frame_text f)
 
 -- the own Open (part 2, 2.7.1)
 abbrev pub own_open : Settings → Frame
-own_open s = record { channel = 0; body = Open (record { container_id = s.container_id; hostname = None; max_frame_size = s.max_frame_size; channel_max = s.channel_max; idle_time_out = s.idle_time_out; outgoing_locales = []; incoming_locales = []; offered_capabilities = []; desired_capabilities = [] }) }
+own_open s = record { channel = 0; body = Open (record { container_id = s.container_id; hostname = None; max_frame_size = s.max_frame_size; channel_max = s.channel_max; idle_time_out = s.idle_time_out; outgoing_locales = []; incoming_locales = []; offered_capabilities = []; desired_capabilities = []; properties = None }) }
 
 -- the frame that keeps a connection alive (part 2, 2.4.5)
 abbrev pub heartbeat : Frame
@@ -65,9 +65,9 @@ heartbeat = record { channel = 0; body = Empty }
 abbrev pub own_close_with : Option Error → Frame
 own_close_with error = record { channel = 0; body = Close (record { error = error }) }
 
--- an error without a description (part 2, 2.8.14)
+-- an error that says its condition alone (part 2, 2.8.14)
 abbrev pub error_of : List ℕ → Error
-error_of condition = record { condition = condition; description = None }
+error_of condition = record { condition = condition; description = None; info = None }
 
 -- a frame has a text, of at most so many bytes
 abbrev pub text_fits : ℕ → Option (List ℕ) → Bool

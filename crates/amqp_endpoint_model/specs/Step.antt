@@ -1,11 +1,12 @@
 -- What each call does and answers.
 use Rattle.std.specs.Prelude.{◌≡◌, ◌≢◌, ℕ, ◌≤◌, ◌<◌, ◌^◌, ◌==◌, ◌&&◌, ◌||◌, ◌⊎◌, true, false, not, List, [], ◌∷◌, ◌++◌, length, take, drop, Option, Some, None, is_none, IsSome, if◌then◌else◌, nat_lt, nat_le, codes}
-use Rattle.amqp_session_types.specs.declared.TryCloseError.{TryCloseError}
-use Rattle.amqp_session_types.specs.declared.TryCloseError.TheVariants.{RemoteCloseNotReceived, AlreadyClosed}
-use Rattle.amqp_session_types.specs.declared.ConnectionError.TheVariants.{IllegalState as OutOfOrder}
+use Rattle.amqp_session_types.specs.declared.refusals.TryCloseError.{TryCloseError}
+use Rattle.amqp_session_types.specs.declared.refusals.TryCloseError.TheVariants.{RemoteCloseNotReceived, AlreadyClosed}
+use Rattle.amqp_session_types.specs.declared.refusals.ConnectionError.{ConnectionError}
+use Rattle.amqp_session_types.specs.declared.refusals.ConnectionError.TheVariants.{IllegalState as OutOfOrder, NotImplemented, NotFound}
 use Rattle.amqp_session_frames.specs.declared.frame.Frame.{Frame}
 use Rattle.amqp_session_frames.specs.declared.frame.FrameBody.{FrameBody}
-use Rattle.amqp_session_frames.specs.declared.frame.FrameBody.TheVariants.{Empty, Open, Close}
+use Rattle.amqp_session_frames.specs.declared.frame.FrameBody.TheVariants.{Empty, Open, Begin, Attach, Flow, Transfer, Disposition, Detach, End, Close}
 use Rattle.amqp_session_frames.specs.declared.error.Error.{Error as FrameError}
 use Rattle.amqp_session_frames.specs.declared.error.Error.TheVariants.{DecodeError, Memory as FrameMemory}
 use Rattle.amqp_session_frames.specs.Text.{FrameText, NotRead}
@@ -83,9 +84,32 @@ decode_error = codes "amqp:decode-error"
 abbrev pub not_allowed : List ℕ
 not_allowed = codes "amqp:not-allowed"
 
+abbrev pub not_found : List ℕ
+not_found = codes "amqp:not-found"
+
 abbrev pub condition_of_frame : FrameError → List ℕ
 condition_of_frame DecodeError = decode_error
 condition_of_frame e = not_allowed
+
+abbrev pub condition_of_connection : ConnectionError → List ℕ
+condition_of_connection NotFound = not_found
+condition_of_connection e = not_allowed
+
+-- There are no sessions. A begin that answers none asks for one, which is not supported (part 2, 2.7.2); any other one is on a channel that no session has (part 2, 2.5.1).
+abbrev pub begin_refusal : Option ℕ → ConnectionError
+begin_refusal None = NotImplemented
+begin_refusal (Some channel) = NotFound
+
+-- why a performative of a session is refused; no other body is refused for this
+abbrev pub session_refusal : FrameBody → Option ConnectionError
+session_refusal (Begin b) = Some (begin_refusal b.remote_channel)
+session_refusal (Attach a) = Some NotFound
+session_refusal (Flow f) = Some NotFound
+session_refusal (Transfer t payload) = Some NotFound
+session_refusal (Disposition d) = Some NotFound
+session_refusal (Detach d) = Some NotFound
+session_refusal (End e) = Some NotFound
+session_refusal body = None
 
 -- a whole frame of at most so many bytes
 pub record Admits (limit : ℕ) (bytes : List ℕ) (frame : Frame) : Type 0 where
@@ -99,6 +123,7 @@ TakesBody old (Open o) events new = (old.peer_limit ≡ None) × (512 ≤ o.max_
     × (events ≡ Opened (record { container_id = o.container_id; max_frame_size = o.max_frame_size; channel_max = o.channel_max; idle_time_out = o.idle_time_out }) ∷ [])
     × (new ≡ record old { peer_limit = Some o.max_frame_size })
 TakesBody old (Close c) events new = (events ≡ Closed (record { error = c.error }) ∷ []) × (new ≡ closed old)
+TakesBody old body events new = ⊥
 
 -- a frame is taken while the connection runs
 abbrev pub Takes : State → Frame → List Event → State → Type 0
@@ -109,11 +134,12 @@ TakesAll old [] events new = (events ≡ []) × (new ≡ old)
 TakesAll old (f ∷ fs) events new =
     (mid : State) × (first : List Event) × (others : List Event) × Takes old f first mid × TakesAll mid fs others new × (events ≡ first ++ others)
 
--- a refused frame that is read
-abbrev pub RefusesOpen : State → EndpointError → FrameBody → Type 0
-RefusesOpen s PeerLimitUnder512 (Open o) = (s.peer_limit ≡ None) × (o.max_frame_size < 512)
-RefusesOpen s (Connection OutOfOrder) (Open o) = IsSome s.peer_limit
-RefusesOpen s e body = ⊥
+-- a frame that is read and refused: an Open with a limit under 512, a second one (part 2, 2.7.1), or a performative of a session
+abbrev pub RefusesBody : State → EndpointError → FrameBody → Type 0
+RefusesBody s PeerLimitUnder512 (Open o) = (s.peer_limit ≡ None) × (o.max_frame_size < 512)
+RefusesBody s (Connection OutOfOrder) (Open o) = IsSome s.peer_limit
+RefusesBody s (Connection e) body = session_refusal body ≡ Some e
+RefusesBody s e body = ⊥
 
 -- a piece that is no frame, and why, want of memory aside
 abbrev pub NoFrame : FrameError → List ℕ → Type 0
@@ -138,8 +164,8 @@ EndsRunning mid left (Some Memory) new = new ≡ broken mid
 EndsRunning mid left (Some SizeUnder8) new = (4 ≤ length left) × (said_size left < 8) × (new ≡ faulted framing_error mid)
 EndsRunning mid left (Some SizeOverLimit) new = (4 ≤ length left) × (8 ≤ said_size left) × (mid.settings.max_frame_size < said_size left) × (new ≡ faulted framing_error mid)
 EndsRunning mid left (Some (FrameFault e)) new = (piece : List ℕ) × Front mid.settings.max_frame_size left piece × NoFrame e piece × (new ≡ faulted (condition_of_frame e) mid)
-EndsRunning mid left (Some PeerLimitUnder512) new = (piece : List ℕ) × (f : Frame) × Front mid.settings.max_frame_size left piece × FrameText piece f × RefusesOpen mid PeerLimitUnder512 f.body × (new ≡ faulted framing_error mid)
-EndsRunning mid left (Some (Connection e)) new = (piece : List ℕ) × (f : Frame) × Front mid.settings.max_frame_size left piece × FrameText piece f × RefusesOpen mid (Connection e) f.body × (new ≡ faulted not_allowed mid)
+EndsRunning mid left (Some PeerLimitUnder512) new = (piece : List ℕ) × (f : Frame) × Front mid.settings.max_frame_size left piece × FrameText piece f × RefusesBody mid PeerLimitUnder512 f.body × (new ≡ faulted framing_error mid)
+EndsRunning mid left (Some (Connection e)) new = (piece : List ℕ) × (f : Frame) × Front mid.settings.max_frame_size left piece × FrameText piece f × RefusesBody mid (Connection e) f.body × (new ≡ faulted (condition_of_connection e) mid)
 EndsRunning mid left (Some e) new = ⊥
 
 -- behind the peer's Close the rest is dropped

@@ -16,7 +16,7 @@ pub enum LinkError {
 }
 
 /// Why a call is refused, or a feed ends the connection. Each has a number.
-#[derive(Debug, Clone, Copy, PartialEq, Eq, Drop, Error)]
+#[derive(Debug, Clone, PartialEq, Eq, Drop, Error)]
 pub enum EndpointError {
     /// 1: a growth was refused.
     #[error("out of memory")]

@@ -1,4 +1,4 @@
-use amqp_session_performatives::definitions;
+use amqp_session_types::definitions;
 use serde_amqp_types::Text;
 
 /// What the peer's Open says (part 2, 2.7.1).

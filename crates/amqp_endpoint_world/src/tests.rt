@@ -1,4 +1,7 @@
 //! Frames of the standard in and out, and the answers of each call in each phase.
+mod reading;
+mod sessions;
+
 use crate::play;
 use amqp_endpoint_core::Endpoint;
 use amqp_endpoint_model::{Answer, Call, EndpointError, Event, Fed, Settings};
@@ -97,7 +100,7 @@ fn feeds(endpoint: &mut Endpoint, bytes: &[u8], events: &[u8], want: u8) -> bool
 }
 
 fn fault(fed: &Fed) -> u8 {
-    match fed.fault {
+    match &fed.fault {
         Some(error) => error.number(),
         None => 0,
     }

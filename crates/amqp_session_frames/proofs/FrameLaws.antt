@@ -3,20 +3,21 @@ use Rattle.std.proofs.Common.{◌≡◌, ℕ, ◌+◌, ◌<◌, ◌≤◌, ◌^�
 use Rattle.std.specs.Prelude.{nat_lt, if◌then◌else◌}
 use Rattle.std.specs.Int.{w16, w32, to_be_bytes, from_be_bytes}
 use Rattle.std.proofs.lemmas.Nat.{from_be_bytes-to_be_bytes_2, from_be_bytes-to_be_bytes_4}
-use Rattle.std.proofs.lemmas.List.{append_cancel_left, append-nil}
+use Rattle.std.proofs.lemmas.List.{append_cancel_left}
 use Rattle.std.proofs.lemmas.Bool.Decides.{nat_tests}
-use Rattle.serde_amqp_item.specs.Item.{Item}
-use Rattle.serde_amqp_item.specs.Wire.{IsCapped}
-use Rattle.serde_amqp_item.specs.Canon.{canon, AllWithin, ◌>>=◌}
-use Rattle.amqp_session_performatives.specs.Open.{open_item, open_taken}
-use Rattle.amqp_session_performatives.specs.Close.{close_item, close_taken}
-use Rattle.amqp_session_performatives.specs.RawFree.{one_taken}
-use Rattle.amqp_session_performatives.specs.Performatives.{IsPerformative, opens, closes, open_or_close, written_form}
+use Rattle.serde_amqp_item.specs.Wire.{Wire, IsCapped, IsStrict}
+use Rattle.serde_amqp_item.specs.Canon.{canon, AllWithin, RawKept, ◌>>=◌}
+use Rattle.serde_amqp_item.proofs.Forms.{wire_same}
+use Rattle.serde_amqp_item.proofs.Texts.{canon_wire}
+use Rattle.amqp_session_performatives.specs.Performative.{performative_item}
+use Rattle.amqp_session_performatives.specs.PerformativeLaws.{performative_decided, performative_again, performative_same}
+use Rattle.amqp_session_performatives.specs.declared.performative.Performative.{Performative}
+use Rattle.amqp_session_performatives.specs.declared.performative.Performative.TheVariants as performing
 use Rattle.amqp_session_frames.specs.Cutting.{said_size, IsSized, IsPiece, with_size}
 use Rattle.amqp_session_frames.specs.Text.{Framed, Performs, BodyText, FrameText, body_text, piece_text, sized_text, frame_text, IsWithinCaps}
 use Rattle.amqp_session_frames.specs.declared.frame.Frame.{Frame}
 use Rattle.amqp_session_frames.specs.declared.frame.FrameBody.{FrameBody}
-use Rattle.amqp_session_frames.specs.declared.frame.FrameBody.TheVariants.{Empty, Open, Close}
+use Rattle.amqp_session_frames.specs.declared.frame.FrameBody.TheVariants.{Empty, Open, Begin, Attach, Flow, Transfer, Disposition, Detach, End, Close}
 use Rattle.amqp_session_frames.proofs.CuttingLaws.{same_fronts, IsLawful}
 
 -- the layout says how long it is
@@ -59,37 +60,75 @@ framed_same bytes k j c d e e' x x' l m =
     let parts = same_fronts e e' x x' (omega (arith, l.offset, m.offset, doffs)) numbers.1 in
     record { kinds = kinds; channels = channels; extensions = parts.0; contents = parts.1 }
 
--- bytes have one front that is read, as one value
-decided : {X : Type 0} (taken : Item → Option Item) (item : X → Item) → IsPerformative taken item → (x y : X) (content r s : List ℕ) → Performs taken (item x) content r → Performs taken (item y) content s → x ≡ y
-decided taken item law x y content r s p q =
-    let same = one_taken taken taken law.free law.free p.item q.item (item x) (item y) None p.front q.front r s p.form q.form (sym p.whole ∙ q.whole) p.value_is q.value_is in
-    let values : Some (item x) ≡ Some (item y) = sym p.value_is ∙ (ap taken same.1 ∙ q.value_is) in
-    let items : item x ≡ item y = cc in
-    law.faithful x y items
-
--- no bytes are both
-apart : (u v : Item) (content r s : List ℕ) → Performs open_taken u content r → Performs close_taken v content s → ⊥
-apart u v content r s p q =
-    let same = one_taken open_taken close_taken opens.free closes.free p.item q.item u v None p.front q.front r s p.form q.form (sym p.whole ∙ q.whole) p.value_is q.value_is in
-    open_or_close p.item u v p.value_is (ap close_taken same.1 ∙ q.value_is)
+-- bytes have one front that is read as a performative, and it is one
+pub performs_same : (content r s : List ℕ) (p q : Performative) → Performs content p r → Performs content q s → (p ≡ q) × (r ≡ s)
+performs_same content r s p q f g =
+    let whole : f.front ++ r ≡ g.front ++ s = sym f.whole ∙ g.whole in
+    let split = wire_same f.item g.item None f.front g.front r s f.form g.form whole in
+    let there : Wire g.item None f.front = subst (λ (l : List ℕ). Wire g.item None l) (sym split.0) g.form in
+    let items = performative_decided f.item g.item None f.front (performative_item p) (performative_item q) f.form there f.value_is g.value_is in
+    (performative_same p q items, (same_fronts f.front g.front r s (ap length split.0) whole).1)
 
 -- a wire form has a constructor
-no_front : (taken : Item → Option Item) (u : Item) (content r : List ℕ) → Performs taken u content r → content ≡ [] → ⊥
-no_front taken u content r p e =
-    let led : p.front ≡ p.form.0 ∷ p.form.1 = p.form.2 in
-    let whole : content ≡ p.form.0 ∷ (p.form.1 ++ r) = p.whole ∙ ap (λ (f : List ℕ). f ++ r) led in
+pub no_front : (content r : List ℕ) (p : Performative) → Performs content p r → content ≡ [] → ⊥
+no_front content r p f e =
+    let led : f.front ≡ f.form.0 ∷ f.form.1 = f.form.2 in
+    let whole : content ≡ f.form.0 ∷ (f.form.1 ++ r) = f.whole ∙ ap (λ (l : List ℕ). l ++ r) led in
     absurd cc
 
+-- a performative and what stands behind it, or neither
+unfoldable pub Said : List ℕ → Option Performative → List ℕ → Type 0
+Said content None rest = (content ≡ []) × (rest ≡ [])
+Said content (Some p) rest = Performs content p rest
+
+said_same : (content : List ℕ) (o q : Option Performative) (r s : List ℕ) → Said content o r → Said content q s → (o ≡ q) × (r ≡ s)
+unfolding Said
+said_same content None None r s f g = (refl, f.1 ∙ sym g.1)
+said_same content None (Some q) r s f g = absurd (no_front content s q g f.0)
+said_same content (Some p) None r s f g = absurd (no_front content r p f g.0)
+said_same content (Some p) (Some q) r s f g =
+    let same = performs_same content r s p q f g in
+    (ap (λ (x : Performative). Some x) same.0, same.1)
+
+-- the body with this performative, and with this behind it
+unfoldable pub body_of : Option Performative → List ℕ → FrameBody
+body_of None rest = Empty
+body_of (Some (performing.Open x)) rest = Open x
+body_of (Some (performing.Begin x)) rest = Begin x
+body_of (Some (performing.Attach x)) rest = Attach x
+body_of (Some (performing.Flow x)) rest = Flow x
+body_of (Some (performing.Transfer x)) rest = Transfer x rest
+body_of (Some (performing.Disposition x)) rest = Disposition x
+body_of (Some (performing.Detach x)) rest = Detach x
+body_of (Some (performing.End x)) rest = End x
+body_of (Some (performing.Close x)) rest = Close x
+
+-- what a body is made of
+pub record Made (content : List ℕ) (body : FrameBody) : Type 0 where
+  pub performative : Option Performative
+  pub rest : List ℕ
+  pub said : Said content performative rest
+  pub made : body ≡ body_of performative rest
+
+pub made : (content : List ℕ) (body : FrameBody) → BodyText content body → Made content body
+unfolding Said body_of
+made content Empty e = record { performative = None; rest = []; said = (e, refl); made = refl }
+made content (Open x) (r, p, b) = record { performative = Some (performing.Open x); rest = r; said = p; made = refl }
+made content (Begin x) (r, p, b) = record { performative = Some (performing.Begin x); rest = r; said = p; made = refl }
+made content (Attach x) (r, p, b) = record { performative = Some (performing.Attach x); rest = r; said = p; made = refl }
+made content (Flow x) (r, p, b) = record { performative = Some (performing.Flow x); rest = r; said = p; made = refl }
+made content (Transfer x payload) (r, p, b) = record { performative = Some (performing.Transfer x); rest = r; said = p; made = ap (λ (l : List ℕ). Transfer x l) (sym b) }
+made content (Disposition x) (r, p, b) = record { performative = Some (performing.Disposition x); rest = r; said = p; made = refl }
+made content (Detach x) (r, p, b) = record { performative = Some (performing.Detach x); rest = r; said = p; made = refl }
+made content (End x) (r, p, b) = record { performative = Some (performing.End x); rest = r; said = p; made = refl }
+made content (Close x) (r, p, b) = record { performative = Some (performing.Close x); rest = r; said = p; made = refl }
+
 pub body_same : (content : List ℕ) (a b : FrameBody) → BodyText content a → BodyText content b → a ≡ b
-body_same content Empty Empty p q = refl
-body_same content Empty (Open o) p (s, q) = absurd (no_front open_taken (open_item o) content s q p)
-body_same content Empty (Close c) p (s, q) = absurd (no_front close_taken (close_item c) content s q p)
-body_same content (Open o) Empty (r, p) q = absurd (no_front open_taken (open_item o) content r p q)
-body_same content (Open o) (Open n) (r, p) (s, q) = ap Open (decided open_taken open_item opens o n content r s p q)
-body_same content (Open o) (Close c) (r, p) (s, q) = absurd (apart (open_item o) (close_item c) content r s p q)
-body_same content (Close c) Empty (r, p) q = absurd (no_front close_taken (close_item c) content r p q)
-body_same content (Close c) (Open o) (r, p) (s, q) = absurd (apart (open_item o) (close_item c) content s r q p)
-body_same content (Close c) (Close d) (r, p) (s, q) = ap Close (decided close_taken close_item closes c d content r s p q)
+body_same content a b s t =
+    let m = made content a s in
+    let n = made content b t in
+    let same = said_same content m.performative n.performative m.rest n.rest m.said n.said in
+    m.made ∙ (ap (λ (o : Option Performative). body_of o m.rest) same.0 ∙ (ap (λ (l : List ℕ). body_of n.performative l) same.1 ∙ sym n.made))
 
 -- bytes are one frame
 pub frame_same : (bytes : List ℕ) (f g : Frame) → FrameText bytes f → FrameText bytes g → f ≡ g
@@ -102,17 +141,27 @@ frame_same bytes f g s t =
 pub frames_lawful : IsLawful FrameText
 frames_lawful = record { sized = frame_sized; one = frame_same }
 
-written_value : {X : Type 0} (taken : Item → Option Item) (item : X → Item) → IsPerformative taken item → (x : X) (content : List ℕ) → AllWithin IsCapped (item x) → canon (item x) ≡ Some content → Performs taken (item x) content []
-written_value taken item law x content within e = record { item = item x; front = content; whole = sym (append-nil content); form = written_form taken item law x content within e; value_is = law.again x }
-
-written_body : (b : FrameBody) (content : List ℕ) → IsWithinCaps b → body_text b ≡ Some content → BodyText content b
-written_body Empty content within e = cc
-written_body (Open o) content within e = ([], written_value open_taken open_item opens o content within e)
-written_body (Close c) content within e = ([], written_value close_taken close_item closes c content within e)
-
 bind_some : {A B : Type 0} (o : Option A) (g : A → Option B) (y : B) → (o >>= g) ≡ Some y → (x : A) × (o ≡ Some x) × (g x ≡ Some y)
 bind_some None g y e = absurd cc
 bind_some (Some x) g y e = (x, refl, e)
+
+-- what a performative is written as is read as it
+written_performative : (p : Performative) (payload content : List ℕ) → AllWithin IsCapped (performative_item p) × RawKept IsStrict (performative_item p) → (canon (performative_item p) >>= λ text. Some (text ++ payload)) ≡ Some content → Performs content p payload
+written_performative p payload content within e =
+    let (text, is, e2) = bind_some (canon (performative_item p)) (λ text. Some (text ++ payload)) content e in
+    record { item = performative_item p; front = text; whole = cc; form = canon_wire (performative_item p) text within.0 within.1 is; value_is = performative_again p }
+
+written_body : (b : FrameBody) (content : List ℕ) → IsWithinCaps b → body_text b ≡ Some content → BodyText content b
+written_body Empty content within e = cc
+written_body (Open x) content within e = ([], written_performative (performing.Open x) [] content within e, tt)
+written_body (Begin x) content within e = ([], written_performative (performing.Begin x) [] content within e, tt)
+written_body (Attach x) content within e = ([], written_performative (performing.Attach x) [] content within e, tt)
+written_body (Flow x) content within e = ([], written_performative (performing.Flow x) [] content within e, tt)
+written_body (Transfer x payload) content within e = (payload, written_performative (performing.Transfer x) payload content within e, refl)
+written_body (Disposition x) content within e = ([], written_performative (performing.Disposition x) [] content within e, tt)
+written_body (Detach x) content within e = ([], written_performative (performing.Detach x) [] content within e, tt)
+written_body (End x) content within e = ([], written_performative (performing.End x) [] content within e, tt)
+written_body (Close x) content within e = ([], written_performative (performing.Close x) [] content within e, tt)
 
 with_size_if : (piece bytes : List ℕ) (b : Bool) → nat_lt (4 + length piece) (2 ^ 32) ≡ b → (if b then Some (with_size piece) else None) ≡ Some bytes → (4 + length piece < 2 ^ 32) × (with_size piece ≡ bytes)
 with_size_if piece bytes true t e = (grind (arith, nat_tests), cc)

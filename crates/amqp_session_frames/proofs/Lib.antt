@@ -1,7 +1,12 @@
 pub mod CuttingLaws
 pub mod FrameLaws
 pub mod ReadingLaws
-pub mod StandardFacts
 pub mod Layouts
 pub mod Bodies
 pub mod Writing
+pub mod Shorter
+pub mod Sized
+pub mod Middles
+pub mod Dividing
+pub mod Refusing
+pub mod StandardFacts

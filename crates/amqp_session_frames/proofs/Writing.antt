@@ -1,49 +1,36 @@
--- What is written of a frame is its text, and a frame that is refused has none that fits.
-use Rattle.std.proofs.Common.{◌≡◌, ℕ, ◌+◌, ◌-◌, ◌<◌, ◌≤◌, ◌^◌, ◌⊎◌, inl, inr, Bool, true, false, List, [], ◌∷◌, ◌++◌, length, Option, Some, None, refl, sym, ◌∙◌, ap, subst, arith, length-append}
+-- The text of a frame, and what has none that fits.
+use Rattle.std.proofs.Common.{◌≡◌, ℕ, ◌+◌, ◌<◌, ◌≤◌, ◌^◌, inl, Bool, true, false, List, [], ◌∷◌, ◌++◌, length, Option, Some, None, refl, sym, ◌∙◌, ap, subst, arith, length-append, append_assoc, append-nil}
 use Rattle.std.proofs.lemmas.List.Elements.{All-cons, All-nil}
-use Rattle.std.specs.Prelude.{min, nat_lt, All}
+use Rattle.std.specs.Prelude.{nat_lt, All}
 use Rattle.std.specs.Int.{w16, w32, to_be_bytes}
 use Rattle.std.proofs.lemmas.Bool.Decides.{nat_tests}
-use Rattle.serde_amqp_item.specs.Canon.{◌>>=◌}
-use Rattle.serde_amqp_ser.specs.Sizes.{HasLength, IsTooLong}
+use Rattle.serde_amqp_item.specs.Canon.{canon, ◌>>=◌}
+use Rattle.amqp_session_performatives.specs.Performative.{performative_item}
+use Rattle.amqp_session_performatives.specs.declared.performative.Performative.{Performative}
 use Rattle.amqp_session_frames.specs.Cutting.{with_size}
-use Rattle.amqp_session_frames.specs.Sizes.{HasSize, NotSized, Appends, Fits}
-use Rattle.amqp_session_frames.specs.Text.{IsWritten, IsOver, body_text, sized_text, frame_text}
-use Rattle.amqp_session_frames.specs.declared.error.Error.{Error}
-use Rattle.amqp_session_frames.specs.declared.error.Error.TheVariants.{Memory}
+use Rattle.amqp_session_frames.specs.Parts.{room, IsWritten}
+use Rattle.amqp_session_frames.specs.Sizes.{HasSize, NotSized, Appends}
+use Rattle.amqp_session_frames.specs.Text.{IsOver, performative_of, performative_text, payload_of, sized_text, frame_text}
 use Rattle.amqp_session_frames.specs.declared.frame.Frame.{Frame}
+use Rattle.amqp_session_frames.specs.declared.frame.FrameBody.{FrameBody}
+use Rattle.amqp_session_frames.specs.declared.frame.FrameBody.TheVariants.{Empty}
 
-pub has_size : (text : Option (List ℕ)) (n : ℕ) → HasLength text n → HasSize text n
-has_size None n h = absurd h
-has_size (Some bytes) n h = record { bytes = bytes; is = refl; long = h }
+-- ---- texts
 
-pub no_text : (text : Option (List ℕ)) → text ≡ None → NotSized text
-no_text text e = record { none = λ bytes is. let d : None ≡ Some bytes = sym e ∙ is in absurd cc }
+-- the piece of a frame with this performative text and this payload
+pub piece_of : ℕ → List ℕ → List ℕ → List ℕ
+piece_of channel text payload = 2 ∷ 0 ∷ (to_be_bytes w16 channel ++ (text ++ payload))
 
-long_text : (text : Option (List ℕ)) (bytes : List ℕ) → IsTooLong text → text ≡ Some bytes → 2 ^ 64 ≤ length bytes
-long_text None bytes l e = absurd l
-long_text (Some b) bytes l e = let same : b ≡ bytes = cc in subst (λ (x : List ℕ). 2 ^ 64 ≤ length x) same l
-
-pub too_long : (text : Option (List ℕ)) → IsTooLong text → NotSized text
-too_long text l = record { none = λ bytes e. long_text text bytes l e }
-
-pub appended : (text : Option (List ℕ)) (old new : List ℕ) → ((bytes : List ℕ) × (text ≡ Some bytes) × (new ≡ old ++ bytes)) → Appends text old new
-appended text old new (bytes, e, is) = record { bytes = bytes; is = e; behind = is }
-
--- the piece of a frame whose body has this text
-piece_of : (f : Frame) (bytes : List ℕ) → List ℕ
-piece_of f bytes = 2 ∷ 0 ∷ (to_be_bytes w16 f.channel ++ bytes)
-
-piece_long : (f : Frame) (bytes : List ℕ) → length (piece_of f bytes) ≡ 4 + length bytes
+piece_long : (channel : ℕ) (text payload : List ℕ) → length (piece_of channel text payload) ≡ 4 + length text + length payload
 unfolding piece_of
-piece_long f bytes = omega (arith, length-append (to_be_bytes w16 f.channel) bytes)
+piece_long channel text payload = omega (arith, length-append (to_be_bytes w16 channel) (text ++ payload), length-append text payload)
 
-frame_has : (f : Frame) (bytes : List ℕ) → body_text f.body ≡ Some bytes → frame_text f ≡ sized_text (piece_of f bytes)
+frame_has : (f : Frame) (text : List ℕ) → performative_text (performative_of f.body) ≡ Some text → frame_text f ≡ sized_text (piece_of f.channel text (payload_of f.body))
 unfolding piece_of
-frame_has f bytes e = ap (λ (o : Option (List ℕ)). (o >>= λ content. Some (2 ∷ 0 ∷ (to_be_bytes w16 f.channel ++ content))) >>= sized_text) e
+frame_has f text e = ap (λ (o : Option (List ℕ)). ((o >>= λ t. Some (t ++ payload_of f.body)) >>= λ content. Some (2 ∷ 0 ∷ (to_be_bytes w16 f.channel ++ content))) >>= sized_text) e
 
-frame_none : (f : Frame) → body_text f.body ≡ None → frame_text f ≡ None
-frame_none f e = ap (λ (o : Option (List ℕ)). (o >>= λ content. Some (2 ∷ 0 ∷ (to_be_bytes w16 f.channel ++ content))) >>= sized_text) e
+pub frame_none : (f : Frame) → performative_text (performative_of f.body) ≡ None → frame_text f ≡ None
+frame_none f e = ap (λ (o : Option (List ℕ)). ((o >>= λ t. Some (t ++ payload_of f.body)) >>= λ content. Some (2 ∷ 0 ∷ (to_be_bytes w16 f.channel ++ content))) >>= sized_text) e
 
 sized_if : (piece : List ℕ) → 4 + length piece < 2 ^ 32 → sized_text piece ≡ Some (with_size piece)
 sized_if piece lt = let b : nat_lt (4 + length piece) (2 ^ 32) ≡ true = grind (arith, nat_tests) in rw b refl
@@ -51,64 +38,91 @@ sized_if piece lt = let b : nat_lt (4 + length piece) (2 ^ 32) ≡ true = grind 
 sized_none : (piece : List ℕ) → 2 ^ 32 ≤ 4 + length piece → sized_text piece ≡ None
 sized_none piece le = let b : nat_lt (4 + length piece) (2 ^ 32) ≡ false = grind (arith, nat_tests) in rw b refl
 
-below_none : (f : Frame) (bytes : List ℕ) (most : ℕ) → body_text f.body ≡ Some bytes → 2 ^ 32 ≤ 8 + length bytes → IsOver most (frame_text f)
-below_none f bytes most e le =
-    let none : frame_text f ≡ None = frame_has f bytes e ∙ sized_none (piece_of f bytes) (omega (arith, piece_long f bytes, le)) in
+pub sized_long : (piece : List ℕ) → length (with_size piece) ≡ 4 + length piece
+sized_long piece = omega (arith, length-append (to_be_bytes w32 (4 + length piece)) piece)
+
+below_none : (f : Frame) (text : List ℕ) (most : ℕ) → performative_text (performative_of f.body) ≡ Some text → 2 ^ 32 ≤ 8 + length text + length (payload_of f.body) → IsOver most (frame_text f)
+below_none f text most e le =
+    let none : frame_text f ≡ None = frame_has f text e ∙ sized_none (piece_of f.channel text (payload_of f.body)) (omega (arith, piece_long f.channel text (payload_of f.body), le)) in
     subst (λ (o : Option (List ℕ)). IsOver most o) (sym none) tt
 
-over_if : (f : Frame) (bytes : List ℕ) (most : ℕ) → body_text f.body ≡ Some bytes → 8 + length bytes < 2 ^ 32 → most < 8 + length bytes → IsOver most (frame_text f)
-over_if f bytes most e lt over =
-    let is : frame_text f ≡ Some (with_size (piece_of f bytes)) = frame_has f bytes e ∙ sized_if (piece_of f bytes) (omega (arith, piece_long f bytes, lt)) in
-    subst (λ (o : Option (List ℕ)). IsOver most o) (sym is) (omega (arith, over, piece_long f bytes, length-append (to_be_bytes w32 (4 + length (piece_of f bytes))) (piece_of f bytes)))
+over_if : (f : Frame) (text : List ℕ) (most : ℕ) → performative_text (performative_of f.body) ≡ Some text → 8 + length text + length (payload_of f.body) < 2 ^ 32 → most < 8 + length text + length (payload_of f.body) → IsOver most (frame_text f)
+over_if f text most e lt over =
+    let piece : List ℕ = piece_of f.channel text (payload_of f.body) in
+    let long = piece_long f.channel text (payload_of f.body) in
+    let is : frame_text f ≡ Some (with_size (piece_of f.channel text (payload_of f.body))) = frame_has f text e ∙ sized_if (piece_of f.channel text (payload_of f.body)) (omega (arith, long, lt)) in
+    subst (λ (o : Option (List ℕ)). IsOver most o) (sym is) (omega (arith, over, long, sized_long (piece_of f.channel text (payload_of f.body))))
 
-by_size : (f : Frame) (bytes : List ℕ) (most : ℕ) → body_text f.body ≡ Some bytes → most < 8 + length bytes → (b : Bool) → nat_lt (8 + length bytes) (2 ^ 32) ≡ b → IsOver most (frame_text f)
-by_size f bytes most e over true t = over_if f bytes most e (grind (arith, nat_tests)) over
-by_size f bytes most e over false t = below_none f bytes most e (grind (arith, nat_tests))
+by_size : (f : Frame) (text : List ℕ) (most : ℕ) → performative_text (performative_of f.body) ≡ Some text → most < 8 + length text + length (payload_of f.body) → (b : Bool) → nat_lt (8 + length text + length (payload_of f.body)) (2 ^ 32) ≡ b → IsOver most (frame_text f)
+by_size f text most e over true t = over_if f text most e (grind (arith, nat_tests)) over
+by_size f text most e over false t = below_none f text most e (grind (arith, nat_tests))
 
-by_room : (f : Frame) (bytes : List ℕ) (limit : ℕ) → body_text f.body ≡ Some bytes → min limit (2 ^ 32 - 5) < 4 + length bytes → IsOver (limit + 4) (frame_text f)
-by_room f bytes limit e lt = by_limit f bytes limit e lt (nat_lt limit (4 + length bytes)) refl
+-- a frame that has no room
+pub over_room : (f : Frame) (text : List ℕ) (limit : ℕ) → performative_text (performative_of f.body) ≡ Some text → room limit < 4 + length text + length (payload_of f.body) → IsOver (limit + 4) (frame_text f)
+over_room f text limit e lt = by (nat_lt limit (4 + length text + length (payload_of f.body))) refl
   where
-    by_limit : (f : Frame) (bytes : List ℕ) (limit : ℕ) → body_text f.body ≡ Some bytes → min limit (2 ^ 32 - 5) < 4 + length bytes → (b : Bool) → nat_lt limit (4 + length bytes) ≡ b → IsOver (limit + 4) (frame_text f)
-    by_limit f bytes limit e lt true t = by_size f bytes (limit + 4) e (grind (arith, nat_tests)) (nat_lt (8 + length bytes) (2 ^ 32)) refl
-    by_limit f bytes limit e lt false t = let le : 4 + length bytes ≤ limit = grind (arith, nat_tests) in below_none f bytes (limit + 4) e (omega (arith, lt, le))
+    by : (b : Bool) → nat_lt limit (4 + length text + length (payload_of f.body)) ≡ b → IsOver (limit + 4) (frame_text f)
+    by true t = by_size f text (limit + 4) e (grind (arith, nat_tests)) (nat_lt (8 + length text + length (payload_of f.body)) (2 ^ 32)) refl
+    by false t = let le : 4 + length text + length (payload_of f.body) ≤ limit = grind (arith, nat_tests) in below_none f text (limit + 4) e (omega (arith, lt, le))
 
--- a body that does not fit
-pub over : (f : Frame) (size limit : ℕ) → 4 ≤ limit → HasSize (body_text f.body) size → min limit (2 ^ 32 - 5) - 4 < size → IsOver (limit + 4) (frame_text f)
-over f size limit least h lt = by_room f h.bytes limit h.is (omega (arith, h.long, lt, least))
-
--- a body without a text, or with one that no number of a usize says
-none_by : (f : Frame) (most : ℕ) → NotSized (body_text f.body) → (o : Option (List ℕ)) → body_text f.body ≡ o → IsOver most (frame_text f)
+-- a frame without a text, or with one that is longer than any number of a usize
+none_by : (f : Frame) (most : ℕ) → NotSized (performative_text (performative_of f.body)) → (o : Option (List ℕ)) → performative_text (performative_of f.body) ≡ o → IsOver most (frame_text f)
 none_by f most n None e = subst (λ (o : Option (List ℕ)). IsOver most o) (sym (frame_none f e)) tt
-none_by f most n (Some bytes) e = below_none f bytes most e (omega (arith, n.none bytes e))
+none_by f most n (Some text) e = below_none f text most e (omega (arith, n.none text e))
 
-pub not_sized : (f : Frame) (most : ℕ) → NotSized (body_text f.body) → IsOver most (frame_text f)
-not_sized f most n = none_by f most n (body_text f.body) refl
+pub over_sized : (f : Frame) (most : ℕ) → NotSized (performative_text (performative_of f.body)) → IsOver most (frame_text f)
+over_sized f most n = none_by f most n (performative_text (performative_of f.body)) refl
 
--- a body that fits
-pub fits : (f : Frame) (size limit : ℕ) → 4 ≤ limit → HasSize (body_text f.body) size → size ≤ min limit (2 ^ 32 - 5) - 4 → Fits limit f size
-fits f size limit least h le = record { has = h; within = omega (arith, le, least); sayable = omega (arith, le, least) }
+-- a frame that has room
+text_is : (limit : ℕ) (f : Frame) (text : List ℕ) → performative_text (performative_of f.body) ≡ Some text → 4 + length text + length (payload_of f.body) ≤ room limit → frame_text f ≡ Some (with_size (piece_of f.channel text (payload_of f.body)))
+text_is limit f text e le = frame_has f text e ∙ sized_if (piece_of f.channel text (payload_of f.body)) (omega (arith, piece_long f.channel text (payload_of f.body), le))
 
--- where there is a text memory alone may be wanting
-pub only_memory : (text : Option (List ℕ)) (size : ℕ) (e : Error) → HasSize text size → (e ≡ Memory) ⊎ (text ≡ None) → e ≡ Memory
-only_memory text size e h (inl m) = m
-only_memory text size e h (inr n) = let d : None ≡ Some h.bytes = sym n ∙ h.is in absurd cc
+-- ---- a frame that goes in one piece
 
--- one piece
-pub one_piece : (f : Frame) (size limit : ℕ) (piece : List ℕ) → Fits limit f size → Appends (body_text f.body) (2 ∷ 0 ∷ (to_be_bytes w16 f.channel)) piece → IsWritten f (piece ∷ [])
+-- a head, and the payload
+pub head_piece : (channel : ℕ) (text head payload : List ℕ) → head ≡ (2 ∷ 0 ∷ to_be_bytes w16 channel) ++ text → head ++ payload ≡ piece_of channel text payload
 unfolding piece_of
-one_piece f size limit piece h a =
-    let same : Some h.has.bytes ≡ Some a.bytes = sym h.has.is ∙ a.is in
-    let bytes : h.has.bytes ≡ a.bytes = cc in
-    let is : piece ≡ piece_of f a.bytes = a.behind in
-    let room : 4 + length (piece_of f a.bytes) < 2 ^ 32 = omega (arith, piece_long f a.bytes, h.has.long, ap length bytes, h.sayable) in
-    let text : Some (with_size (piece_of f a.bytes)) ≡ frame_text f = sym (frame_has f a.bytes a.is ∙ sized_if (piece_of f a.bytes) room) in
-    ap (λ (p : List ℕ). Some (with_size p) ∷ []) is ∙ ap (λ (o : Option (List ℕ)). o ∷ []) text
+head_piece channel text head payload e =
+    ap (λ (h : List ℕ). h ++ payload) e ∙ append_assoc (2 ∷ 0 ∷ to_be_bytes w16 channel) text payload
 
-pub piece_within : (f : Frame) (size limit : ℕ) (piece : List ℕ) → Fits limit f size → Appends (body_text f.body) (2 ∷ 0 ∷ (to_be_bytes w16 f.channel)) piece → All (λ p. length p ≤ limit) (piece ∷ [])
-piece_within f size limit piece h a =
-    let same : Some h.has.bytes ≡ Some a.bytes = sym h.has.is ∙ a.is in
-    let bytes : h.has.bytes ≡ a.bytes = cc in
-    let le : length piece ≤ limit = omega (arith, ap length a.behind, length-append (to_be_bytes w16 f.channel) a.bytes, h.has.long, ap length bytes, h.within) in
-    All-cons (λ p. length p ≤ limit) piece [] le (All-nil (λ p. length p ≤ limit))
+pub within_limit : (limit : ℕ) (piece : List ℕ) → length piece ≤ room limit → All (λ p. length p ≤ limit) (piece ∷ [])
+within_limit limit piece le = let l : length piece ≤ limit = omega (arith, le) in All-cons (λ p. length p ≤ limit) piece [] l (All-nil (λ p. length p ≤ limit))
 
-pub ruleset writing = (has_size, no_text, too_long, appended, over, fits, not_sized, only_memory, one_piece, piece_within)
+-- what a piece says, and how long it is
+pub record IsPieceOf (limit : ℕ) (f : Frame) (piece : List ℕ) : Type 0 where
+  pub text : frame_text f ≡ Some (with_size piece)
+  pub short : length piece ≤ room limit
+
+pub piece_is : (limit : ℕ) (f : Frame) (text head : List ℕ) → performative_text (performative_of f.body) ≡ Some text → head ≡ (2 ∷ 0 ∷ to_be_bytes w16 f.channel) ++ text → 4 + length text + length (payload_of f.body) ≤ room limit → IsPieceOf limit f (head ++ payload_of f.body)
+piece_is limit f text head e h le =
+    let same = head_piece f.channel text head (payload_of f.body) h in
+    record {
+      text = text_is limit f text e le ∙ ap (λ (p : List ℕ). Some (with_size p)) (sym same);
+      short = omega (arith, ap length same, piece_long f.channel text (payload_of f.body), le);
+    }
+
+pub one_written : (limit : ℕ) (f : Frame) (piece : List ℕ) (pieces : List (List ℕ)) → IsPieceOf limit f piece → pieces ≡ piece ∷ [] → IsWritten limit f pieces
+one_written limit f piece pieces p e =
+    subst (λ (ps : List (List ℕ)). IsWritten limit f ps) (sym e) (record { parts = f ∷ []; texts = ap (λ (o : Option (List ℕ)). o ∷ []) (sym p.text); goes = inl refl })
+
+pub one_within : (limit : ℕ) (f : Frame) (piece : List ℕ) (pieces : List (List ℕ)) → IsPieceOf limit f piece → pieces ≡ piece ∷ [] → All (λ p. length p ≤ limit) pieces
+one_within limit f piece pieces p e = subst (λ (ps : List (List ℕ)). All (λ q. length q ≤ limit) ps) (sym e) (within_limit limit piece p.short)
+
+nothing : (b : FrameBody) → performative_of b ≡ None → b ≡ Empty
+nothing Empty e = refl
+nothing b e = absurd cc
+
+-- an empty frame
+pub empty_piece : (limit : ℕ) (f : Frame) (head payload piece : List ℕ) → 4 ≤ room limit → performative_of f.body ≡ None → head ≡ 2 ∷ 0 ∷ to_be_bytes w16 f.channel → payload ≡ payload_of f.body → piece ≡ head ++ payload → IsPieceOf limit f piece
+empty_piece limit f head payload piece least e h p is =
+    let none : payload_of f.body ≡ [] = ap payload_of (nothing f.body e) in
+    let one = piece_is limit f [] head (ap performative_text e) (h ∙ sym (append-nil (2 ∷ 0 ∷ to_be_bytes w16 f.channel))) (omega (arith, least, ap length none)) in
+    subst (λ (q : List ℕ). IsPieceOf limit f q) (sym (is ∙ ap (λ (l : List ℕ). head ++ l) p)) one
+
+-- a frame whose performative and payload have room
+pub room_piece : (limit : ℕ) (f : Frame) (p : Performative) (size : ℕ) (head payload piece : List ℕ) → performative_of f.body ≡ Some p → Appends (canon (performative_item p)) (2 ∷ 0 ∷ to_be_bytes w16 f.channel) head → HasSize (canon (performative_item p)) size → payload ≡ payload_of f.body → size + length payload + 4 ≤ room limit → piece ≡ head ++ payload → IsPieceOf limit f piece
+room_piece limit f p size head payload piece e a h same le is =
+    let one : Some a.bytes ≡ Some h.bytes = sym a.is ∙ h.is in
+    let texts : a.bytes ≡ h.bytes = cc in
+    let this = piece_is limit f a.bytes head (ap performative_text e ∙ a.is) a.behind (omega (arith, h.long, ap length texts, ap length same, le)) in
+    subst (λ (q : List ℕ). IsPieceOf limit f q) (sym (is ∙ ap (λ (l : List ℕ). head ++ l) same)) this

@@ -1,5 +1,5 @@
 -- Streams as pieces, each with its size in front: part 2, 2.3.1.
-use Rattle.std.specs.Prelude.{◌≡◌, ℕ, ◌+◌, ◌<◌, ◌≤◌, ◌⊎◌, List, [], ◌∷◌, ◌++◌, length, take, Option, Some, All}
+use Rattle.std.specs.Prelude.{◌≡◌, ℕ, ◌+◌, ◌<◌, ◌≤◌, ◌⊎◌, List, [], ◌∷◌, ◌++◌, length, map, take, Option, Some, All}
 use Rattle.std.specs.Int.{w32, to_be_bytes, from_be_bytes}
 use Rattle.serde_amqp_item.specs.Canon.{◌>>=◌}
 
@@ -41,6 +41,14 @@ pub record Cut (bytes header : List ℕ) (pieces : List (List ℕ)) (rest : List
   pub eight : length header ≡ 8
   pub each : All IsPiece pieces
   pub none_more : (piece more : List ℕ) → rest ≡ piece ++ more → IsPiece piece → ⊥
+
+-- Pieces with this head stand behind the others, with so many bytes of a payload each. The rest of the payload is left.
+pub record Cuts (head : List ℕ) (size : ℕ) (old new : List (List ℕ)) (before after : List ℕ) : Type 0 where
+  pub chunks : List (List ℕ)
+  pub pieces : new ≡ old ++ map (λ c. head ++ c) chunks
+  pub full : All (λ c. length c ≡ size) chunks
+  pub payload : before ≡ joined chunks ++ after
+  pub some : 0 < length before → 0 < length after
 
 -- a piece with its size in front
 abbrev pub with_size : List ℕ → List ℕ

@@ -1,5 +1,6 @@
 pub mod Cutting
 pub mod Text
+pub mod Parts
 pub mod Header
 pub mod Body
 pub mod Sizes

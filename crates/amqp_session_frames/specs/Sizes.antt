@@ -1,7 +1,20 @@
--- How long texts are.
-use Rattle.std.specs.Prelude.{◌≡◌, ◌≤◌, ◌+◌, ◌-◌, ◌^◌, ℕ, List, ◌++◌, length, Option, Some}
-use Rattle.amqp_session_frames.specs.Text.{body_text}
-use Rattle.amqp_session_frames.specs.declared.frame.Frame.{Frame}
+-- How long texts are, and what room they leave.
+use Rattle.std.specs.Prelude.{◌≡◌, ◌≤◌, ◌<◌, ◌+◌, ◌^◌, ℕ, List, [], ◌∷◌, ◌++◌, length, true, Option, Some}
+use Rattle.serde_amqp_item.specs.Canon.{canon}
+use Rattle.amqp_session_performatives.specs.Transfer.{transfer_item}
+use Rattle.amqp_session_performatives.specs.declared.transfer.Transfer.{Transfer}
+use Rattle.amqp_session_frames.specs.Parts.{room}
+use Rattle.amqp_session_frames.specs.declared.error.Error.{Error}
+use Rattle.amqp_session_frames.specs.declared.error.Error.TheVariants.{DecodeError, NotImplemented, TooLarge, Memory}
+
+-- what a transfer is written as
+unfoldable pub transfer_text : Transfer → Option (List ℕ)
+transfer_text t = canon (transfer_item t)
+
+-- there is a text
+pub record HasText (text : Option (List ℕ)) : Type 0 where
+  pub bytes : List ℕ
+  pub is : text ≡ Some bytes
 
 -- there is a text, of so many bytes
 pub record HasSize (text : Option (List ℕ)) (size : ℕ) : Type 0 where
@@ -19,8 +32,38 @@ pub record Appends (text : Option (List ℕ)) (old new : List ℕ) : Type 0 wher
   pub is : text ≡ Some bytes
   pub behind : new ≡ old ++ bytes
 
--- the frame's body has so many bytes, and the frame fits
-pub record Fits (limit : ℕ) (f : Frame) (size : ℕ) : Type 0 where
-  pub has : HasSize (body_text f.body) size
-  pub within : size + 4 ≤ limit
-  pub sayable : size ≤ 2 ^ 32 - 9
+-- one piece: the header, the text, and the payload
+pub record IsOnePiece (text : Option (List ℕ)) (header payload : List ℕ) (pieces : List (List ℕ)) : Type 0 where
+  pub head : List ℕ
+  pub appends : Appends text header head
+  pub one : pieces ≡ (head ++ payload) ∷ []
+
+-- behind the header and the text a byte has room
+pub record HasRoom (limit : ℕ) (text : Option (List ℕ)) : Type 0 where
+  pub bytes : List ℕ
+  pub is : text ≡ Some bytes
+  pub some : 4 + length bytes < room limit
+
+-- behind them so many bytes have room, one at least, and no more
+pub record LeavesRoom (limit : ℕ) (text : Option (List ℕ)) (payload : ℕ) : Type 0 where
+  pub bytes : List ℕ
+  pub is : text ≡ Some bytes
+  pub full : 4 + length bytes + payload ≡ room limit
+  pub some : 0 < payload
+
+-- behind them no byte has room
+pub record LeavesNoRoom (limit : ℕ) (text : Option (List ℕ)) : Type 0 where
+  pub none : (bytes : List ℕ) → text ≡ Some bytes → room limit ≤ 4 + length bytes
+
+-- behind them this payload has no room
+pub record Overflows (limit : ℕ) (text : Option (List ℕ)) (payload : List ℕ) : Type 0 where
+  pub bytes : List ℕ
+  pub is : text ≡ Some bytes
+  pub over : room limit < 4 + length bytes + length payload
+
+-- why a transfer that doesn't fit can't go in parts
+abbrev pub PartsRefused : ℕ → Transfer → Error → Type 0
+PartsRefused limit t TooLarge = LeavesNoRoom limit (transfer_text (record t { more = true }))
+PartsRefused limit t Memory = Unit {0}
+PartsRefused limit t DecodeError = ⊥
+PartsRefused limit t NotImplemented = ⊥

@@ -1,14 +1,14 @@
-ghost use Rattle.std.specs.Prelude.{◌≡◌, IfErr, IfOk, MatchOption};
-ghost use Rattle.amqp_session_frames.specs.Body.{BodyRefused, NotPerformed, Performed};
+ghost use Rattle.std.specs.Prelude.{◌≡◌, IfErr, IfOk};
+ghost use Rattle.amqp_session_frames.specs.Body.{BodyRefused, Performed, PerformativeRefused};
 ghost use Rattle.amqp_session_frames.specs.Text.{BodyText, FrameText, NotRead};
-ghost use Rattle.amqp_session_frames.specs.declared.error.Error.TheVariants.{Memory};
 
 use crate::error::Error;
 use crate::frame::{Frame, FrameBody};
 use crate::header::read_header;
-use amqp_session_performatives::{Close, Open};
+use amqp_session_performatives::Performative;
 use bytes::Bytes;
-use serde_amqp_de::{Deserialize, from_slice};
+use serde_amqp_de::from_reader;
+use serde_amqp_read::SliceReader;
 use std::alloc::Global;
 
 /// Reads frames.
@@ -21,8 +21,9 @@ impl FrameDecoder {
         FrameDecoder {}
     }
 
-    /// The frame that these bytes are, with its size field (part 2, 2.3). The extended header, and what stands behind the
-    /// performative of the frame, are left unread.
+    /// The frame that these bytes are, with its size field (part 2, 2.3). The extended header is skipped. What stands
+    /// behind a transfer is its payload, which is shared with the bytes and not copied; what stands behind another
+    /// performative is left unread.
     ///
     /// `NotImplemented` where the type is not that of AMQP's frames. `DecodeError` where else the bytes are no frame.
     /// `Memory` where there is no memory.
@@ -32,41 +33,39 @@ impl FrameDecoder {
         ensures refused { IfErr result (λ e. NotRead bytes e) }
     {
         let header = read_header(bytes.as_slice())?;
-        let body = read_body(alloc, &bytes.as_slice()[header.start..])?;
+        let mut content = bytes;
+        content.advance(header.start);
         Ok(Frame {
             channel: header.channel,
-            body,
+            body: read_body(alloc, content)?,
         })
     }
 }
 
 /// The body whose bytes these are.
 #[tactic(auto, using(crate::proofs::Bodies::bodies))]
-fn read_body(alloc: Global, content: &[u8]) -> Result<FrameBody, Error>
-    ensures body { IfOk result (λ b. BodyText content.now b) }
-    ensures refused { IfErr result (λ e. BodyRefused content.now e) }
+fn read_body(alloc: Global, content: Bytes) -> Result<FrameBody, Error>
+    ensures body { IfOk result (λ b. BodyText content b) }
+    ensures refused { IfErr result (λ e. BodyRefused content e) }
 {
     if content.is_empty() {
         return Ok(FrameBody::Empty);
     }
-    if let Some(open) = read_performative::<Open>(alloc, content)? {
-        return Ok(FrameBody::Open(open));
-    }
-    if let Some(close) = read_performative::<Close>(alloc, content)? {
-        return Ok(FrameBody::Close(close));
-    }
-    Err(Error::DecodeError)
+    let (performative, read) = read_performative(alloc, content.as_slice())?;
+    let mut payload = content;
+    payload.advance(read);
+    Ok(FrameBody::of(performative, payload))
 }
 
-/// The performative that stands in front, if it is of this type.
+/// The performative that stands in front, and how many bytes it has.
 #[tactic(auto, using(crate::proofs::Bodies::bodies))]
-fn read_performative<T: Deserialize>(alloc: Global, content: &[u8]) -> Result<Option<T>, Error>
-    ensures performed { IfOk result (λ o. MatchOption o (NotPerformed T.take content.now) (λ v. Performed T.take (T.item v) content.now)) }
-    ensures memory { IfErr result (λ e. e ≡ Memory) }
+fn read_performative(alloc: Global, content: &[u8]) -> Result<(Performative, usize), Error>
+    ensures performed { IfOk result (λ p. Performed content.now p.0 p.1) }
+    ensures refused { IfErr result (λ e. PerformativeRefused content.now e) }
 {
-    match from_slice::<T>(alloc, content) {
-        Ok(performative) => Ok(Some(performative)),
+    match from_reader::<Performative, SliceReader>(alloc, SliceReader::new(content)) {
+        Ok((performative, rest)) => Ok((performative, content.len() - rest.left().len())),
         Err(serde_amqp_item::Error::Memory) => Err(Error::Memory),
-        Err(_) => Ok(None),
+        Err(_) => Err(Error::DecodeError),
     }
 }

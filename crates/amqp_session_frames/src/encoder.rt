@@ -1,16 +1,21 @@
 ghost use Rattle.std.specs.Int.{to_be_bytes, w16};
-ghost use Rattle.std.specs.Prelude.{◌∷◌, ◌+◌, ◌-◌, ◌^◌, ◌≡◌, ◌≤◌, ◌++◌, ◌⊎◌, ℕ, List, length, All, IfErr, IfOk, None, OnOk, Some};
+ghost use Rattle.std.specs.Prelude.{[], ◌∷◌, ◌+◌, ◌++◌, ◌<◌, ◌≡◌, ◌≤◌, ℕ, All, IfErr, IfOk, List, MatchOption, OnOk, length, true, false};
 ghost use Rattle.serde_amqp_item.specs.Canon.{canon};
-ghost use Rattle.amqp_session_frames.specs.Text.{IsOver, IsWritten, NotWritten, body_text, frame_text};
-ghost use Rattle.amqp_session_frames.specs.Sizes.{Appends, Fits, HasSize, NotSized};
+ghost use Rattle.amqp_session_performatives.specs.Performative.{performative_item};
+ghost use Rattle.amqp_session_performatives.specs.declared.performative.Performative.TheVariants as performing;
+ghost use Rattle.amqp_session_frames.specs.Cutting.{Cuts};
+ghost use Rattle.amqp_session_frames.specs.Parts.{Continues, HasNoPieces, IsNoTransfer, IsPiecesOf, IsWritten, NotWritten, continuation, room};
+ghost use Rattle.amqp_session_frames.specs.Sizes.{Appends, HasRoom, HasSize, IsOnePiece, HasText, LeavesNoRoom, LeavesRoom, NotSized, Overflows, PartsRefused, transfer_text};
 ghost use Rattle.amqp_session_frames.specs.declared.error.Error.TheVariants.{Memory, TooLarge};
+ghost use Rattle.amqp_session_frames.specs.declared.frame.FrameBody.TheVariants.{Empty, Transfer as TransferBody};
 
 use crate::error::Error;
-use crate::frame::{Frame, FrameBody};
+use crate::frame::Frame;
 use crate::header::AMQP_TYPE;
 use crate::piece::Piece;
+use amqp_session_performatives::{Performative, Transfer, clear_continuation_fields};
 use bytes::Bytes;
-use serde_amqp_ser::{Serialize, append_to_vec, serialized_size};
+use serde_amqp_ser::{Serialize, Serializer, serialized_size};
 use std::alloc::Global;
 use std::marker::Model;
 
@@ -50,96 +55,305 @@ impl FrameEncoder {
 
     /// The pieces of a frame, none longer than the limit: with their sizes in front they are its text (part 2, 2.3).
     ///
-    /// `TooLarge` where the frame has no text, as where one of its texts is longer than 2^32 - 1 bytes, or where it does not fit.
-    /// `Memory` where there is no memory.
-    #[tactic(auto, using(crate::proofs::Writing::writing))]
+    /// A transfer that doesn't fit goes in several frames, each but the last as long as it may be: the first says all that
+    /// it says and that more comes, those behind it the handle and whether more comes, and together they carry its payload
+    /// (part 2, 2.7.5). The payload is shared with the pieces, and not copied.
+    ///
+    /// `TooLarge` where the frame has no text, as where one of its texts is longer than 2^32 - 1 bytes, or where it does
+    /// not fit: a transfer where its performative, with `more`, leaves no room for a byte of payload. `Memory` where there
+    /// is no memory.
     pub fn encode(&self, alloc: Global, frame: Frame) -> Result<Vec<Piece>, Error>
-        ensures text { IfOk result (λ v. IsWritten frame v.items) }
+        ensures text { IfOk result (λ v. IsWritten self.now frame v.items) }
         ensures limit { IfOk result (λ v. All (λ p. length p ≤ self.now) v.items) }
         ensures refused { IfErr result (λ e. NotWritten self.now frame e) }
     {
-        let size = self.measure(&frame)?;
-        let mut pieces = Vec::with_capacity(alloc, 1)?;
-        pieces.push_reserved(write_piece(alloc, &frame, size)?);
+        let Frame { channel, body } = frame;
+        let (performative, payload) = body.into_parts();
+        match performative {
+            None => self.encode_empty(alloc, channel),
+            Some(performative) => self.encode_performative(alloc, channel, performative, payload),
+        }
+    }
+
+    /// The piece of a frame without a performative.
+    fn encode_empty(&self, alloc: Global, channel: u16) -> Result<Vec<Piece>, Error>
+        ensures text { IfOk result (λ v. IsWritten self.now (record { channel = channel; body = Empty }) v.items) }
+        ensures limit { IfOk result (λ v. All (λ p. length p ≤ self.now) v.items) }
+        ensures memory { IfErr result (λ e. e ≡ Memory) }
+    {
+        // the limit is four at least, which are the bytes of this frame
+        let _ = &self.limit;
+        let head = empty_head(alloc, channel)?;
+        one_piece(alloc, Piece::new(head, Bytes::new()))
+    }
+
+    /// The pieces of a frame with this performative, and this payload behind it.
+    fn encode_performative(
+        &self,
+        alloc: Global,
+        channel: u16,
+        performative: Performative,
+        payload: Bytes,
+    ) -> Result<Vec<Piece>, Error>
+        ensures text { IfOk result (λ v. IsPiecesOf self.now channel performative payload v.items) }
+        ensures limit { IfOk result (λ v. All (λ p. length p ≤ self.now) v.items) }
+        ensures refused { IfErr result (λ e. HasNoPieces self.now channel performative payload e) }
+    {
+        let room = self.body_room();
+        let size = size_of(&performative)?;
+        if fits(room, size, payload.len()) {
+            return write_whole(alloc, channel, &performative, size, payload);
+        }
+        match into_transfer(performative) {
+            Some(transfer) => self.encode_parts(alloc, channel, transfer, payload),
+            None => Err(Error::TooLarge),
+        }
+    }
+
+    /// The pieces of a transfer that doesn't fit.
+    fn encode_parts(
+        &self,
+        alloc: Global,
+        channel: u16,
+        transfer: Transfer,
+        payload: Bytes,
+    ) -> Result<Vec<Piece>, Error>
+        requires { Overflows self.now (transfer_text transfer) payload }
+        ensures text { IfOk result (λ v. IsWritten self.now (record { channel = channel; body = TransferBody transfer payload }) v.items) }
+        ensures limit { IfOk result (λ v. All (λ p. length p ≤ self.now) v.items) }
+        ensures refused { IfErr result (λ e. PartsRefused self.now transfer e) }
+    {
+        let more = transfer.more;
+        let mut transfer = transfer;
+        let mut payload = payload;
+        say_more(&mut transfer, true);
+        let room = self.payload_room(&transfer)?;
+        let head = write_transfer(alloc, channel, &transfer, self.body_room() - room)?;
+        let first = payload.split_to(room)?;
+        let mut pieces = one_piece(alloc, Piece::new(head, first))?;
+        continue_transfer(&mut transfer);
+        self.push_others(alloc, channel, transfer, more, payload, &mut pieces)?;
         Ok(pieces)
     }
 
-    /// How many bytes the body of the frame is written as, if the frame fits.
-    #[tactic(auto, using(crate::proofs::Writing::writing))]
-    fn measure(&self, frame: &Frame) -> Result<usize, Error>
-        ensures size { IfOk result (λ n. Fits self.now frame.now n) }
-        ensures refused { IfErr result (λ e. (e ≡ TooLarge) × IsOver (self.now + 4) (frame_text frame.now)) }
+    /// The pieces behind the first one, which carry the rest of the payload. The transfer says what continuations say, and
+    /// that more comes; the last one says whether more comes behind it.
+    fn push_others(
+        &self,
+        alloc: Global,
+        channel: u16,
+        transfer: Transfer,
+        more: bool,
+        payload: Bytes,
+        pieces: &mut Vec<Piece>,
+    ) -> Result<(), Error>
+        requires continues { continuation transfer ≡ transfer }
+        requires more { transfer.more ≡ true }
+        requires room { HasRoom self.now (transfer_text transfer) }
+        requires payload { 0 < length payload }
+        ensures ok { OnOk result (Continues self.now channel transfer more payload pieces.old.items pieces.new.items) }
+        ensures memory { IfErr result (λ e. e ≡ Memory) }
     {
-        let size = body_size(&frame.body)?;
-        if size > self.limit.min(MOST) - HEADER_SIZE {
-            return Err(Error::TooLarge);
+        let mut transfer = transfer;
+        let mut payload = payload;
+        let room = self.payload_room(&transfer)?;
+        let size = self.body_room() - room;
+        let head = write_transfer(alloc, channel, &transfer, size)?;
+        push_middles(pieces, &head, &mut payload, room)?;
+        say_more(&mut transfer, more);
+        let last = write_transfer(alloc, channel, &transfer, size)?;
+        pieces.push(Piece::new(last, payload))?;
+        Ok(())
+    }
+
+    /// The most bytes that a piece may have behind its header.
+    fn body_room(&self) -> usize
+        ensures { result + 4 ≡ room self.now }
+    {
+        self.limit.min(MOST) - HEADER_SIZE
+    }
+
+    /// How many bytes of payload have room behind this transfer: as many as there is room for, one at least.
+    #[tactic(auto, using(crate::proofs::Dividing::leaving))]
+    fn payload_room(&self, transfer: &Transfer) -> Result<usize, Error>
+        ensures room { IfOk result (λ n. LeavesRoom self.now (transfer_text transfer.now) n) }
+        ensures refused { IfErr result (λ e. (e ≡ TooLarge) × LeavesNoRoom self.now (transfer_text transfer.now)) }
+    {
+        let room = self.body_room();
+        let size = transfer_size(transfer)?;
+        if fits(room, size, 1) {
+            return Ok(room - size);
         }
-        Ok(size)
+        Err(Error::TooLarge)
     }
 }
 
-/// The one piece of the frame, whose body is written as so many bytes.
-#[tactic(auto, using(crate::proofs::Writing::writing))]
-fn write_piece(alloc: Global, frame: &Frame, size: usize) -> Result<Piece, Error>
-    requires size { HasSize (body_text frame.now.body) size }
-    requires room { size ≤ 2 ^ 32 - 9 }
-    ensures piece { IfOk result (λ p. Appends (body_text frame.now.body) (2 ∷ 0 ∷ to_be_bytes w16 frame.now.channel) p) }
+/// The transfer, if the performative is one.
+fn into_transfer(performative: Performative) -> Option<Transfer>
+    ensures { MatchOption result (IsNoTransfer performative) (λ t. performative ≡ performing.Transfer t) }
+{
+    match performative {
+        Performative::Transfer(transfer) => Some(transfer),
+        Performative::Open(_open) => None,
+        Performative::Begin(_begin) => None,
+        Performative::Attach(_attach) => None,
+        Performative::Flow(_flow) => None,
+        Performative::Disposition(_disposition) => None,
+        Performative::Detach(_detach) => None,
+        Performative::End(_end) => None,
+        Performative::Close(_close) => None,
+    }
+}
+
+/// Whether a performative of so many bytes, with so many bytes of payload behind it, has this room.
+fn fits(room: usize, size: usize, payload: usize) -> bool
+    ensures yes { result ≡ true → size + payload ≤ room }
+    ensures no { result ≡ false → room < size + payload }
+{
+    match room.checked_sub(size) {
+        Some(left) => payload <= left,
+        None => false,
+    }
+}
+
+/// How many bytes the transfer is written as.
+#[tactic(auto, unfolding(crate::specs::Sizes::transfer_text))]
+fn transfer_size(transfer: &Transfer) -> Result<usize, Error>
+    ensures size { IfOk result (λ n. HasSize (transfer_text transfer.now) n) }
+    ensures refused { IfErr result (λ e. (e ≡ TooLarge) × NotSized (transfer_text transfer.now)) }
+{
+    size_of(transfer)
+}
+
+/// The bytes of a frame with this transfer up to its payload, without its size field. Room for so many bytes of the
+/// transfer, which has a text, is taken at once.
+#[tactic(auto, unfolding(crate::specs::Sizes::transfer_text))]
+fn write_transfer(
+    alloc: Global,
+    channel: u16,
+    transfer: &Transfer,
+    size: usize,
+) -> Result<Bytes, Error>
+    requires { HasText (transfer_text transfer.now) }
+    ensures ok { IfOk result (λ h. Appends (transfer_text transfer.now) (2 ∷ 0 ∷ to_be_bytes w16 channel) h) }
     ensures memory { IfErr result (λ e. e ≡ Memory) }
 {
-    let mut head = Vec::with_capacity(alloc, HEADER_SIZE + size)?;
-    head.extend_from_slice(&[DATA_OFFSET, AMQP_TYPE])?;
-    head.extend_from_slice(&frame.channel.to_be_bytes())?;
-    append_body(alloc, &frame.body, &mut head)?;
-    Ok(Piece::new(Bytes::from_vec(head)?, Bytes::new()))
+    write_head(alloc, channel, transfer, size)
 }
 
-/// How many bytes the body is written as.
-#[tactic(auto, using(crate::proofs::Writing::writing))]
-fn body_size(body: &FrameBody) -> Result<usize, Error>
-    ensures size { IfOk result (λ n. HasSize (body_text body.now) n) }
-    ensures refused { IfErr result (λ e. (e ≡ TooLarge) × NotSized (body_text body.now)) }
+/// Says whether more of the delivery comes (part 2, 2.7.5).
+fn say_more(transfer: &mut Transfer, more: bool)
+    ensures { transfer.new ≡ record transfer.old { more = more } }
 {
-    match body {
-        FrameBody::Empty => Ok(0),
-        FrameBody::Open(open) => size_of(open),
-        FrameBody::Close(close) => size_of(close),
+    transfer.more = more;
+}
+
+/// Leaves what continuations of a transfer say: the handle, and whether more comes (part 2, 2.7.5).
+fn continue_transfer(transfer: &mut Transfer)
+    ensures { transfer.new ≡ continuation transfer.old }
+{
+    clear_continuation_fields(transfer);
+    transfer.aborted = false;
+    transfer.batchable = false;
+}
+
+/// Pieces that begin with these bytes and carry so many bytes of the payload each, while more than that is left.
+#[tactic(auto, using(crate::proofs::Middles::middles))]
+fn push_middles(
+    pieces: &mut Vec<Piece>,
+    head: &Bytes,
+    payload: &mut Bytes,
+    room: usize,
+) -> Result<(), Error>
+    requires { 0 < room }
+    ensures pieces { OnOk result (Cuts head.now room pieces.old.items pieces.new.items payload.old payload.new) }
+    ensures left { OnOk result (length payload.new ≤ room) }
+    ensures memory { IfErr result (λ e. e ≡ Memory) }
+{
+    while payload.len() > room {
+        let front = payload.split_to(room)?;
+        pieces.push(Piece::new(head.clone()?, front))?;
     }
+    Ok(())
+}
+
+/// A list of this piece alone.
+fn one_piece(alloc: Global, piece: Piece) -> Result<Vec<Piece>, Error>
+    ensures ok { IfOk result (λ v. v.items ≡ piece ∷ []) }
+    ensures memory { IfErr result (λ e. e ≡ Memory) }
+{
+    let mut pieces = Vec::with_capacity(alloc, 1)?;
+    pieces.push_reserved(piece);
+    Ok(pieces)
+}
+
+/// The piece of a frame with this performative, of so many bytes, and with this payload behind it.
+fn write_whole(
+    alloc: Global,
+    channel: u16,
+    performative: &Performative,
+    size: usize,
+    payload: Bytes,
+) -> Result<Vec<Piece>, Error>
+    requires { HasText (canon (performative_item performative.now)) }
+    ensures ok { IfOk result (λ v. IsOnePiece (canon (performative_item performative.now)) (2 ∷ 0 ∷ to_be_bytes w16 channel) payload v.items) }
+    ensures memory { IfErr result (λ e. e ≡ Memory) }
+{
+    let head = write_head(alloc, channel, performative, size)?;
+    one_piece(alloc, Piece::new(head, payload))
+}
+
+/// The bytes of a frame without a body, without its size field.
+fn empty_head(alloc: Global, channel: u16) -> Result<Bytes, Error>
+    ensures ok { IfOk result (λ h. h ≡ 2 ∷ 0 ∷ to_be_bytes w16 channel) }
+    ensures memory { IfErr result (λ e. e ≡ Memory) }
+{
+    let mut head = Vec::with_capacity(alloc, HEADER_SIZE)?;
+    push_header(&mut head, channel)?;
+    Ok(Bytes::from_vec(head)?)
+}
+
+/// The bytes of a frame up to its payload, without its size field. Room for so many bytes of the performative, which has a
+/// text, is taken at once.
+#[tactic(auto, using(crate::proofs::Sized::sizing))]
+fn write_head<T: Serialize>(
+    alloc: Global,
+    channel: u16,
+    performative: &T,
+    size: usize,
+) -> Result<Bytes, Error>
+    requires { HasText (canon (T.item performative.now)) }
+    ensures ok { IfOk result (λ h. Appends (canon (T.item performative.now)) (2 ∷ 0 ∷ to_be_bytes w16 channel) h) }
+    ensures memory { IfErr result (λ e. e ≡ Memory) }
+{
+    let mut head = Vec::with_capacity(alloc, HEADER_SIZE.saturating_add(size))?;
+    push_header(&mut head, channel)?;
+    let mut serializer = Serializer::new(head);
+    match performative.serialize(&mut serializer) {
+        Ok(()) => Ok(Bytes::from_vec(serializer.into_inner())?),
+        Err(serde_amqp_item::Error::Memory) => Err(Error::Memory),
+        Err(_) => Err(Error::TooLarge),
+    }
+}
+
+/// The header of a frame on the channel, without its size field (part 2, 2.3.1).
+fn push_header(head: &mut Vec<u8>, channel: u16) -> Result<(), Error>
+    ensures ok { OnOk result (head.new.items ≡ head.old.items ++ (2 ∷ 0 ∷ to_be_bytes w16 channel)) }
+    ensures memory { IfErr result (λ e. e ≡ Memory) }
+{
+    head.extend_from_slice(&[DATA_OFFSET, AMQP_TYPE])?;
+    head.extend_from_slice(&channel.to_be_bytes())?;
+    Ok(())
 }
 
 /// How many bytes the performative is written as.
-#[tactic(auto, using(crate::proofs::Writing::writing))]
+#[tactic(auto, using(crate::proofs::Sized::sizing))]
 fn size_of<T: Serialize>(performative: &T) -> Result<usize, Error>
     ensures size { IfOk result (λ n. HasSize (canon (T.item performative.now)) n) }
     ensures refused { IfErr result (λ e. (e ≡ TooLarge) × NotSized (canon (T.item performative.now))) }
 {
     match serialized_size(performative) {
         Ok(size) => Ok(size),
-        Err(_) => Err(Error::TooLarge),
-    }
-}
-
-/// Writes the body behind the bytes that are there.
-#[tactic(auto, using(crate::proofs::Writing::writing))]
-fn append_body(alloc: Global, body: &FrameBody, bytes: &mut Vec<u8>) -> Result<(), Error>
-    ensures ok { OnOk result (Appends (body_text body.now) bytes.old.items bytes.new.items) }
-    ensures refused { IfErr result (λ e. (e ≡ Memory) ⊎ (body_text body.now ≡ None)) }
-{
-    match body {
-        FrameBody::Empty => Ok(()),
-        FrameBody::Open(open) => append(alloc, open, bytes),
-        FrameBody::Close(close) => append(alloc, close, bytes),
-    }
-}
-
-/// Writes the performative behind the bytes that are there.
-#[tactic(auto, using(crate::proofs::Writing::writing))]
-fn append<T: Serialize>(alloc: Global, performative: &T, bytes: &mut Vec<u8>) -> Result<(), Error>
-    ensures ok { OnOk result (Appends (canon (T.item performative.now)) bytes.old.items bytes.new.items) }
-    ensures refused { IfErr result (λ e. (e ≡ Memory) ⊎ (canon (T.item performative.now) ≡ None)) }
-{
-    match append_to_vec(alloc, performative, bytes) {
-        Ok(()) => Ok(()),
-        Err(serde_amqp_item::Error::Memory) => Err(Error::Memory),
         Err(_) => Err(Error::TooLarge),
     }
 }

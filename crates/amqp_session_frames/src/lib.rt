@@ -1,7 +1,13 @@
 //! Frames of AMQP 1.0 and their bytes (part 2, 2.3).
 //!
-//! `FrameEncoder` writes a frame, `FrameDecoder` reads one. Which bytes are a frame, and which frame they are, says
-//! `FrameText` in specs/Text.antt.
+//! A [`Frame`] has a channel and a [`FrameBody`]: one of the nine performatives, a transfer with its payload, or nothing.
+//! [`FrameDecoder`] reads a frame of its bytes. [`FrameEncoder`] writes a frame as [`Piece`]s, which are its bytes without
+//! the size field; a transfer that is too long for one frame goes in several. Payloads are shared with the bytes that they
+//! came in, and with the pieces that they go in.
+//!
+//! Which bytes are a frame, and which frame they are, says `FrameText` in specs/Text.antt; what a frame is written as,
+//! `frame_text` there; in which frames a transfer goes, `Carries` in specs/Parts.antt. That bytes are at most one frame, that
+//! a frame that was written is read back, and that a stream is read in one way, are laws: see [`laws`].
 #![tactic(auto)]
 
 mod decoder;
@@ -11,8 +17,6 @@ mod frame;
 mod header;
 pub mod laws;
 mod piece;
-#[cfg(test)]
-mod tests;
 
 pub use decoder::FrameDecoder;
 pub use encoder::FrameEncoder;

@@ -1,1 +1,3 @@
+pub mod Clones
+pub mod Reading
 pub mod Within

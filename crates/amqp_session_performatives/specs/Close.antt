@@ -3,7 +3,7 @@ use Rattle.std.specs.Prelude.{ℕ, List, [], ◌∷◌, Option}
 use Rattle.serde_amqp_item.specs.Item.{Item}
 use Rattle.serde_amqp_item.specs.Record.{option_item, record_item}
 use Rattle.serde_amqp_de.specs.Takes.{option_taken, record_taken}
-use Rattle.amqp_session_performatives.specs.Error.{error_item, error_taken}
+use Rattle.amqp_session_types.specs.Error.{error_item, error_taken}
 use Rattle.amqp_session_performatives.specs.declared.close.Close.{Close}
 
 -- amqp:close:list

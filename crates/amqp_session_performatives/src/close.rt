@@ -1,29 +1,48 @@
-ghost use Rattle.std.specs.Prelude.{refl};
-ghost use Rattle.amqp_session_performatives.specs.Again.{close_again};
+ghost use Rattle.std.specs.Prelude.{◌≡◌, refl};
 ghost use Rattle.amqp_session_performatives.specs.Close.{close_item, close_taken};
-ghost use Rattle.amqp_session_performatives.specs.Faithful.{close_same};
-ghost use Rattle.amqp_session_performatives.specs.Performatives.{close_decided};
+ghost use Rattle.amqp_session_performatives.specs.CloseLaws.{close_decided, close_again, close_same};
 
-use crate::definitions::Error;
+use crate::composite::Composite;
+use amqp_session_types::definitions::Error;
 use serde_amqp_de::{Deserialize, Deserializer, Faithful, NeverNull, Read, RoundTrip, read_record};
 use serde_amqp_ser::{Serialize, Serializer, Sink, serialize_record};
-use std::alloc::Global;
+use std::alloc::{AllocError, Global};
 
 /// Ends a connection (part 2, 2.7.9).
-#[derive(Debug, Clone, Drop)]
+#[derive(Debug, PartialEq, Drop)]
 pub struct Close {
     /// Why the connection is closed, where it is closed for an error.
     pub error: Option<Error>,
 }
 
 /// The descriptor's code.
-const CODE: u64 = 0x18;
+pub(crate) const CODE: u64 = 0x18;
 
 /// The descriptor's name.
-const NAME: &[u8] = b"amqp:close:list";
+pub(crate) const NAME: &[u8] = b"amqp:close:list";
 
-/// The fields in their order.
-type Fields = (Option<Error>, ());
+impl Clone for Close {
+    ghost is_clone = { λ x y. y ≡ x };
+
+    fn clone(&self) -> Result<Self, AllocError> {
+        Ok(Close {
+            error: self.error.clone()?,
+        })
+    }
+}
+
+impl Composite for Close {
+    type Row = (Option<Error>, ());
+
+    ghost item = { close_item };
+
+    ghost code = { 0x18 };
+
+    fn from_row(row: Self::Row) -> Close {
+        let row_pattern![error] = row;
+        Close { error }
+    }
+}
 
 impl Serialize for Close {
     ghost item = { close_item };
@@ -33,7 +52,7 @@ impl Serialize for Close {
     }
 
     fn serialize<W: Sink>(&self, s: &mut Serializer<W>) -> Result<(), serde_amqp_item::Error> {
-        serialize_record(s, CODE, &(&self.error, ()))
+        serialize_record(s, CODE, &row![&self.error])
     }
 }
 
@@ -51,8 +70,8 @@ impl Deserialize for Close {
         alloc: Global,
         de: &mut Deserializer<R>,
     ) -> Result<Close, serde_amqp_item::Error> {
-        let (error, ()) = read_record::<Fields, R>(alloc, de, CODE, NAME)?;
-        Ok(Close { error })
+        let row = read_record::<<Close as Composite>::Row, R>(alloc, de, CODE, NAME)?;
+        Ok(Close::from_row(row))
     }
 
     ghost decided = { close_decided };

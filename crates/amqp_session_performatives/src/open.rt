@@ -1,22 +1,22 @@
-ghost use Rattle.std.specs.Prelude.{refl};
-ghost use Rattle.amqp_session_performatives.specs.Again.{open_again};
-ghost use Rattle.amqp_session_performatives.specs.Faithful.{open_same};
+ghost use Rattle.std.specs.Prelude.{◌≡◌, IfOk, refl};
 ghost use Rattle.amqp_session_performatives.specs.Open.{open_item, open_taken};
-ghost use Rattle.amqp_session_performatives.specs.Performatives.{open_decided};
+ghost use Rattle.amqp_session_performatives.specs.OpenLaws.{open_decided, open_again, open_same};
 
+use crate::composite::Composite;
+use amqp_session_types::Fields;
 use serde_amqp_de::{Deserialize, Deserializer, Faithful, NeverNull, Read, RoundTrip, read_record};
 use serde_amqp_ser::{Serialize, Serializer, Sink, serialize_record};
 use serde_amqp_types::{Array, Multiple, Symbol, Text, UIntOr, UShortOr};
-use std::alloc::Global;
+use std::alloc::{AllocError, Global};
 
-/// Begins a connection (part 2, 2.7.1). The field properties is written as absent, and read as null alone.
-#[derive(Debug, Drop)]
+/// Begins a connection (part 2, 2.7.1).
+#[derive(Debug, PartialEq, Drop)]
 pub struct Open {
     /// The name of the container that sends it.
     pub container_id: Text,
     /// The host that the sender wants to reach.
     pub hostname: Option<Text>,
-    /// The size of the largest frame that the sender takes. 4294967295 where it is absent.
+    /// The size of the largest frame that the sender takes, in bytes. 4294967295 where it is absent.
     pub max_frame_size: u32,
     /// The highest channel that may be used. 65535 where it is absent.
     pub channel_max: u16,
@@ -30,37 +30,119 @@ pub struct Open {
     pub offered_capabilities: Array<Symbol>,
     /// What the sender may use if the receiver can do it.
     pub desired_capabilities: Array<Symbol>,
+    /// More about the connection and its container, by names.
+    pub properties: Option<Fields>,
 }
 
 /// The descriptor's code.
-const CODE: u64 = 0x10;
+pub(crate) const CODE: u64 = 0x10;
 
 /// The descriptor's name.
-const NAME: &[u8] = b"amqp:open:list";
+pub(crate) const NAME: &[u8] = b"amqp:open:list";
 
-/// The fields in their order.
-type Fields = (
-    Text,
-    (
-        Option<Text>,
+impl Clone for Open {
+    ghost is_clone = { λ x y. y ≡ x };
+
+    fn clone(&self) -> Result<Self, AllocError> {
+        let (outgoing_locales, incoming_locales) = self.clone_locales()?;
+        let (offered_capabilities, desired_capabilities) = self.clone_capabilities()?;
+        Ok(Open {
+            container_id: self.container_id.clone()?,
+            hostname: self.hostname.clone()?,
+            max_frame_size: self.max_frame_size,
+            channel_max: self.channel_max,
+            idle_time_out: self.idle_time_out,
+            outgoing_locales,
+            incoming_locales,
+            offered_capabilities,
+            desired_capabilities,
+            properties: self.properties.clone()?,
+        })
+    }
+}
+
+impl Open {
+    /// Clones of the locales.
+    #[tactic(auto, using(crate::proofs::Clones::symbols_cloned))]
+    fn clone_locales(&self) -> Result<(Array<Symbol>, Array<Symbol>), AllocError>
+        ensures { IfOk result (λ c. (c.0 ≡ self.now.outgoing_locales) × (c.1 ≡ self.now.incoming_locales)) }
+    {
+        Ok((
+            self.outgoing_locales.clone()?,
+            self.incoming_locales.clone()?,
+        ))
+    }
+
+    /// Clones of the capabilities.
+    #[tactic(auto, using(crate::proofs::Clones::symbols_cloned))]
+    fn clone_capabilities(&self) -> Result<(Array<Symbol>, Array<Symbol>), AllocError>
+        ensures { IfOk result (λ c. (c.0 ≡ self.now.offered_capabilities) × (c.1 ≡ self.now.desired_capabilities)) }
+    {
+        Ok((
+            self.offered_capabilities.clone()?,
+            self.desired_capabilities.clone()?,
+        ))
+    }
+}
+
+impl Composite for Open {
+    type Row = (
+        Text,
         (
-            UIntOr<4294967295>,
+            Option<Text>,
             (
-                UShortOr<65535>,
+                UIntOr<4294967295>,
                 (
-                    Option<u32>,
+                    UShortOr<65535>,
                     (
-                        Multiple<Array<Symbol>>,
+                        Option<u32>,
                         (
                             Multiple<Array<Symbol>>,
-                            (Multiple<Array<Symbol>>, (Multiple<Array<Symbol>>, ((), ()))),
+                            (
+                                Multiple<Array<Symbol>>,
+                                (
+                                    Multiple<Array<Symbol>>,
+                                    (Multiple<Array<Symbol>>, (Option<Fields>, ())),
+                                ),
+                            ),
                         ),
                     ),
                 ),
             ),
         ),
-    ),
-);
+    );
+
+    ghost item = { open_item };
+
+    ghost code = { 0x10 };
+
+    fn from_row(row: Self::Row) -> Open {
+        let row_pattern![
+            container_id,
+            hostname,
+            UIntOr(max_frame_size),
+            UShortOr(channel_max),
+            idle_time_out,
+            Multiple(outgoing_locales),
+            Multiple(incoming_locales),
+            Multiple(offered_capabilities),
+            Multiple(desired_capabilities),
+            properties
+        ] = row;
+        Open {
+            container_id,
+            hostname,
+            max_frame_size,
+            channel_max,
+            idle_time_out,
+            outgoing_locales,
+            incoming_locales,
+            offered_capabilities,
+            desired_capabilities,
+            properties,
+        }
+    }
+}
 
 impl Serialize for Open {
     ghost item = { open_item };
@@ -73,31 +155,18 @@ impl Serialize for Open {
         serialize_record(
             s,
             CODE,
-            &(
+            &row![
                 &self.container_id,
-                (
-                    &self.hostname,
-                    (
-                        UIntOr::<4294967295>(self.max_frame_size),
-                        (
-                            UShortOr::<65535>(self.channel_max),
-                            (
-                                &self.idle_time_out,
-                                (
-                                    Multiple(&self.outgoing_locales),
-                                    (
-                                        Multiple(&self.incoming_locales),
-                                        (
-                                            Multiple(&self.offered_capabilities),
-                                            (Multiple(&self.desired_capabilities), ((), ())),
-                                        ),
-                                    ),
-                                ),
-                            ),
-                        ),
-                    ),
-                ),
-            ),
+                &self.hostname,
+                UIntOr::<4294967295>(self.max_frame_size),
+                UShortOr::<65535>(self.channel_max),
+                &self.idle_time_out,
+                Multiple(&self.outgoing_locales),
+                Multiple(&self.incoming_locales),
+                Multiple(&self.offered_capabilities),
+                Multiple(&self.desired_capabilities),
+                &self.properties
+            ],
         )
     }
 }
@@ -116,42 +185,8 @@ impl Deserialize for Open {
         alloc: Global,
         de: &mut Deserializer<R>,
     ) -> Result<Open, serde_amqp_item::Error> {
-        let (
-            container_id,
-            (
-                hostname,
-                (
-                    UIntOr(max_frame_size),
-                    (
-                        UShortOr(channel_max),
-                        (
-                            idle_time_out,
-                            (
-                                Multiple(outgoing_locales),
-                                (
-                                    Multiple(incoming_locales),
-                                    (
-                                        Multiple(offered_capabilities),
-                                        (Multiple(desired_capabilities), ((), ())),
-                                    ),
-                                ),
-                            ),
-                        ),
-                    ),
-                ),
-            ),
-        ) = read_record::<Fields, R>(alloc, de, CODE, NAME)?;
-        Ok(Open {
-            container_id,
-            hostname,
-            max_frame_size,
-            channel_max,
-            idle_time_out,
-            outgoing_locales,
-            incoming_locales,
-            offered_capabilities,
-            desired_capabilities,
-        })
+        let row = read_record::<<Open as Composite>::Row, R>(alloc, de, CODE, NAME)?;
+        Ok(Open::from_row(row))
     }
 
     ghost decided = { open_decided };

@@ -1,0 +1,3 @@
+pub mod Limiting
+pub mod Defaults
+pub mod Clones

@@ -1,0 +1,9 @@
+pub mod Limits
+pub mod LimitLaws
+pub mod Fields
+pub mod Error
+pub mod Modes
+pub mod ModeLaws
+pub mod Deciding
+pub mod Again
+pub mod Faithful

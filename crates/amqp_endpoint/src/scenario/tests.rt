@@ -151,6 +151,11 @@ fn whole_scripts(rt: HostRuntime) -> Result<(), Fail> {
             "one\na connect\na feed 414d515000010000\na close\na feed 0000001702000000005310c00a03a10161407000000200\na feed 0000000c0200000000531845\na close",
             "2 a ok\n3 a ok\n4 a ok\n5 a ok\n5 a opened 512 65535\n6 a ok\n6 a closed\n7 a refused 17\n",
         ),
+        // The peer's Open has a property, its Close an error with info.
+        (
+            "one\na connect\na feed 414d515000010000\na feed 0000002c02000000005310c01f0aa10161407000000200404040404040c10d02a30770726f64756374a10178\na feed 0000003002000000005318c0230100531dc01d03a310616d71703a6e6f742d616c6c6f77656440c10702a3016ba10176",
+            "2 a ok\n3 a ok\n4 a ok\n4 a opened 512 65535\n5 a ok\n5 a closed\n",
+        ),
     ] {
         let (output, status) = printed(rt.alloc(), script.as_bytes())?;
         assert_eq!(rt; output.as_str(), output_wanted, "{script}");
@@ -179,6 +184,35 @@ fn scripts_behind_an_opening(rt: HostRuntime) -> Result<(), Fail> {
             "a feed 0000001702000000005310c00a03a10161407000000200",
             "8 a ok\n8 a fault 27\n",
         ),
+        // The end of a session: amqp:not-found.
+        (
+            "a feed 0000000c0200000000531745\na pull\na pull\na feed 0000000c0200000000531745",
+            "8 a ok\n8 a fault 27\n9 a ok bytes 0000002402000000005318c0170100531dc01101a30e616d71703a6e6f742d666f756e64\n10 a ok none\n11 a ok\n",
+        ),
+        // A session is asked for: amqp:not-allowed.
+        (
+            "a feed 0000001402000000005311c0070440435205\na feed 5205\na pull",
+            "8 a ok\n9 a ok\n9 a fault 27\n10 a ok bytes 0000002602000000005318c0190100531dc01301a310616d71703a6e6f742d616c6c6f776564\n",
+        ),
+        // An extended header, a descriptor that is a symbol, and bytes behind a Close.
+        (
+            "a feed 0000001003000000aabbccdd00531845\na pull",
+            "8 a ok\n8 a closed\n9 a ok bytes 0000000c0200000000531845\n",
+        ),
+        (
+            "a feed 0000001b0200000000a30f616d71703a636c6f73653a6c69737445\na pull",
+            "8 a ok\n8 a closed\n9 a ok bytes 0000000c0200000000531845\n",
+        ),
+        (
+            "a feed 0000000e0200000000531845ffff\na pull\na pull",
+            "8 a ok\n8 a closed\n9 a ok bytes 0000000c0200000000531845\n10 a ok none\n",
+        ),
+        // A Close has one field.
+        (
+            "a feed 0000001002000000005318c003024040",
+            "8 a ok\n8 a fault 26\n",
+        ),
+        ("a feed 0000000803000000", "8 a ok\n8 a fault 26\n"),
         (
             "a heartbeat\na pull\na pull",
             "8 a ok\n9 a ok bytes 0000000802000000\n10 a ok none\n",

@@ -30,6 +30,8 @@ impl Endpoint {
     ///   2.3.1).
     /// - `PeerLimitUnder512`: what the peer's Open says (part 2, 2.7.1).
     /// - `Frame`: a whole piece that is no frame. `Connection(IllegalState)`: a second Open.
+    /// - `Connection(NotImplemented)`: a Begin that asks for a session (part 2, 2.7.2). `Connection(NotFound)`: any
+    ///   other performative of a session, as no session has its channel (part 2, 2.5.1).
     /// - `Memory`: there was no memory. It is broken off, without a frame, before the frame that met it.
     ///
     /// At all of these but the first and the last the own Close is queued, with the error, unless it was queued
@@ -173,7 +175,7 @@ impl Endpoint {
         Ok(Some(size as usize))
     }
 
-    /// Takes what a frame says.
+    /// Takes what a frame says. There are no sessions: what says something of one is refused.
     fn take(&mut self, body: FrameBody, events: &mut Vec<Event>) -> Result<(), EndpointError>
         requires { self.old.phase ≡ Running }
         ensures ok { OnOk result (BodyTaken self.old body events.old.items events.new.items self.new) }
@@ -183,6 +185,16 @@ impl Endpoint {
             FrameBody::Empty => Ok(()),
             FrameBody::Open(open) => self.take_open(open, events),
             FrameBody::Close(close) => self.take_close(close, events),
+            FrameBody::Begin(begin) => match begin.remote_channel {
+                None => Err(EndpointError::Connection(ConnectionError::NotImplemented)),
+                Some(_) => Err(EndpointError::Connection(ConnectionError::NotFound)),
+            },
+            FrameBody::Attach(_)
+            | FrameBody::Flow(_)
+            | FrameBody::Transfer { .. }
+            | FrameBody::Disposition(_)
+            | FrameBody::Detach(_)
+            | FrameBody::End(_) => Err(EndpointError::Connection(ConnectionError::NotFound)),
         }
     }
 
@@ -223,7 +235,7 @@ impl Endpoint {
     fn end_by(&mut self, fault: EndpointError) -> EndpointError
         ensures { EndsBy fault result self.old self.new }
     {
-        let Some(condition) = Condition::of(fault) else {
+        let Some(condition) = Condition::of(&fault) else {
             self.break_off();
             return fault;
         };

@@ -1,0 +1,32 @@
+//! AMQP 1.0's transport without a network (OASIS AMQP 1.0, part 2): performatives and what stands in them, frames and
+//! their bytes, and the connection.
+#![tactic(auto)]
+
+pub use amqp_session_connection::{Connection, ConnectionState};
+pub use amqp_session_frames::{
+    Error as FrameError, Frame, FrameBody, FrameDecoder, FrameEncoder, Piece,
+};
+pub use amqp_session_performatives::{
+    Attach, Begin, Close, Detach, Disposition, End, Flow, Open, Performative, Transfer,
+    clear_continuation_fields,
+};
+pub use amqp_session_states::{
+    Accepted, DeliveryState, DistributionMode, Modified, Outcome, Received, Rejected, Released,
+    Source, Target, TargetArchetype, TerminusDurability, TerminusExpiryPolicy,
+};
+pub use amqp_session_types::{
+    BeginError, ConnectionError, ConnectionStopReason, DeliveryNumber, DeliveryTag, Fields,
+    FilterSet, Handle, IncomingChannel, InputHandle, MessageFormat, Milliseconds, OpenError,
+    OutgoingChannel, OutputHandle, ReceiverSettleMode, Role, Seconds, SenderSettleMode,
+    SequenceNumber, SessionError, SessionStopReason, TransferNumber, TryCloseError, TryEndError,
+    definitions,
+};
+
+/// The max-frame-size of an Open that names no other, in bytes (part 2, 2.7.1).
+pub const DEFAULT_MAX_FRAME_SIZE: u32 = 262_144;
+
+/// The channel-max of an Open that names no other (part 2, 2.7.1).
+pub const DEFAULT_CHANNEL_MAX: u16 = 255;
+
+/// The incoming-window and the outgoing-window of a Begin that names no other, in transfers (part 2, 2.7.2).
+pub const DEFAULT_WINDOW: u32 = 2_048;

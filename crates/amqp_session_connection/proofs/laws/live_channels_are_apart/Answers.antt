@@ -1,0 +1,8 @@
+use Rattle.amqp_session_connection.proofs.Living.{live_apart, live_within}
+use Rattle.amqp_session_connection.proofs.laws.live_channels_are_apart.Goals as goal
+
+pub returns-clause-apart : goal.returns-clause-apart
+returns-clause-apart c = live_apart
+
+pub returns-clause-within : goal.returns-clause-within
+returns-clause-within c = live_within

@@ -1,0 +1,91 @@
+-- A transfer that is too long for one frame goes in several: part 2, 2.6.14 and 2.7.5.
+use Rattle.std.specs.Prelude.{◌≡◌, ℕ, ◌+◌, ◌-◌, ◌≤◌, ◌^◌, ◌≢◌, min, Bool, true, false, List, [], ◌∷◌, ◌++◌, length, map, All, Some, None, ◌⊎◌}
+use Rattle.amqp_session_performatives.specs.declared.performative.Performative.{Performative}
+use Rattle.amqp_session_performatives.specs.declared.performative.Performative.TheVariants as performing
+use Rattle.amqp_session_performatives.specs.declared.transfer.Transfer.{Transfer}
+use Rattle.amqp_session_frames.specs.Cutting.{with_size}
+use Rattle.amqp_session_frames.specs.Text.{IsOver, frame_text, performative_of, payload_of}
+use Rattle.amqp_session_frames.specs.declared.error.Error.{Error}
+use Rattle.amqp_session_frames.specs.declared.error.Error.TheVariants.{DecodeError, NotImplemented, TooLarge, Memory}
+use Rattle.amqp_session_frames.specs.declared.frame.Frame.{Frame}
+use Rattle.amqp_session_frames.specs.declared.frame.FrameBody.{FrameBody}
+use Rattle.amqp_session_frames.specs.declared.frame.FrameBody.TheVariants.{Transfer as TransferBody}
+
+-- the transfer that continues another says its handle, and whether more comes, and nothing else
+abbrev pub continuation : Transfer → Transfer
+continuation t = record {
+  handle = t.handle;
+  delivery_id = None;
+  delivery_tag = None;
+  message_format = None;
+  settled = None;
+  more = t.more;
+  rcv_settle_mode = None;
+  state = None;
+  resume = false;
+  aborted = false;
+  batchable = false;
+}
+
+-- a transfer with so much of the payload, behind which more comes or doesn't
+abbrev pub part : ℕ → Transfer → Bool → List ℕ → Frame
+part channel t more payload = record { channel = channel; body = TransferBody (record t { more = more }) payload }
+
+-- the most bytes that a piece may have, without its size, which four bytes say
+abbrev pub room : ℕ → ℕ
+room limit = min limit (2 ^ 32 - 5)
+
+-- no byte of payload more has room
+abbrev pub IsFull : ℕ → Frame → Type 0
+IsFull limit f = (text : List ℕ) × (frame_text f ≡ Some text) × (length text ≡ 4 + room limit)
+
+-- The frames carry this payload one behind the other, in each some of it. All but the last are full, and say that more comes; the last says what the transfer said. Those behind the first say the handle, and whether more comes, alone (2.7.5).
+abbrev pub Carries : ℕ → ℕ → Transfer → Bool → List ℕ → List Frame → Type 0
+Carries limit channel t more payload [] = ⊥
+Carries limit channel t more payload (f ∷ []) = (f ≡ part channel t more payload) × (payload ≢ [])
+Carries limit channel t more payload (f ∷ g ∷ fs) = (front : List ℕ) × (behind : List ℕ) × (payload ≡ front ++ behind) × (front ≢ []) × (f ≡ part channel t true front) × IsFull limit f × Carries limit channel (continuation t) more behind (g ∷ fs)
+
+-- These pieces, behind the others, are the texts of frames that carry this payload, and none is longer than it may be.
+pub record Continues (limit channel : ℕ) (t : Transfer) (more : Bool) (payload : List ℕ) (old new : List (List ℕ)) : Type 0 where
+  pub pieces : List (List ℕ)
+  pub parts : List Frame
+  pub behind : new ≡ old ++ pieces
+  pub texts : map (λ p. Some (with_size p)) pieces ≡ map frame_text parts
+  pub carries : Carries limit channel t more payload parts
+  pub within : All (λ p. length p ≤ limit) pieces
+
+-- the frame itself, where it fits; a transfer that doesn't goes in several
+abbrev pub Parts : ℕ → Frame → List Frame → Type 0
+Parts limit f parts =
+    (parts ≡ f ∷ [])
+    ⊎ ((t : Transfer) × (payload : List ℕ) × (f.body ≡ TransferBody t payload) × IsOver (limit + 4) (frame_text f) × (2 ≤ length parts) × Carries limit f.channel t t.more payload parts)
+
+-- The pieces, with their sizes, are the texts of the frames that this frame goes in.
+pub record IsWritten (limit : ℕ) (f : Frame) (pieces : List (List ℕ)) : Type 0 where
+  pub parts : List Frame
+  pub texts : map (λ p. Some (with_size p)) pieces ≡ map frame_text parts
+  pub goes : Parts limit f parts
+
+-- a transfer can't go in parts either: its first part has no room for a byte of payload
+abbrev pub HasNoParts : ℕ → ℕ → FrameBody → Type 0
+HasNoParts limit channel (TransferBody t payload) = IsOver (limit + 4) (frame_text (part channel t true (0 ∷ [])))
+HasNoParts limit channel body = Unit {0}
+
+-- why a frame is not written, where a piece may have so many bytes without its size
+abbrev pub NotWritten : ℕ → Frame → Error → Type 0
+NotWritten limit f TooLarge = IsOver (limit + 4) (frame_text f) × HasNoParts limit f.channel f.body
+NotWritten limit f Memory = Unit {0}
+NotWritten limit f DecodeError = ⊥
+NotWritten limit f NotImplemented = ⊥
+
+-- the pieces are those of a frame with this performative, and with this payload behind it
+pub record IsPiecesOf (limit channel : ℕ) (performative : Performative) (payload : List ℕ) (pieces : List (List ℕ)) : Type 0 where
+  pub written : (body : FrameBody) → performative_of body ≡ Some performative → payload ≡ payload_of body → IsWritten limit (record { channel = channel; body = body }) pieces
+
+-- why such a frame is not written
+pub record HasNoPieces (limit channel : ℕ) (performative : Performative) (payload : List ℕ) (e : Error) : Type 0 where
+  pub refused : (body : FrameBody) → performative_of body ≡ Some performative → payload ≡ payload_of body → NotWritten limit (record { channel = channel; body = body }) e
+
+-- it isn't a transfer
+pub record IsNoTransfer (performative : Performative) : Type 0 where
+  pub none : (t : Transfer) → performative ≡ performing.Transfer t → ⊥

@@ -1,0 +1,36 @@
+//! What a session and its links hand each other (part 2, 2.6).
+use crate::link_flow::LinkFlow;
+use amqp_session_performatives::{Attach, Detach, Disposition, Transfer};
+use amqp_session_types::InputHandle;
+use bytes::Bytes;
+
+/// A transfer with its payload, on the link that the peer gave this handle (part 2, 2.7.5).
+#[derive(Debug, PartialEq, Drop)]
+pub struct LinkTransfer {
+    /// The handle that the peer gave the link.
+    pub input_handle: InputHandle,
+    /// What is said of the delivery.
+    pub performative: Transfer,
+    /// The bytes of the message, or of the part of it.
+    pub payload: Bytes,
+}
+
+/// A frame of a link (part 2, 2.6).
+#[derive(Debug, PartialEq, Drop)]
+pub enum LinkFrame {
+    /// The link is attached.
+    Attach(Attach),
+    /// The state of the link.
+    Flow(LinkFlow),
+    /// A transfer that came from the peer. Whether it is the first of its delivery is not said here, since a
+    /// continuation may repeat the delivery's number and tag.
+    RemoteTransfer(LinkTransfer),
+    /// The first transfer of a delivery that is sent. The session gives the delivery its number.
+    FirstTransfer(LinkTransfer),
+    /// A continuation of a delivery that is sent.
+    TransferContinuation(LinkTransfer),
+    /// The states of deliveries.
+    Disposition(Disposition),
+    /// The link is detached.
+    Detach(Detach),
+}

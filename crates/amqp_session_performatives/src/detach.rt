@@ -1,0 +1,108 @@
+ghost use Rattle.std.specs.Prelude.{◌≡◌, refl};
+ghost use Rattle.amqp_session_performatives.specs.Detach.{detach_item, detach_taken};
+ghost use Rattle.amqp_session_performatives.specs.DetachLaws.{detach_decided, detach_again, detach_same};
+
+use crate::composite::Composite;
+use amqp_session_types::Handle;
+use amqp_session_types::definitions::Error;
+use serde_amqp_de::{Deserialize, Deserializer, Faithful, NeverNull, Read, RoundTrip, read_record};
+use serde_amqp_ser::{Serialize, Serializer, Sink, serialize_record};
+use serde_amqp_types::BoolOr;
+use std::alloc::{AllocError, Global};
+
+/// Detaches a link from its session (part 2, 2.7.7).
+#[derive(Debug, PartialEq, Drop)]
+pub struct Detach {
+    /// The link.
+    pub handle: Handle,
+    /// Whether the sender closes the link for good. False where it is absent.
+    pub closed: bool,
+    /// Why the link is detached, where it is detached for an error.
+    pub error: Option<Error>,
+}
+
+/// The descriptor's code.
+pub(crate) const CODE: u64 = 0x16;
+
+/// The descriptor's name.
+pub(crate) const NAME: &[u8] = b"amqp:detach:list";
+
+impl Clone for Detach {
+    ghost is_clone = { λ x y. y ≡ x };
+
+    fn clone(&self) -> Result<Self, AllocError> {
+        Ok(Detach {
+            handle: self.handle,
+            closed: self.closed,
+            error: self.error.clone()?,
+        })
+    }
+}
+
+impl Composite for Detach {
+    type Row = (Handle, (BoolOr<false>, (Option<Error>, ())));
+
+    ghost item = { detach_item };
+
+    ghost code = { 0x16 };
+
+    fn from_row(row: Self::Row) -> Detach {
+        let row_pattern![handle, BoolOr(closed), error] = row;
+        Detach {
+            handle,
+            closed,
+            error,
+        }
+    }
+}
+
+impl Serialize for Detach {
+    ghost item = { detach_item };
+
+    fn is_null(&self) -> bool {
+        false
+    }
+
+    fn serialize<W: Sink>(&self, s: &mut Serializer<W>) -> Result<(), serde_amqp_item::Error> {
+        serialize_record(
+            s,
+            CODE,
+            &row![self.handle, BoolOr::<false>(self.closed), &self.error],
+        )
+    }
+}
+
+impl Deserialize for Detach {
+    ghost item = { detach_item };
+
+    ghost take = { detach_taken };
+
+    #[tactic(auto, unfolding(serde_amqp_de::specs::Takes::record_taken))]
+    fn absent(_alloc: Global) -> Option<Detach> {
+        None
+    }
+
+    fn read<R: Read>(
+        alloc: Global,
+        de: &mut Deserializer<R>,
+    ) -> Result<Detach, serde_amqp_item::Error> {
+        let row = read_record::<<Detach as Composite>::Row, R>(alloc, de, CODE, NAME)?;
+        Ok(Detach::from_row(row))
+    }
+
+    ghost decided = { detach_decided };
+}
+
+impl RoundTrip for Detach {
+    ghost same = { λ _. refl };
+
+    ghost again = { detach_again };
+}
+
+impl Faithful for Detach {
+    ghost faithful = { detach_same };
+}
+
+impl NeverNull for Detach {
+    ghost present = { λ _. refl };
+}

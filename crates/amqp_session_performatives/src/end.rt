@@ -1,0 +1,92 @@
+ghost use Rattle.std.specs.Prelude.{◌≡◌, refl};
+ghost use Rattle.amqp_session_performatives.specs.End.{end_item, end_taken};
+ghost use Rattle.amqp_session_performatives.specs.EndLaws.{end_decided, end_again, end_same};
+
+use crate::composite::Composite;
+use amqp_session_types::definitions::Error;
+use serde_amqp_de::{Deserialize, Deserializer, Faithful, NeverNull, Read, RoundTrip, read_record};
+use serde_amqp_ser::{Serialize, Serializer, Sink, serialize_record};
+use std::alloc::{AllocError, Global};
+
+/// Ends a session (part 2, 2.7.8).
+#[derive(Debug, PartialEq, Drop)]
+pub struct End {
+    /// Why the session is ended, where it is ended for an error.
+    pub error: Option<Error>,
+}
+
+/// The descriptor's code.
+pub(crate) const CODE: u64 = 0x17;
+
+/// The descriptor's name.
+pub(crate) const NAME: &[u8] = b"amqp:end:list";
+
+impl Clone for End {
+    ghost is_clone = { λ x y. y ≡ x };
+
+    fn clone(&self) -> Result<Self, AllocError> {
+        Ok(End {
+            error: self.error.clone()?,
+        })
+    }
+}
+
+impl Composite for End {
+    type Row = (Option<Error>, ());
+
+    ghost item = { end_item };
+
+    ghost code = { 0x17 };
+
+    fn from_row(row: Self::Row) -> End {
+        let row_pattern![error] = row;
+        End { error }
+    }
+}
+
+impl Serialize for End {
+    ghost item = { end_item };
+
+    fn is_null(&self) -> bool {
+        false
+    }
+
+    fn serialize<W: Sink>(&self, s: &mut Serializer<W>) -> Result<(), serde_amqp_item::Error> {
+        serialize_record(s, CODE, &row![&self.error])
+    }
+}
+
+impl Deserialize for End {
+    ghost item = { end_item };
+
+    ghost take = { end_taken };
+
+    #[tactic(auto, unfolding(serde_amqp_de::specs::Takes::record_taken))]
+    fn absent(_alloc: Global) -> Option<End> {
+        None
+    }
+
+    fn read<R: Read>(
+        alloc: Global,
+        de: &mut Deserializer<R>,
+    ) -> Result<End, serde_amqp_item::Error> {
+        let row = read_record::<<End as Composite>::Row, R>(alloc, de, CODE, NAME)?;
+        Ok(End::from_row(row))
+    }
+
+    ghost decided = { end_decided };
+}
+
+impl RoundTrip for End {
+    ghost same = { λ _. refl };
+
+    ghost again = { end_again };
+}
+
+impl Faithful for End {
+    ghost faithful = { end_same };
+}
+
+impl NeverNull for End {
+    ghost present = { λ _. refl };
+}

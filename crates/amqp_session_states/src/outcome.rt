@@ -1,0 +1,147 @@
+//! The outcomes of a delivery (part 3, 3.4).
+ghost use Rattle.std.specs.Prelude.{◌≡◌, refl};
+ghost use Rattle.amqp_session_states.specs.OutcomeLaws.{outcome_rows_decided, outcome_rows_differ, outcome_decided, outcome_again, outcome_same, outcome_present};
+ghost use Rattle.amqp_session_states.specs.Outcome.{outcome_item, outcome_rows, outcome_taken};
+
+use crate::accepted::{self, Accepted};
+use crate::modified::{self, Modified};
+use crate::rejected::{self, Rejected};
+use crate::released::{self, Released};
+use serde_amqp_choice::{Choice, read_choice, read_fields_of};
+use serde_amqp_de::{Deserialize, Deserializer, Faithful, NeverNull, Read, RoundTrip};
+use serde_amqp_item::Error;
+use serde_amqp_ser::{Serialize, Serializer, Sink};
+use std::alloc::{AllocError, Global};
+
+/// A terminal state of a delivery (part 3, 3.4).
+#[derive(Debug, PartialEq, Eq, Drop)]
+pub enum Outcome {
+    /// The message was accepted (part 3, 3.4.2).
+    Accepted(Accepted),
+    /// The message was rejected (part 3, 3.4.3).
+    Rejected(Rejected),
+    /// The message was released (part 3, 3.4.4).
+    Released(Released),
+    /// The message was modified (part 3, 3.4.5).
+    Modified(Modified),
+}
+
+impl Clone for Outcome {
+    ghost is_clone = { λ x y. y ≡ x };
+
+    fn clone(&self) -> Result<Self, AllocError> {
+        match self {
+            Outcome::Accepted(accepted) => Ok(Outcome::Accepted(*accepted)),
+            Outcome::Rejected(rejected) => Ok(Outcome::Rejected(rejected.clone()?)),
+            Outcome::Released(released) => Ok(Outcome::Released(*released)),
+            Outcome::Modified(modified) => Ok(Outcome::Modified(modified.clone()?)),
+        }
+    }
+}
+
+impl Serialize for Outcome {
+    ghost item = { outcome_item };
+
+    fn is_null(&self) -> bool {
+        false
+    }
+
+    fn serialize<W: Sink>(&self, s: &mut Serializer<W>) -> Result<(), Error> {
+        match self {
+            Outcome::Accepted(accepted) => accepted.serialize(s),
+            Outcome::Rejected(rejected) => rejected.serialize(s),
+            Outcome::Released(released) => released.serialize(s),
+            Outcome::Modified(modified) => modified.serialize(s),
+        }
+    }
+}
+
+impl Choice for Outcome {
+    ghost table = { outcome_rows };
+
+    ghost item = { outcome_item };
+
+    fn code_of_name(name: &[u8]) -> Option<u64> {
+        if name == accepted::NAME {
+            return Some(accepted::CODE);
+        }
+        if name == rejected::NAME {
+            return Some(rejected::CODE);
+        }
+        if name == released::NAME {
+            return Some(released::CODE);
+        }
+        if name == modified::NAME {
+            return Some(modified::CODE);
+        }
+        None
+    }
+
+    #[tactic(auto, using(serde_amqp_choice::proofs::Choosing::chosen))]
+    fn read_fields<R: Read>(
+        alloc: Global,
+        de: &mut Deserializer<R>,
+        code: u64,
+    ) -> Result<Outcome, Error> {
+        match code {
+            accepted::CODE => {
+                read_fields_of::<accepted::Fields, R>(alloc, de)?;
+                Ok(Outcome::Accepted(Accepted {}))
+            }
+            rejected::CODE => {
+                let (error, ()) = read_fields_of::<rejected::Fields, R>(alloc, de)?;
+                Ok(Outcome::Rejected(Rejected { error }))
+            }
+            released::CODE => {
+                read_fields_of::<released::Fields, R>(alloc, de)?;
+                Ok(Outcome::Released(Released {}))
+            }
+            modified::CODE => {
+                let (delivery_failed, (undeliverable_here, (message_annotations, ()))) =
+                    read_fields_of::<modified::Fields, R>(alloc, de)?;
+                Ok(Outcome::Modified(Modified {
+                    delivery_failed,
+                    undeliverable_here,
+                    message_annotations,
+                }))
+            }
+            _ => Err(Error::InvalidValue),
+        }
+    }
+
+    ghost decided = { outcome_rows_decided };
+
+    ghost differ = { outcome_rows_differ };
+}
+
+/// A described list with the descriptor of one of the outcomes. Any other descriptor answers `InvalidValue`.
+impl Deserialize for Outcome {
+    ghost item = { outcome_item };
+
+    ghost take = { outcome_taken };
+
+    #[tactic(auto, using(serde_amqp_choice::proofs::Choosing::absents))]
+    fn absent(_alloc: Global) -> Option<Outcome> {
+        None
+    }
+
+    fn read<R: Read>(alloc: Global, de: &mut Deserializer<R>) -> Result<Outcome, Error> {
+        read_choice(alloc, de)
+    }
+
+    ghost decided = { outcome_decided };
+}
+
+impl RoundTrip for Outcome {
+    ghost same = { λ _. refl };
+
+    ghost again = { outcome_again };
+}
+
+impl Faithful for Outcome {
+    ghost faithful = { outcome_same };
+}
+
+impl NeverNull for Outcome {
+    ghost present = { outcome_present };
+}

@@ -1,0 +1,211 @@
+//! The source of a link (part 3, 3.5.3).
+ghost use Rattle.std.specs.Prelude.{◌≡◌, refl};
+ghost use Rattle.amqp_session_states.specs.Source.{source_item, source_taken};
+ghost use Rattle.amqp_session_states.specs.SourceLaws.{source_again, source_decided, source_same};
+
+use crate::outcome::Outcome;
+use crate::terminus::{DistributionMode, TerminusDurability, TerminusExpiryPolicy};
+use amqp_session_types::OrDefault;
+use amqp_session_types::definitions::{Fields as Properties, FilterSet, Seconds};
+use serde_amqp_de::{Deserialize, Deserializer, Faithful, NeverNull, Read, RoundTrip, read_record};
+use serde_amqp_item::Error;
+use serde_amqp_ser::{Serialize, Serializer, Sink, serialize_record};
+use serde_amqp_types::{Array, BoolOr, Multiple, Symbol, Text, UIntOr};
+use std::alloc::{AllocError, Global};
+
+/// Where a link's messages come from (part 3, 3.5.3).
+#[derive(Debug, PartialEq, Eq, Drop)]
+pub struct Source {
+    /// The address of the node.
+    pub address: Option<Text>,
+    /// What of the source outlasts a loss of the connection. Nothing where it is absent.
+    pub durable: TerminusDurability,
+    /// When the source expires. With its session where it is absent.
+    pub expiry_policy: TerminusExpiryPolicy,
+    /// How many seconds the source stays after that. None where it is absent.
+    pub timeout: Seconds,
+    /// Whether the sender is asked to make the node. Not where it is absent.
+    pub dynamic: bool,
+    /// What the node is to be like that is made.
+    pub dynamic_node_properties: Option<Properties>,
+    /// Whether the messages are moved from the node or copied.
+    pub distribution_mode: Option<DistributionMode>,
+    /// Which messages are wanted.
+    pub filter: Option<FilterSet>,
+    /// The outcome of deliveries that are settled without one.
+    pub default_outcome: Option<Outcome>,
+    /// The descriptors of the outcomes that may be chosen.
+    pub outcomes: Array<Symbol>,
+    /// What the receiver wants or can use.
+    pub capabilities: Array<Symbol>,
+}
+
+/// The descriptor's code.
+const CODE: u64 = 0x28;
+
+/// The descriptor's name.
+const NAME: &[u8] = b"amqp:source:list";
+
+/// The fields in their order.
+type Fields = (
+    Option<Text>,
+    (
+        OrDefault<TerminusDurability>,
+        (
+            OrDefault<TerminusExpiryPolicy>,
+            (
+                UIntOr<0>,
+                (BoolOr<false>, (Option<Properties>, LaterFields)),
+            ),
+        ),
+    ),
+);
+
+/// The fields behind the first six.
+type LaterFields = (
+    Option<DistributionMode>,
+    (
+        Option<FilterSet>,
+        (
+            Option<Outcome>,
+            (Multiple<Array<Symbol>>, (Multiple<Array<Symbol>>, ())),
+        ),
+    ),
+);
+
+impl Clone for Source {
+    ghost is_clone = { λ x y. y ≡ x };
+
+    fn clone(&self) -> Result<Self, AllocError> {
+        Ok(Source {
+            address: self.address.clone()?,
+            durable: self.durable,
+            expiry_policy: self.expiry_policy,
+            timeout: self.timeout,
+            dynamic: self.dynamic,
+            dynamic_node_properties: self.dynamic_node_properties.clone()?,
+            distribution_mode: self.distribution_mode,
+            filter: self.filter.clone()?,
+            default_outcome: self.default_outcome.clone()?,
+            outcomes: self.outcomes.clone()?,
+            capabilities: self.capabilities.clone()?,
+        })
+    }
+}
+
+impl Serialize for Source {
+    ghost item = { source_item };
+
+    fn is_null(&self) -> bool {
+        false
+    }
+
+    fn serialize<W: Sink>(&self, s: &mut Serializer<W>) -> Result<(), Error> {
+        serialize_record(
+            s,
+            CODE,
+            &(
+                &self.address,
+                (
+                    OrDefault(self.durable),
+                    (
+                        OrDefault(self.expiry_policy),
+                        (
+                            UIntOr::<0>(self.timeout),
+                            (
+                                BoolOr::<false>(self.dynamic),
+                                (
+                                    &self.dynamic_node_properties,
+                                    (
+                                        &self.distribution_mode,
+                                        (
+                                            &self.filter,
+                                            (
+                                                &self.default_outcome,
+                                                (
+                                                    Multiple(&self.outcomes),
+                                                    (Multiple(&self.capabilities), ()),
+                                                ),
+                                            ),
+                                        ),
+                                    ),
+                                ),
+                            ),
+                        ),
+                    ),
+                ),
+            ),
+        )
+    }
+}
+
+impl Deserialize for Source {
+    ghost item = { source_item };
+
+    ghost take = { source_taken };
+
+    #[tactic(auto, unfolding(serde_amqp_de::specs::Takes::record_taken))]
+    fn absent(_alloc: Global) -> Option<Source> {
+        None
+    }
+
+    fn read<R: Read>(alloc: Global, de: &mut Deserializer<R>) -> Result<Source, Error> {
+        let (
+            address,
+            (
+                OrDefault(durable),
+                (
+                    OrDefault(expiry_policy),
+                    (
+                        UIntOr(timeout),
+                        (
+                            BoolOr(dynamic),
+                            (
+                                dynamic_node_properties,
+                                (
+                                    distribution_mode,
+                                    (
+                                        filter,
+                                        (
+                                            default_outcome,
+                                            (Multiple(outcomes), (Multiple(capabilities), ())),
+                                        ),
+                                    ),
+                                ),
+                            ),
+                        ),
+                    ),
+                ),
+            ),
+        ) = read_record::<Fields, R>(alloc, de, CODE, NAME)?;
+        Ok(Source {
+            address,
+            durable,
+            expiry_policy,
+            timeout,
+            dynamic,
+            dynamic_node_properties,
+            distribution_mode,
+            filter,
+            default_outcome,
+            outcomes,
+            capabilities,
+        })
+    }
+
+    ghost decided = { source_decided };
+}
+
+impl RoundTrip for Source {
+    ghost same = { λ _. refl };
+
+    ghost again = { source_again };
+}
+
+impl Faithful for Source {
+    ghost faithful = { source_same };
+}
+
+impl NeverNull for Source {
+    ghost present = { λ _. refl };
+}
