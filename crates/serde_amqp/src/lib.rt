@@ -24,6 +24,9 @@ pub use serde_amqp_ser::{
     StructEncoding, StructSerializer, TupleSerializer, TupleStructSerializer, VariantSerializer,
     append_to_vec, serialize_record, serialized_size, to_vec,
 };
+
+// types, and what tells them apart
+pub use serde_amqp_choice::{Choice, read_choice, read_fields_of};
 pub use serde_amqp_types::{
     Array, Binary, BinaryRef, BoolOr, Boolean, Byte, ByteBuf, Char, Dec32, Dec64, Dec128, Decimal,
     Described, Descriptor, Int, List, Long, Multiple, Short, Symbol, SymbolRef, Text, Timestamp,
