@@ -1,7 +1,9 @@
 //! Cases of the standard's tables (part 1), over all crates of the codec.
 mod accesses;
+mod borrowed;
 mod compounds;
 mod constructors;
+mod decoding;
 mod described;
 mod elements;
 mod fixed;
@@ -12,12 +14,20 @@ mod limits;
 mod maps;
 mod memory;
 mod numbers;
+mod ordered_maps;
+mod pairs;
+mod parts;
 mod raw;
+mod raw_values;
 mod readers;
+mod reading;
 mod round_trips;
 mod serializers;
+mod sorted_maps;
+mod types;
 mod variants;
 mod vectors;
+mod writing;
 
 use crate::{
     Deserialize, Error, IoReader, Serialize, from_reader, from_slice, serialized_size, to_vec,

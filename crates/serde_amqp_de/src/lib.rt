@@ -2,29 +2,19 @@
 #![tactic(auto)]
 
 mod access;
-#[cfg(test)]
-mod access_tests;
 mod borrow;
-#[cfg(test)]
-mod borrow_tests;
 mod constructor;
 mod content;
 mod deserialize;
 mod deserializer;
 mod laws;
 mod map;
-#[cfg(test)]
-mod map_tests;
 mod numbers;
 mod primitives;
 mod raw;
 mod record;
 mod sequence;
 mod sorted;
-#[cfg(test)]
-mod sorted_tests;
-#[cfg(test)]
-mod tests;
 mod tuple;
 
 pub use access::{ArrayAccess, DescribedAccess, ListAccess, MapAccess, VariantAccess};

@@ -9,8 +9,6 @@ mod laws;
 mod lexical;
 mod look;
 mod map;
-#[cfg(test)]
-mod tests;
 mod walk;
 
 pub use key::MapKey;

@@ -6,8 +6,6 @@ mod measure;
 mod private;
 mod reader;
 mod slice;
-#[cfg(test)]
-mod tests;
 
 pub use fetching::IoReader;
 pub use reader::Read;

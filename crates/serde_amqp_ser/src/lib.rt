@@ -19,8 +19,6 @@ mod serialize;
 mod serializer;
 mod sink;
 mod struct_serializer;
-#[cfg(test)]
-mod tests;
 mod tuples;
 mod variant_serializer;
 

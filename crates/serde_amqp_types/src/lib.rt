@@ -11,8 +11,6 @@ mod described;
 mod keys;
 mod multiple;
 mod symbol;
-#[cfg(test)]
-mod tests;
 mod text;
 mod timestamp;
 mod uuid;

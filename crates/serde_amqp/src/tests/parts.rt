@@ -1,6 +1,5 @@
 //! Lists, arrays, maps, variants and described values, read item by item.
-use crate::{Deserialize, Deserializer, Read, SliceReader};
-use serde_amqp_item::Error;
+use crate::{Deserialize, Deserializer, Error, Read, SliceReader};
 use std::alloc::Global;
 use std::io::ErrorKind;
 

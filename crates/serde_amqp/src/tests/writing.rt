@@ -1,5 +1,7 @@
-use crate::{IsArrayElement, Serializer, append_to_vec, serialize_record, serialized_size, to_vec};
-use serde_amqp_item::{Double, Error, Float};
+use crate::{
+    Double, Error, Float, IsArrayElement, Serializer, append_to_vec, serialize_record,
+    serialized_size, to_vec,
+};
 use std::alloc::Global;
 use std::collections::BTreeMap;
 use std::test::Fail;

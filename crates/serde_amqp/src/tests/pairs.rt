@@ -1,6 +1,5 @@
 //! Wire forms of maps, and what is refused.
-use crate::{Deserializer, SliceReader, read_map};
-use serde_amqp_item::Error;
+use crate::{Deserializer, Error, SliceReader, read_map};
 use std::alloc::Global;
 use std::io::ErrorKind;
 

@@ -1,10 +1,8 @@
 use crate::{
-    Array, BinaryRef, BoolOr, ByteBuf, Dec32, Dec64, Dec128, Described, Descriptor, Multiple,
-    Symbol, SymbolRef, Text, Timestamp, UByteOr, UIntOr, UShortOr, Uuid,
+    Array, BinaryRef, BoolOr, ByteBuf, Dec32, Dec64, Dec128, Described, Descriptor, Deserialize,
+    Error, Multiple, Serialize, Symbol, SymbolRef, Text, Timestamp, UByteOr, UIntOr, UShortOr,
+    Uuid, borrow_from_slice, from_slice, to_vec,
 };
-use serde_amqp_de::{Deserialize, borrow_from_slice, from_slice};
-use serde_amqp_item::Error;
-use serde_amqp_ser::{Serialize, to_vec};
 use std::alloc::Global;
 use std::test::Fail;
 

@@ -1,7 +1,4 @@
-use crate::OrderedMap;
-use serde_amqp_de::from_slice;
-use serde_amqp_item::Error;
-use serde_amqp_ser::to_vec;
+use crate::{Error, OrderedMap, from_slice, to_vec};
 use std::cmp::Ordering;
 use std::hash::{DefaultHasher, Hash, Hasher};
 use std::test::Fail;

@@ -1,7 +1,6 @@
 ghost use Rattle.std.specs.Prelude.{[], Some};
 
-use crate::{IoReader, Read, SliceReader};
-use serde_amqp_item::Error;
+use crate::{Error, IoReader, Read, SliceReader};
 use std::alloc::Global;
 use std::io;
 use std::io::{ErrorKind, Read as StdRead};

@@ -1,6 +1,5 @@
 //! Maps that are read in the order of their keys.
-use crate::{Deserialize, Deserializer, SliceReader, SortedKey, from_slice};
-use serde_amqp_item::Error;
+use crate::{Deserialize, Deserializer, Error, SliceReader, SortedKey, from_slice};
 use std::alloc::Global;
 use std::collections::BTreeMap;
 use std::io::ErrorKind;

@@ -1,9 +1,8 @@
 //! Wire forms of the standard's tables, and what is refused.
 use crate::{
-    Deserialize, Deserializer, IoReader, Read, SliceReader, from_reader, from_slice, read_multiple,
-    read_record,
+    Deserialize, Deserializer, Double, Error, Float, IoReader, Read, SliceReader, from_reader,
+    from_slice, read_multiple, read_record,
 };
-use serde_amqp_item::{Double, Error, Float};
 use std::alloc::Global;
 use std::io::{ErrorKind, Read as StdRead};
 use std::process::Abort;

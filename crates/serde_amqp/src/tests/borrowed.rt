@@ -1,6 +1,5 @@
 //! Values that are lent from a slice.
-use crate::{Deserializer, SliceReader, borrow_from_slice};
-use serde_amqp_item::Error;
+use crate::{Deserializer, Error, SliceReader, borrow_from_slice};
 use std::io::ErrorKind;
 
 const END: Error = Error::Io(ErrorKind::UnexpectedEof);

@@ -1,6 +1,4 @@
-use crate::RawValue;
-use serde_amqp_item::Error;
-use serde_amqp_ser::to_vec;
+use crate::{Error, RawValue, to_vec};
 use std::io::ErrorKind;
 
 fn refusal(found: Result<RawValue, Error>) -> Option<Error> {
