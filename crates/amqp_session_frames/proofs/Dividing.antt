@@ -8,7 +8,8 @@ use Rattle.serde_amqp_item.specs.Canon.{canon}
 use Rattle.amqp_session_performatives.specs.Transfer.{transfer_item, transfer_fields}
 use Rattle.amqp_session_performatives.specs.declared.transfer.Transfer.{Transfer}
 use Rattle.amqp_session_frames.specs.Cutting.{with_size, joined, Cuts}
-use Rattle.amqp_session_frames.specs.Parts.{continuation, part, room, Carries, Continues, IsWritten}
+use Rattle.amqp_session_performatives.specs.Continuation.{continuation}
+use Rattle.amqp_session_frames.specs.Parts.{part, room, Carries, Continues, IsWritten}
 use Rattle.amqp_session_frames.specs.Sizes.{transfer_text, HasText, HasSize, NotSized, Appends, HasRoom, LeavesRoom, LeavesNoRoom, Overflows}
 use Rattle.amqp_session_frames.specs.Text.{frame_text}
 use Rattle.amqp_session_frames.specs.declared.frame.Frame.{Frame}

@@ -9,7 +9,7 @@ use Rattle.amqp_session_performatives.specs.Performative.{performative_item}
 use Rattle.amqp_session_performatives.specs.declared.performative.Performative.{Performative}
 use Rattle.amqp_session_frames.specs.Cutting.{with_size}
 use Rattle.amqp_session_frames.specs.Parts.{room, IsWritten}
-use Rattle.amqp_session_frames.specs.Sizes.{HasSize, NotSized, Appends}
+use Rattle.amqp_session_frames.specs.Sizes.{HasSize, NotSized, IsOnePiece, IsWhole, LacksRoom}
 use Rattle.amqp_session_frames.specs.Text.{IsOver, performative_of, performative_text, payload_of, sized_text, frame_text}
 use Rattle.amqp_session_frames.specs.declared.frame.Frame.{Frame}
 use Rattle.amqp_session_frames.specs.declared.frame.FrameBody.{FrameBody}
@@ -119,10 +119,33 @@ empty_piece limit f head payload piece least e h p is =
     let one = piece_is limit f [] head (ap performative_text e) (h ∙ sym (append-nil (2 ∷ 0 ∷ to_be_bytes w16 f.channel))) (omega (arith, least, ap length none)) in
     subst (λ (q : List ℕ). IsPieceOf limit f q) (sym (is ∙ ap (λ (l : List ℕ). head ++ l) p)) one
 
--- a frame whose performative and payload have room
-pub room_piece : (limit : ℕ) (f : Frame) (p : Performative) (size : ℕ) (head payload piece : List ℕ) → performative_of f.body ≡ Some p → Appends (canon (performative_item p)) (2 ∷ 0 ∷ to_be_bytes w16 f.channel) head → HasSize (canon (performative_item p)) size → payload ≡ payload_of f.body → size + length payload + 4 ≤ room limit → piece ≡ head ++ payload → IsPieceOf limit f piece
-room_piece limit f p size head payload piece e a h same le is =
-    let one : Some a.bytes ≡ Some h.bytes = sym a.is ∙ h.is in
-    let texts : a.bytes ≡ h.bytes = cc in
-    let this = piece_is limit f a.bytes head (ap performative_text e ∙ a.is) a.behind (omega (arith, h.long, ap length texts, ap length same, le)) in
-    subst (λ (q : List ℕ). IsPieceOf limit f q) (sym (is ∙ ap (λ (l : List ℕ). head ++ l) same)) this
+-- a frame in one piece
+pub whole_piece : (limit : ℕ) (f : Frame) (p : Performative) (pieces : List (List ℕ)) → performative_of f.body ≡ Some p → (w : IsWhole limit f.channel (canon (performative_item p)) (payload_of f.body) pieces) → IsPieceOf limit f (w.piece.head ++ payload_of f.body)
+whole_piece limit f p pieces e w = piece_is limit f w.piece.appends.bytes w.piece.head (ap performative_text e ∙ w.piece.appends.is) w.piece.appends.behind w.short
+
+pub whole_written : (limit : ℕ) (f : Frame) (p : Performative) (pieces : List (List ℕ)) → performative_of f.body ≡ Some p → IsWhole limit f.channel (canon (performative_item p)) (payload_of f.body) pieces → IsWritten limit f pieces
+whole_written limit f p pieces e w = one_written limit f (w.piece.head ++ payload_of f.body) pieces (whole_piece limit f p pieces e w) w.piece.one
+
+pub whole_within : (limit : ℕ) (f : Frame) (p : Performative) (pieces : List (List ℕ)) → performative_of f.body ≡ Some p → IsWhole limit f.channel (canon (performative_item p)) (payload_of f.body) pieces → All (λ q. length q ≤ limit) pieces
+whole_within limit f p pieces e w = one_within limit f (w.piece.head ++ payload_of f.body) pieces (whole_piece limit f p pieces e w) w.piece.one
+
+-- a frame that has no room
+lacking_by : (limit : ℕ) (f : Frame) → LacksRoom limit (performative_text (performative_of f.body)) (payload_of f.body) → (o : Option (List ℕ)) → performative_text (performative_of f.body) ≡ o → IsOver (limit + 4) (frame_text f)
+lacking_by limit f n None e = subst (λ (o : Option (List ℕ)). IsOver (limit + 4) o) (sym (frame_none f e)) tt
+lacking_by limit f n (Some text) e = over_room f text limit e (n.none text e)
+
+pub over_lacking : (limit : ℕ) (f : Frame) (p : Performative) → performative_of f.body ≡ Some p → LacksRoom limit (canon (performative_item p)) (payload_of f.body) → IsOver (limit + 4) (frame_text f)
+over_lacking limit f p e n = lacking_by limit f (subst (λ (o : Option Performative). LacksRoom limit (performative_text o) (payload_of f.body)) (sym e) n) (performative_text (performative_of f.body)) refl
+
+-- what is in one piece, as the encoder finds out
+pub fitting : (limit channel size : ℕ) (text : Option (List ℕ)) (payload : List ℕ) (pieces : List (List ℕ)) → HasSize text size → size + length payload + 4 ≤ room limit → IsOnePiece text (2 ∷ 0 ∷ to_be_bytes w16 channel) payload pieces → IsWhole limit channel text payload pieces
+fitting limit channel size text payload pieces h le w =
+    let one : Some w.appends.bytes ≡ Some h.bytes = sym w.appends.is ∙ h.is in
+    let same : w.appends.bytes ≡ h.bytes = cc in
+    record { piece = w; short = omega (arith, h.long, ap length same, le) }
+
+pub lacks_size : (limit : ℕ) (text : Option (List ℕ)) (payload : List ℕ) → NotSized text → LacksRoom limit text payload
+lacks_size limit text payload n = record { none = λ bytes e. omega (arith, n.none bytes e) }
+
+pub lacks_room : (limit size : ℕ) (text : Option (List ℕ)) (payload : List ℕ) → HasSize text size → room limit < size + length payload + 4 → LacksRoom limit text payload
+lacks_room limit size text payload h lt = record { none = λ bytes e. let one : Some bytes ≡ Some h.bytes = sym e ∙ h.is in let same : bytes ≡ h.bytes = cc in omega (arith, h.long, ap length same, lt) }

@@ -1,31 +1,14 @@
 -- A transfer that is too long for one frame goes in several: part 2, 2.6.14 and 2.7.5.
 use Rattle.std.specs.Prelude.{◌≡◌, ℕ, ◌+◌, ◌-◌, ◌≤◌, ◌^◌, ◌≢◌, min, Bool, true, false, List, [], ◌∷◌, ◌++◌, length, map, All, Some, None, ◌⊎◌}
-use Rattle.amqp_session_performatives.specs.declared.performative.Performative.{Performative}
-use Rattle.amqp_session_performatives.specs.declared.performative.Performative.TheVariants as performing
+use Rattle.amqp_session_performatives.specs.Continuation.{continuation}
 use Rattle.amqp_session_performatives.specs.declared.transfer.Transfer.{Transfer}
 use Rattle.amqp_session_frames.specs.Cutting.{with_size}
-use Rattle.amqp_session_frames.specs.Text.{IsOver, frame_text, performative_of, payload_of}
+use Rattle.amqp_session_frames.specs.Text.{IsOver, frame_text}
 use Rattle.amqp_session_frames.specs.declared.error.Error.{Error}
 use Rattle.amqp_session_frames.specs.declared.error.Error.TheVariants.{DecodeError, NotImplemented, TooLarge, Memory}
 use Rattle.amqp_session_frames.specs.declared.frame.Frame.{Frame}
 use Rattle.amqp_session_frames.specs.declared.frame.FrameBody.{FrameBody}
 use Rattle.amqp_session_frames.specs.declared.frame.FrameBody.TheVariants.{Transfer as TransferBody}
-
--- the transfer that continues another says its handle, and whether more comes, and nothing else
-abbrev pub continuation : Transfer → Transfer
-continuation t = record {
-  handle = t.handle;
-  delivery_id = None;
-  delivery_tag = None;
-  message_format = None;
-  settled = None;
-  more = t.more;
-  rcv_settle_mode = None;
-  state = None;
-  resume = false;
-  aborted = false;
-  batchable = false;
-}
 
 -- a transfer with so much of the payload, behind which more comes or doesn't
 abbrev pub part : ℕ → Transfer → Bool → List ℕ → Frame
@@ -77,15 +60,3 @@ NotWritten limit f TooLarge = IsOver (limit + 4) (frame_text f) × HasNoParts li
 NotWritten limit f Memory = Unit {0}
 NotWritten limit f DecodeError = ⊥
 NotWritten limit f NotImplemented = ⊥
-
--- the pieces are those of a frame with this performative, and with this payload behind it
-pub record IsPiecesOf (limit channel : ℕ) (performative : Performative) (payload : List ℕ) (pieces : List (List ℕ)) : Type 0 where
-  pub written : (body : FrameBody) → performative_of body ≡ Some performative → payload ≡ payload_of body → IsWritten limit (record { channel = channel; body = body }) pieces
-
--- why such a frame is not written
-pub record HasNoPieces (limit channel : ℕ) (performative : Performative) (payload : List ℕ) (e : Error) : Type 0 where
-  pub refused : (body : FrameBody) → performative_of body ≡ Some performative → payload ≡ payload_of body → NotWritten limit (record { channel = channel; body = body }) e
-
--- it isn't a transfer
-pub record IsNoTransfer (performative : Performative) : Type 0 where
-  pub none : (t : Transfer) → performative ≡ performing.Transfer t → ⊥

@@ -1,5 +1,6 @@
 -- How long texts are, and what room they leave.
 use Rattle.std.specs.Prelude.{◌≡◌, ◌≤◌, ◌<◌, ◌+◌, ◌^◌, ℕ, List, [], ◌∷◌, ◌++◌, length, true, Option, Some}
+use Rattle.std.specs.Int.{w16, to_be_bytes}
 use Rattle.serde_amqp_item.specs.Canon.{canon}
 use Rattle.amqp_session_performatives.specs.Transfer.{transfer_item}
 use Rattle.amqp_session_performatives.specs.declared.transfer.Transfer.{Transfer}
@@ -37,6 +38,22 @@ pub record IsOnePiece (text : Option (List ℕ)) (header payload : List ℕ) (pi
   pub head : List ℕ
   pub appends : Appends text header head
   pub one : pieces ≡ (head ++ payload) ∷ []
+
+-- one piece on the channel, which has room
+pub record IsWhole (limit channel : ℕ) (text : Option (List ℕ)) (payload : List ℕ) (pieces : List (List ℕ)) : Type 0 where
+  pub piece : IsOnePiece text (2 ∷ 0 ∷ to_be_bytes w16 channel) payload pieces
+  pub short : 4 + length piece.appends.bytes + length payload ≤ room limit
+
+-- there is no text that has room with this payload behind it
+pub record LacksRoom (limit : ℕ) (text : Option (List ℕ)) (payload : List ℕ) : Type 0 where
+  pub none : (bytes : List ℕ) → text ≡ Some bytes → room limit < 4 + length bytes + length payload
+
+-- why they are not one piece
+abbrev pub NotWhole : ℕ → Option (List ℕ) → List ℕ → Error → Type 0
+NotWhole limit text payload TooLarge = LacksRoom limit text payload
+NotWhole limit text payload Memory = Unit {0}
+NotWhole limit text payload DecodeError = ⊥
+NotWhole limit text payload NotImplemented = ⊥
 
 -- behind the header and the text a byte has room
 pub record HasRoom (limit : ℕ) (text : Option (List ℕ)) : Type 0 where

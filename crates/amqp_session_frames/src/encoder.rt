@@ -1,19 +1,18 @@
 ghost use Rattle.std.specs.Int.{to_be_bytes, w16};
-ghost use Rattle.std.specs.Prelude.{[], ◌∷◌, ◌+◌, ◌++◌, ◌<◌, ◌≡◌, ◌≤◌, ℕ, All, IfErr, IfOk, List, MatchOption, OnOk, length, true, false};
+ghost use Rattle.std.specs.Prelude.{[], ◌∷◌, ◌+◌, ◌++◌, ◌<◌, ◌≡◌, ◌≤◌, ℕ, All, IfErr, IfOk, List, OnOk, length, true, false};
 ghost use Rattle.serde_amqp_item.specs.Canon.{canon};
-ghost use Rattle.amqp_session_performatives.specs.Performative.{performative_item};
-ghost use Rattle.amqp_session_performatives.specs.declared.performative.Performative.TheVariants as performing;
+ghost use Rattle.amqp_session_performatives.specs.Continuation.{continuation};
 ghost use Rattle.amqp_session_frames.specs.Cutting.{Cuts};
-ghost use Rattle.amqp_session_frames.specs.Parts.{Continues, HasNoPieces, IsNoTransfer, IsPiecesOf, IsWritten, NotWritten, continuation, room};
-ghost use Rattle.amqp_session_frames.specs.Sizes.{Appends, HasRoom, HasSize, IsOnePiece, HasText, LeavesNoRoom, LeavesRoom, NotSized, Overflows, PartsRefused, transfer_text};
+ghost use Rattle.amqp_session_frames.specs.Parts.{Continues, IsWritten, NotWritten, room};
+ghost use Rattle.amqp_session_frames.specs.Sizes.{Appends, HasRoom, HasSize, IsOnePiece, HasText, IsWhole, LeavesNoRoom, LeavesRoom, NotSized, NotWhole, Overflows, PartsRefused, transfer_text};
 ghost use Rattle.amqp_session_frames.specs.declared.error.Error.TheVariants.{Memory, TooLarge};
 ghost use Rattle.amqp_session_frames.specs.declared.frame.FrameBody.TheVariants.{Empty, Transfer as TransferBody};
 
 use crate::error::Error;
-use crate::frame::Frame;
+use crate::frame::{Frame, FrameBody};
 use crate::header::AMQP_TYPE;
 use crate::piece::Piece;
-use amqp_session_performatives::{Performative, Transfer, clear_continuation_fields};
+use amqp_session_performatives::{Transfer, clear_continuation_fields};
 use bytes::Bytes;
 use serde_amqp_ser::{Serialize, Serializer, serialized_size};
 use std::alloc::Global;
@@ -68,10 +67,22 @@ impl FrameEncoder {
         ensures refused { IfErr result (λ e. NotWritten self.now frame e) }
     {
         let Frame { channel, body } = frame;
-        let (performative, payload) = body.into_parts();
-        match performative {
-            None => self.encode_empty(alloc, channel),
-            Some(performative) => self.encode_performative(alloc, channel, performative, payload),
+        match body {
+            FrameBody::Empty => self.encode_empty(alloc, channel),
+            FrameBody::Open(open) => self.encode_undivided(alloc, channel, open),
+            FrameBody::Begin(begin) => self.encode_undivided(alloc, channel, begin),
+            FrameBody::Attach(attach) => self.encode_undivided(alloc, channel, attach),
+            FrameBody::Flow(flow) => self.encode_undivided(alloc, channel, flow),
+            FrameBody::Transfer {
+                performative,
+                payload,
+            } => self.encode_owned(alloc, channel, performative, payload),
+            FrameBody::Disposition(disposition) => {
+                self.encode_undivided(alloc, channel, disposition)
+            }
+            FrameBody::Detach(detach) => self.encode_undivided(alloc, channel, detach),
+            FrameBody::End(end) => self.encode_undivided(alloc, channel, end),
+            FrameBody::Close(close) => self.encode_undivided(alloc, channel, close),
         }
     }
 
@@ -87,27 +98,56 @@ impl FrameEncoder {
         one_piece(alloc, Piece::new(head, Bytes::new()))
     }
 
-    /// The pieces of a frame with this performative, and this payload behind it.
-    fn encode_performative(
+    /// The piece of a frame with this performative, which is never divided.
+    fn encode_undivided<P: Serialize + Drop>(
         &self,
         alloc: Global,
         channel: u16,
-        performative: Performative,
+        performative: P,
+    ) -> Result<Vec<Piece>, Error>
+        ensures text { IfOk result (λ v. IsWhole self.now channel (canon (P.item performative)) [] v.items) }
+        ensures refused { IfErr result (λ e. NotWhole self.now (canon (P.item performative)) [] e) }
+    {
+        let size = size_of(&performative)?;
+        if fits(self.body_room(), size, 0) {
+            return write_whole(alloc, channel, &performative, size, Bytes::new());
+        }
+        Err(Error::TooLarge)
+    }
+
+    /// The pieces of a frame with this transfer, and this payload behind it.
+    fn encode_owned(
+        &self,
+        alloc: Global,
+        channel: u16,
+        transfer: Transfer,
         payload: Bytes,
     ) -> Result<Vec<Piece>, Error>
-        ensures text { IfOk result (λ v. IsPiecesOf self.now channel performative payload v.items) }
+        ensures text { IfOk result (λ v. IsWritten self.now (record { channel = channel; body = TransferBody transfer payload }) v.items) }
         ensures limit { IfOk result (λ v. All (λ p. length p ≤ self.now) v.items) }
-        ensures refused { IfErr result (λ e. HasNoPieces self.now channel performative payload e) }
+        ensures refused { IfErr result (λ e. NotWritten self.now (record { channel = channel; body = TransferBody transfer payload }) e) }
     {
-        let room = self.body_room();
-        let size = size_of(&performative)?;
-        if fits(room, size, payload.len()) {
-            return write_whole(alloc, channel, &performative, size, payload);
+        let mut transfer = transfer;
+        self.encode_transfer(alloc, channel, &mut transfer, payload)
+    }
+
+    /// The pieces of a frame with this transfer, and this payload behind it. The transfer is used up.
+    fn encode_transfer(
+        &self,
+        alloc: Global,
+        channel: u16,
+        transfer: &mut Transfer,
+        payload: Bytes,
+    ) -> Result<Vec<Piece>, Error>
+        ensures text { IfOk result (λ v. IsWritten self.now (record { channel = channel; body = TransferBody transfer.old payload }) v.items) }
+        ensures limit { IfOk result (λ v. All (λ p. length p ≤ self.now) v.items) }
+        ensures refused { IfErr result (λ e. NotWritten self.now (record { channel = channel; body = TransferBody transfer.old payload }) e) }
+    {
+        let size = size_of(transfer)?;
+        if fits(self.body_room(), size, payload.len()) {
+            return write_whole(alloc, channel, transfer, size, payload);
         }
-        match into_transfer(performative) {
-            Some(transfer) => self.encode_parts(alloc, channel, transfer, payload),
-            None => Err(Error::TooLarge),
-        }
+        self.encode_parts(alloc, channel, transfer, payload)
     }
 
     /// The pieces of a transfer that doesn't fit.
@@ -115,23 +155,22 @@ impl FrameEncoder {
         &self,
         alloc: Global,
         channel: u16,
-        transfer: Transfer,
+        transfer: &mut Transfer,
         payload: Bytes,
     ) -> Result<Vec<Piece>, Error>
-        requires { Overflows self.now (transfer_text transfer) payload }
-        ensures text { IfOk result (λ v. IsWritten self.now (record { channel = channel; body = TransferBody transfer payload }) v.items) }
+        requires { Overflows self.now (transfer_text transfer.old) payload }
+        ensures text { IfOk result (λ v. IsWritten self.now (record { channel = channel; body = TransferBody transfer.old payload }) v.items) }
         ensures limit { IfOk result (λ v. All (λ p. length p ≤ self.now) v.items) }
-        ensures refused { IfErr result (λ e. PartsRefused self.now transfer e) }
+        ensures refused { IfErr result (λ e. PartsRefused self.now transfer.old e) }
     {
         let more = transfer.more;
-        let mut transfer = transfer;
         let mut payload = payload;
-        say_more(&mut transfer, true);
-        let room = self.payload_room(&transfer)?;
-        let head = write_transfer(alloc, channel, &transfer, self.body_room() - room)?;
+        say_more(transfer, true);
+        let room = self.payload_room(transfer)?;
+        let head = write_transfer(alloc, channel, transfer, self.body_room() - room)?;
         let first = payload.split_to(room)?;
         let mut pieces = one_piece(alloc, Piece::new(head, first))?;
-        continue_transfer(&mut transfer);
+        clear_continuation_fields(transfer);
         self.push_others(alloc, channel, transfer, more, payload, &mut pieces)?;
         Ok(pieces)
     }
@@ -142,26 +181,25 @@ impl FrameEncoder {
         &self,
         alloc: Global,
         channel: u16,
-        transfer: Transfer,
+        transfer: &mut Transfer,
         more: bool,
         payload: Bytes,
         pieces: &mut Vec<Piece>,
     ) -> Result<(), Error>
-        requires continues { continuation transfer ≡ transfer }
-        requires more { transfer.more ≡ true }
-        requires room { HasRoom self.now (transfer_text transfer) }
+        requires continues { continuation transfer.old ≡ transfer.old }
+        requires more { (transfer.old).more ≡ true }
+        requires room { HasRoom self.now (transfer_text transfer.old) }
         requires payload { 0 < length payload }
-        ensures ok { OnOk result (Continues self.now channel transfer more payload pieces.old.items pieces.new.items) }
+        ensures ok { OnOk result (Continues self.now channel transfer.old more payload pieces.old.items pieces.new.items) }
         ensures memory { IfErr result (λ e. e ≡ Memory) }
     {
-        let mut transfer = transfer;
         let mut payload = payload;
-        let room = self.payload_room(&transfer)?;
+        let room = self.payload_room(transfer)?;
         let size = self.body_room() - room;
-        let head = write_transfer(alloc, channel, &transfer, size)?;
+        let head = write_transfer(alloc, channel, transfer, size)?;
         push_middles(pieces, &head, &mut payload, room)?;
-        say_more(&mut transfer, more);
-        let last = write_transfer(alloc, channel, &transfer, size)?;
+        say_more(transfer, more);
+        let last = write_transfer(alloc, channel, transfer, size)?;
         pieces.push(Piece::new(last, payload))?;
         Ok(())
     }
@@ -185,23 +223,6 @@ impl FrameEncoder {
             return Ok(room - size);
         }
         Err(Error::TooLarge)
-    }
-}
-
-/// The transfer, if the performative is one.
-fn into_transfer(performative: Performative) -> Option<Transfer>
-    ensures { MatchOption result (IsNoTransfer performative) (λ t. performative ≡ performing.Transfer t) }
-{
-    match performative {
-        Performative::Transfer(transfer) => Some(transfer),
-        Performative::Open(_open) => None,
-        Performative::Begin(_begin) => None,
-        Performative::Attach(_attach) => None,
-        Performative::Flow(_flow) => None,
-        Performative::Disposition(_disposition) => None,
-        Performative::Detach(_detach) => None,
-        Performative::End(_end) => None,
-        Performative::Close(_close) => None,
     }
 }
 
@@ -248,15 +269,6 @@ fn say_more(transfer: &mut Transfer, more: bool)
     transfer.more = more;
 }
 
-/// Leaves what continuations of a transfer say: the handle, and whether more comes (part 2, 2.7.5).
-fn continue_transfer(transfer: &mut Transfer)
-    ensures { transfer.new ≡ continuation transfer.old }
-{
-    clear_continuation_fields(transfer);
-    transfer.aborted = false;
-    transfer.batchable = false;
-}
-
 /// Pieces that begin with these bytes and carry so many bytes of the payload each, while more than that is left.
 #[tactic(auto, using(crate::proofs::Middles::middles))]
 fn push_middles(
@@ -288,15 +300,15 @@ fn one_piece(alloc: Global, piece: Piece) -> Result<Vec<Piece>, Error>
 }
 
 /// The piece of a frame with this performative, of so many bytes, and with this payload behind it.
-fn write_whole(
+fn write_whole<P: Serialize>(
     alloc: Global,
     channel: u16,
-    performative: &Performative,
+    performative: &P,
     size: usize,
     payload: Bytes,
 ) -> Result<Vec<Piece>, Error>
-    requires { HasText (canon (performative_item performative.now)) }
-    ensures ok { IfOk result (λ v. IsOnePiece (canon (performative_item performative.now)) (2 ∷ 0 ∷ to_be_bytes w16 channel) payload v.items) }
+    requires { HasText (canon (P.item performative.now)) }
+    ensures ok { IfOk result (λ v. IsOnePiece (canon (P.item performative.now)) (2 ∷ 0 ∷ to_be_bytes w16 channel) payload v.items) }
     ensures memory { IfErr result (λ e. e ≡ Memory) }
 {
     let head = write_head(alloc, channel, performative, size)?;

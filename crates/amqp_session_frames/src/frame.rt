@@ -107,28 +107,4 @@ impl FrameBody {
             Performative::Close(close) => FrameBody::Close(close),
         }
     }
-
-    /// The performative, if there is one, and the payload of a transfer.
-    pub(crate) fn into_parts(self) -> (Option<Performative>, Bytes)
-        ensures performative { result.0 ≡ performative_of self }
-        ensures payload { result.1 ≡ payload_of self }
-    {
-        match self {
-            FrameBody::Empty => (None, Bytes::new()),
-            FrameBody::Open(open) => (Some(Performative::Open(open)), Bytes::new()),
-            FrameBody::Begin(begin) => (Some(Performative::Begin(begin)), Bytes::new()),
-            FrameBody::Attach(attach) => (Some(Performative::Attach(attach)), Bytes::new()),
-            FrameBody::Flow(flow) => (Some(Performative::Flow(flow)), Bytes::new()),
-            FrameBody::Transfer {
-                performative,
-                payload,
-            } => (Some(Performative::Transfer(performative)), payload),
-            FrameBody::Disposition(disposition) => {
-                (Some(Performative::Disposition(disposition)), Bytes::new())
-            }
-            FrameBody::Detach(detach) => (Some(Performative::Detach(detach)), Bytes::new()),
-            FrameBody::End(end) => (Some(Performative::End(end)), Bytes::new()),
-            FrameBody::Close(close) => (Some(Performative::Close(close)), Bytes::new()),
-        }
-    }
 }
