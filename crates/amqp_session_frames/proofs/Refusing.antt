@@ -6,7 +6,6 @@ use Rattle.serde_amqp_item.specs.Canon.{canon}
 use Rattle.amqp_session_performatives.specs.Performative.{performative_item}
 use Rattle.amqp_session_performatives.specs.Transfer.{transfer_item}
 use Rattle.amqp_session_performatives.specs.declared.performative.Performative.{Performative}
-use Rattle.amqp_session_performatives.specs.declared.performative.Performative.TheVariants as performing
 use Rattle.amqp_session_performatives.specs.declared.transfer.Transfer.{Transfer}
 use Rattle.amqp_session_frames.specs.Parts.{part, room, IsWritten, NotWritten, HasNoParts}
 use Rattle.amqp_session_frames.specs.Sizes.{transfer_text, HasSize, IsWhole, LacksRoom, NotSized, NotWhole, LeavesNoRoom, Overflows, PartsRefused}
@@ -34,9 +33,10 @@ unfolding transfer_text
 text_sized t n = n
 
 pub too_long : (limit channel : ℕ) (t : Transfer) (payload : List ℕ) → NotSized (canon (transfer_item t)) → NotWritten limit (record { channel = channel; body = TransferBody t payload }) TooLarge
-too_long limit channel t payload n =
-    (over_sized (record { channel = channel; body = TransferBody t payload }) (limit + 4) n,
-      over_sized (part channel t true (0 ∷ [])) (limit + 4) (text_sized (record t { more = true }) (too_long_more t (sized_text t n))))
+too_long limit channel t payload n = (
+  over_sized (record { channel = channel; body = TransferBody t payload }) (limit + 4) n,
+  over_sized (part channel t true (0 ∷ [])) (limit + 4) (text_sized (record t { more = true }) (too_long_more t (sized_text t n))),
+)
 
 sized_as : (t : Transfer) (size : ℕ) → HasSize (canon (transfer_item t)) size → HasSize (transfer_text t) size
 unfolding transfer_text
@@ -54,9 +54,10 @@ no_first limit channel t None e n = subst (λ (o : Option (List ℕ)). IsOver (l
 no_first limit channel t (Some text) e n = over_room (part channel t true (0 ∷ [])) text limit (part_text (record t { more = true }) text e) (omega (arith, n.none text e))
 
 pub parts_refused : (limit channel : ℕ) (t : Transfer) (payload : List ℕ) (e : Error) → Overflows limit (transfer_text t) payload → PartsRefused limit t e → NotWritten limit (record { channel = channel; body = TransferBody t payload }) e
-parts_refused limit channel t payload TooLarge o r =
-    (over_room (record { channel = channel; body = TransferBody t payload }) o.bytes limit (part_text t o.bytes o.is) (omega (arith, o.over)),
-      no_first limit channel t (transfer_text (record t { more = true })) refl r)
+parts_refused limit channel t payload TooLarge o r = (
+  over_room (record { channel = channel; body = TransferBody t payload }) o.bytes limit (part_text t o.bytes o.is) (omega (arith, o.over)),
+  no_first limit channel t (transfer_text (record t { more = true })) refl r,
+)
 parts_refused limit channel t payload Memory o r = tt
 parts_refused limit channel t payload DecodeError o r = absurd r
 parts_refused limit channel t payload NotImplemented o r = absurd r
@@ -72,9 +73,10 @@ undivided_within limit f b p pieces is said none w =
     whole_within limit f p pieces (ap performative_of is ∙ said) (subst (λ (l : List ℕ). IsWhole limit f.channel (canon (performative_item p)) l pieces) (sym (ap payload_of is ∙ none)) w)
 
 lacking_refused : (limit : ℕ) (f : Frame) (b : FrameBody) (p : Performative) (e : Error) → f.body ≡ b → performative_of b ≡ Some p → HasNoParts limit f.channel b → NotWhole limit (canon (performative_item p)) (payload_of b) e → NotWritten limit f e
-lacking_refused limit f b p TooLarge is said none n =
-    (over_lacking limit f p (ap performative_of is ∙ said) (subst (λ (l : List ℕ). LacksRoom limit (canon (performative_item p)) l) (sym (ap payload_of is)) n),
-      subst (λ (c : FrameBody). HasNoParts limit f.channel c) (sym is) none)
+lacking_refused limit f b p TooLarge is said none n = (
+  over_lacking limit f p (ap performative_of is ∙ said) (subst (λ (l : List ℕ). LacksRoom limit (canon (performative_item p)) l) (sym (ap payload_of is)) n),
+  subst (λ (c : FrameBody). HasNoParts limit f.channel c) (sym is) none,
+)
 lacking_refused limit f b p Memory is said none n = tt
 lacking_refused limit f b p DecodeError is said none n = absurd n
 lacking_refused limit f b p NotImplemented is said none n = absurd n

@@ -1,5 +1,5 @@
 -- A transfer that is too long for one frame goes in several: part 2, 2.6.14 and 2.7.5.
-use Rattle.std.specs.Prelude.{◌≡◌, ℕ, ◌+◌, ◌-◌, ◌≤◌, ◌^◌, ◌≢◌, min, Bool, true, false, List, [], ◌∷◌, ◌++◌, length, map, All, Some, None, ◌⊎◌}
+use Rattle.std.specs.Prelude.{◌≡◌, ℕ, ◌+◌, ◌-◌, ◌≤◌, ◌^◌, ◌≢◌, min, Bool, true, List, [], ◌∷◌, ◌++◌, length, map, All, Some, ◌⊎◌}
 use Rattle.amqp_session_performatives.specs.Continuation.{continuation}
 use Rattle.amqp_session_performatives.specs.declared.transfer.Transfer.{Transfer}
 use Rattle.amqp_session_frames.specs.Cutting.{with_size}

@@ -1,5 +1,4 @@
-use Rattle.std.proofs.Common.{refl, sym, subst, List, ℕ}
-use Rattle.std.specs.Prelude.{All}
+use Rattle.std.proofs.Common.{refl, sym, subst}
 use Rattle.std.proofs.lemmas.Result.{IfOk-weaker, IfErr-weaker}
 use Rattle.amqp_session_performatives.specs.declared.performative.Performative.TheVariants as performing
 use Rattle.amqp_session_frames.specs.Parts.{IsWritten, NotWritten}

@@ -1,4 +1,4 @@
-use Rattle.std.proofs.Common.{arith, ap, refl}
+use Rattle.std.proofs.Common.{arith, refl}
 use Rattle.std.proofs.lemmas.Result.{IfOk-weaker, IfErr-weaker, err_from_is_err_and}
 use Rattle.amqp_session_performatives.specs.declared.performative.Performative.TheVariants as performing
 use Rattle.amqp_session_frames.specs.declared.frame.FrameBody.TheVariants.{Transfer as TransferBody}
