@@ -1,139 +1,38 @@
-//! The frames that are read and written.
-use amqp_session_frames::{Error, Frame, FrameBody};
-use amqp_session_performatives::{Attach, Disposition, Flow, Transfer};
-use amqp_session_states::{
-    Accepted, DeliveryState, DistributionMode, Outcome, Source, Target, TargetArchetype,
-    TerminusDurability, TerminusExpiryPolicy,
-};
-use amqp_session_types::{DeliveryTag, Fields, Handle, ReceiverSettleMode, Role, SenderSettleMode};
-use bytes::Bytes;
-use serde_amqp::{Array, OrderedMap, RawValue, Symbol, Text};
-use std::alloc::Global;
+//! The performatives of the frames that are read and written, as their canonical texts (part 2, 2.7).
+use crate::work::Kind;
 
-/// A first transfer with so many bytes of payload.
-pub fn transfer(alloc: Global, payload: usize) -> Result<Frame, Error> {
-    let mut bytes = Vec::with_capacity(alloc, payload)?;
-    for _ in 0..payload {
-        bytes.push(0x5a)?;
-    }
-    let performative = Transfer {
-        handle: Handle(0),
-        delivery_id: Some(7),
-        delivery_tag: Some(DeliveryTag::from(Vec::from_slice(alloc, &[0; 8])?)),
-        message_format: Some(0),
-        settled: Some(false),
-        more: false,
-        rcv_settle_mode: None,
-        state: None,
-        resume: false,
-        aborted: false,
-        batchable: false,
-    };
-    let payload = Bytes::from_vec(bytes)?;
-    Ok(Frame::new(
-        0,
-        FrameBody::Transfer {
-            performative,
-            payload,
-        },
-    ))
-}
+/// The first transfer of the delivery 7, with a tag of eight bytes.
+const TRANSFER: &[u8] =
+    b"\x00\x53\x14\xc0\x10\x05\x43\x52\x07\xa0\x08\x00\x00\x00\x00\x00\x00\x00\x00\x43\x42";
 
 /// A flow that gives a link 200 credits.
-pub fn flow() -> Frame {
-    Frame::new(
-        0,
-        FrameBody::Flow(Flow {
-            next_incoming_id: Some(0),
-            incoming_window: 2048,
-            next_outgoing_id: 0,
-            outgoing_window: 2048,
-            handle: Some(Handle(0)),
-            delivery_count: Some(0),
-            link_credit: Some(200),
-            available: None,
-            drain: false,
-            echo: false,
-            properties: None,
-        }),
-    )
-}
+const FLOW: &[u8] =
+    b"\x00\x53\x13\xc0\x11\x07\x43\x70\x00\x00\x08\x00\x43\x70\x00\x00\x08\x00\x43\x43\x52\xc8";
 
 /// A disposition that accepts eight deliveries.
-pub fn disposition() -> Frame {
-    Frame::new(
-        0,
-        FrameBody::Disposition(Disposition {
-            role: Role::Receiver,
-            first: 0,
-            last: Some(7),
-            settled: true,
-            state: Some(DeliveryState::Accepted(Accepted {})),
-            batchable: false,
-        }),
-    )
-}
+const DISPOSITION: &[u8] = b"\x00\x53\x15\xc0\x0a\x05\x41\x43\x52\x07\x41\x00\x53\x24\x45";
 
-fn symbols(alloc: Global, name: &str) -> Result<Array<Symbol>, Error> {
-    let mut symbols = Vec::new(alloc);
-    symbols.push(Symbol::from_str(alloc, name)?)?;
-    symbols.push(Symbol::from_str(alloc, name)?)?;
-    Ok(Array::from(symbols))
-}
+/// An attach with a source and a target in which each field is set: part 2, 2.7.3, and part 3, 3.5.3 and 3.5.4.
+const ATTACH: &[u8] = b"\x00\x53\x12\xd0\x00\x00\x01\x17\x00\x00\x00\x0e\
+    \xa1\x04link\x43\x42\x50\x00\x50\x01\
+    \x00\x53\x28\xc0\x80\x0b\xa1\x05queue\x52\x02\xa3\x05never\x52\x3c\x41\
+    \xc1\x0c\x02\xa3\x08lifetime\x40\xa3\x04move\xc1\x0c\x02\xa3\x08selector\x40\x00\x53\x24\x45\
+    \xe0\x2e\x02\xb3\x00\x00\x00\x12amqp:accepted:list\x00\x00\x00\x12amqp:accepted:list\
+    \xe0\x14\x02\xb3\x00\x00\x00\x05queue\x00\x00\x00\x05queue\
+    \x00\x53\x29\xc0\x38\x07\xa1\x05queue\x52\x02\xa3\x05never\x52\x3c\x41\
+    \xc1\x0c\x02\xa3\x08lifetime\x40\
+    \xe0\x14\x02\xb3\x00\x00\x00\x05queue\x00\x00\x00\x05queue\
+    \x40\x40\x43\x80\x00\x00\x00\x00\x00\x01\x00\x00\
+    \xe0\x14\x02\xb3\x00\x00\x00\x05topic\x00\x00\x00\x05topic\
+    \xe0\x14\x02\xb3\x00\x00\x00\x05topic\x00\x00\x00\x05topic\
+    \xc1\x0b\x02\xa3\x07product\x40";
 
-fn properties(alloc: Global, name: &str) -> Result<Fields, Error> {
-    let mut fields = OrderedMap::new(alloc);
-    fields.insert(Symbol::from_str(alloc, name)?, RawValue::null(alloc)?)?;
-    Ok(fields)
-}
-
-fn source(alloc: Global) -> Result<Source, Error> {
-    Ok(Source {
-        address: Some(Text::from_str(alloc, "queue")?),
-        durable: TerminusDurability::UnsettledState,
-        expiry_policy: TerminusExpiryPolicy::Never,
-        timeout: 60,
-        dynamic: true,
-        dynamic_node_properties: Some(properties(alloc, "lifetime")?),
-        distribution_mode: Some(DistributionMode::Move),
-        filter: Some(properties(alloc, "selector")?),
-        default_outcome: Some(Outcome::Accepted(Accepted {})),
-        outcomes: symbols(alloc, "amqp:accepted:list")?,
-        capabilities: symbols(alloc, "queue")?,
-    })
-}
-
-fn target(alloc: Global) -> Result<Target, Error> {
-    Ok(Target {
-        address: Some(Text::from_str(alloc, "queue")?),
-        durable: TerminusDurability::UnsettledState,
-        expiry_policy: TerminusExpiryPolicy::Never,
-        timeout: 60,
-        dynamic: true,
-        dynamic_node_properties: Some(properties(alloc, "lifetime")?),
-        capabilities: symbols(alloc, "queue")?,
-    })
-}
-
-/// An attach with a source and a target in which each field is set.
-pub fn attach(alloc: Global) -> Result<Frame, Error> {
-    Ok(Frame::new(
-        0,
-        FrameBody::Attach(Attach {
-            name: Text::from_str(alloc, "link")?,
-            handle: Handle(0),
-            role: Role::Sender,
-            snd_settle_mode: SenderSettleMode::Unsettled,
-            rcv_settle_mode: ReceiverSettleMode::Second,
-            source: Some(source(alloc)?),
-            target: Some(TargetArchetype::Target(target(alloc)?)),
-            unsettled: None,
-            incomplete_unsettled: false,
-            initial_delivery_count: Some(0),
-            max_message_size: Some(65536),
-            offered_capabilities: symbols(alloc, "topic")?,
-            desired_capabilities: symbols(alloc, "topic")?,
-            properties: Some(properties(alloc, "product")?),
-        }),
-    ))
+/// The performative of a frame.
+pub fn performative(kind: Kind) -> &'static [u8] {
+    match kind {
+        Kind::Transfer => TRANSFER,
+        Kind::Flow => FLOW,
+        Kind::Disposition => DISPOSITION,
+        Kind::Attach => ATTACH,
+    }
 }

@@ -1,7 +1,7 @@
 use crate::frames;
 use amqp_session_frames::{Error, FrameDecoder, FrameEncoder};
 use bytes::Bytes;
-use std::alloc::Global;
+use std::alloc::{AllocError, Global};
 
 /// What is done with a frame.
 #[derive(Debug, Clone, Copy)]
@@ -88,18 +88,18 @@ impl Work {
     }
 
     /// The bytes of the frame, with its size in front.
-    fn text(self, alloc: Global) -> Result<Bytes, Error> {
-        let frame = match self.kind {
-            Kind::Transfer => frames::transfer(alloc, self.payload)?,
-            Kind::Flow => frames::flow(),
-            Kind::Disposition => frames::disposition(),
-            Kind::Attach => frames::attach(alloc)?,
-        };
-        let mut text = Vec::new(alloc);
-        for piece in FrameEncoder::new(usize::MAX).encode(alloc, frame)?.iter() {
-            let size = u32::try_from(piece.len()).unwrap_or(u32::MAX);
-            text.extend_from_slice(&size.saturating_add(4).to_be_bytes())?;
-            piece.write_to(&mut text)?;
+    fn text(self, alloc: Global) -> Result<Bytes, AllocError> {
+        let performative = frames::performative(self.kind);
+        let size = performative
+            .len()
+            .saturating_add(self.payload)
+            .saturating_add(8);
+        let mut text = Vec::with_capacity(alloc, size)?;
+        text.extend_from_slice(&u32::try_from(size).unwrap_or(u32::MAX).to_be_bytes())?;
+        text.extend_from_slice(&[2, 0, 0, 0])?;
+        text.extend_from_slice(performative)?;
+        for _ in 0..self.payload {
+            text.push(0x5a)?;
         }
         Ok(Bytes::from_vec(text)?)
     }
