@@ -25,6 +25,8 @@ mod flow;
 pub mod laws;
 mod open;
 mod performative;
+#[cfg(test)]
+mod tests;
 mod transfer;
 
 pub use attach::Attach;
