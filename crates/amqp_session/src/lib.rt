@@ -6,6 +6,10 @@ pub use amqp_session_connection::{Connection, ConnectionState};
 pub use amqp_session_frames::{
     Error as FrameError, Frame, FrameBody, FrameDecoder, FrameEncoder, Piece,
 };
+pub use amqp_session_items::{
+    LinkFlow, LinkFrame, LinkTransfer, MissingHandle, SessionFrame, SessionFrameBody,
+    SessionOutgoingItem,
+};
 pub use amqp_session_performatives::{
     Attach, Begin, Close, Detach, Disposition, End, Flow, Open, Performative, Transfer,
     clear_continuation_fields,
@@ -21,6 +25,9 @@ pub use amqp_session_types::{
     SequenceNumber, SessionError, SessionStopReason, TransferNumber, TryCloseError, TryEndError,
     definitions,
 };
+
+#[cfg(test)]
+mod tests;
 
 /// The max-frame-size of an Open that names no other, in bytes (part 2, 2.7.1).
 pub const DEFAULT_MAX_FRAME_SIZE: u32 = 262_144;

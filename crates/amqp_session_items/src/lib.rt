@@ -4,8 +4,6 @@
 mod link_flow;
 mod link_frame;
 mod session_frame;
-#[cfg(test)]
-mod tests;
 
 pub use amqp_session_performatives::clear_continuation_fields;
 pub use link_flow::{LinkFlow, MissingHandle};

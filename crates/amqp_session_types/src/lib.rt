@@ -10,8 +10,6 @@ pub mod laws;
 mod modes;
 mod or_default;
 mod refusals;
-#[cfg(test)]
-mod tests;
 
 pub use channels::{IncomingChannel, OutgoingChannel};
 pub use definitions::{
