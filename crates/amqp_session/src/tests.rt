@@ -4,6 +4,9 @@ mod connection_states;
 mod frames;
 mod items;
 mod memory;
+mod performatives;
+mod states;
+mod termini;
 mod transfers;
 mod types;
 

@@ -25,8 +25,6 @@ mod flow;
 pub mod laws;
 mod open;
 mod performative;
-#[cfg(test)]
-mod tests;
 mod transfer;
 
 pub use attach::Attach;

@@ -14,10 +14,6 @@ mod source;
 mod target;
 mod target_archetype;
 mod terminus;
-#[cfg(test)]
-mod terminus_tests;
-#[cfg(test)]
-mod tests;
 
 pub use accepted::Accepted;
 pub use delivery_state::DeliveryState;

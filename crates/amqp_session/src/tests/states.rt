@@ -1,8 +1,5 @@
-use crate::{Accepted, DeliveryState, Modified, Outcome, Received, Rejected, Released};
-use amqp_session_types::Fields;
-use serde_amqp_de::{Deserialize, from_slice};
-use serde_amqp_item::Error;
-use serde_amqp_ser::{Serialize, to_vec};
+use crate::{Accepted, DeliveryState, Fields, Modified, Outcome, Received, Rejected, Released};
+use serde_amqp::{Deserialize, Error, Serialize, from_slice, to_vec};
 use std::alloc::Global;
 
 /// Whether the value is written as these bytes, and they are read as the value.

@@ -1,12 +1,9 @@
-use crate::tests::{has_null, is_form, is_kept, reads, reads_alike, refusal};
+use crate::tests::states::{has_null, is_form, is_kept, reads, reads_alike, refusal};
 use crate::{
     DistributionMode, Outcome, Source, Target, TargetArchetype, TerminusDurability,
     TerminusExpiryPolicy,
 };
-use serde_amqp_item::Error;
-use serde_amqp_raw::RawValue;
-use serde_amqp_ser::to_vec;
-use serde_amqp_types::{Array, Symbol, Text};
+use serde_amqp::{Array, Error, RawValue, Symbol, Text, to_vec};
 use std::alloc::Global;
 
 fn is_text(text: &Option<Text>, expected: &str) -> bool {

@@ -1,15 +1,12 @@
+use crate::definitions::Error as Details;
 use crate::{
-    Attach, Begin, Close, Detach, Disposition, End, Flow, Open, Performative, Transfer,
+    Attach, Begin, Close, DeliveryState, Detach, Disposition, End, Fields, Flow, Handle, Open,
+    Performative, ReceiverSettleMode, Role, SenderSettleMode, TargetArchetype, Transfer,
     clear_continuation_fields,
 };
-use amqp_session_states::{DeliveryState, TargetArchetype};
-use amqp_session_types::definitions::Error as Details;
-use amqp_session_types::{Fields, Handle, ReceiverSettleMode, Role, SenderSettleMode};
-use serde_amqp_de::{Deserialize, from_slice};
-use serde_amqp_item::Error;
-use serde_amqp_map::OrderedMap;
-use serde_amqp_ser::{Serialize, to_vec};
-use serde_amqp_types::{Array, ByteBuf, Symbol, Text};
+use serde_amqp::{
+    Array, ByteBuf, Deserialize, Error, OrderedMap, Serialize, Symbol, Text, from_slice, to_vec,
+};
 use std::alloc::Global;
 
 // Fields: null, uints, truth, the text "l", the symbols "s" and "t", each alone in an array, and k: true as a map.
