@@ -1,0 +1,170 @@
+-- Where a link's transfers wait.
+use Rattle.std.proofs.Common.{◌≡◌, ◌≢◌, ℕ, ◌<◌, ◌≤◌, ◌⊎◌, inl, inr, suc, zero, List, [], ◌∷◌, ◌++◌, length, arith, Bool, true, false, length-append, refl, sym, ap, ◌∙◌, subst}
+use Rattle.std.proofs.lemmas.List.Elements.{All-head, All-tail}
+use Rattle.std.specs.Prelude.{Result, Ok, Err, OnOk, OnErr, map, slice_index_or, slice_set, ◌==◌, ◌+◌, if◌then◌else◌}
+use Rattle.std.proofs.lemmas.Grind.{common_steps}
+use Rattle.amqp_session_outgoing.specs.Queues.{Queues, joined, followed, trailed, units_of, held_in, turn_of}
+use Rattle.amqp_session_types.specs.declared.handles.OutputHandle.{OutputHandle}
+use Rattle.amqp_session_outgoing.proofs.Numbering.{firsts-followed}
+use Rattle.amqp_session_outgoing.specs.Fields.{queues_of, EachWaits, IsPlace, IsNowhere, ChangesAt}
+use Rattle.amqp_session_outgoing.specs.declared.frames.Outbound.{Outbound}
+use Rattle.amqp_session_outgoing.specs.declared.turns.Queue.{Queue}
+use Rattle.std.specs.declared.collections.VecDeque.{VecDeque}
+
+pub on_ok : {A E P Q : Type 0} → (r : Result A E) → (P → Q) → OnOk r P → OnOk r Q
+on_ok (Ok x) f p = f p
+on_ok (Err e) f p = tt
+
+pub on_err : {A E P Q : Type 0} → (r : Result A E) → (P → Q) → OnErr r P → OnErr r Q
+on_err (Ok x) f p = tt
+on_err (Err e) f p = f p
+
+module _ {T F : Type 0} where
+  pub queues_of-same : (items : List (Queue T F)) (i : ℕ) (q d : Queue T F)
+      → i < length items → q.handle ≡ (slice_index_or items i d).handle
+      → q.units.items ≡ (slice_index_or items i d).units.items
+      → queues_of (slice_set items i q) ≡ queues_of items
+  queues_of-same [] i q d lt same more = absurd (omega arith)
+  queues_of-same (x ∷ xs) zero q d lt same more = grind (arith, common_steps)
+  queues_of-same (x ∷ xs) (suc i) q d lt same more =
+      let rest : queues_of (slice_set xs i q) ≡ queues_of xs = queues_of-same xs i q d (omega arith) same more in
+      grind (arith, common_steps)
+
+  default : (items : List (Queue T F)) (i : ℕ) (d f : Queue T F) → i < length items → slice_index_or items i d ≡ slice_index_or items i f
+  default [] i d f lt = absurd (omega arith)
+  default (x ∷ items) zero d f lt = refl
+  default (x ∷ items) (suc i) d f lt = default items i d f (omega arith)
+
+  -- a queue written back at its place with other transfers
+  pub changes : (items : List (Queue T F)) (i : ℕ) (change : List (Outbound T F) → List (Outbound T F)) (now : Queue T F) (units : VecDeque (Outbound T F) _)
+      → i < length items → now ≡ slice_index_or items i now → units.items ≡ change now.units.items
+      → ChangesAt items i change (slice_set items i (record { handle = now.handle; units = units }))
+  changes items i change now units lt is more =
+      let q : Queue T F = record { handle = now.handle; units = units } in
+      let e : now ≡ slice_index_or items i q = is ∙ default items i now q lt in
+      record {
+        queue = q;
+        changed = refl;
+        handle = ap (λ (x : Queue T F). x.handle) e;
+        units = more ∙ ap (λ (x : Queue T F). change x.units.items) e;
+      }
+
+  -- and with the same ones
+  pub unchanged : (items : List (Queue T F)) (i : ℕ) (now q : Queue T F) → i < length items → now ≡ slice_index_or items i now
+      → q.handle ≡ now.handle → q.units.items ≡ now.units.items → queues_of (slice_set items i q) ≡ queues_of items
+  unchanged items i now q lt is handle same = queues_of-same items i q now lt (handle ∙ ap (λ (x : Queue T F). x.handle) is) (same ∙ ap (λ (x : Queue T F). x.units.items) is)
+
+  -- a frame behind the last
+  pub trailed-last : (frame : F) (units : List (Outbound T F)) (last : Outbound T F) → trailed frame (units ++ last ∷ []) ≡ units ++ record last { behind = last.behind ++ frame ∷ [] } ∷ []
+  trailed-last frame [] last = refl
+  trailed-last frame (u ∷ []) last = refl
+  trailed-last frame (u ∷ v ∷ us) last = ap (λ (xs : List (Outbound T F)). u ∷ xs) (trailed-last frame (v ∷ us) last)
+
+  joined-found : (items : List (Queue T F)) (i handle : ℕ) (batch : List (Outbound T F)) (q d f : Queue T F)
+      → i < length items → ((k : ℕ) (e : Queue T F) → k < i → ((slice_index_or items k e).handle).0 ≢ handle)
+      → ((slice_index_or items i f).handle).0 ≡ handle → q.handle ≡ (slice_index_or items i d).handle
+      → q.units.items ≡ (slice_index_or items i d).units.items ++ batch
+      → queues_of (slice_set items i q) ≡ joined handle batch (queues_of items)
+  joined-found [] i handle batch q d f lt absent here same more = absurd (omega arith)
+  joined-found (x ∷ xs) zero handle batch q d f lt absent here same more = grind (arith, common_steps)
+  joined-found (x ∷ xs) (suc i) handle batch q d f lt absent here same more =
+      let other : (x.handle).0 ≢ handle = absent 0 d (omega arith) in
+      let rest : queues_of (slice_set xs i q) ≡ joined handle batch (queues_of xs) = joined-found xs i handle batch q d f (omega arith) (λ k e h. absent (suc k) e (omega arith)) here same more in
+      grind (arith, common_steps)
+
+  pub joined-at : (items new : List (Queue T F)) (i handle : ℕ) (batch : List (Outbound T F)) → IsPlace items handle i
+      → ChangesAt items i (λ units. units ++ batch) new → queues_of new ≡ joined handle batch (queues_of items)
+  joined-at items new i handle batch p c = ap (λ (qs : List (Queue T F)). queues_of qs) c.changed ∙ joined-found items i handle batch c.queue c.queue p.found p.within p.before p.here c.handle c.units
+
+  joined-none : (items : List (Queue T F)) (handle : ℕ) (batch : List (Outbound T F)) (q : Queue T F)
+      → ((k : ℕ) (e : Queue T F) → k < length items → ((slice_index_or items k e).handle).0 ≢ handle)
+      → (q.handle).0 ≡ handle → q.units.items ≡ batch
+      → queues_of (items ++ q ∷ []) ≡ joined handle batch (queues_of items)
+  joined-none [] handle batch q absent same more = grind (arith, common_steps)
+  joined-none (x ∷ xs) handle batch q absent same more =
+      let other : (x.handle).0 ≢ handle = absent 0 q (omega arith) in
+      let rest : queues_of (xs ++ q ∷ []) ≡ joined handle batch (queues_of xs) = joined-none xs handle batch q (λ k e h. absent (suc k) e (omega arith)) same more in
+      grind (arith, common_steps)
+
+  pub joined-last : (items new : List (Queue T F)) (handle : ℕ) (batch : List (Outbound T F)) (q : Queue T F) → IsNowhere items handle
+      → new ≡ items ++ q ∷ [] → (q.handle).0 ≡ handle → q.units.items ≡ batch → queues_of new ≡ joined handle batch (queues_of items)
+  joined-last items new handle batch q n is same more = ap (λ (qs : List (Queue T F)). queues_of qs) is ∙ joined-none items handle batch q n.other same more
+
+  followed-found : (items : List (Queue T F)) (i handle : ℕ) (frame : F) (q d f : Queue T F)
+      → i < length items → ((k : ℕ) (e : Queue T F) → k < i → ((slice_index_or items k e).handle).0 ≢ handle)
+      → ((slice_index_or items i f).handle).0 ≡ handle → q.handle ≡ (slice_index_or items i d).handle
+      → q.units.items ≡ trailed frame (slice_index_or items i d).units.items
+      → queues_of (slice_set items i q) ≡ followed handle frame (queues_of items)
+  followed-found [] i handle frame q d f lt absent here same more = absurd (omega arith)
+  followed-found (x ∷ xs) zero handle frame q d f lt absent here same more = grind (arith, common_steps)
+  followed-found (x ∷ xs) (suc i) handle frame q d f lt absent here same more =
+      let other : (x.handle).0 ≢ handle = absent 0 d (omega arith) in
+      let rest : queues_of (slice_set xs i q) ≡ followed handle frame (queues_of xs) = followed-found xs i handle frame q d f (omega arith) (λ k e h. absent (suc k) e (omega arith)) here same more in
+      grind (arith, common_steps)
+
+  pub followed-at : (items new : List (Queue T F)) (i handle : ℕ) (frame : F) → IsPlace items handle i
+      → ChangesAt items i (trailed frame) new → queues_of new ≡ followed handle frame (queues_of items)
+  followed-at items new i handle frame p c = ap (λ (qs : List (Queue T F)). queues_of qs) c.changed ∙ followed-found items i handle frame c.queue c.queue p.found p.within p.before p.here c.handle c.units
+
+  units-found : (items : List (Queue T F)) (i handle : ℕ) (f : Queue T F)
+      → i < length items → ((k : ℕ) (e : Queue T F) → k < i → ((slice_index_or items k e).handle).0 ≢ handle)
+      → ((slice_index_or items i f).handle).0 ≡ handle → EachWaits items → 0 < length (units_of handle (queues_of items))
+  units-found [] i handle f lt absent here waits = absurd (omega arith)
+  units-found (x ∷ xs) zero handle f lt absent here waits = let some : 0 < length x.units.items = All-head (λ (q : Queue T F). 0 < length q.units.items) x xs waits in grind (arith, common_steps)
+  units-found (x ∷ xs) (suc i) handle f lt absent here waits =
+      let other : (x.handle).0 ≢ handle = absent 0 f (omega arith) in
+      let rest : 0 < length (units_of handle (queues_of xs)) = units-found xs i handle f (omega arith) (λ k e h. absent (suc k) e (omega arith)) here (All-tail (λ (q : Queue T F). 0 < length q.units.items) x xs waits) in
+      grind (arith, common_steps)
+
+  pub waits-at : (items : List (Queue T F)) (i handle : ℕ) → IsPlace items handle i → EachWaits items → 0 < length (units_of handle (queues_of items))
+  waits-at items i handle p waits = units-found items i handle p.found p.within p.before p.here waits
+
+  units-none : (items : List (Queue T F)) (handle : ℕ)
+      → ((k : ℕ) (e : Queue T F) → k < length items → ((slice_index_or items k e).handle).0 ≢ handle) → units_of handle (queues_of items) ≡ []
+  units-none [] handle absent = refl
+  units-none (x ∷ xs) handle absent =
+      let other : (x.handle).0 ≢ handle = absent 0 x (omega arith) in
+      let rest : units_of handle (queues_of xs) ≡ [] = units-none xs handle (λ k e h. absent (suc k) e (omega arith)) in
+      grind (arith, common_steps)
+
+  pub waits-nowhere : (items : List (Queue T F)) (handle : ℕ) → IsNowhere items handle → units_of handle (queues_of items) ≡ []
+  waits-nowhere items handle n = units-none items handle n.other
+
+  held-case : (b : Bool) (left right : Queues T F) (n : ℕ) → held_in left ≡ n → held_in right ≡ n → held_in (if b then left else right) ≡ n
+  held-case true left right n y z = y
+  held-case false left right n y z = z
+
+  pub held-joined : (handle : ℕ) (batch : List (Outbound T F)) (queues : Queues T F) → held_in (joined handle batch queues) ≡ held_in queues + length batch
+  held-joined handle batch [] = omega arith
+  held-joined handle batch (q ∷ queues) =
+      let rest : held_in (joined handle batch queues) ≡ held_in queues + length batch = held-joined handle batch queues in
+      held-case (q.0 == handle) _ _ _ (omega (arith, length-append q.1 batch)) (omega arith)
+
+  held-at : (items : List (Queue T F)) (i : ℕ) (d : Queue T F) → i < length items → length (slice_index_or items i d).units.items ≤ held_in (queues_of items)
+  held-at [] i d lt = absurd (omega arith)
+  held-at (x ∷ items) zero d lt = omega arith
+  held-at (x ∷ items) (suc i) d lt =
+      let rest : length (slice_index_or items i d).units.items ≤ held_in (queues_of items) = held-at items i d (omega arith) in
+      omega arith
+
+  pub refused-at : {P : Type 0} → (items : List (Queue T F)) (i handle capacity more : ℕ) → IsPlace items handle i
+      → ((d : Queue T F) → capacity < length (slice_index_or items i d).units.items + more) → P ⊎ (capacity < held_in (queues_of items) + more)
+  refused-at items i handle capacity more p full = inr (omega (arith, full p.found, held-at items i p.found p.within))
+
+  pub trailed-length : (frame : F) (units : List (Outbound T F)) → length (trailed frame units) ≡ length units
+  trailed-length frame [] = refl
+  trailed-length frame (u ∷ []) = refl
+  trailed-length frame (u ∷ v ∷ us) = let rest : length (trailed frame (v ∷ us)) ≡ length (v ∷ us) = trailed-length frame (v ∷ us) in omega arith
+
+  pub held-followed : (handle : ℕ) (frame : F) (queues : Queues T F) → held_in (followed handle frame queues) ≡ held_in queues
+  held-followed handle frame [] = refl
+  held-followed handle frame (q ∷ queues) =
+      let rest : held_in (followed handle frame queues) ≡ held_in queues = held-followed handle frame queues in
+      held-case (q.0 == handle) _ _ _ (omega (arith, trailed-length frame q.1)) (omega arith)
+
+  -- the counts of the links in turn
+  pub counted : (items : List (Queue T F)) → map (λ (q : Queue T F). (q.handle, length q.units.items)) items ≡ turn_of (queues_of items)
+  counted [] = refl
+  counted (q ∷ items) = ap (λ (xs : List (OutputHandle × ℕ)). (q.handle, length q.units.items) ∷ xs) (counted items)
+
+pub ruleset rules = (joined-at, joined-last, followed-at, waits-at, waits-nowhere, held-joined, held-followed, firsts-followed, refused-at, on_ok, on_err)

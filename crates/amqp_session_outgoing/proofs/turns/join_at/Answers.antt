@@ -1,0 +1,9 @@
+use Rattle.std.proofs.Common.{refl}
+use Rattle.amqp_session_outgoing.proofs.Joining.{on_ok, on_err, changes, unchanged}
+use Rattle.amqp_session_outgoing.proofs.turns.join_at.Goals as goal
+
+pub returns-clause-ok : goal.returns-clause-ok
+returns-clause-ok g c = on_ok c.append.result (changes c.args.queues.now.items c.args.place _ c.index_mut-queue.result.now c.append.new.units c.requires.place c.index_mut-queue.ensures.value) c.append.ensures.ok
+
+pub returns-clause-err : goal.returns-clause-err
+returns-clause-err g c = on_err c.append.result (unchanged c.args.queues.now.items c.args.place c.index_mut-queue.result.now _ c.requires.place c.index_mut-queue.ensures.value refl) c.append.ensures.err
