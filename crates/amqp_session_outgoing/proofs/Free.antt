@@ -1,5 +1,5 @@
 -- Delivery numbers are given once.
-use Rattle.std.proofs.Common.{◌≡◌, ◌≢◌, ℕ, ◌+◌, ◌-◌, ◌<◌, ◌≤◌, ◌%◌, ◌^◌, List, [], ◌∷◌, ◌++◌, sym, ◌∙◌, ap, subst, arith, Bool, true, false, cond, refl, Option, Some, None, ◌⊎◌, inl, inr}
+use Rattle.std.proofs.Common.{◌≡◌, ◌≢◌, ℕ, ◌+◌, ◌-◌, ◌<◌, ◌≤◌, ◌%◌, ◌^◌, List, [], ◌∷◌, sym, ◌∙◌, ap, subst, arith, true, false, Option, Some, None, ◌⊎◌, inl, inr}
 use Rattle.std.specs.Prelude.{if◌then◌else◌}
 use Rattle.std.proofs.Math.Nat.{mod-add-mod, mod-eq_of_lt}
 use Rattle.std.specs.FinMap as map
@@ -8,8 +8,8 @@ use Rattle.amqp_session_unsettled.specs.Table.{Table, unless_of}
 use Rattle.amqp_session_unsettled.specs.declared.delivery.Delivery.{Delivery}
 use Rattle.amqp_session_unsettled.proofs.Tables.{get-put-other, get-take-none}
 use Rattle.amqp_session_outgoing.specs.Frames.{is_first, first_count, firsts_of}
-use Rattle.amqp_session_outgoing.specs.Queues.{Queues, firsts_in, joined, followed}
-use Rattle.amqp_session_outgoing.specs.State.{State, Leaves, Sends, with_batch, with_window, registered, after}
+use Rattle.amqp_session_outgoing.specs.Queues.{Queues, firsts_in}
+use Rattle.amqp_session_outgoing.specs.State.{State, Leaves, Sends, with_batch, with_window, registered}
 use Rattle.amqp_session_outgoing.specs.History.{Step, Steps, History, TakesWindow, Accepts, Refuses, Follows, Reserves, Settles, Forgets, Fails, IsFree, HasFreeNumbers}
 use Rattle.amqp_session_outgoing.specs.Told.{GivesFree, EachFree, EachFreeIn, AllFree}
 use Rattle.amqp_session_outgoing.specs.declared.frames.Part.{Part}

@@ -1,5 +1,5 @@
 -- Where a link's transfers wait.
-use Rattle.std.proofs.Common.{◌≡◌, ◌≢◌, ℕ, ◌<◌, ◌≤◌, ◌⊎◌, inl, inr, suc, zero, List, [], ◌∷◌, ◌++◌, length, arith, Bool, true, false, length-append, refl, sym, ap, ◌∙◌, subst}
+use Rattle.std.proofs.Common.{◌≡◌, ◌≢◌, ℕ, ◌<◌, ◌≤◌, ◌⊎◌, inr, suc, zero, List, [], ◌∷◌, ◌++◌, length, arith, Bool, true, false, length-append, refl, ap, ◌∙◌}
 use Rattle.std.proofs.lemmas.List.Elements.{All-head, All-tail}
 use Rattle.std.specs.Prelude.{Result, Ok, Err, OnOk, OnErr, map, slice_index_or, slice_set, ◌==◌, ◌+◌, if◌then◌else◌}
 use Rattle.std.proofs.lemmas.Grind.{common_steps}

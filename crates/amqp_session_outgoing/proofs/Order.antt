@@ -1,14 +1,14 @@
 -- For each link, what left and what waits are what was accepted, in order.
-use Rattle.std.proofs.Common.{◌≡◌, ◌≢◌, ℕ, List, [], ◌∷◌, ◌++◌, refl, sym, ◌∙◌, ap, subst, arith, Bool, true, false, append_assoc, ◌⊎◌, inl, inr, Option, Some, None, is_some}
+use Rattle.std.proofs.Common.{◌≡◌, ◌≢◌, ℕ, List, [], ◌∷◌, ◌++◌, refl, sym, ◌∙◌, ap, subst, arith, Bool, true, false, append_assoc, ◌⊎◌, inl, inr, Some, None, is_some}
 use Rattle.std.specs.Prelude.{◌==◌, ◌<◌, length, if◌then◌else◌}
 use Rattle.std.proofs.lemmas.List.{append-nil}
 use Rattle.std.proofs.lemmas.Bool.Decides.{eqb_tells}
 use Rattle.std.proofs.lemmas.Grind.{common_steps}
 use Rattle.amqp_session_outgoing.specs.Frames.{LinkFrame, Transferred, Other, others, frames_of, frames_sent, is_first}
-use Rattle.amqp_session_outgoing.specs.Queues.{Queues, TakesTurn, TakesTurnOf, FollowsIn, rejoined, joined, followed, trailed, units_of, waiting_of}
-use Rattle.amqp_session_outgoing.specs.State.{State, Leaves, Sends, with_window, with_batch, sent_as}
+use Rattle.amqp_session_outgoing.specs.Queues.{Queues, TakesTurn, TakesTurnOf, rejoined, joined, followed, trailed, units_of, waiting_of}
+use Rattle.amqp_session_outgoing.specs.State.{State, Leaves, Sends, with_window, with_batch}
 use Rattle.amqp_session_outgoing.specs.History.{Step, Steps, History, TakesWindow, Accepts, Refuses, Follows, Reserves, Settles, Forgets, Fails}
-use Rattle.amqp_session_outgoing.specs.Told.{frames_by, out_in, out_of, accepted_in, accepted_of, alone}
+use Rattle.amqp_session_outgoing.specs.Told.{frames_by, out_in, out_of, accepted_in, accepted_of}
 use Rattle.amqp_session_outgoing.specs.declared.frames.Outbound.{Outbound}
 use Rattle.amqp_session_outgoing.specs.declared.frames.Sent.{Sent}
 

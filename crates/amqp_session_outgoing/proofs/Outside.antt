@@ -1,8 +1,8 @@
 -- What waits lies outside the window.
-use Rattle.std.proofs.Common.{◌≡◌, ℕ, ◌+◌, ◌<◌, ◌≤◌, ◌%◌, ◌^◌, List, [], ◌∷◌, ◌++◌, length, sym, ◌∙◌, ap, subst, arith, length-append, refl, Option, Some, None}
+use Rattle.std.proofs.Common.{◌≡◌, ℕ, ◌+◌, ◌<◌, ◌≤◌, ◌%◌, ◌^◌, List, [], ◌∷◌, ◌++◌, length, sym, ◌∙◌, ap, subst, arith, length-append, Some, None}
 use Rattle.std.proofs.Math.Nat.{mod-add-mod}
 use Rattle.amqp_session_unsettled.specs.Range.{ahead}
-use Rattle.amqp_session_outgoing.specs.Queues.{Queues, held_in, followed}
+use Rattle.amqp_session_outgoing.specs.Queues.{Queues, held_in}
 use Rattle.amqp_session_outgoing.specs.State.{State, Leaves, IsHeld, with_batch, with_window}
 use Rattle.amqp_session_outgoing.specs.History.{Step, Steps, History, TakesWindow, Accepts, Refuses, Follows, Reserves, Settles, Forgets, Fails}
 use Rattle.amqp_session_outgoing.specs.Told.{left_in, transfers_out, base_in, width_in, latest_base, latest_width}

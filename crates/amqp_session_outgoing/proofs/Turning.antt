@@ -1,6 +1,5 @@
 -- Runs of transfers that leave, and turns.
-use Rattle.std.proofs.Common.{◌≡◌, ℕ, ◌+◌, ◌%◌, ◌^◌, ◌<◌, arith, List, [], ◌∷◌, ◌++◌, length, drop, refl, sym, ◌∙◌, ap, append_assoc, subst}
-use Rattle.std.proofs.lemmas.List.{append-nil}
+use Rattle.std.proofs.Common.{◌≡◌, ℕ, ◌+◌, ◌%◌, ◌^◌, ◌<◌, arith, List, [], ◌∷◌, ◌++◌, length, drop, refl, ◌∙◌, ap, append_assoc, subst}
 use Rattle.std.proofs.lemmas.List.Elements.{All-drop, All-push}
 use Rattle.amqp_session_outgoing.specs.Queues.{Queues, held_in, rejoined, TakesTurn, TakesTurnOf}
 use Rattle.amqp_session_outgoing.specs.declared.frames.Outbound.{Outbound}

@@ -1,5 +1,5 @@
 -- The frames of a sending link as its session handles them.
-use Rattle.std.specs.Prelude.{ℕ, ◌+◌, Bool, true, false, List, [], ◌∷◌, ◌++◌, Option, Some, None, is_some}
+use Rattle.std.specs.Prelude.{ℕ, ◌+◌, Bool, true, false, List, [], ◌∷◌, ◌++◌, Some, None, is_some}
 use Rattle.amqp_session_outgoing.specs.declared.frames.Part.{Part}
 use Rattle.amqp_session_outgoing.specs.declared.frames.Part.TheVariants.{First, Continuation}
 use Rattle.amqp_session_outgoing.specs.declared.frames.Outbound.{Outbound}

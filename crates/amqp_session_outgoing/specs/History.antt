@@ -4,7 +4,7 @@ use Rattle.std.specs.FinMap as map
 use Rattle.amqp_session_types.specs.declared.handles.OutputHandle.{OutputHandle}
 use Rattle.amqp_session_unsettled.specs.Table.{unless_of}
 use Rattle.amqp_session_outgoing.specs.Frames.{firsts_of, HaveTags}
-use Rattle.amqp_session_outgoing.specs.Queues.{Queues, firsts_in, FollowsIn}
+use Rattle.amqp_session_outgoing.specs.Queues.{firsts_in, FollowsIn}
 use Rattle.amqp_session_outgoing.specs.State.{State, Leaves, IsHeld, with_window, with_batch}
 use Rattle.amqp_session_outgoing.specs.declared.error.TransferError.{TransferError}
 use Rattle.amqp_session_outgoing.specs.declared.error.TransferError.TheVariants.{IllegalState, NumberInUse, Memory}

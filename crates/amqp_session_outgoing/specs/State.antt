@@ -1,5 +1,5 @@
 -- What a contract sees of the sending side of a session, and how transfers leave it.
-use Rattle.std.specs.Prelude.{◌≡◌, ℕ, ◌+◌, ◌-◌, ◌%◌, ◌^◌, ◌<◌, ◌≤◌, Bool, true, false, List, [], ◌∷◌, ◌++◌, Option, Some, None, if◌then◌else◌}
+use Rattle.std.specs.Prelude.{◌≡◌, ℕ, ◌+◌, ◌%◌, ◌^◌, ◌<◌, ◌≤◌, true, false, List, [], ◌∷◌, ◌++◌, Option, Some, None, if◌then◌else◌}
 use Rattle.std.specs.Ordering.{nat_cmp}
 use Rattle.std.specs.FinMap as map
 use Rattle.amqp_session_types.specs.declared.handles.OutputHandle.{OutputHandle}
@@ -7,7 +7,7 @@ use Rattle.amqp_session_unsettled.specs.Range.{ahead}
 use Rattle.amqp_session_unsettled.specs.Table.{Table}
 use Rattle.amqp_session_unsettled.specs.declared.delivery.Delivery.{Delivery}
 use Rattle.amqp_session_outgoing.specs.Frames.{is_first}
-use Rattle.amqp_session_outgoing.specs.Queues.{Queues, held_in, TakesTurn, joined, followed}
+use Rattle.amqp_session_outgoing.specs.Queues.{Queues, held_in, TakesTurn, joined}
 use Rattle.amqp_session_outgoing.specs.declared.frames.Part.{Part}
 use Rattle.amqp_session_outgoing.specs.declared.frames.Part.TheVariants.{First, Continuation}
 use Rattle.amqp_session_outgoing.specs.declared.frames.Outbound.{Outbound}

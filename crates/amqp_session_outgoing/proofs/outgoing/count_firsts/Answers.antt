@@ -1,4 +1,4 @@
-use Rattle.std.proofs.Common.{arith, refl, ap, sym, subst, ◌≡◌, ◌<◌, length}
+use Rattle.std.proofs.Common.{arith, refl, ap, sym, subst, ◌<◌, length}
 use Rattle.amqp_session_outgoing.specs.Frames.{first_count, HasTag}
 use Rattle.amqp_session_outgoing.specs.declared.frames.Outbound.{Outbound}
 use Rattle.amqp_session_outgoing.proofs.Numbering.{at_most_one, tagged, tags-more, firsts-more}

@@ -1,4 +1,4 @@
-use Rattle.std.proofs.Common.{◌≡◌, ◌<◌, ◌≤◌, take}
+use Rattle.std.proofs.Common.{◌≡◌, ◌≤◌, take}
 use Rattle.std.specs.VecDeque.{deque_len}
 use Rattle.amqp_session_outgoing.specs.Frames.{firsts_of, HaveTags}
 use Rattle.amqp_session_outgoing.proofs.outgoing.count_firsts.Given as goal

@@ -1,4 +1,4 @@
-use Rattle.std.proofs.Common.{◌≡◌, ◌+◌, ◌-◌, ◌≤◌, take, length, vec_len, vec_capacity}
+use Rattle.std.proofs.Common.{◌≡◌, ◌≤◌, take, length, vec_len, vec_capacity}
 use Rattle.std.specs.Prelude.{map}
 use Rattle.std.specs.VecDeque.{deque_len}
 use Rattle.amqp_session_outgoing.proofs.turns.counts.Given as goal

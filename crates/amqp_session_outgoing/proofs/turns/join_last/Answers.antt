@@ -1,5 +1,4 @@
 use Rattle.std.proofs.Common.{rules, refl}
-use Rattle.amqp_session_outgoing.proofs.Turning.{EachWaits-push}
 use Rattle.amqp_session_outgoing.proofs.turns.join_last.Goals as goal
 
 pub returns-clause-ok : goal.returns-clause-ok

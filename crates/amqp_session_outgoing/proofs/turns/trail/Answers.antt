@@ -1,5 +1,5 @@
-use Rattle.std.proofs.Common.{rules, refl, ◌∙◌, sym, ap}
-use Rattle.std.specs.Prelude.{List, [], ◌∷◌, ◌++◌}
+use Rattle.std.proofs.Common.{◌∙◌, sym, ap}
+use Rattle.std.specs.Prelude.{[], ◌∷◌, ◌++◌}
 use Rattle.std.specs.Option.{option_to_list}
 use Rattle.amqp_session_outgoing.specs.Queues.{trailed}
 use Rattle.amqp_session_outgoing.proofs.Joining.{on_ok, trailed-last}

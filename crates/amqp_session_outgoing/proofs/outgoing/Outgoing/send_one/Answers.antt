@@ -1,6 +1,5 @@
-use Rattle.std.proofs.Common.{refl, sym, ap, subst}
+use Rattle.std.proofs.Common.{sym, ap, subst}
 use Rattle.amqp_session_outgoing.specs.State.{State, InWindow}
-use Rattle.amqp_session_outgoing.specs.declared.frames.Sent.{Sent}
 use Rattle.amqp_session_outgoing.specs.Fields.{state_of}
 use Rattle.amqp_session_outgoing.proofs.Turning.{after-is}
 use Rattle.amqp_session_outgoing.proofs.outgoing.Outgoing.send_one.Goals as goal

@@ -1,4 +1,4 @@
-use Rattle.std.proofs.Common.{◌≡◌, ℕ, ◌<◌, ◌≤◌}
+use Rattle.std.proofs.Common.{ℕ, ◌<◌, ◌≤◌}
 use Rattle.amqp_session_outgoing.specs.Queues.{firsts_in}
 use Rattle.amqp_session_outgoing.specs.History.{IsFree}
 use Rattle.amqp_session_outgoing.proofs.outgoing.Outgoing.test.Given as goal

@@ -1,4 +1,4 @@
-use Rattle.std.proofs.Common.{◌≡◌, ◌+◌, ◌<◌, arith, ap, ◌∙◌}
+use Rattle.std.proofs.Common.{◌≡◌, ◌+◌, arith, ap, ◌∙◌}
 use Rattle.amqp_session_outgoing.specs.Queues.{Lists, held_in, firsts_in}
 use Rattle.amqp_session_outgoing.specs.Fields.{queues_of}
 use Rattle.amqp_session_outgoing.proofs.Turning.{held-turn}

@@ -1,10 +1,10 @@
-use Rattle.std.proofs.Common.{◌≡◌, Some, sym, ap, subst, ◌∙◌, arith, rules, nat_eq}
+use Rattle.std.proofs.Common.{◌≡◌, Some, sym, subst, arith, rules, nat_eq}
 use Rattle.std.specs.Prelude.{slice_get}
 use Rattle.std.specs.Map.{lookup}
 use Rattle.amqp_session_unsettled.specs.Table.{Deliveries, IsUnsettled}
 use Rattle.amqp_session_unsettled.specs.Touched.{number_at}
 use Rattle.amqp_session_unsettled.proofs.Tables.{unsettled-at}
-use Rattle.amqp_session_unsettled.proofs.Gathering.{Sound, sound-more, complete-more, complete-each}
+use Rattle.amqp_session_unsettled.proofs.Gathering.{sound-more, complete-more, complete-each}
 use Rattle.amqp_session_unsettled.proofs.unsettled.Unsettled.distances.Goals as goal
 
 pub loop-i-preserved : goal.loop-i-preserved
