@@ -3,7 +3,7 @@ ghost use Rattle.std.specs.Prelude.{◌≡◌, MatchResult, Some, None};
 ghost use Rattle.amqp_session_items.specs.LinkFlow.{link_flow};
 
 use amqp_session_performatives::Flow;
-use amqp_session_types::{Fields, Handle};
+use amqp_session_types::{Boxed, Fields, Handle};
 use std::alloc::AllocError;
 use thiserror::Error;
 
@@ -23,7 +23,7 @@ pub struct LinkFlow {
     /// Whether the receiver of the flow is to answer with its own state.
     pub echo: bool,
     /// More about the link's state, by names.
-    pub properties: Option<Fields>,
+    pub properties: Option<Boxed<Fields>>,
 }
 
 /// A flow has no handle, so that it tells the state of its session alone.

@@ -1,7 +1,7 @@
 //! What a session and its links hand each other (part 2, 2.6).
 use crate::link_flow::LinkFlow;
 use amqp_session_performatives::{Attach, Detach, Disposition, Transfer};
-use amqp_session_types::InputHandle;
+use amqp_session_types::{Boxed, InputHandle};
 use bytes::Bytes;
 
 /// A transfer with its payload, on the link that the peer gave this handle (part 2, 2.7.5).
@@ -19,7 +19,7 @@ pub struct LinkTransfer {
 #[derive(Debug, PartialEq, Drop)]
 pub enum LinkFrame {
     /// The link is attached.
-    Attach(Attach),
+    Attach(Boxed<Attach>),
     /// The state of the link.
     Flow(LinkFlow),
     /// A transfer that came from the peer. Whether it is the first of its delivery is not said here, since a

@@ -2,6 +2,7 @@
 ghost use Rattle.std.specs.Prelude.{◌≡◌};
 
 use amqp_session_performatives::{Attach, Begin, Detach, Disposition, End, Flow, Transfer};
+use amqp_session_types::Boxed;
 use bytes::Bytes;
 
 /// What a frame of a session says.
@@ -10,7 +11,7 @@ pub enum SessionFrameBody {
     /// The session begins.
     Begin(Begin),
     /// A link is attached.
-    Attach(Attach),
+    Attach(Boxed<Attach>),
     /// The state of the session, and of one of its links where there is a handle.
     Flow(Flow),
     /// A delivery or a part of it.

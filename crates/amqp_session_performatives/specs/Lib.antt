@@ -9,6 +9,7 @@ pub mod Detach
 pub mod End
 pub mod Close
 pub mod Performative
+pub mod Reading
 pub mod Continuation
 pub mod Short
 pub mod FieldLaws

@@ -7,7 +7,8 @@ ghost use Rattle.amqp_session_performatives.specs.AttachLaws.{attach_decided, at
 
 use amqp_session_states::{DeliveryState, Source, TargetArchetype};
 use amqp_session_types::{
-    DeliveryTag, Fields, Handle, OrDefault, ReceiverSettleMode, Role, SenderSettleMode,
+    Aside, Boxed, DeliveryTag, Fields, Handle, OrDefault, ReceiverSettleMode, Role,
+    SenderSettleMode,
 };
 use serde_amqp_choice::read_fields_of;
 use serde_amqp_de::{Deserialize, Deserializer, Faithful, NeverNull, Read, RoundTrip, read_record};
@@ -46,7 +47,7 @@ pub struct Attach {
     /// What the sender of this frame may use if the other end can do it.
     pub desired_capabilities: Array<Symbol>,
     /// More about the link, by names.
-    pub properties: Option<Fields>,
+    pub properties: Option<Boxed<Fields>>,
 }
 
 /// The descriptor's code.
@@ -136,7 +137,7 @@ type Row = (
                                             Option<u64>,
                                             (
                                                 Multiple<Array<Symbol>>,
-                                                (Multiple<Array<Symbol>>, (Option<Fields>, ())),
+                                                (Multiple<Array<Symbol>>, (Aside<Fields>, ())),
                                             ),
                                         ),
                                     ),
@@ -154,7 +155,7 @@ type Row = (
 macro_rules! from_row {
     ($row:expr) => {{
         let (name, (handle, (role, (OrDefault(snd_settle_mode), (OrDefault(rcv_settle_mode), (source, (target, others))))))) = $row;
-        let row_pattern![unsettled, BoolOr(incomplete_unsettled), initial_delivery_count, max_message_size, Multiple(offered_capabilities), Multiple(desired_capabilities), properties] = others;
+        let row_pattern![unsettled, BoolOr(incomplete_unsettled), initial_delivery_count, max_message_size, Multiple(offered_capabilities), Multiple(desired_capabilities), Aside(properties)] = others;
         Attach { name, handle, role, snd_settle_mode, rcv_settle_mode, source, target, unsettled, incomplete_unsettled, initial_delivery_count, max_message_size, offered_capabilities, desired_capabilities, properties }
     }};
 }
@@ -164,7 +165,7 @@ impl Attach {
     ///
     /// Errors: `Memory`; a fault of the reader itself; any other exactly where no front of what is left is a wire form
     /// of a list that the fields take.
-    pub(crate) fn read_fields<R: Read>(
+    fn read_fields<R: Read>(
         alloc: Global,
         de: &mut Deserializer<R>,
     ) -> Result<Attach, serde_amqp_item::Error>
@@ -175,6 +176,24 @@ impl Attach {
     {
         let row = read_fields_of::<Row, R>(alloc, de)?;
         Ok(from_row!(row))
+    }
+
+    /// Reads the list of the fields, which stands behind the descriptor, as an attach behind a pointer.
+    ///
+    /// Errors: `Memory`; a fault of the reader itself; any other exactly where no front of what is left is a wire form
+    /// of a list that the fields take.
+    #[inline(never)]
+    pub(crate) fn read_boxed<R: Read>(
+        alloc: Global,
+        de: &mut Deserializer<R>,
+    ) -> Result<Boxed<Attach>, serde_amqp_item::Error>
+        requires { de.old.element ≡ None }
+        ensures ok { IfOk result (λ v. TookList attach_takes (at_of R.rest de.old) (at_of R.rest de.new) (attach_fields v)) }
+        ensures element { OnOk result (de.new.element ≡ None) }
+        ensures refused { Unless R.faulty result (RefusesList attach_takes (at_of R.rest de.old)) }
+    {
+        let attach = Attach::read_fields(alloc, de)?;
+        Ok(Boxed::new(alloc, attach)?)
     }
 }
 

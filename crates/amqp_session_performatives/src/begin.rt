@@ -2,9 +2,10 @@ ghost use Rattle.std.specs.Prelude.{◌≡◌, refl};
 ghost use Rattle.amqp_session_performatives.specs.Begin.{begin_item, begin_taken};
 ghost use Rattle.amqp_session_performatives.specs.BeginLaws.{begin_decided, begin_again, begin_same};
 
-use crate::composite::Composite;
-use amqp_session_types::Fields;
-use serde_amqp_de::{Deserialize, Deserializer, Faithful, NeverNull, Read, RoundTrip, read_record};
+use crate::composite::{Composite, Performs, read_composite};
+use crate::performative::Performative;
+use amqp_session_types::{Aside, Boxed, Fields};
+use serde_amqp_de::{Deserialize, Deserializer, Faithful, NeverNull, Read, RoundTrip};
 use serde_amqp_ser::{Serialize, Serializer, Sink, serialize_record};
 use serde_amqp_types::{Array, Multiple, Symbol, UIntOr};
 use std::alloc::{AllocError, Global};
@@ -27,7 +28,7 @@ pub struct Begin {
     /// What the sender may use if the receiver can do it.
     pub desired_capabilities: Array<Symbol>,
     /// More about the session, by names.
-    pub properties: Option<Fields>,
+    pub properties: Option<Boxed<Fields>>,
 }
 
 /// The descriptor's code.
@@ -67,7 +68,7 @@ impl Composite for Begin {
                         UIntOr<4294967295>,
                         (
                             Multiple<Array<Symbol>>,
-                            (Multiple<Array<Symbol>>, (Option<Fields>, ())),
+                            (Multiple<Array<Symbol>>, (Aside<Fields>, ())),
                         ),
                     ),
                 ),
@@ -88,7 +89,7 @@ impl Composite for Begin {
             UIntOr(handle_max),
             Multiple(offered_capabilities),
             Multiple(desired_capabilities),
-            properties
+            Aside(properties)
         ] = row;
         Begin {
             remote_channel,
@@ -100,6 +101,12 @@ impl Composite for Begin {
             desired_capabilities,
             properties,
         }
+    }
+}
+
+impl Performs for Begin {
+    fn into_performative(self) -> Performative {
+        Performative::Begin(self)
     }
 }
 
@@ -142,8 +149,7 @@ impl Deserialize for Begin {
         alloc: Global,
         de: &mut Deserializer<R>,
     ) -> Result<Begin, serde_amqp_item::Error> {
-        let row = read_record::<<Begin as Composite>::Row, R>(alloc, de, CODE, NAME)?;
-        Ok(Begin::from_row(row))
+        read_composite(alloc, de, CODE, NAME)
     }
 
     ghost decided = { begin_decided };

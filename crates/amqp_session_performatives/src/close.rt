@@ -2,9 +2,10 @@ ghost use Rattle.std.specs.Prelude.{◌≡◌, refl};
 ghost use Rattle.amqp_session_performatives.specs.Close.{close_item, close_taken};
 ghost use Rattle.amqp_session_performatives.specs.CloseLaws.{close_decided, close_again, close_same};
 
-use crate::composite::Composite;
+use crate::composite::{Composite, Performs, read_composite};
+use crate::performative::Performative;
 use amqp_session_types::definitions::Error;
-use serde_amqp_de::{Deserialize, Deserializer, Faithful, NeverNull, Read, RoundTrip, read_record};
+use serde_amqp_de::{Deserialize, Deserializer, Faithful, NeverNull, Read, RoundTrip};
 use serde_amqp_ser::{Serialize, Serializer, Sink, serialize_record};
 use std::alloc::{AllocError, Global};
 
@@ -44,6 +45,12 @@ impl Composite for Close {
     }
 }
 
+impl Performs for Close {
+    fn into_performative(self) -> Performative {
+        Performative::Close(self)
+    }
+}
+
 impl Serialize for Close {
     ghost item = { close_item };
 
@@ -70,8 +77,7 @@ impl Deserialize for Close {
         alloc: Global,
         de: &mut Deserializer<R>,
     ) -> Result<Close, serde_amqp_item::Error> {
-        let row = read_record::<<Close as Composite>::Row, R>(alloc, de, CODE, NAME)?;
-        Ok(Close::from_row(row))
+        read_composite(alloc, de, CODE, NAME)
     }
 
     ghost decided = { close_decided };

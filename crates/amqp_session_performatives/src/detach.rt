@@ -2,10 +2,11 @@ ghost use Rattle.std.specs.Prelude.{◌≡◌, refl};
 ghost use Rattle.amqp_session_performatives.specs.Detach.{detach_item, detach_taken};
 ghost use Rattle.amqp_session_performatives.specs.DetachLaws.{detach_decided, detach_again, detach_same};
 
-use crate::composite::Composite;
+use crate::composite::{Composite, Performs, read_composite};
+use crate::performative::Performative;
 use amqp_session_types::Handle;
 use amqp_session_types::definitions::Error;
-use serde_amqp_de::{Deserialize, Deserializer, Faithful, NeverNull, Read, RoundTrip, read_record};
+use serde_amqp_de::{Deserialize, Deserializer, Faithful, NeverNull, Read, RoundTrip};
 use serde_amqp_ser::{Serialize, Serializer, Sink, serialize_record};
 use serde_amqp_types::BoolOr;
 use std::alloc::{AllocError, Global};
@@ -56,6 +57,12 @@ impl Composite for Detach {
     }
 }
 
+impl Performs for Detach {
+    fn into_performative(self) -> Performative {
+        Performative::Detach(self)
+    }
+}
+
 impl Serialize for Detach {
     ghost item = { detach_item };
 
@@ -86,8 +93,7 @@ impl Deserialize for Detach {
         alloc: Global,
         de: &mut Deserializer<R>,
     ) -> Result<Detach, serde_amqp_item::Error> {
-        let row = read_record::<<Detach as Composite>::Row, R>(alloc, de, CODE, NAME)?;
-        Ok(Detach::from_row(row))
+        read_composite(alloc, de, CODE, NAME)
     }
 
     ghost decided = { detach_decided };

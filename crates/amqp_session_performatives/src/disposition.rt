@@ -2,10 +2,11 @@ ghost use Rattle.std.specs.Prelude.{◌≡◌, refl};
 ghost use Rattle.amqp_session_performatives.specs.Disposition.{disposition_item, disposition_taken};
 ghost use Rattle.amqp_session_performatives.specs.DispositionLaws.{disposition_decided, disposition_again, disposition_same};
 
-use crate::composite::Composite;
+use crate::composite::{Composite, Performs, read_composite};
+use crate::performative::Performative;
 use amqp_session_states::DeliveryState;
 use amqp_session_types::Role;
-use serde_amqp_de::{Deserialize, Deserializer, Faithful, NeverNull, Read, RoundTrip, read_record};
+use serde_amqp_de::{Deserialize, Deserializer, Faithful, NeverNull, Read, RoundTrip};
 use serde_amqp_ser::{Serialize, Serializer, Sink, serialize_record};
 use serde_amqp_types::BoolOr;
 use std::alloc::{AllocError, Global};
@@ -78,6 +79,12 @@ impl Composite for Disposition {
     }
 }
 
+impl Performs for Disposition {
+    fn into_performative(self) -> Performative {
+        Performative::Disposition(self)
+    }
+}
+
 impl Serialize for Disposition {
     ghost item = { disposition_item };
 
@@ -115,8 +122,7 @@ impl Deserialize for Disposition {
         alloc: Global,
         de: &mut Deserializer<R>,
     ) -> Result<Disposition, serde_amqp_item::Error> {
-        let row = read_record::<<Disposition as Composite>::Row, R>(alloc, de, CODE, NAME)?;
-        Ok(Disposition::from_row(row))
+        read_composite(alloc, de, CODE, NAME)
     }
 
     ghost decided = { disposition_decided };

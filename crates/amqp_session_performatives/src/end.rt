@@ -2,9 +2,10 @@ ghost use Rattle.std.specs.Prelude.{◌≡◌, refl};
 ghost use Rattle.amqp_session_performatives.specs.End.{end_item, end_taken};
 ghost use Rattle.amqp_session_performatives.specs.EndLaws.{end_decided, end_again, end_same};
 
-use crate::composite::Composite;
+use crate::composite::{Composite, Performs, read_composite};
+use crate::performative::Performative;
 use amqp_session_types::definitions::Error;
-use serde_amqp_de::{Deserialize, Deserializer, Faithful, NeverNull, Read, RoundTrip, read_record};
+use serde_amqp_de::{Deserialize, Deserializer, Faithful, NeverNull, Read, RoundTrip};
 use serde_amqp_ser::{Serialize, Serializer, Sink, serialize_record};
 use std::alloc::{AllocError, Global};
 
@@ -44,6 +45,12 @@ impl Composite for End {
     }
 }
 
+impl Performs for End {
+    fn into_performative(self) -> Performative {
+        Performative::End(self)
+    }
+}
+
 impl Serialize for End {
     ghost item = { end_item };
 
@@ -70,8 +77,7 @@ impl Deserialize for End {
         alloc: Global,
         de: &mut Deserializer<R>,
     ) -> Result<End, serde_amqp_item::Error> {
-        let row = read_record::<<End as Composite>::Row, R>(alloc, de, CODE, NAME)?;
-        Ok(End::from_row(row))
+        read_composite(alloc, de, CODE, NAME)
     }
 
     ghost decided = { end_decided };

@@ -2,9 +2,10 @@ ghost use Rattle.std.specs.Prelude.{◌≡◌, refl};
 ghost use Rattle.amqp_session_performatives.specs.Flow.{flow_item, flow_taken};
 ghost use Rattle.amqp_session_performatives.specs.FlowLaws.{flow_decided, flow_again, flow_same};
 
-use crate::composite::Composite;
-use amqp_session_types::{Fields, Handle};
-use serde_amqp_de::{Deserialize, Deserializer, Faithful, NeverNull, Read, RoundTrip, read_record};
+use crate::composite::{Composite, Performs, read_composite};
+use crate::performative::Performative;
+use amqp_session_types::{Aside, Boxed, Fields, Handle};
+use serde_amqp_de::{Deserialize, Deserializer, Faithful, NeverNull, Read, RoundTrip};
 use serde_amqp_ser::{Serialize, Serializer, Sink, serialize_record};
 use serde_amqp_types::BoolOr;
 use std::alloc::{AllocError, Global};
@@ -33,7 +34,7 @@ pub struct Flow {
     /// Whether the receiver is to answer with its own state. False where it is absent.
     pub echo: bool,
     /// More about the link's state, by names.
-    pub properties: Option<Fields>,
+    pub properties: Option<Boxed<Fields>>,
 }
 
 /// The descriptor's code.
@@ -80,7 +81,7 @@ impl Composite for Flow {
                                 Option<u32>,
                                 (
                                     Option<u32>,
-                                    (BoolOr<false>, (BoolOr<false>, (Option<Fields>, ()))),
+                                    (BoolOr<false>, (BoolOr<false>, (Aside<Fields>, ()))),
                                 ),
                             ),
                         ),
@@ -106,7 +107,7 @@ impl Composite for Flow {
             available,
             BoolOr(drain),
             BoolOr(echo),
-            properties
+            Aside(properties)
         ] = row;
         Flow {
             next_incoming_id,
@@ -121,6 +122,12 @@ impl Composite for Flow {
             echo,
             properties,
         }
+    }
+}
+
+impl Performs for Flow {
+    fn into_performative(self) -> Performative {
+        Performative::Flow(self)
     }
 }
 
@@ -166,8 +173,7 @@ impl Deserialize for Flow {
         alloc: Global,
         de: &mut Deserializer<R>,
     ) -> Result<Flow, serde_amqp_item::Error> {
-        let row = read_record::<<Flow as Composite>::Row, R>(alloc, de, CODE, NAME)?;
-        Ok(Flow::from_row(row))
+        read_composite(alloc, de, CODE, NAME)
     }
 
     ghost decided = { flow_decided };

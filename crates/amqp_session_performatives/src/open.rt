@@ -2,9 +2,10 @@ ghost use Rattle.std.specs.Prelude.{◌≡◌, IfOk, refl};
 ghost use Rattle.amqp_session_performatives.specs.Open.{open_item, open_taken};
 ghost use Rattle.amqp_session_performatives.specs.OpenLaws.{open_decided, open_again, open_same};
 
-use crate::composite::Composite;
-use amqp_session_types::Fields;
-use serde_amqp_de::{Deserialize, Deserializer, Faithful, NeverNull, Read, RoundTrip, read_record};
+use crate::composite::{Composite, Performs, read_composite};
+use crate::performative::Performative;
+use amqp_session_types::{Aside, Boxed, Fields};
+use serde_amqp_de::{Deserialize, Deserializer, Faithful, NeverNull, Read, RoundTrip};
 use serde_amqp_ser::{Serialize, Serializer, Sink, serialize_record};
 use serde_amqp_types::{Array, Multiple, Symbol, Text, UIntOr, UShortOr};
 use std::alloc::{AllocError, Global};
@@ -31,7 +32,7 @@ pub struct Open {
     /// What the sender may use if the receiver can do it.
     pub desired_capabilities: Array<Symbol>,
     /// More about the connection and its container, by names.
-    pub properties: Option<Fields>,
+    pub properties: Option<Boxed<Fields>>,
 }
 
 /// The descriptor's code.
@@ -102,7 +103,7 @@ impl Composite for Open {
                                 Multiple<Array<Symbol>>,
                                 (
                                     Multiple<Array<Symbol>>,
-                                    (Multiple<Array<Symbol>>, (Option<Fields>, ())),
+                                    (Multiple<Array<Symbol>>, (Aside<Fields>, ())),
                                 ),
                             ),
                         ),
@@ -127,7 +128,7 @@ impl Composite for Open {
             Multiple(incoming_locales),
             Multiple(offered_capabilities),
             Multiple(desired_capabilities),
-            properties
+            Aside(properties)
         ] = row;
         Open {
             container_id,
@@ -141,6 +142,12 @@ impl Composite for Open {
             desired_capabilities,
             properties,
         }
+    }
+}
+
+impl Performs for Open {
+    fn into_performative(self) -> Performative {
+        Performative::Open(self)
     }
 }
 
@@ -185,8 +192,7 @@ impl Deserialize for Open {
         alloc: Global,
         de: &mut Deserializer<R>,
     ) -> Result<Open, serde_amqp_item::Error> {
-        let row = read_record::<<Open as Composite>::Row, R>(alloc, de, CODE, NAME)?;
-        Ok(Open::from_row(row))
+        read_composite(alloc, de, CODE, NAME)
     }
 
     ghost decided = { open_decided };

@@ -1,18 +1,23 @@
 //! The performatives as one type (part 2, 2.7).
-ghost use Rattle.std.specs.Prelude.{◌≡◌, refl};
+ghost use Rattle.std.specs.Prelude.{◌≡◌, IfOk, OnOk, None, refl};
+ghost use Rattle.serde_amqp_read.specs.Reads.{Unless};
+ghost use Rattle.serde_amqp_de.specs.Reads.{at_of};
+ghost use Rattle.serde_amqp_choice.specs.Choice.{RefusesList};
+ghost use Rattle.amqp_session_performatives.specs.Reading.{TookRecord};
 ghost use Rattle.amqp_session_performatives.specs.Performative.{performative_item, performative_table, performative_taken};
 ghost use Rattle.amqp_session_performatives.specs.PerformativeLaws.{performatives_decided, performatives_differ, performative_decided, performative_again, performative_same, performative_present};
 
 use crate::attach::{self, Attach};
 use crate::begin::{self, Begin};
 use crate::close::{self, Close};
-use crate::composite::Composite;
+use crate::composite::Performs;
 use crate::detach::{self, Detach};
 use crate::disposition::{self, Disposition};
 use crate::end::{self, End};
 use crate::flow::{self, Flow};
 use crate::open::{self, Open};
 use crate::transfer::{self, Transfer};
+use amqp_session_types::Boxed;
 use serde_amqp_choice::{Choice, read_choice, read_fields_of};
 use serde_amqp_de::{Deserialize, Deserializer, Faithful, NeverNull, Read, RoundTrip};
 use serde_amqp_item::Error;
@@ -27,7 +32,7 @@ pub enum Performative {
     /// Begins a session (part 2, 2.7.2).
     Begin(Begin),
     /// Attaches a link (part 2, 2.7.3).
-    Attach(Attach),
+    Attach(Boxed<Attach>),
     /// Tells the state of a session or a link (part 2, 2.7.4).
     Flow(Flow),
     /// Carries a delivery or a part of it (part 2, 2.7.5).
@@ -127,19 +132,15 @@ impl Choice for Performative {
         code: u64,
     ) -> Result<Performative, Error> {
         match code {
-            open::CODE => Ok(Performative::Open(Open::from_row(read_fields_of(alloc, de)?))),
-            begin::CODE => Ok(Performative::Begin(Begin::from_row(read_fields_of(alloc, de)?))),
-            attach::CODE => Ok(Performative::Attach(Attach::read_fields(alloc, de)?)),
-            flow::CODE => Ok(Performative::Flow(Flow::from_row(read_fields_of(alloc, de)?))),
-            transfer::CODE => Ok(Performative::Transfer(Transfer::from_row(read_fields_of(
-                alloc, de,
-            )?))),
-            disposition::CODE => Ok(Performative::Disposition(Disposition::from_row(read_fields_of(
-                alloc, de,
-            )?))),
-            detach::CODE => Ok(Performative::Detach(Detach::from_row(read_fields_of(alloc, de)?))),
-            end::CODE => Ok(Performative::End(End::from_row(read_fields_of(alloc, de)?))),
-            close::CODE => Ok(Performative::Close(Close::from_row(read_fields_of(alloc, de)?))),
+            open::CODE => read_as::<Open, R>(alloc, de),
+            begin::CODE => read_as::<Begin, R>(alloc, de),
+            attach::CODE => Ok(Performative::Attach(Attach::read_boxed(alloc, de)?)),
+            flow::CODE => read_as::<Flow, R>(alloc, de),
+            transfer::CODE => read_as::<Transfer, R>(alloc, de),
+            disposition::CODE => read_as::<Disposition, R>(alloc, de),
+            detach::CODE => read_as::<Detach, R>(alloc, de),
+            end::CODE => read_as::<End, R>(alloc, de),
+            close::CODE => read_as::<Close, R>(alloc, de),
             _ => Err(Error::InvalidValue),
         }
     }
@@ -147,6 +148,27 @@ impl Choice for Performative {
     ghost decided = { performatives_decided };
 
     ghost differ = { performatives_differ };
+}
+
+/// Reads the list of the fields of this composite type, which stands behind its descriptor.
+///
+/// Each type has a function of its own here: in one function, reading any of them would take the room of all.
+///
+/// Errors: `Memory`; a fault of the reader itself; any other exactly where no front of what is left is a wire form of a
+/// list that the fields take.
+#[inline(never)]
+#[tactic(auto, using(crate::proofs::Reading::composed))]
+fn read_as<C: Performs, R: Read>(
+    alloc: Global,
+    de: &mut Deserializer<R>,
+) -> Result<Performative, Error>
+    requires { de.old.element ≡ None }
+    ensures ok { IfOk result (λ p. TookRecord C.Row.ReadFields.takes C.Composite.code (at_of R.rest de.old) (at_of R.rest de.new) (performative_item p)) }
+    ensures element { OnOk result (de.new.element ≡ None) }
+    ensures refused { Unless R.faulty result (RefusesList C.Row.ReadFields.takes (at_of R.rest de.old)) }
+{
+    let row = read_fields_of::<C::Row, R>(alloc, de)?;
+    Ok(C::from_row(row).into_performative())
 }
 
 /// A described list with the descriptor of one of the performatives. Any other descriptor answers `InvalidValue`.

@@ -2,10 +2,11 @@ ghost use Rattle.std.specs.Prelude.{◌≡◌, refl};
 ghost use Rattle.amqp_session_performatives.specs.Transfer.{transfer_item, transfer_taken};
 ghost use Rattle.amqp_session_performatives.specs.TransferLaws.{transfer_decided, transfer_again, transfer_same};
 
-use crate::composite::Composite;
+use crate::composite::{Composite, Performs, read_composite};
+use crate::performative::Performative;
 use amqp_session_states::DeliveryState;
 use amqp_session_types::{DeliveryTag, Handle, ReceiverSettleMode};
-use serde_amqp_de::{Deserialize, Deserializer, Faithful, NeverNull, Read, RoundTrip, read_record};
+use serde_amqp_de::{Deserialize, Deserializer, Faithful, NeverNull, Read, RoundTrip};
 use serde_amqp_ser::{Serialize, Serializer, Sink, serialize_record};
 use serde_amqp_types::BoolOr;
 use std::alloc::{AllocError, Global};
@@ -125,6 +126,12 @@ impl Composite for Transfer {
     }
 }
 
+impl Performs for Transfer {
+    fn into_performative(self) -> Performative {
+        Performative::Transfer(self)
+    }
+}
+
 impl Serialize for Transfer {
     ghost item = { transfer_item };
 
@@ -167,8 +174,7 @@ impl Deserialize for Transfer {
         alloc: Global,
         de: &mut Deserializer<R>,
     ) -> Result<Transfer, serde_amqp_item::Error> {
-        let row = read_record::<<Transfer as Composite>::Row, R>(alloc, de, CODE, NAME)?;
-        Ok(Transfer::from_row(row))
+        read_composite(alloc, de, CODE, NAME)
     }
 
     ghost decided = { transfer_decided };

@@ -6,6 +6,7 @@ ghost use Rattle.amqp_session_states.specs.Deciding.{modified_decided};
 ghost use Rattle.amqp_session_states.specs.Faithful.{modified_same};
 
 use amqp_session_types::definitions::Fields as Annotations;
+use amqp_session_types::{Aside, Boxed};
 use serde_amqp_de::{Deserialize, Deserializer, Faithful, NeverNull, Read, RoundTrip, read_record};
 use serde_amqp_item::Error;
 use serde_amqp_ser::{Serialize, Serializer, Sink, serialize_record};
@@ -19,7 +20,7 @@ pub struct Modified {
     /// Whether the link is not to be given the message again. Where it is absent nothing is said.
     pub undeliverable_here: Option<bool>,
     /// What is to be merged into the message's annotations.
-    pub message_annotations: Option<Annotations>,
+    pub message_annotations: Option<Boxed<Annotations>>,
 }
 
 /// The descriptor's code.
@@ -29,7 +30,7 @@ pub(crate) const CODE: u64 = 0x27;
 pub(crate) const NAME: &[u8] = b"amqp:modified:list";
 
 /// The fields in their order.
-pub(crate) type Fields = (Option<bool>, (Option<bool>, (Option<Annotations>, ())));
+pub(crate) type Fields = (Option<bool>, (Option<bool>, (Aside<Annotations>, ())));
 
 impl Clone for Modified {
     ghost is_clone = { λ x y. y ≡ x };
@@ -73,10 +74,8 @@ impl Deserialize for Modified {
     }
 
     fn read<R: Read>(alloc: Global, de: &mut Deserializer<R>) -> Result<Modified, Error> {
-        let (delivery_failed, (undeliverable_here, (message_annotations, ()))) = read_record::<
-            Fields,
-            R,
-        >(alloc, de, CODE, NAME)?;
+        let (delivery_failed, (undeliverable_here, (Aside(message_annotations), ()))) =
+            read_record::<Fields, R>(alloc, de, CODE, NAME)?;
         Ok(Modified {
             delivery_failed,
             undeliverable_here,

@@ -7,6 +7,7 @@ use crate::accepted::{self, Accepted};
 use crate::modified::{self, Modified};
 use crate::rejected::{self, Rejected};
 use crate::released::{self, Released};
+use amqp_session_types::Aside;
 use serde_amqp_choice::{Choice, read_choice, read_fields_of};
 use serde_amqp_de::{Deserialize, Deserializer, Faithful, NeverNull, Read, RoundTrip};
 use serde_amqp_item::Error;
@@ -89,7 +90,7 @@ impl Choice for Outcome {
                 Ok(Outcome::Accepted(Accepted {}))
             }
             rejected::CODE => {
-                let (error, ()) = read_fields_of::<rejected::Fields, R>(alloc, de)?;
+                let (Aside(error), ()) = read_fields_of::<rejected::Fields, R>(alloc, de)?;
                 Ok(Outcome::Rejected(Rejected { error }))
             }
             released::CODE => {
@@ -97,7 +98,7 @@ impl Choice for Outcome {
                 Ok(Outcome::Released(Released {}))
             }
             modified::CODE => {
-                let (delivery_failed, (undeliverable_here, (message_annotations, ()))) =
+                let (delivery_failed, (undeliverable_here, (Aside(message_annotations), ()))) =
                     read_fields_of::<modified::Fields, R>(alloc, de)?;
                 Ok(Outcome::Modified(Modified {
                     delivery_failed,

@@ -5,7 +5,7 @@ ghost use Rattle.amqp_session_states.specs.Again.{rejected_again};
 ghost use Rattle.amqp_session_states.specs.Deciding.{rejected_decided};
 ghost use Rattle.amqp_session_states.specs.Faithful.{rejected_same};
 
-use amqp_session_types::definitions;
+use amqp_session_types::{Aside, Boxed, definitions};
 use serde_amqp_de::{Deserialize, Deserializer, Faithful, NeverNull, Read, RoundTrip, read_record};
 use serde_amqp_item::Error;
 use serde_amqp_ser::{Serialize, Serializer, Sink, serialize_record};
@@ -15,7 +15,7 @@ use std::alloc::{AllocError, Global};
 #[derive(Debug, PartialEq, Eq, Drop)]
 pub struct Rejected {
     /// Why it was rejected.
-    pub error: Option<definitions::Error>,
+    pub error: Option<Boxed<definitions::Error>>,
 }
 
 /// The descriptor's code.
@@ -25,7 +25,7 @@ pub(crate) const CODE: u64 = 0x25;
 pub(crate) const NAME: &[u8] = b"amqp:rejected:list";
 
 /// The fields in their order.
-pub(crate) type Fields = (Option<definitions::Error>, ());
+pub(crate) type Fields = (Aside<definitions::Error>, ());
 
 impl Clone for Rejected {
     ghost is_clone = { λ x y. y ≡ x };
@@ -60,7 +60,7 @@ impl Deserialize for Rejected {
     }
 
     fn read<R: Read>(alloc: Global, de: &mut Deserializer<R>) -> Result<Rejected, Error> {
-        let (error, ()) = read_record::<Fields, R>(alloc, de, CODE, NAME)?;
+        let (Aside(error), ()) = read_record::<Fields, R>(alloc, de, CODE, NAME)?;
         Ok(Rejected { error })
     }
 

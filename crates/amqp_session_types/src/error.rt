@@ -5,6 +5,8 @@ ghost use Rattle.amqp_session_types.specs.Deciding.{error_decided};
 ghost use Rattle.amqp_session_types.specs.Again.{error_again};
 ghost use Rattle.amqp_session_types.specs.Faithful.{error_same};
 
+use crate::aside::Aside;
+use crate::boxed::Boxed;
 use crate::definitions::Fields as Info;
 use serde_amqp_de::{Deserialize, Deserializer, Faithful, NeverNull, Read, RoundTrip, read_record};
 use serde_amqp_ser::{Serialize, Serializer, Sink, serialize_record};
@@ -19,7 +21,7 @@ pub struct Error {
     /// A text that says more. It is for a person to read.
     pub description: Option<Text>,
     /// More about the error, by names.
-    pub info: Option<Info>,
+    pub info: Option<Boxed<Info>>,
 }
 
 /// The descriptor's code.
@@ -29,7 +31,7 @@ const CODE: u64 = 0x1d;
 const NAME: &[u8] = b"amqp:error:list";
 
 /// The fields in their order.
-type Fields = (Symbol, (Option<Text>, (Option<Info>, ())));
+type Fields = (Symbol, (Option<Text>, (Aside<Info>, ())));
 
 impl Clone for Error {
     ghost is_clone = { λ x y. y ≡ x };
@@ -73,7 +75,7 @@ impl Deserialize for Error {
         alloc: Global,
         de: &mut Deserializer<R>,
     ) -> Result<Error, serde_amqp_item::Error> {
-        let (condition, (description, (info, ()))) = read_record::<Fields, R>(
+        let (condition, (description, (Aside(info), ()))) = read_record::<Fields, R>(
             alloc, de, CODE, NAME,
         )?;
         Ok(Error {

@@ -2,6 +2,8 @@
 //! they refuse (part 2).
 #![tactic(auto)]
 
+mod aside;
+mod boxed;
 mod channels;
 pub mod definitions;
 mod error;
@@ -11,6 +13,8 @@ mod modes;
 mod or_default;
 mod refusals;
 
+pub use aside::Aside;
+pub use boxed::Boxed;
 pub use channels::{IncomingChannel, OutgoingChannel};
 pub use definitions::{
     DeliveryNumber, DeliveryTag, Fields, FilterSet, Handle, MessageFormat, Milliseconds,
