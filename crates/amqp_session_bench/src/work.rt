@@ -1,5 +1,5 @@
 use crate::frames;
-use amqp_session_frames::{Error, FrameDecoder, FrameEncoder};
+use amqp_session_frames::{Error, FrameDecoder, FrameEncoder, Pieces};
 use bytes::Bytes;
 use std::alloc::{AllocError, Global};
 
@@ -33,6 +33,15 @@ pub struct Work {
     payload: usize,
     limit: usize,
     times: u32,
+}
+
+/// How many bytes the pieces have together.
+fn length_of(pieces: &Pieces) -> u64 {
+    let mut bytes = pieces.first().len() as u64;
+    for piece in pieces.others() {
+        bytes = bytes.saturating_add(piece.len() as u64);
+    }
+    bytes
 }
 
 fn way_of(name: &str) -> Option<Way> {
@@ -79,9 +88,7 @@ impl Work {
             let frame = decoder.decode(alloc, text.clone()?)?;
             bytes = bytes.saturating_add(text.len() as u64);
             if let Way::Both = self.way {
-                for piece in encoder.encode(alloc, frame)?.iter() {
-                    bytes = bytes.saturating_add(piece.len() as u64);
-                }
+                bytes = bytes.saturating_add(length_of(&encoder.encode(alloc, frame)?));
             }
         }
         Ok(bytes)

@@ -167,9 +167,9 @@ pub record Whole (limit channel : ℕ) (t : Transfer) (payload : List ℕ) (piec
   pub written : IsWritten limit (record { channel = channel; body = TransferBody t payload }) pieces
   pub within : All (λ p. length p ≤ limit) pieces
 
-pub whole : (limit channel n : ℕ) (t u v : Transfer) (payload rest head first : List ℕ) (old pieces : List (List ℕ)) → Overflows limit (transfer_text t) payload → u ≡ record t { more = true } → LeavesRoom limit (transfer_text u) n → Appends (transfer_text u) (2 ∷ 0 ∷ to_be_bytes w16 channel) head → first ≡ take n payload → rest ≡ drop n payload → old ≡ (head ++ first) ∷ [] → v ≡ continuation u → Continues limit channel v t.more rest old pieces → Whole limit channel t payload pieces
+pub whole : (limit channel n : ℕ) (t u v : Transfer) (payload rest head first piece : List ℕ) (old others pieces : List (List ℕ)) → Overflows limit (transfer_text t) payload → u ≡ record t { more = true } → LeavesRoom limit (transfer_text u) n → Appends (transfer_text u) (2 ∷ 0 ∷ to_be_bytes w16 channel) head → first ≡ take n payload → rest ≡ drop n payload → piece ≡ head ++ first → v ≡ continuation u → old ≡ [] → Continues limit channel v t.more rest old others → pieces ≡ piece ∷ others → Whole limit channel t payload pieces
 unfolding carried_more
-whole limit channel n t u v payload rest head first old pieces o is r a f d begins cont c =
+whole limit channel n t u v payload rest head first one old others pieces o is r a f d begins cont none c both =
     let less = first_less limit n t u payload o r is in
     let long : length first ≡ n = ap length f ∙ length-take-le n payload (omega (arith, less)) in
     let size : length head + length first ≡ room limit = omega (arith, ap length a.behind, length-append (2 ∷ 0 ∷ to_be_bytes w16 channel) a.bytes, same_text (transfer_text u) a.bytes r.bytes a.is r.is, r.full, long) in
@@ -178,7 +178,7 @@ whole limit channel n t u v payload rest head first old pieces o is r a f d begi
     let onward = carries_on limit channel (continuation t) true t.more rest c.parts there in
     let payload_is : first ++ rest ≡ payload = ap (λ (x : List ℕ). x ++ rest) f ∙ (ap (λ (x : List ℕ). take n payload ++ x) d ∙ take-append-drop n payload) in
     let all = carried_more limit channel t t.more first rest (head ++ first) c.pieces piece (omega (arith, size, length-append head first)) (omega (arith, long, r.some)) (record { parts = c.parts; texts = c.texts; carries = onward; within = c.within }) in
-    let together : pieces ≡ (head ++ first) ∷ c.pieces = c.behind ∙ ap (λ (ps : List (List ℕ)). ps ++ c.pieces) begins in
+    let together : pieces ≡ (head ++ first) ∷ c.pieces = both ∙ (ap (λ (p : List ℕ). p ∷ others) begins ∙ ap (λ (ps : List (List ℕ)). (head ++ first) ∷ ps) (c.behind ∙ ap (λ (ps : List (List ℕ)). ps ++ c.pieces) none)) in
     record {
       written = subst (λ (ps : List (List ℕ)). IsWritten limit (record { channel = channel; body = TransferBody t payload }) ps) (sym together) (record {
         parts = all.parts;

@@ -4,3 +4,4 @@ pub mod Parts
 pub mod Header
 pub mod Body
 pub mod Sizes
+pub mod Piece

@@ -12,6 +12,7 @@ use crate::error::Error;
 use crate::frame::{Frame, FrameBody};
 use crate::header::AMQP_TYPE;
 use crate::piece::Piece;
+use crate::pieces::Pieces;
 use amqp_session_performatives::{Transfer, clear_continuation_fields};
 use bytes::Bytes;
 use serde_amqp_ser::{Serialize, Serializer, serialized_size};
@@ -61,9 +62,10 @@ impl FrameEncoder {
     /// `TooLarge` where the frame has no text, as where one of its texts is longer than 2^32 - 1 bytes, or where it does
     /// not fit: a transfer where its performative, with `more`, leaves no room for a byte of payload. `Memory` where there
     /// is no memory.
-    pub fn encode(&self, alloc: Global, frame: Frame) -> Result<Vec<Piece>, Error>
-        ensures text { IfOk result (λ v. IsWritten self.now frame v.items) }
-        ensures limit { IfOk result (λ v. All (λ p. length p ≤ self.now) v.items) }
+    #[inline(always)]
+    pub fn encode(&self, alloc: Global, frame: Frame) -> Result<Pieces, Error>
+        ensures text { IfOk result (λ v. IsWritten self.now frame v) }
+        ensures limit { IfOk result (λ v. All (λ p. length p ≤ self.now) v) }
         ensures refused { IfErr result (λ e. NotWritten self.now frame e) }
     {
         let Frame { channel, body } = frame;
@@ -87,15 +89,15 @@ impl FrameEncoder {
     }
 
     /// The piece of a frame without a performative.
-    fn encode_empty(&self, alloc: Global, channel: u16) -> Result<Vec<Piece>, Error>
-        ensures text { IfOk result (λ v. IsWritten self.now (record { channel = channel; body = Empty }) v.items) }
-        ensures limit { IfOk result (λ v. All (λ p. length p ≤ self.now) v.items) }
+    fn encode_empty(&self, alloc: Global, channel: u16) -> Result<Pieces, Error>
+        ensures text { IfOk result (λ v. IsWritten self.now (record { channel = channel; body = Empty }) v) }
+        ensures limit { IfOk result (λ v. All (λ p. length p ≤ self.now) v) }
         ensures memory { IfErr result (λ e. e ≡ Memory) }
     {
         // the limit is four at least, which are the bytes of this frame
         let _ = &self.limit;
         let head = empty_head(alloc, channel)?;
-        one_piece(alloc, Piece::new(head, Bytes::new()))
+        Ok(one_piece(alloc, head, Bytes::new()))
     }
 
     /// The piece of a frame with this performative, which is never divided.
@@ -104,8 +106,8 @@ impl FrameEncoder {
         alloc: Global,
         channel: u16,
         performative: P,
-    ) -> Result<Vec<Piece>, Error>
-        ensures text { IfOk result (λ v. IsWhole self.now channel (canon (P.item performative)) [] v.items) }
+    ) -> Result<Pieces, Error>
+        ensures text { IfOk result (λ v. IsWhole self.now channel (canon (P.item performative)) [] v) }
         ensures refused { IfErr result (λ e. NotWhole self.now (canon (P.item performative)) [] e) }
     {
         let size = size_of(&performative)?;
@@ -116,15 +118,18 @@ impl FrameEncoder {
     }
 
     /// The pieces of a frame with this transfer, and this payload behind it.
+    ///
+    /// It owns the transfer and does no more than lend it: what owns a value of so large a type takes long to check where
+    /// it may return at several places.
     fn encode_owned(
         &self,
         alloc: Global,
         channel: u16,
         transfer: Transfer,
         payload: Bytes,
-    ) -> Result<Vec<Piece>, Error>
-        ensures text { IfOk result (λ v. IsWritten self.now (record { channel = channel; body = TransferBody transfer payload }) v.items) }
-        ensures limit { IfOk result (λ v. All (λ p. length p ≤ self.now) v.items) }
+    ) -> Result<Pieces, Error>
+        ensures text { IfOk result (λ v. IsWritten self.now (record { channel = channel; body = TransferBody transfer payload }) v) }
+        ensures limit { IfOk result (λ v. All (λ p. length p ≤ self.now) v) }
         ensures refused { IfErr result (λ e. NotWritten self.now (record { channel = channel; body = TransferBody transfer payload }) e) }
     {
         let mut transfer = transfer;
@@ -138,9 +143,9 @@ impl FrameEncoder {
         channel: u16,
         transfer: &mut Transfer,
         payload: Bytes,
-    ) -> Result<Vec<Piece>, Error>
-        ensures text { IfOk result (λ v. IsWritten self.now (record { channel = channel; body = TransferBody transfer.old payload }) v.items) }
-        ensures limit { IfOk result (λ v. All (λ p. length p ≤ self.now) v.items) }
+    ) -> Result<Pieces, Error>
+        ensures text { IfOk result (λ v. IsWritten self.now (record { channel = channel; body = TransferBody transfer.old payload }) v) }
+        ensures limit { IfOk result (λ v. All (λ p. length p ≤ self.now) v) }
         ensures refused { IfErr result (λ e. NotWritten self.now (record { channel = channel; body = TransferBody transfer.old payload }) e) }
     {
         let size = size_of(transfer)?;
@@ -157,10 +162,10 @@ impl FrameEncoder {
         channel: u16,
         transfer: &mut Transfer,
         payload: Bytes,
-    ) -> Result<Vec<Piece>, Error>
+    ) -> Result<Pieces, Error>
         requires { Overflows self.now (transfer_text transfer.old) payload }
-        ensures text { IfOk result (λ v. IsWritten self.now (record { channel = channel; body = TransferBody transfer.old payload }) v.items) }
-        ensures limit { IfOk result (λ v. All (λ p. length p ≤ self.now) v.items) }
+        ensures text { IfOk result (λ v. IsWritten self.now (record { channel = channel; body = TransferBody transfer.old payload }) v) }
+        ensures limit { IfOk result (λ v. All (λ p. length p ≤ self.now) v) }
         ensures refused { IfErr result (λ e. PartsRefused self.now transfer.old e) }
     {
         let more = transfer.more;
@@ -169,10 +174,10 @@ impl FrameEncoder {
         let room = self.payload_room(transfer)?;
         let head = write_transfer(alloc, channel, transfer, self.body_room() - room)?;
         let first = payload.split_to(room)?;
-        let mut pieces = one_piece(alloc, Piece::new(head, first))?;
         clear_continuation_fields(transfer);
-        self.push_others(alloc, channel, transfer, more, payload, &mut pieces)?;
-        Ok(pieces)
+        let mut others = Vec::new(alloc);
+        self.push_others(alloc, channel, transfer, more, payload, &mut others)?;
+        Ok(Pieces::new(Piece::new(head, first), others))
     }
 
     /// The pieces behind the first one, which carry the rest of the payload. The transfer says what continuations say, and
@@ -196,7 +201,7 @@ impl FrameEncoder {
         let mut payload = payload;
         let room = self.payload_room(transfer)?;
         let size = self.body_room() - room;
-        let head = write_transfer(alloc, channel, transfer, size)?;
+        let head = write_shared(alloc, channel, transfer, size)?;
         push_middles(pieces, &head, &mut payload, room)?;
         say_more(transfer, more);
         let last = write_transfer(alloc, channel, transfer, size)?;
@@ -254,12 +259,28 @@ fn write_transfer(
     channel: u16,
     transfer: &Transfer,
     size: usize,
+) -> Result<Vec<u8>, Error>
+    requires { HasText (transfer_text transfer.now) }
+    ensures ok { IfOk result (λ h. Appends (transfer_text transfer.now) (2 ∷ 0 ∷ to_be_bytes w16 channel) h.items) }
+    ensures memory { IfErr result (λ e. e ≡ Memory) }
+{
+    write_head(alloc, channel, transfer, size)
+}
+
+/// The bytes that several frames begin with, each with this transfer, up to their payloads and without their size fields.
+/// Room is taken as for one.
+fn write_shared(
+    alloc: Global,
+    channel: u16,
+    transfer: &Transfer,
+    size: usize,
 ) -> Result<Bytes, Error>
     requires { HasText (transfer_text transfer.now) }
     ensures ok { IfOk result (λ h. Appends (transfer_text transfer.now) (2 ∷ 0 ∷ to_be_bytes w16 channel) h) }
     ensures memory { IfErr result (λ e. e ≡ Memory) }
 {
-    write_head(alloc, channel, transfer, size)
+    let head = write_transfer(alloc, channel, transfer, size)?;
+    Ok(Bytes::from_vec(head)?)
 }
 
 /// Says whether more of the delivery comes (part 2, 2.7.5).
@@ -284,19 +305,17 @@ fn push_middles(
 {
     while payload.len() > room {
         let front = payload.split_to(room)?;
-        pieces.push(Piece::new(head.clone()?, front))?;
+        pieces.push(Piece::sharing(head.clone()?, front))?;
     }
     Ok(())
 }
 
-/// A list of this piece alone.
-fn one_piece(alloc: Global, piece: Piece) -> Result<Vec<Piece>, Error>
-    ensures ok { IfOk result (λ v. v.items ≡ piece ∷ []) }
-    ensures memory { IfErr result (λ e. e ≡ Memory) }
+/// A piece of these bytes and this payload, alone.
+#[inline(always)]
+fn one_piece(alloc: Global, head: Vec<u8>, payload: Bytes) -> Pieces
+    ensures { result ≡ (head.items ++ payload) ∷ [] }
 {
-    let mut pieces = Vec::with_capacity(alloc, 1)?;
-    pieces.push_reserved(piece);
-    Ok(pieces)
+    Pieces::new(Piece::new(head, payload), Vec::new(alloc))
 }
 
 /// The piece of a frame with this performative, of so many bytes, and with this payload behind it.
@@ -306,23 +325,23 @@ fn write_whole<P: Serialize>(
     performative: &P,
     size: usize,
     payload: Bytes,
-) -> Result<Vec<Piece>, Error>
+) -> Result<Pieces, Error>
     requires { HasText (canon (P.item performative.now)) }
-    ensures ok { IfOk result (λ v. IsOnePiece (canon (P.item performative.now)) (2 ∷ 0 ∷ to_be_bytes w16 channel) payload v.items) }
+    ensures ok { IfOk result (λ v. IsOnePiece (canon (P.item performative.now)) (2 ∷ 0 ∷ to_be_bytes w16 channel) payload v) }
     ensures memory { IfErr result (λ e. e ≡ Memory) }
 {
     let head = write_head(alloc, channel, performative, size)?;
-    one_piece(alloc, Piece::new(head, payload))
+    Ok(one_piece(alloc, head, payload))
 }
 
 /// The bytes of a frame without a body, without its size field.
-fn empty_head(alloc: Global, channel: u16) -> Result<Bytes, Error>
-    ensures ok { IfOk result (λ h. h ≡ 2 ∷ 0 ∷ to_be_bytes w16 channel) }
+fn empty_head(alloc: Global, channel: u16) -> Result<Vec<u8>, Error>
+    ensures ok { IfOk result (λ h. h.items ≡ 2 ∷ 0 ∷ to_be_bytes w16 channel) }
     ensures memory { IfErr result (λ e. e ≡ Memory) }
 {
     let mut head = Vec::with_capacity(alloc, HEADER_SIZE)?;
     push_header(&mut head, channel)?;
-    Ok(Bytes::from_vec(head)?)
+    Ok(head)
 }
 
 /// The bytes of a frame up to its payload, without its size field. Room for so many bytes of the performative, which has a
@@ -333,16 +352,16 @@ fn write_head<T: Serialize>(
     channel: u16,
     performative: &T,
     size: usize,
-) -> Result<Bytes, Error>
+) -> Result<Vec<u8>, Error>
     requires { HasText (canon (T.item performative.now)) }
-    ensures ok { IfOk result (λ h. Appends (canon (T.item performative.now)) (2 ∷ 0 ∷ to_be_bytes w16 channel) h) }
+    ensures ok { IfOk result (λ h. Appends (canon (T.item performative.now)) (2 ∷ 0 ∷ to_be_bytes w16 channel) h.items) }
     ensures memory { IfErr result (λ e. e ≡ Memory) }
 {
     let mut head = Vec::with_capacity(alloc, HEADER_SIZE.saturating_add(size))?;
     push_header(&mut head, channel)?;
     let mut serializer = Serializer::new(head);
     match performative.serialize(&mut serializer) {
-        Ok(()) => Ok(Bytes::from_vec(serializer.into_inner())?),
+        Ok(()) => Ok(serializer.into_inner()),
         Err(serde_amqp_item::Error::Memory) => Err(Error::Memory),
         Err(_) => Err(Error::TooLarge),
     }

@@ -5,6 +5,7 @@ ghost use Rattle.amqp_session_frames.specs.declared.frame.FrameBody.TheVariants.
 use amqp_session_performatives::{
     Attach, Begin, Close, Detach, Disposition, End, Flow, Open, Performative, Transfer,
 };
+use amqp_session_types::Boxed;
 use bytes::Bytes;
 
 /// A frame (part 2, 2.3).
@@ -66,7 +67,7 @@ pub enum FrameBody {
     /// Begins a session.
     Begin(Begin),
     /// Attaches a link to a session.
-    Attach(Attach),
+    Attach(Boxed<Attach>),
     /// Tells of the windows of a session, and of the credit of a link.
     Flow(Flow),
     /// Carries a message, or a part of one.

@@ -1,8 +1,8 @@
 //! Frames of AMQP 1.0 and their bytes (part 2, 2.3).
 //!
 //! A [`Frame`] has a channel and a [`FrameBody`]: one of the nine performatives, a transfer with its payload, or nothing.
-//! [`FrameDecoder`] reads a frame of its bytes. [`FrameEncoder`] writes a frame as [`Piece`]s, which are its bytes without
-//! the size field; a transfer that is too long for one frame goes in several. Payloads are shared with the bytes that they
+//! [`FrameDecoder`] reads a frame of its bytes. [`FrameEncoder`] writes a frame as [`Pieces`]: a [`Piece`] is its bytes without
+//! the size field, and a transfer that is too long for one frame goes in several. Payloads are shared with the bytes that they
 //! came in, and with the pieces that they go in.
 //!
 //! Which bytes are a frame, and which frame they are, says `FrameText` in specs/Text.antt; what a frame is written as,
@@ -17,9 +17,11 @@ mod frame;
 mod header;
 pub mod laws;
 mod piece;
+mod pieces;
 
 pub use decoder::FrameDecoder;
 pub use encoder::FrameEncoder;
 pub use error::Error;
 pub use frame::{Frame, FrameBody};
 pub use piece::Piece;
+pub use pieces::Pieces;

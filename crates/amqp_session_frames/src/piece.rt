@@ -1,38 +1,74 @@
 ghost use Rattle.std.specs.Prelude.{◌≡◌, ◌++◌, length, OnOk, OnErr};
+ghost use Rattle.amqp_session_frames.specs.Piece.{head_bytes};
 
 use bytes::Bytes;
 use std::alloc::AllocError;
 use std::marker::Model;
 
+/// What stands in front of a payload.
+#[derive(Debug, Drop)]
+pub(crate) enum Head {
+    /// Bytes of this piece alone.
+    Own(Vec<u8>),
+    /// Bytes that other pieces begin with too.
+    Shared(Bytes),
+}
+
+impl Head {
+    fn as_slice(&self) -> &[u8]
+        ensures { result.now ≡ head_bytes self.now }
+    {
+        match self {
+            Head::Own(bytes) => bytes.as_slice(),
+            Head::Shared(bytes) => bytes.as_slice(),
+        }
+    }
+}
+
 /// What is sent of one frame behind its size field: the header with the performative, and a payload that is shared.
 /// A clause sees the bytes of both, joined.
 #[derive(Debug, Drop)]
 pub struct Piece {
-    head: Bytes,
+    head: Head,
     payload: Bytes,
 }
 
 impl Model for Piece {
     ghost use Rattle.std.specs.Prelude.{List, ℕ, ◌++◌};
+    ghost use Rattle.amqp_session_frames.specs.Piece.{head_bytes};
 
     ghost Value = { List ℕ };
 
-    ghost view = { λ p. p.head ++ p.payload };
+    ghost view = { λ p. head_bytes p.head ++ p.payload };
 }
 
 impl Piece {
     /// A piece of these bytes and this payload.
-    pub(crate) fn new(head: Bytes, payload: Bytes) -> Self
+    #[inline(always)]
+    pub(crate) fn new(head: Vec<u8>, payload: Bytes) -> Self
+        ensures { result ≡ head.items ++ payload }
+    {
+        Piece {
+            head: Head::Own(head),
+            payload,
+        }
+    }
+
+    /// A piece of these bytes, which other pieces begin with too, and this payload.
+    pub(crate) fn sharing(head: Bytes, payload: Bytes) -> Self
         ensures { result ≡ head ++ payload }
     {
-        Piece { head, payload }
+        Piece {
+            head: Head::Shared(head),
+            payload,
+        }
     }
 
     /// How many bytes it has.
     pub fn len(&self) -> usize
         ensures { result ≡ length self.now }
     {
-        self.head.len() + self.payload.len()
+        self.head.as_slice().len() + self.payload.len()
     }
 
     /// Appends the bytes to `out`. Where there is no memory for them, `out` is as before.

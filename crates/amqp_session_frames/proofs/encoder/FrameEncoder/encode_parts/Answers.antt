@@ -1,4 +1,4 @@
-use Rattle.std.proofs.Common.{arith, ap, ◌∙◌, ◌∷◌, [], List, ℕ, length, length-drop}
+use Rattle.std.proofs.Common.{arith, ap, length, length-drop}
 use Rattle.amqp_session_frames.proofs.Dividing.{first_less, continued_room, whole}
 use Rattle.amqp_session_frames.proofs.encoder.FrameEncoder.encode_parts.Goals as goal
 
@@ -14,10 +14,10 @@ push_others-requires-clause-payload c =
 
 pub returns-clause-text : goal.returns-clause-text
 returns-clause-text c =
-    (whole c.args.self.now c.args.channel c.in_ok-room.room c.args.transfer.now _ _ c.args.payload _ c.in_ok-head.head c.in_ok-first.first _ _
-    c.requires c.say_more.ensures c.in_ok-room.ensures.room c.in_ok-head.ensures.ok c.in_ok-first.ensures.front c.in_ok-first.ensures.rest (c.in_ok-pieces.ensures.ok ∙ ap (λ (p : List ℕ). p ∷ []) c.new.ensures) c.clear_continuation_fields.ensures c.in_ok-push_others.ensures.ok).written
+    (whole c.args.self.now c.args.channel c.in_ok-room.room c.args.transfer.now _ _ c.args.payload _ c.in_ok-head.head.items c.in_ok-first.first _ _ _ _
+    c.requires c.say_more.ensures c.in_ok-room.ensures.room c.in_ok-head.ensures.ok c.in_ok-first.ensures.front c.in_ok-first.ensures.rest c.new.ensures c.clear_continuation_fields.ensures c.new-others.ensures.items c.in_ok-push_others.ensures.ok c.new-2.ensures).written
 
 pub returns-clause-limit : goal.returns-clause-limit
 returns-clause-limit c =
-    (whole c.args.self.now c.args.channel c.in_ok-room.room c.args.transfer.now _ _ c.args.payload _ c.in_ok-head.head c.in_ok-first.first _ _
-    c.requires c.say_more.ensures c.in_ok-room.ensures.room c.in_ok-head.ensures.ok c.in_ok-first.ensures.front c.in_ok-first.ensures.rest (c.in_ok-pieces.ensures.ok ∙ ap (λ (p : List ℕ). p ∷ []) c.new.ensures) c.clear_continuation_fields.ensures c.in_ok-push_others.ensures.ok).within
+    (whole c.args.self.now c.args.channel c.in_ok-room.room c.args.transfer.now _ _ c.args.payload _ c.in_ok-head.head.items c.in_ok-first.first _ _ _ _
+    c.requires c.say_more.ensures c.in_ok-room.ensures.room c.in_ok-head.ensures.ok c.in_ok-first.ensures.front c.in_ok-first.ensures.rest c.new.ensures c.clear_continuation_fields.ensures c.new-others.ensures.items c.in_ok-push_others.ensures.ok c.new-2.ensures).within

@@ -14,12 +14,12 @@ returns-in_err-size-clause-refused c =
 pub returns-then-fits-clause-text : goal.returns-then-fits-clause-text
 returns-then-fits-clause-text c =
     let fits = c.fits.ensures.yes c.if-fits.true in
-    IfOk-weaker c.write_whole.result _ _ (λ v w. whole_written c.args.self.now (record { channel = c.args.channel; body = TransferBody c.args.transfer.now c.args.payload }) (performing.Transfer c.args.transfer.now) v.items refl (fitting c.args.self.now c.args.channel c.in_ok-size.size _ c.args.payload v.items c.in_ok-size.ensures.size (omega (arith, fits, c.body_room.ensures, c.len.ensures.value)) w)) c.write_whole.ensures.ok
+    IfOk-weaker c.write_whole.result _ _ (λ v w. whole_written c.args.self.now (record { channel = c.args.channel; body = TransferBody c.args.transfer.now c.args.payload }) (performing.Transfer c.args.transfer.now) v refl (fitting c.args.self.now c.args.channel c.in_ok-size.size _ c.args.payload v c.in_ok-size.ensures.size (omega (arith, fits, c.body_room.ensures, c.len.ensures.value)) w)) c.write_whole.ensures.ok
 
 pub returns-then-fits-clause-limit : goal.returns-then-fits-clause-limit
 returns-then-fits-clause-limit c =
     let fits = c.fits.ensures.yes c.if-fits.true in
-    IfOk-weaker c.write_whole.result _ _ (λ v w. whole_within c.args.self.now (record { channel = c.args.channel; body = TransferBody c.args.transfer.now c.args.payload }) (performing.Transfer c.args.transfer.now) v.items refl (fitting c.args.self.now c.args.channel c.in_ok-size.size _ c.args.payload v.items c.in_ok-size.ensures.size (omega (arith, fits, c.body_room.ensures, c.len.ensures.value)) w)) c.write_whole.ensures.ok
+    IfOk-weaker c.write_whole.result _ _ (λ v w. whole_within c.args.self.now (record { channel = c.args.channel; body = TransferBody c.args.transfer.now c.args.payload }) (performing.Transfer c.args.transfer.now) v refl (fitting c.args.self.now c.args.channel c.in_ok-size.size _ c.args.payload v c.in_ok-size.ensures.size (omega (arith, fits, c.body_room.ensures, c.len.ensures.value)) w)) c.write_whole.ensures.ok
 
 pub encode_parts-requires : goal.encode_parts-requires
 encode_parts-requires c =

@@ -1,10 +1,10 @@
 use Rattle.amqp_session_frames.proofs.Dividing.{last_text, others_pushed}
 use Rattle.amqp_session_frames.proofs.encoder.FrameEncoder.push_others.Goals as goal
 
-pub write_transfer-requires-2 : goal.write_transfer-requires-2
-write_transfer-requires-2 c = last_text c.args.self.now c.in_ok-room.room c.args.transfer.now _ c.args.more c.requires.more c.in_ok-room.ensures.room c.say_more.ensures
+pub write_transfer-requires : goal.write_transfer-requires
+write_transfer-requires c = last_text c.args.self.now c.in_ok-room.room c.args.transfer.now _ c.args.more c.requires.more c.in_ok-room.ensures.room c.say_more.ensures
 
 pub returns-clause-ok : goal.returns-clause-ok
 returns-clause-ok c =
-    others_pushed c.args.self.now c.args.channel c.in_ok-room.room c.args.transfer.now c.say_more.new.transfer c.args.more c.args.payload c.push_middles.new.payload c.in_ok-head.head c.in_ok-last.last c.new.result _ _ _
+    others_pushed c.args.self.now c.args.channel c.in_ok-room.room c.args.transfer.now c.say_more.new.transfer c.args.more c.args.payload c.push_middles.new.payload c.in_ok-head.head c.in_ok-last.last.items c.new.result _ _ _
     c.requires.continues c.requires.more c.requires.payload c.in_ok-room.ensures.room c.in_ok-head.ensures.ok c.in_ok-push_middles.ensures.pieces c.in_ok-push_middles.ensures.left c.say_more.ensures c.in_ok-last.ensures.ok c.new.ensures c.in_ok-push.ensures.items
