@@ -1,5 +1,5 @@
 -- Delivery numbers are given once.
-use Rattle.std.proofs.Common.{◌≡◌, ◌≢◌, ℕ, ◌+◌, ◌-◌, ◌<◌, ◌≤◌, ◌%◌, ◌^◌, List, [], ◌∷◌, sym, ◌∙◌, ap, subst, arith, true, false, Option, Some, None, ◌⊎◌, inl, inr}
+use Rattle.std.proofs.Common.{◌≡◌, ◌≢◌, ℕ, ◌+◌, ◌-◌, ◌<◌, ◌≤◌, ◌%◌, ◌^◌, List, [], ◌∷◌, sym, ◌∙◌, ap, subst, arith, Option, Some, None, ◌⊎◌, inl, inr}
 use Rattle.std.specs.Prelude.{if◌then◌else◌}
 use Rattle.std.proofs.Math.Nat.{mod-add-mod, mod-eq_of_lt}
 use Rattle.std.specs.FinMap as map
@@ -13,7 +13,7 @@ use Rattle.amqp_session_outgoing.specs.State.{State, Leaves, Sends, with_batch, 
 use Rattle.amqp_session_outgoing.specs.History.{Step, Steps, History, TakesWindow, Accepts, Refuses, Follows, Reserves, Settles, Forgets, Fails, IsFree, HasFreeNumbers}
 use Rattle.amqp_session_outgoing.specs.Told.{GivesFree, EachFree, EachFreeIn, AllFree}
 use Rattle.amqp_session_outgoing.specs.declared.frames.Part.{Part}
-use Rattle.amqp_session_outgoing.specs.declared.frames.Part.TheVariants.{First, Continuation}
+use Rattle.amqp_session_outgoing.specs.declared.frames.Part.TheVariants.{Untagged, Settled, Unsettled, Continuation}
 use Rattle.amqp_session_outgoing.specs.declared.frames.Outbound.{Outbound}
 use Rattle.amqp_session_outgoing.specs.declared.frames.Sent.{Sent}
 use Rattle.amqp_session_outgoing.proofs.Numbering.{firsts-joined, firsts-followed, firsts-turn}
@@ -61,9 +61,9 @@ kept table next count rest d f e = record {
 registers : (part : Part) (table : Table) (next count rest : ℕ) (handle : OutputHandle) → FreeFrom table next count → rest + first_count part ≡ count
     → FreeFrom (registered table next handle part) (if is_first part then (next + 1) % 2 ^ 32 else next) rest
 registers Continuation table next count rest handle f e = let same : count ≡ rest = omega (arith, e) in subst (λ (n : ℕ). FreeFrom table next n) same f
-registers (First None settled) table next count rest handle f e = given table next count rest f e
-registers (First (Some tag) true) table next count rest handle f e = given table next count rest f e
-registers (First (Some tag) false) table next count rest handle f e = kept table next count rest (record { handle = handle; tag = tag }) f e
+registers Untagged table next count rest handle f e = given table next count rest f e
+registers Settled table next count rest handle f e = given table next count rest f e
+registers (Unsettled tag) table next count rest handle f e = kept table next count rest (record { handle = handle; tag = tag }) f e
 
 module _ {T F : Type 0} where
   -- the numbers that waiting deliveries will get are free
@@ -72,7 +72,9 @@ module _ {T F : Type 0} where
 
   gives : (old : State T F) (part : Part) → WaitsFree old → first_count part ≤ firsts_in old.queues → GivesFree old (if is_first part then Some old.next_delivery_number else None)
   gives old Continuation f le = tt
-  gives old (First tag settled) f le = first-free old.unsettled old.next_delivery_number (firsts_in old.queues) f (omega (arith, le))
+  gives old Untagged f le = first-free old.unsettled old.next_delivery_number (firsts_in old.queues) f (omega (arith, le))
+  gives old Settled f le = first-free old.unsettled old.next_delivery_number (firsts_in old.queues) f (omega (arith, le))
+  gives old (Unsettled tag) f le = first-free old.unsettled old.next_delivery_number (firsts_in old.queues) f (omega (arith, le))
 
   sends-free : (old new : State T F) (s : Sent T F) → WaitsFree old → Sends old s new → GivesFree old s.delivery × WaitsFree new
   sends-free old new s f x =

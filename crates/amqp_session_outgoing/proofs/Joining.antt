@@ -3,7 +3,8 @@ use Rattle.std.proofs.Common.{◌≡◌, ◌≢◌, ℕ, ◌<◌, ◌≤◌, ◌
 use Rattle.std.proofs.lemmas.List.Elements.{All-head, All-tail}
 use Rattle.std.specs.Prelude.{Result, Ok, Err, OnOk, OnErr, map, slice_index_or, slice_set, ◌==◌, ◌+◌, if◌then◌else◌}
 use Rattle.std.proofs.lemmas.Grind.{common_steps}
-use Rattle.amqp_session_outgoing.specs.Queues.{Queues, joined, followed, trailed, units_of, held_in, turn_of}
+use Rattle.amqp_session_outgoing.specs.Frames.{last_room}
+use Rattle.amqp_session_outgoing.specs.Queues.{Queues, joined, followed, trailed, units_of, room_behind, held_in, turn_of}
 use Rattle.amqp_session_types.specs.declared.handles.OutputHandle.{OutputHandle}
 use Rattle.amqp_session_outgoing.proofs.Numbering.{firsts-followed}
 use Rattle.amqp_session_outgoing.specs.Fields.{queues_of, EachWaits, IsPlace, IsNowhere, ChangesAt}
@@ -126,6 +127,39 @@ module _ {T F : Type 0} where
       let other : (x.handle).0 ≢ handle = absent 0 x (omega arith) in
       let rest : units_of handle (queues_of xs) ≡ [] = units-none xs handle (λ k e h. absent (suc k) e (omega arith)) in
       grind (arith, common_steps)
+
+  units-is : (items : List (Queue T F)) (i handle : ℕ) (f d : Queue T F)
+      → i < length items → ((k : ℕ) (e : Queue T F) → k < i → ((slice_index_or items k e).handle).0 ≢ handle)
+      → ((slice_index_or items i f).handle).0 ≡ handle → units_of handle (queues_of items) ≡ (slice_index_or items i d).units.items
+  units-is [] i handle f d lt absent here = absurd (omega arith)
+  units-is (x ∷ xs) zero handle f d lt absent here = grind (arith, common_steps)
+  units-is (x ∷ xs) (suc i) handle f d lt absent here =
+      let other : (x.handle).0 ≢ handle = absent 0 f (omega arith) in
+      let rest : units_of handle (queues_of xs) ≡ (slice_index_or xs i d).units.items = units-is xs i handle f d (omega arith) (λ k e h. absent (suc k) e (omega arith)) here in
+      grind (arith, common_steps)
+
+  -- the transfers of the link at a place
+  pub units-at : (items : List (Queue T F)) (i handle : ℕ) (d : Queue T F) → IsPlace items handle i → units_of handle (queues_of items) ≡ (slice_index_or items i d).units.items
+  units-at items i handle d p = units-is items i handle p.found d p.within p.before p.here
+
+  pub room-at : (items : List (Queue T F)) (i handle : ℕ) (d : Queue T F) → IsPlace items handle i → room_behind handle (queues_of items) ≡ last_room (slice_index_or items i d).units.items
+  room-at items i handle d p = ap (λ (us : List (Outbound T F)). last_room us) (units-at items i handle d p)
+
+  pub room-nowhere : (items : List (Queue T F)) (handle : ℕ) → IsNowhere items handle → room_behind handle (queues_of items) ≡ 0
+  room-nowhere items handle n = ap (λ (us : List (Outbound T F)). last_room us) (units-none items handle n.other)
+
+  -- room behind the last
+  pub last-room-push : (units : List (Outbound T F)) (last : Outbound T F) → last_room (units ++ last ∷ []) ≡ length last.behind + 1
+  last-room-push [] last = refl
+  last-room-push (u ∷ []) last = refl
+  last-room-push (u ∷ v ∷ us) last = last-room-push (v ∷ us) last
+
+  pub last-room-is : (units : List (Outbound T F)) (i : ℕ) (d : Outbound T F) → length units ≡ i + 1 → last_room units ≡ length (slice_index_or units i d).behind + 1
+  last-room-is [] i d e = absurd (omega (arith, e))
+  last-room-is (u ∷ []) zero d e = refl
+  last-room-is (u ∷ []) (suc i) d e = absurd (omega (arith, e))
+  last-room-is (u ∷ v ∷ us) zero d e = absurd (omega (arith, e))
+  last-room-is (u ∷ v ∷ us) (suc i) d e = last-room-is (v ∷ us) i d (omega (arith, e))
 
   pub waits-nowhere : (items : List (Queue T F)) (handle : ℕ) → IsNowhere items handle → units_of handle (queues_of items) ≡ []
   waits-nowhere items handle n = units-none items handle n.other

@@ -1,7 +1,9 @@
 pub mod Turning
+pub mod Passing
 pub mod Joining
 pub mod Numbering
 pub mod Order
+pub mod Counting
 pub mod Numbers
 pub mod Outside
 pub mod Taking

@@ -6,11 +6,13 @@ use Rattle.amqp_session_outgoing.specs.Queues.{Queues, joined, followed, trailed
 use Rattle.amqp_session_outgoing.specs.State.{State}
 use Rattle.amqp_session_outgoing.specs.History.{IsFree, HasFreeNumbers}
 use Rattle.amqp_session_outgoing.specs.declared.frames.Part.{Part}
-use Rattle.amqp_session_outgoing.specs.declared.frames.Part.TheVariants.{First, Continuation}
+use Rattle.amqp_session_outgoing.specs.declared.frames.Part.TheVariants.{Untagged, Settled, Unsettled, Continuation}
 use Rattle.amqp_session_outgoing.specs.declared.frames.Outbound.{Outbound}
 
 pub at_most_one : (part : Part) → first_count part ≤ 1
-at_most_one (First tag settled) = omega arith
+at_most_one Untagged = omega arith
+at_most_one Settled = omega arith
+at_most_one (Unsettled tag) = omega arith
 at_most_one Continuation = omega arith
 
 module _ {T F : Type 0} where

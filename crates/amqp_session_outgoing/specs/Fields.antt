@@ -1,12 +1,21 @@
 -- What a contract sees of the fields.
-use Rattle.std.specs.Prelude.{◌≡◌, ◌≢◌, ℕ, ◌+◌, ◌<◌, ◌≤◌, List, [], length, map, All, slice_index_or, slice_set}
+use Rattle.std.specs.Prelude.{◌≡◌, ◌≢◌, ℕ, ◌+◌, ◌^◌, ◌<◌, ◌≤◌, List, [], ◌∷◌, length, Option, Some, None, Vec, vec_capacity, map, All, slice_index_or, slice_set}
 use Rattle.std.specs.VecDeque.{deque_len, deque_capacity}
-use Rattle.amqp_session_outgoing.specs.Queues.{Queues, Lists, held_in, firsts_in}
+use Rattle.amqp_session_outgoing.specs.Queues.{Queues, Lists, held_in, firsts_in, frames_in}
 use Rattle.amqp_session_outgoing.specs.State.{State}
 use Rattle.amqp_session_outgoing.specs.declared.frames.Outbound.{Outbound}
 use Rattle.amqp_session_outgoing.specs.declared.turns.Queue.{Queue}
 use Rattle.amqp_session_outgoing.specs.declared.turns.Turns.TheInside as turns
 use Rattle.amqp_session_outgoing.specs.declared.outgoing.Outgoing.TheInside as outgoing
+
+-- how many frames a place holds at most. It holds none
+abbrev pub capacity_of : {F A : Type 0} → Option (Vec F A) → ℕ
+capacity_of None = 0
+capacity_of (Some frames) = vec_capacity frames
+
+abbrev pub HoldsNone : {F A : Type 0} → Option (Vec F A) → Type 0
+HoldsNone None = Unit {0}
+HoldsNone (Some frames) = frames.items ≡ []
 
 module _ {T F : Type 0} where
   abbrev pub queues_of : List (Queue T F) → Queues T F
@@ -15,6 +24,15 @@ module _ {T F : Type 0} where
   -- each link in the turn has something waiting
   abbrev pub EachWaits : List (Queue T F) → Type 0
   EachWaits items = All (λ q. 0 < length q.units.items) items
+
+  -- behind each transfer stand fewer frames than a count goes to
+  abbrev pub AllShort : List (Outbound T F) → Type 0
+  AllShort [] = Unit {0}
+  AllShort (u ∷ us) = (length u.behind < 2 ^ 64) × AllShort us
+
+  abbrev pub EachShort : Queues T F → Type 0
+  EachShort [] = Unit {0}
+  EachShort (q ∷ qs) = AllShort q.1 × EachShort qs
 
   -- the link with this handle stands at this place of the turn
   pub record IsPlace (items : List (Queue T F)) (handle i : ℕ) : Type 0 where
@@ -37,7 +55,7 @@ module _ {T F : Type 0} where
   abbrev pub lists_of : turns.Inside T F → Lists T F
   lists_of s = record { queues = queues_of s.queues.items; room = s.room }
 
-  -- the count is that of what waits, and each link in the turn has something waiting. The spare queue is empty. Where room was
+  -- the counts are those of what waits, and each link in the turn has something waiting. The spare queue is empty. Where room was
   -- promised it takes all that waits and that many more, and one more link finds a place in the turn
   pub record IsSoundTurn (s : turns.Inside T F) : Type 0 where
     pub counted : s.held ≡ held_in (queues_of s.queues.items)
@@ -45,6 +63,8 @@ module _ {T F : Type 0} where
     pub empty : s.spare.items ≡ []
     pub fits : 0 < s.room → s.held + s.room ≤ deque_capacity s.spare
     pub place : 0 < s.room → deque_len s.queues < deque_capacity s.queues
+    pub framed : s.frames ≡ frames_in (queues_of s.queues.items)
+    pub short : EachShort (queues_of s.queues.items)
 
   abbrev pub state_of : outgoing.Inside T F → State T F
   state_of s =

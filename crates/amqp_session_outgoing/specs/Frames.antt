@@ -1,24 +1,29 @@
 -- The frames of a sending link as its session handles them.
-use Rattle.std.specs.Prelude.{ℕ, ◌+◌, Bool, true, false, List, [], ◌∷◌, ◌++◌, Some, None, is_some}
+use Rattle.std.specs.Prelude.{ℕ, ◌+◌, Bool, true, false, List, [], ◌∷◌, ◌++◌, length, is_some}
 use Rattle.amqp_session_outgoing.specs.declared.frames.Part.{Part}
-use Rattle.amqp_session_outgoing.specs.declared.frames.Part.TheVariants.{First, Continuation}
+use Rattle.amqp_session_outgoing.specs.declared.frames.Part.TheVariants.{Untagged, Settled, Unsettled, Continuation}
 use Rattle.amqp_session_outgoing.specs.declared.frames.Outbound.{Outbound}
 use Rattle.amqp_session_outgoing.specs.declared.frames.Sent.{Sent}
 
 -- a transfer that is the first of its delivery (part 2, 2.7.5)
 abbrev pub is_first : Part → Bool
-is_first (First tag settled) = true
+is_first Untagged = true
+is_first Settled = true
+is_first (Unsettled tag) = true
 is_first Continuation = false
 
 -- how many deliveries a transfer begins
 abbrev pub first_count : Part → ℕ
-first_count (First tag settled) = 1
+first_count Untagged = 1
+first_count Settled = 1
+first_count (Unsettled tag) = 1
 first_count Continuation = 0
 
 -- a first transfer says its delivery's tag (part 2, 2.7.5)
 abbrev pub HasTag : Part → Type 0
-HasTag (First (Some tag) settled) = Unit {0}
-HasTag (First None settled) = ⊥
+HasTag Untagged = ⊥
+HasTag Settled = Unit {0}
+HasTag (Unsettled tag) = Unit {0}
 HasTag Continuation = Unit {0}
 
 -- a frame of a link: a transfer, which is the first of its delivery or isn't, or another one
@@ -44,6 +49,22 @@ module _ {T F : Type 0} where
   abbrev pub firsts_of : List (Outbound T F) → ℕ
   firsts_of [] = 0
   firsts_of (u ∷ us) = first_count u.part + firsts_of us
+
+  -- how many frames these are: the transfers, and the frames behind them
+  abbrev pub frames_count : List (Outbound T F) → ℕ
+  frames_count [] = 0
+  frames_count (u ∷ us) = (length u.behind + 1) + frames_count us
+
+  -- how many frames left: the transfers, and the frames behind them
+  abbrev pub sent_count : List (Sent T F) → ℕ
+  sent_count [] = 0
+  sent_count (s ∷ left) = (length s.behind + 1) + sent_count left
+
+  -- how many frames a list holds at least that takes one more behind the last of these transfers, 0 where there is none
+  abbrev pub last_room : List (Outbound T F) → ℕ
+  last_room [] = 0
+  last_room (u ∷ []) = length u.behind + 1
+  last_room (u ∷ v ∷ us) = last_room (v ∷ us)
 
   abbrev pub HaveTags : List (Outbound T F) → Type 0
   HaveTags [] = Unit {0}

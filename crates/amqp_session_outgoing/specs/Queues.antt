@@ -1,7 +1,7 @@
 -- What waits in a session: the links that wait, in turn, each with its waiting transfers.
 use Rattle.std.specs.Prelude.{◌≡◌, ℕ, ◌+◌, ◌<◌, ◌==◌, List, [], ◌∷◌, ◌++◌, length, map, Option, Some, None, if◌then◌else◌}
 use Rattle.amqp_session_types.specs.declared.handles.OutputHandle.{OutputHandle}
-use Rattle.amqp_session_outgoing.specs.Frames.{LinkFrame, frames_of, firsts_of}
+use Rattle.amqp_session_outgoing.specs.Frames.{LinkFrame, frames_of, firsts_of, frames_count, last_room}
 use Rattle.amqp_session_outgoing.specs.declared.frames.Outbound.{Outbound}
 
 abbrev pub Queues : Type 0 → Type 0 → Type 0
@@ -27,10 +27,20 @@ module _ {T F : Type 0} where
   firsts_in [] = 0
   firsts_in (q ∷ qs) = firsts_of q.1 + firsts_in qs
 
+  -- how many frames wait: the transfers, and the frames behind them
+  abbrev pub frames_in : Queues T F → ℕ
+  frames_in [] = 0
+  frames_in (q ∷ qs) = frames_count q.1 + frames_in qs
+
   -- the transfers of a link that wait
   abbrev pub units_of : ℕ → Queues T F → List (Outbound T F)
   units_of handle [] = []
   units_of handle (q ∷ qs) = if q.0 == handle then q.1 else units_of handle qs
+
+  -- how much room a frame of a link takes behind the last of its transfers that wait: for those that are there and for itself.
+  -- Where none waits it leaves at once, and takes none
+  abbrev pub room_behind : ℕ → Queues T F → ℕ
+  room_behind handle queues = last_room (units_of handle queues)
 
   -- the frames of a link that wait
   abbrev pub waiting_of : ℕ → Queues T F → List (LinkFrame T F)

@@ -1,5 +1,5 @@
 -- What a contract sees of the sending side of a session, and how transfers leave it.
-use Rattle.std.specs.Prelude.{◌≡◌, ℕ, ◌+◌, ◌%◌, ◌^◌, ◌<◌, ◌≤◌, true, false, List, [], ◌∷◌, ◌++◌, Option, Some, None, if◌then◌else◌}
+use Rattle.std.specs.Prelude.{◌≡◌, ℕ, ◌+◌, ◌%◌, ◌^◌, ◌<◌, ◌≤◌, ◌-◌, List, [], ◌∷◌, ◌++◌, Option, Some, None, if◌then◌else◌}
 use Rattle.std.specs.Ordering.{nat_cmp}
 use Rattle.std.specs.FinMap as map
 use Rattle.amqp_session_types.specs.declared.handles.OutputHandle.{OutputHandle}
@@ -7,9 +7,9 @@ use Rattle.amqp_session_unsettled.specs.Range.{ahead}
 use Rattle.amqp_session_unsettled.specs.Table.{Table}
 use Rattle.amqp_session_unsettled.specs.declared.delivery.Delivery.{Delivery}
 use Rattle.amqp_session_outgoing.specs.Frames.{is_first}
-use Rattle.amqp_session_outgoing.specs.Queues.{Queues, held_in, TakesTurn, joined}
+use Rattle.amqp_session_outgoing.specs.Queues.{Queues, held_in, TakesTurn, joined, rejoined}
 use Rattle.amqp_session_outgoing.specs.declared.frames.Part.{Part}
-use Rattle.amqp_session_outgoing.specs.declared.frames.Part.TheVariants.{First, Continuation}
+use Rattle.amqp_session_outgoing.specs.declared.frames.Part.TheVariants.{Untagged, Settled, Unsettled, Continuation}
 use Rattle.amqp_session_outgoing.specs.declared.frames.Outbound.{Outbound}
 use Rattle.amqp_session_outgoing.specs.declared.frames.Sent.{Sent}
 
@@ -32,15 +32,19 @@ pub record State (T F : Type 0) : Type 0 where
 
 -- a delivery that leaves unsettled is kept under its number until it is settled (part 2, 2.6.12)
 abbrev pub registered : Table → ℕ → OutputHandle → Part → Table
+registered table number handle Untagged = table
+registered table number handle Settled = table
+registered table number handle (Unsettled tag) = map.insert table number (record { handle = handle; tag = tag })
 registered table number handle Continuation = table
-registered table number handle (First None settled) = table
-registered table number handle (First (Some tag) true) = table
-registered table number handle (First (Some tag) false) = map.insert table number (record { handle = handle; tag = tag })
 
 module _ {T F : Type 0} where
   -- the next number lies in the peer's window
   abbrev pub InWindow : State T F → Type 0
   InWindow s = ahead s.next_outgoing_id s.window_base < s.window_width
+
+  -- how many transfers the peer's window still takes: those from the next number on that lie in it (part 2, 2.5.6)
+  abbrev pub window_left : State T F → ℕ
+  window_left s = s.window_width - ahead s.next_outgoing_id s.window_base
 
   -- something waits only while the next number lies outside the window
   abbrev pub IsHeld : State T F → Type 0
@@ -88,6 +92,11 @@ module _ {T F : Type 0} where
 
   abbrev pub with_window : State T F → ℕ → ℕ → State T F
   with_window s base width = record s { window_base = base; window_width = width }
+
+  -- a session with these numbers and deliveries, in whose turn no link stands but one with these transfers
+  abbrev pub with_alone : State T F → ℕ → ℕ → Table → ℕ → List (Outbound T F) → State T F
+  with_alone s number delivery table handle units =
+      record s { next_outgoing_id = number; next_delivery_number = delivery; unsettled = table; queues = rejoined handle units [] }
 
   -- a batch uses up the room that was reserved
   abbrev pub with_batch : State T F → ℕ → List (Outbound T F) → State T F

@@ -1,5 +1,6 @@
-ghost use Rattle.std.specs.Prelude.{◌≡◌, [], ◌∷◌, ◌++◌, OnOk, OnErr};
+ghost use Rattle.std.specs.Prelude.{◌≡◌, ◌+◌, ◌^◌, ◌<◌, ◌≤◌, [], ◌∷◌, ◌++◌, length, IfOk, OnOk, OnErr};
 
+use crate::place::Place;
 use std::alloc::{AllocError, Global};
 use std::marker::Model;
 
@@ -34,12 +35,29 @@ impl<F: Drop> Behind<F> {
         self.frames
     }
 
-    /// Puts a frame last. It is refused where there is no memory, and nothing changes then.
-    pub(crate) fn push(&mut self, frame: F) -> Result<(), AllocError>
+    /// A place for one more frame behind these.
+    pub(crate) fn place_behind(&self, alloc: Global) -> Result<Place<F>, AllocError>
+        ensures { IfOk result (λ place. length self.now + 1 ≤ place) }
+    {
+        let room = self.frames.len().checked_add(1).ok_or(AllocError)?;
+        Place::with_capacity(alloc, room)
+    }
+
+    /// How many frames there are.
+    pub(crate) fn len(&self) -> usize
+        ensures { result ≡ length self.now }
+    {
+        self.frames.len()
+    }
+
+    /// Puts a frame last, where there is memory or the place has room. Else it is refused, and nothing changes.
+    pub(crate) fn push(&mut self, place: Place<F>, frame: F) -> Result<(), AllocError>
         ensures ok { OnOk result (self.new ≡ self.old ++ frame ∷ []) }
         ensures err { OnErr result (self.new ≡ self.old) }
+        ensures short { OnOk result (length self.old + 1 < 2 ^ 64) }
+        ensures refused { OnErr result (place ≤ length self.old) }
     {
-        self.frames.reserve(1)?;
+        place.take_in(&mut self.frames)?;
         self.frames.push_reserved(frame);
         Ok(())
     }

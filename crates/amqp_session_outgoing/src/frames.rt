@@ -7,13 +7,12 @@ use amqp_session_types::{DeliveryTag, OutputHandle};
 /// Which part of its delivery a transfer carries (part 2, 2.7.5).
 #[derive(Debug, Drop)]
 pub enum Part {
-    /// The first one. The delivery gets its number as this leaves.
-    First {
-        /// What the link calls the delivery.
-        tag: Option<DeliveryTag>,
-        /// Whether it leaves settled, as one that is given up does.
-        settled: bool,
-    },
+    /// The first transfer of a delivery that has no tag, which no session accepts.
+    Untagged,
+    /// The first one of a delivery that leaves settled, as one that is given up does: nothing is kept of it.
+    Settled,
+    /// The first one of a delivery that leaves unsettled, and what the link calls the delivery.
+    Unsettled(DeliveryTag),
     /// A later one.
     Continuation,
 }
@@ -24,7 +23,9 @@ impl Part {
         ensures { result ≡ is_first self.now }
     {
         match self {
-            Part::First { .. } => true,
+            Part::Untagged => true,
+            Part::Settled => true,
+            Part::Unsettled(_) => true,
             Part::Continuation => false,
         }
     }
@@ -34,7 +35,9 @@ impl Part {
         ensures { result ≡ first_count self.now }
     {
         match self {
-            Part::First { .. } => 1,
+            Part::Untagged => 1,
+            Part::Settled => 1,
+            Part::Unsettled(_) => 1,
             Part::Continuation => 0,
         }
     }
@@ -45,8 +48,9 @@ impl Part {
         ensures none { IfNone result (HasTag self.now → ⊥) }
     {
         match self {
-            Part::First { tag: None, .. } => None,
-            Part::First { .. } => Some(1),
+            Part::Untagged => None,
+            Part::Settled => Some(1),
+            Part::Unsettled(_) => Some(1),
             Part::Continuation => Some(0),
         }
     }

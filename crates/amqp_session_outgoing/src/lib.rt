@@ -10,11 +10,11 @@ mod error;
 mod frames;
 pub mod laws;
 mod outgoing;
-#[cfg(test)]
-mod tests;
+mod place;
 mod turns;
 
 pub use behind::Behind;
 pub use error::TransferError;
 pub use frames::{Outbound, Part, Sent};
 pub use outgoing::Outgoing;
+pub use place::Place;

@@ -1,13 +1,15 @@
 ghost use Rattle.std.specs.Prelude.{◌≡◌, ◌≢◌, ℕ, ◌+◌, ◌-◌, ◌<◌, ◌≤◌, ◌%◌, ◌^◌, ◌⊎◌, ◌↔◌, [], ◌++◌, length, if◌then◌else◌, IsTrue, IsOk, IfOk, IfErr, OnOk, OnErr, Err, option_copied, vec_len, vec_capacity};
-ghost use Rattle.amqp_session_outgoing.specs.Frames.{is_first, firsts_of, HaveTags};
-ghost use Rattle.amqp_session_outgoing.specs.Queues.{held_in, firsts_in, turn_of};
+ghost use Rattle.amqp_session_outgoing.specs.Frames.{is_first, firsts_of, frames_count, sent_count, HaveTags};
+ghost use Rattle.amqp_session_outgoing.specs.Queues.{held_in, firsts_in, frames_in, units_of, room_behind, turn_of};
 ghost use Rattle.amqp_session_unsettled.specs.Touched.{Touches};
 ghost use Rattle.std.specs.FinMap as map;
-ghost use Rattle.amqp_session_outgoing.specs.State.{InWindow, Sends, Leaving, IsHeld, base_of, registered, with_batch};
+ghost use Rattle.amqp_session_outgoing.specs.State.{State, InWindow, Sends, Leaving, IsHeld, base_of, registered, window_left, with_alone, with_batch};
+ghost use Rattle.amqp_session_unsettled.specs.Range.{ahead};
 ghost use Rattle.amqp_session_outgoing.specs.History.{Steps, Takes, TakesWindow, Accepts, Refuses, Follows, Reserves, Settles, Forgets, Fails, HasFreeNumbers, IsFree, RefusesBatch, fresh};
 
 use crate::error::TransferError;
 use crate::frames::{Outbound, Part, Sent};
+use crate::place::Place;
 use crate::turns::Turns;
 use amqp_session_types::OutputHandle;
 use amqp_session_unsettled::{Delivery, DeliveryRange, Unsettled};
@@ -79,6 +81,20 @@ impl<T: Drop, F: Drop> Outgoing<T, F> {
         self.turns.held()
     }
 
+    /// How many frames wait: transfers, and the Flows and Detaches behind them.
+    pub fn frames(&self) -> u128
+        ensures { result ≡ frames_in self.now.queues }
+    {
+        self.turns.frames()
+    }
+
+    /// Whether a transfer of a link waits.
+    pub fn is_waiting(&self, handle: OutputHandle) -> bool
+        ensures { IsTrue result ↔ (0 < length (units_of handle.0 self.now.queues)) }
+    {
+        self.turns.is_waiting(handle)
+    }
+
     /// The links that wait, in turn, each with how many of its transfers wait. It is refused where there is no memory
     /// for the answer.
     pub fn waiting(&self, alloc: Global) -> Result<Vec<(OutputHandle, usize)>, AllocError>
@@ -94,9 +110,16 @@ impl<T: Drop, F: Drop> Outgoing<T, F> {
         self.unsettled.get(number)
     }
 
+    /// The deliveries that left and aren't settled.
+    pub fn deliveries(&self) -> &Unsettled
+        ensures { result.now.table ≡ self.now.unsettled }
+    {
+        &self.unsettled
+    }
+
     /// The numbers of a range that are of unsettled deliveries, each once, in order from the first (part 2, 2.7.6). It
-    /// takes time by the deliveries that there are, whatever the range. It is refused where there is no memory for the
-    /// answer.
+    /// takes time by the range or by the deliveries that there are, whichever are fewer. It is refused where there is
+    /// no memory for the answer.
     pub fn touched(&self, alloc: Global, range: DeliveryRange) -> Result<Vec<u32>, AllocError>
         ensures { IfOk result (λ numbers. Touches range self.now.unsettled numbers.items) }
     {
@@ -111,6 +134,9 @@ impl<T: Drop, F: Drop> Outgoing<T, F> {
         incoming_window: u32,
     ) -> Result<(), AllocError>
         ensures ok { OnOk result (Takes (TakesWindow self.old.next_outgoing_id incoming_window) self.old out.old.items self.new out.new.items) }
+        ensures frames { OnOk result (sent_count out.new.items + frames_in self.new.queues ≡ sent_count out.old.items + frames_in self.old.queues) }
+        ensures held { OnOk result (vec_len out.new + held_in self.new.queues ≡ vec_len out.old + held_in self.old.queues) }
+        ensures capacity { vec_capacity out.old ≤ vec_capacity out.new }
         ensures err { OnErr result (Steps self.old Fails self.new × (out.new.items ≡ out.old.items)) }
         ensures room { vec_len out.old + held_in self.old.queues ≤ vec_capacity out.old → IsOk result }
     {
@@ -130,6 +156,9 @@ impl<T: Drop, F: Drop> Outgoing<T, F> {
         incoming_window: u32,
     ) -> Result<(), AllocError>
         ensures ok { OnOk result (Takes (TakesWindow (base_of self.old next_incoming_id) incoming_window) self.old out.old.items self.new out.new.items) }
+        ensures frames { OnOk result (sent_count out.new.items + frames_in self.new.queues ≡ sent_count out.old.items + frames_in self.old.queues) }
+        ensures held { OnOk result (vec_len out.new + held_in self.new.queues ≡ vec_len out.old + held_in self.old.queues) }
+        ensures capacity { vec_capacity out.old ≤ vec_capacity out.new }
         ensures err { OnErr result (Steps self.old Fails self.new × (out.new.items ≡ out.old.items)) }
         ensures room { vec_len out.old + held_in self.old.queues ≤ vec_capacity out.old → IsOk result }
     {
@@ -139,8 +168,70 @@ impl<T: Drop, F: Drop> Outgoing<T, F> {
         Ok(())
     }
 
-    /// Accepts a batch of transfers of one link, whole or not at all. They wait behind what the link has waiting, and
-    /// what the window allows leaves, links in turn; the batch is empty then.
+    /// Whether a batch of transfers is accepted now, and how many transfers that begin a delivery wait once it is: those
+    /// that waited, and those of the batch. It takes no memory and changes nothing.
+    ///
+    /// It is refused with `IllegalState` where a delivery begins without a tag (part 2, 2.7.5), and with `NumberInUse`
+    /// where the number of a delivery that begins would be that of an unsettled one or of one that waits (part 2,
+    /// 2.8.6).
+    pub fn admits(&self, batch: &VecDeque<Outbound<T, F>>) -> Result<usize, TransferError>
+        ensures ok { IfOk result (λ firsts. (firsts ≡ firsts_in self.now.queues + firsts_of batch.now.items) × HaveTags batch.now.items × HasFreeNumbers self.now batch.now.items) }
+        ensures err { IfErr result (λ error. RefusesBatch self.now batch.now.items error) }
+        ensures told { result ≢ Err TransferError.Memory }
+    {
+        let begun = count_firsts(batch)?;
+        let all = self
+            .firsts
+            .checked_add(begun)
+            .ok_or(TransferError::NumberInUse)?;
+        for others in self.firsts..all {
+            if !self.is_free(others) {
+                return Err(TransferError::NumberInUse);
+            }
+        }
+        Ok(all)
+    }
+
+    /// Accepts a batch of transfers of one link that `admits` lets in, and takes what that answered. The batch waits
+    /// behind what the link has waiting, and what the window allows leaves, links in turn; the batch is empty then.
+    /// Where nothing waits and the window takes the whole batch, it leaves without waiting.
+    ///
+    /// It is refused where there is no memory and no room was made for it, and nothing changes then.
+    pub fn accept(
+        &mut self,
+        alloc: Global,
+        out: &mut Vec<Sent<T, F>>,
+        handle: OutputHandle,
+        batch: &mut VecDeque<Outbound<T, F>>,
+        firsts: usize,
+    ) -> Result<(), AllocError>
+        requires firsts { firsts ≡ firsts_in self.old.queues + firsts_of batch.old.items }
+        requires tags { HaveTags batch.old.items }
+        requires free { HasFreeNumbers self.old batch.old.items }
+        ensures ok { OnOk result (Takes (Accepts handle batch.old.items) self.old out.old.items self.new out.new.items) }
+        ensures frames { OnOk result (sent_count out.new.items + frames_in self.new.queues ≡ sent_count out.old.items + frames_in self.old.queues + frames_count batch.old.items) }
+        ensures held { OnOk result (vec_len out.new + held_in self.new.queues ≡ vec_len out.old + held_in self.old.queues + length batch.old.items) }
+        ensures capacity { vec_capacity out.old ≤ vec_capacity out.new }
+        ensures err { OnErr result (Steps self.old Fails self.new) }
+        ensures out { OnErr result (out.new.items ≡ out.old.items) }
+        ensures emptied { OnOk result (batch.new.items ≡ []) }
+        ensures batch { OnErr result (batch.new.items ≡ batch.old.items) }
+        ensures room { length batch.old.items ≤ self.old.room → vec_len out.old + held_in self.old.queues + length batch.old.items ≤ vec_capacity out.old → IsOk result }
+    {
+        if batch.is_empty() {
+            return Ok(());
+        }
+        if self.lets_through(batch.len()) {
+            self.pass_on(out, handle, batch)?;
+            return Ok(());
+        }
+        self.line_up(alloc, out, handle, batch, firsts)?;
+        self.leave(out);
+        Ok(())
+    }
+
+    /// Accepts a batch of transfers of one link, whole or not at all: `admits` and `accept`, one after the other. They
+    /// wait behind what the link has waiting, and what the window allows leaves, links in turn; the batch is empty then.
     ///
     /// It is refused with `IllegalState` where a delivery begins without a tag, with `NumberInUse` where the number of
     /// a delivery that begins would be that of an unsettled one or of one that waits, and with `Memory` where there is
@@ -153,18 +244,17 @@ impl<T: Drop, F: Drop> Outgoing<T, F> {
         batch: &mut VecDeque<Outbound<T, F>>,
     ) -> Result<(), TransferError>
         ensures ok { OnOk result (Takes (Accepts handle batch.old.items) self.old out.old.items self.new out.new.items) }
+        ensures frames { OnOk result (sent_count out.new.items + frames_in self.new.queues ≡ sent_count out.old.items + frames_in self.old.queues + frames_count batch.old.items) }
+        ensures held { OnOk result (vec_len out.new + held_in self.new.queues ≡ vec_len out.old + held_in self.old.queues + length batch.old.items) }
+        ensures capacity { vec_capacity out.old ≤ vec_capacity out.new }
         ensures err { IfErr result (λ error. Steps self.old (Refuses batch.old.items error) self.new) }
         ensures out { OnErr result (out.new.items ≡ out.old.items) }
         ensures emptied { OnOk result (batch.new.items ≡ []) }
         ensures batch { OnErr result (batch.new.items ≡ batch.old.items) }
         ensures room { length batch.old.items ≤ self.old.room → vec_len out.old + held_in self.old.queues + length batch.old.items ≤ vec_capacity out.old → result ≢ Err TransferError.Memory }
     {
-        let firsts = self.test(batch)?;
-        if batch.is_empty() {
-            return Ok(());
-        }
+        let firsts = self.admits(batch)?;
         self.accept(alloc, out, handle, batch, firsts)?;
-        self.leave(out);
         Ok(())
     }
 
@@ -178,8 +268,32 @@ impl<T: Drop, F: Drop> Outgoing<T, F> {
     ) -> Result<Option<F>, AllocError>
         ensures ok { IfOk result (λ left. Steps self.old (Follows handle frame left) self.new) }
         ensures err { OnErr result (Steps self.old Fails self.new) }
+        ensures at_once { units_of handle.0 self.old.queues ≡ [] → IsOk result }
     {
-        self.turns.follow(handle, frame)
+        self.turns.follow(handle, Place::none(), frame)
+    }
+
+    /// A place for one Flow or Detach of a link behind the transfers that it has waiting. It serves as long as no more
+    /// frames stand behind the last of them than now. Where the link has nothing waiting it takes no memory, and serves
+    /// as long as that stays so. It is refused where there is no memory.
+    pub fn place_behind(&self, alloc: Global, handle: OutputHandle) -> Result<Place<F>, AllocError>
+        ensures room { IfOk result (λ place. room_behind handle.0 self.now.queues ≤ place) }
+        ensures at_once { units_of handle.0 self.now.queues ≡ [] → IsOk result }
+    {
+        self.turns.place_behind(alloc, handle)
+    }
+
+    /// Accepts a Flow or a Detach of a link, for which there is a place: as `on_outgoing_frame` does, and without fail.
+    pub fn on_outgoing_frame_in(
+        &mut self,
+        handle: OutputHandle,
+        place: Place<F>,
+        frame: F,
+    ) -> Option<F>
+        requires { room_behind handle.0 self.old.queues ≤ place }
+        ensures { Steps self.old (Follows handle frame result) self.new }
+    {
+        self.turns.follow(handle, place, frame).unwrap()
     }
 
     /// Makes room for a batch: the next one of at most so many transfers isn't refused for want of memory. It is
@@ -193,6 +307,7 @@ impl<T: Drop, F: Drop> Outgoing<T, F> {
         ensures room { OnOk result (vec_len out.new + held_in self.new.queues + count ≤ vec_capacity out.new) }
         ensures err { OnErr result (Steps self.old Fails self.new) }
         ensures out { out.new.items ≡ out.old.items }
+        ensures capacity { vec_capacity out.old ≤ vec_capacity out.new }
     {
         make_room(&mut self.unsettled, out, self.turns.held(), count)?;
         self.turns.reserve(count)
@@ -213,32 +328,28 @@ impl<T: Drop, F: Drop> Outgoing<T, F> {
     }
 
     /// The next number lies in the peer's window.
+    #[inline(always)]
     fn is_open(&self) -> bool
         ensures { IsTrue result ↔ InWindow self.now }
     {
         self.next_outgoing_id.wrapping_sub(self.window_base) < self.window_width
     }
 
-    /// Why a batch is refused, or how many transfers that begin a delivery wait once it is accepted.
-    fn test(&self, batch: &VecDeque<Outbound<T, F>>) -> Result<usize, TransferError>
-        ensures ok { IfOk result (λ firsts. (firsts ≡ firsts_in self.now.queues + firsts_of batch.now.items) × HaveTags batch.now.items × HasFreeNumbers self.now batch.now.items) }
-        ensures err { IfErr result (λ error. RefusesBatch self.now batch.now.items error) }
-        ensures told { result ≢ Err TransferError.Memory }
+    /// Nothing waits, and the peer's window takes so many transfers more.
+    #[inline(always)]
+    fn lets_through(&self, count: usize) -> bool
+        ensures { IsTrue result ↔ ((self.now.queues ≡ []) × (count ≤ window_left self.now)) }
     {
-        let begun = count_firsts(batch)?;
-        let all = self
-            .firsts
-            .checked_add(begun)
-            .ok_or(TransferError::NumberInUse)?;
-        for others in self.firsts..all {
-            if !self.is_free(others) {
-                return Err(TransferError::NumberInUse);
-            }
+        let used = self.next_outgoing_id.wrapping_sub(self.window_base);
+        let left = self.window_width.saturating_sub(used) as usize;
+        if !self.turns.is_empty() {
+            return false;
         }
-        Ok(all)
+        count <= left
     }
 
     /// The number of the delivery that begins behind so many others is no other's.
+    #[inline(always)]
     fn is_free(&self, others: usize) -> bool
         ensures { IsTrue result ↔ IsFree self.now others }
     {
@@ -253,7 +364,7 @@ impl<T: Drop, F: Drop> Outgoing<T, F> {
     /// A batch waits behind what its link has waiting, and this many first transfers wait with it. Room is made for all
     /// to leave.
     #[tactic(auto, using(crate::proofs::Joining::rules, crate::proofs::Numbering::rules))]
-    fn accept(
+    fn line_up(
         &mut self,
         alloc: Global,
         out: &mut Vec<Sent<T, F>>,
@@ -270,6 +381,8 @@ impl<T: Drop, F: Drop> Outgoing<T, F> {
         ensures emptied { OnOk result (batch.new.items ≡ []) }
         ensures batch { OnErr result (batch.new.items ≡ batch.old.items) }
         ensures refused { OnErr result ((self.old.room < length batch.old.items) ⊎ (vec_capacity out.old < vec_len out.old + held_in self.old.queues + length batch.old.items)) }
+        ensures held { OnOk result (held_in self.new.queues ≡ held_in self.old.queues + length batch.old.items) }
+        ensures capacity { vec_capacity out.old ≤ vec_capacity out.new }
     {
         make_room(&mut self.unsettled, out, self.turns.held(), batch.len())?;
         self.turns.join(alloc, handle, batch)?;
@@ -277,10 +390,45 @@ impl<T: Drop, F: Drop> Outgoing<T, F> {
         Ok(())
     }
 
+    /// A batch leaves without waiting, and uses up the room that was made.
+    fn pass_on(
+        &mut self,
+        out: &mut Vec<Sent<T, F>>,
+        handle: OutputHandle,
+        batch: &mut VecDeque<Outbound<T, F>>,
+    ) -> Result<(), AllocError>
+        requires some { 0 < length batch.old.items }
+        requires empty { self.old.queues ≡ [] }
+        requires window { length batch.old.items ≤ window_left self.old }
+        ensures run { OnOk result (Leaving (with_batch self.old handle.0 batch.old.items) out.old.items self.new out.new.items) }
+        ensures held { OnOk result (IsHeld self.new) }
+        ensures total { OnOk result (vec_len out.new + held_in self.new.queues ≡ vec_len out.old + held_in self.old.queues + length batch.old.items) }
+        ensures err { OnErr result (self.new ≡ self.old) }
+        ensures out { OnErr result (out.new.items ≡ out.old.items) }
+        ensures emptied { OnOk result (batch.new.items ≡ []) }
+        ensures batch { OnErr result (batch.new.items ≡ batch.old.items) }
+        ensures refused { OnErr result ((self.old.room < length batch.old.items) ⊎ (vec_capacity out.old < vec_len out.old + held_in self.old.queues + length batch.old.items)) }
+        ensures capacity { vec_capacity out.old ≤ vec_capacity out.new }
+    {
+        make_room(&mut self.unsettled, out, 0, batch.len())?;
+        send_all(
+            &mut self.next_outgoing_id,
+            &mut self.next_delivery_number,
+            &mut self.unsettled,
+            out,
+            handle,
+            batch,
+        );
+        self.turns.use_up_room();
+        Ok(())
+    }
+
     /// Takes a window, where there is room for all that waits.
     fn take_window(&mut self, out: &mut Vec<Sent<T, F>>, base: u32, width: u32)
         requires room { vec_len out.old + held_in self.old.queues ≤ vec_capacity out.old }
-        ensures { Takes (TakesWindow base width) self.old out.old.items self.new out.new.items }
+        ensures takes { Takes (TakesWindow base width) self.old out.old.items self.new out.new.items }
+        ensures total { vec_len out.new + held_in self.new.queues ≡ vec_len out.old + held_in self.old.queues }
+        ensures capacity { vec_capacity out.new ≡ vec_capacity out.old }
     {
         self.window_base = base;
         self.window_width = width;
@@ -292,6 +440,8 @@ impl<T: Drop, F: Drop> Outgoing<T, F> {
         requires room { vec_len out.old + held_in self.old.queues ≤ vec_capacity out.old }
         ensures run { Leaving self.old out.old.items self.new out.new.items }
         ensures held { IsHeld self.new }
+        ensures total { vec_len out.new + held_in self.new.queues ≡ vec_len out.old + held_in self.old.queues }
+        ensures capacity { vec_capacity out.new ≡ vec_capacity out.old }
     {
         while self.held_back() > 0 && self.is_open() {
             out.push_reserved(self.send_one());
@@ -341,6 +491,7 @@ fn count_firsts<T, F>(batch: &VecDeque<Outbound<T, F>>) -> Result<usize, Transfe
 }
 
 /// Makes room for all that waits and so many more transfers, as they leave and are registered.
+#[inline(always)]
 fn make_room<T, F>(
     unsettled: &mut Unsettled,
     out: &mut Vec<Sent<T, F>>,
@@ -348,6 +499,7 @@ fn make_room<T, F>(
     count: usize,
 ) -> Result<(), AllocError>
     ensures out { out.new.items ≡ out.old.items }
+    ensures capacity { vec_capacity out.old ≤ vec_capacity out.new }
     ensures table { unsettled.new.table ≡ unsettled.old.table }
     ensures grown { unsettled.old.room ≤ unsettled.new.room }
     ensures out_room { OnOk result (vec_len out.new + (held + count) ≤ vec_capacity out.new) }
@@ -359,7 +511,38 @@ fn make_room<T, F>(
     unsettled.reserve(all)
 }
 
+/// The transfers of a batch leave, one after another.
+fn send_all<T: Drop, F: Drop>(
+    next: &mut u32,
+    next_delivery: &mut u32,
+    unsettled: &mut Unsettled,
+    out: &mut Vec<Sent<T, F>>,
+    handle: OutputHandle,
+    batch: &mut VecDeque<Outbound<T, F>>,
+)
+    requires room { length batch.old.items ≤ unsettled.old.room }
+    requires out_room { vec_len out.old + length batch.old.items ≤ vec_capacity out.old }
+    ensures run { (s : State T F) → s.window_width < 2 ^ 32 → ahead next.old s.window_base + length batch.old.items ≤ s.window_width → Leaving (with_alone s next.old next_delivery.old unsettled.old.table handle.0 batch.old.items) out.old.items (with_alone s next.new next_delivery.new unsettled.new.table handle.0 []) out.new.items }
+    ensures len { vec_len out.new ≡ vec_len out.old + length batch.old.items }
+    ensures emptied { batch.new.items ≡ [] }
+    ensures capacity { vec_capacity out.new ≡ vec_capacity out.old }
+{
+    while let Some(unit) = batch.pop_front() {
+        let number = *next;
+        *next = number.wrapping_add(1);
+        let delivery = give_number(next_delivery, unsettled, handle, unit.part);
+        out.push_reserved(Sent {
+            handle,
+            number,
+            delivery,
+            transfer: unit.transfer,
+            behind: unit.behind,
+        });
+    }
+}
+
 /// A delivery that begins gets the next number, and is registered under it where it leaves unsettled.
+#[inline(always)]
 fn give_number(
     next: &mut u32,
     unsettled: &mut Unsettled,
@@ -372,15 +555,12 @@ fn give_number(
     ensures registered { unsettled.new.table ≡ registered unsettled.old.table next.old handle part }
     ensures room { unsettled.old.room ≤ unsettled.new.room + 1 }
 {
-    let Part::First { tag, settled } = part else {
+    if !part.is_first() {
         return None;
-    };
+    }
     let number = *next;
     *next = number.wrapping_add(1);
-    if settled {
-        return Some(number);
-    }
-    if let Some(tag) = tag {
+    if let Part::Unsettled(tag) = part {
         unsettled.register_reserved(number, Delivery { handle, tag });
     }
     Some(number)

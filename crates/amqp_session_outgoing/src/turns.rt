@@ -1,12 +1,13 @@
-ghost use Rattle.std.specs.Prelude.{◌≡◌, ◌≢◌, ℕ, ◌+◌, ◌-◌, ◌<◌, ◌≤◌, ◌↔◌, [], ◌∷◌, ◌++◌, length, IsTrue, ◌⊎◌, OnOk, OnErr, IfOk, IfSome, IfNone, max, slice_index_or};
+ghost use Rattle.std.specs.Prelude.{◌≡◌, ◌≢◌, ℕ, ◌+◌, ◌-◌, ◌^◌, ◌<◌, ◌≤◌, ◌↔◌, [], ◌∷◌, ◌++◌, length, IsTrue, IsOk, ◌⊎◌, OnOk, OnErr, IfOk, IfSome, IfNone, max, slice_index_or};
 ghost use Rattle.std.specs.VecDeque.{deque_len, deque_capacity};
-ghost use Rattle.amqp_session_outgoing.specs.Frames.{first_count};
-ghost use Rattle.amqp_session_outgoing.specs.Queues.{held_in, firsts_in, TakesTurn, joined, trailed, turn_of, FollowsIn};
-ghost use Rattle.amqp_session_outgoing.specs.Fields.{queues_of, EachWaits, IsPlace, IsNowhere, ChangesAt};
+ghost use Rattle.amqp_session_outgoing.specs.Frames.{first_count, frames_count, last_room};
+ghost use Rattle.amqp_session_outgoing.specs.Queues.{held_in, firsts_in, frames_in, units_of, room_behind, TakesTurn, joined, trailed, turn_of, FollowsIn};
+ghost use Rattle.amqp_session_outgoing.specs.Fields.{queues_of, EachWaits, AllShort, IsPlace, IsNowhere, ChangesAt};
 ghost use Rattle.amqp_session_outgoing.specs.declared.turns.Queue.{Queue};
 
 use crate::behind::Behind;
 use crate::frames::Outbound;
+use crate::place::Place;
 use amqp_session_types::OutputHandle;
 use std::alloc::{AllocError, Global};
 use std::collections::VecDeque;
@@ -27,6 +28,7 @@ pub(crate) struct Turns<T, F> {
     /// An empty queue whose memory is used again.
     spare: VecDeque<Outbound<T, F>>,
     held: usize,
+    frames: u128,
     room: usize,
 }
 
@@ -51,6 +53,7 @@ impl<T: Drop, F: Drop> Turns<T, F> {
             queues: VecDeque::new(alloc),
             spare: VecDeque::new(alloc),
             held: 0,
+            frames: 0,
             room: 0,
         }
     }
@@ -60,6 +63,29 @@ impl<T: Drop, F: Drop> Turns<T, F> {
         ensures { result ≡ held_in self.now.queues }
     {
         self.held
+    }
+
+    /// Nothing waits.
+    #[inline(always)]
+    pub(crate) fn is_empty(&self) -> bool
+        ensures { IsTrue result ↔ (self.now.queues ≡ []) }
+    {
+        self.queues.is_empty()
+    }
+
+    /// How many frames wait: transfers, and the frames behind them.
+    pub(crate) fn frames(&self) -> u128
+        ensures { result ≡ frames_in self.now.queues }
+    {
+        self.frames
+    }
+
+    /// Whether a transfer of a link waits.
+    #[tactic(auto, using(crate::proofs::Joining::rules))]
+    pub(crate) fn is_waiting(&self, handle: OutputHandle) -> bool
+        ensures { IsTrue result ↔ (0 < length (units_of handle.0 self.now.queues)) }
+    {
+        place_of(&self.queues, handle).is_some()
     }
 
     /// The links that wait, in turn, each with how many of its transfers wait.
@@ -77,8 +103,10 @@ impl<T: Drop, F: Drop> Turns<T, F> {
         ensures held { held_in self.new.queues + 1 ≡ held_in self.old.queues }
         ensures firsts { firsts_in self.new.queues + first_count result.1.part ≡ firsts_in self.old.queues }
     {
+        let (handle, unit) = take_turn(&mut self.queues, &mut self.spare);
         self.held -= 1;
-        take_turn(&mut self.queues, &mut self.spare)
+        self.frames -= 1 + unit.behind.len() as u128;
+        (handle, unit)
     }
 
     /// A batch of a link waits behind what the link has waiting.
@@ -97,8 +125,10 @@ impl<T: Drop, F: Drop> Turns<T, F> {
         ensures room { OnErr result (self.old.room < length batch.old.items) }
     {
         let held = self.held.checked_add(batch.len()).ok_or(AllocError)?;
+        let frames = self.frames + count_frames(batch);
         join(&mut self.queues, &mut self.spare, alloc, handle, batch)?;
         self.held = held;
+        self.frames = frames;
         self.room = 0;
         Ok(())
     }
@@ -116,19 +146,50 @@ impl<T: Drop, F: Drop> Turns<T, F> {
         Ok(())
     }
 
+    /// The room that was made is used up.
+    #[inline(always)]
+    pub(crate) fn use_up_room(&mut self)
+        ensures { self.new ≡ record self.old { room = 0 } }
+    {
+        self.room = 0;
+    }
+
+    /// A place for one more frame of a link behind the transfers that the link has waiting.
+    pub(crate) fn place_behind(
+        &self,
+        alloc: Global,
+        handle: OutputHandle,
+    ) -> Result<Place<F>, AllocError>
+        ensures room { IfOk result (λ place. room_behind handle.0 self.now.queues ≤ place) }
+        ensures at_once { units_of handle.0 self.now.queues ≡ [] → IsOk result }
+    {
+        match place_of(&self.queues, handle) {
+            Some(index) => place_behind(&self.queues[index].units, alloc),
+            None => Ok(Place::none()),
+        }
+    }
+
     /// A frame of a link goes behind the transfers that the link has waiting. It is given back where there are none.
+    /// It is refused where there is no memory and the place has no room.
     #[tactic(auto, using(crate::proofs::Joining::rules))]
-    pub(crate) fn follow(&mut self, handle: OutputHandle, frame: F) -> Result<Option<F>, AllocError>
+    pub(crate) fn follow(
+        &mut self,
+        handle: OutputHandle,
+        place: Place<F>,
+        frame: F,
+    ) -> Result<Option<F>, AllocError>
         ensures ok { IfOk result (λ left. FollowsIn handle.0 frame left self.old.queues self.new.queues) }
         ensures room { self.new.room ≡ self.old.room }
         ensures held { held_in self.new.queues ≡ held_in self.old.queues }
         ensures firsts { firsts_in self.new.queues ≡ firsts_in self.old.queues }
         ensures err { OnErr result (self.new ≡ self.old) }
+        ensures fits { room_behind handle.0 self.old.queues ≤ place → IsOk result }
     {
-        let Some(place) = place_of(&self.queues, handle) else {
+        let Some(index) = place_of(&self.queues, handle) else {
             return Ok(Some(frame));
         };
-        follow(&mut self.queues, place, frame)?;
+        follow(&mut self.queues, index, place, frame)?;
+        self.frames += 1;
         Ok(None)
     }
 }
@@ -173,6 +234,31 @@ fn place_of<T, F>(queues: &VecDeque<Queue<T, F>>, handle: OutputHandle) -> Optio
         }
     }
     None
+}
+
+/// A place for one more frame behind the last of these transfers.
+fn place_behind<T, F: Drop>(
+    units: &VecDeque<Outbound<T, F>>,
+    alloc: Global,
+) -> Result<Place<F>, AllocError>
+    ensures { IfOk result (λ place. last_room units.now.items ≤ place) }
+{
+    match units.back() {
+        Some(last) => last.behind.place_behind(alloc),
+        None => Ok(Place::none()),
+    }
+}
+
+/// How many frames these are: the transfers, and the frames behind them.
+fn count_frames<T, F: Drop>(batch: &VecDeque<Outbound<T, F>>) -> u128
+    ensures count { result ≡ frames_count batch.now.items }
+    ensures short { AllShort batch.now.items }
+{
+    let mut count = 0;
+    for i in 0..batch.len() {
+        count += 1 + batch[i].behind.len() as u128;
+    }
+    count
 }
 
 /// A batch waits behind what its link has waiting, and a link that had nothing joins the turn.
@@ -286,30 +372,39 @@ fn join_last<T: Drop, F: Drop>(
 /// A frame goes behind the last transfer that the link at this place has waiting.
 fn follow<T: Drop, F: Drop>(
     queues: &mut VecDeque<Queue<T, F>>,
-    place: usize,
+    index: usize,
+    place: Place<F>,
     frame: F,
 ) -> Result<(), AllocError>
-    requires place { place < length queues.old.items }
+    requires index { index < length queues.old.items }
     requires waits { EachWaits queues.old.items }
-    ensures ok { OnOk result (ChangesAt queues.old.items place (trailed frame) queues.new.items) }
+    ensures ok { OnOk result (ChangesAt queues.old.items index (trailed frame) queues.new.items) }
     ensures err { OnErr result (queues_of queues.new.items ≡ queues_of queues.old.items) }
+    ensures short { OnOk result ((d : Queue T F) → last_room (slice_index_or queues.old.items index d).units.items < 2 ^ 64) }
+    ensures refused { OnErr result ((d : Queue T F) → place < last_room (slice_index_or queues.old.items index d).units.items) }
     ensures waits { EachWaits queues.new.items }
     ensures len { deque_len queues.new ≡ deque_len queues.old }
     ensures capacity { deque_capacity queues.new ≡ deque_capacity queues.old }
 {
-    let queue = &mut queues[place];
-    trail(&mut queue.units, frame)
+    let queue = &mut queues[index];
+    trail(&mut queue.units, place, frame)
 }
 
 /// A frame goes behind the last of these transfers.
-fn trail<T: Drop, F: Drop>(units: &mut VecDeque<Outbound<T, F>>, frame: F) -> Result<(), AllocError>
+fn trail<T: Drop, F: Drop>(
+    units: &mut VecDeque<Outbound<T, F>>,
+    place: Place<F>,
+    frame: F,
+) -> Result<(), AllocError>
     requires some { 0 < length units.old.items }
     ensures ok { OnOk result (units.new.items ≡ trailed frame units.old.items) }
     ensures err { OnErr result (units.new.items ≡ units.old.items) }
+    ensures short { OnOk result (last_room units.old.items < 2 ^ 64) }
+    ensures refused { OnErr result (place < last_room units.old.items) }
     ensures some { 0 < length units.new.items }
 {
     let mut last = units.pop_back().unwrap();
-    let pushed = last.behind.push(frame);
+    let pushed = last.behind.push(place, frame);
     units.push_back_reserved(last);
     pushed
 }

@@ -1,2 +1,4 @@
 pub mod Tables
 pub mod Gathering
+pub mod Lacking
+pub mod Walking

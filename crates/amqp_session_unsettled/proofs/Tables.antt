@@ -1,6 +1,7 @@
 -- The entries of a map of deliveries, as a table.
 use Rattle.std.proofs.lemmas.Bool.{ne_eqb}
-use Rattle.std.proofs.Common.{◌≡◌, ◌≢◌, ℕ, Bool, true, false, cond, List, [], ◌∷◌, filter, nat_eq, not, is_some, if◌then◌else◌, Option, Some, None, refl, sym, ap, ◌∙◌, ◌==◌}
+use Rattle.std.specs.Prelude.{IsSome, IsTrue}
+use Rattle.std.proofs.Common.{◌≡◌, ◌≢◌, ℕ, length, arith, subst, Bool, true, false, cond, List, [], ◌∷◌, filter, nat_eq, not, is_some, if◌then◌else◌, Option, Some, None, refl, sym, ap, ◌∙◌, ◌==◌}
 use Rattle.std.specs.Cmp.{nat_cmp_total, unsigned_tied, nat_eq_equiv}
 use Rattle.std.specs.Ordering.{nat_cmp}
 use Rattle.std.specs.FinMap as map
@@ -70,3 +71,8 @@ others_kept es kept handle q unique are =
 
 pub unsettled-at : (es : List (ℕ × Delivery)) (q : ℕ) (v : Delivery) → lookup (nat_eq q) es ≡ Some v → IsUnsettled (map.from_entries es) q
 unsettled-at es q v is = ap is_some (get-deliveries es q ∙ is)
+
+-- without entries nothing is unsettled
+pub none-unsettled : (es : List (ℕ × Delivery)) (q : ℕ) → length es ≡ 0 → IsUnsettled (map.from_entries es) q → IsTrue false
+none-unsettled [] q e some = subst (λ (o : Option Delivery). IsSome o) (get-deliveries [] q) some
+none-unsettled (x ∷ es) q e some = absurd (omega (arith, e))

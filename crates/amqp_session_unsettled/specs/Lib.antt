@@ -2,3 +2,4 @@ pub mod Range
 pub mod Table
 pub mod Touched
 pub mod Noted
+pub mod Outside

@@ -5,8 +5,6 @@
 
 mod delivery;
 mod range;
-#[cfg(test)]
-mod tests;
 mod unsettled;
 
 pub use delivery::Delivery;

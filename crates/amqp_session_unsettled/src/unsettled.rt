@@ -2,6 +2,7 @@ ghost use Rattle.std.specs.Prelude.{◌≡◌, ℕ, ◌+◌, ◌-◌, ◌<◌, �
 ghost use Rattle.std.specs.FinMap as map;
 ghost use Rattle.amqp_session_unsettled.specs.Table.{IsUnsettled, unless_of};
 ghost use Rattle.amqp_session_unsettled.specs.Touched.{Touches, number_at};
+ghost use Rattle.amqp_session_unsettled.specs.Outside.{names, outside};
 ghost use Rattle.amqp_session_unsettled.specs.Noted.{Notes};
 ghost use Rattle.std.specs.BTreeSet.{IsOrdered, contains};
 ghost use Rattle.std.specs.Ordering.{nat_cmp};
@@ -53,6 +54,9 @@ impl Unsettled {
     pub fn contains(&self, number: u32) -> bool
         ensures { IsTrue result ↔ IsUnsettled self.now.table number }
     {
+        if self.deliveries.is_empty() {
+            return false;
+        }
         self.deliveries.contains_key(&number)
     }
 
@@ -106,6 +110,39 @@ impl Unsettled {
         Ok(())
     }
 
+    /// Takes out each delivery that a range names. It takes no memory, and time by the range or by the deliveries that
+    /// there are, whichever are fewer.
+    pub fn settle_range(&mut self, range: DeliveryRange)
+        ensures { self.new ≡ record self.old { table = outside range self.old.table } }
+    {
+        if range.count as usize <= self.deliveries.len() {
+            self.settle_each(range);
+        } else {
+            self.settle_named(range);
+        }
+    }
+
+    /// Takes out the deliveries of a range, number by number.
+    fn settle_each(&mut self, range: DeliveryRange)
+        ensures { self.new ≡ record self.old { table = outside range self.old.table } }
+    {
+        for distance in 0..range.count {
+            self.settle(range.first.wrapping_add(distance));
+        }
+    }
+
+    /// Takes out the deliveries of a range, delivery by delivery.
+    fn settle_named(&mut self, range: DeliveryRange)
+        ensures { self.new ≡ record self.old { table = outside range self.old.table } }
+    {
+        let _ = self.deliveries.len();
+        self.deliveries.retain(
+            |number: &u32, delivery: &mut Delivery| -> bool
+                ensures { (result ≡ not (names range number.now)) × (delivery.new ≡ delivery.old) }
+            { !range.contains(*number) },
+        );
+    }
+
     /// Takes out all deliveries of the link with this own handle.
     pub fn forget(&mut self, handle: OutputHandle)
         ensures others { (number : ℕ) → map.get self.new.table number ≡ unless_of handle.0 (map.get self.old.table number) }
@@ -120,8 +157,33 @@ impl Unsettled {
     }
 
     /// The numbers of a range that are of unsettled deliveries, each once, in order from the first. It takes time by
-    /// the deliveries that there are, whatever the range. It is refused where there is no memory for the answer.
+    /// the range or by the deliveries that there are, whichever are fewer. It is refused where there is no memory for
+    /// the answer.
     pub fn touched(&self, alloc: Global, range: DeliveryRange) -> Result<Vec<u32>, AllocError>
+        ensures { IfOk result (λ numbers. Touches range self.now.table numbers.items) }
+    {
+        if range.count as usize <= self.deliveries.len() {
+            return self.walked(alloc, range);
+        }
+        self.gathered(alloc, range)
+    }
+
+    /// The numbers of a range that are of unsettled deliveries, number by number.
+    fn walked(&self, alloc: Global, range: DeliveryRange) -> Result<Vec<u32>, AllocError>
+        ensures { IfOk result (λ numbers. Touches range self.now.table numbers.items) }
+    {
+        let mut numbers = Vec::new(alloc);
+        for distance in 0..range.count {
+            let number = range.first.wrapping_add(distance);
+            if self.contains(number) {
+                numbers.push(number)?;
+            }
+        }
+        Ok(numbers)
+    }
+
+    /// The numbers of a range that are of unsettled deliveries, delivery by delivery.
+    fn gathered(&self, alloc: Global, range: DeliveryRange) -> Result<Vec<u32>, AllocError>
         ensures { IfOk result (λ numbers. Touches range self.now.table numbers.items) }
     {
         let mut distances = self.distances(alloc, range.first, range.count)?;

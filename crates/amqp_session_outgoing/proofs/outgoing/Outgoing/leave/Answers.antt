@@ -7,4 +7,6 @@ loop-self-preserved g c =
     record {
       run = rw c.push_reserved.ensures.items (Leaving-push _ _ _ _ _ _ c.loop-self.invariant.run c.send_one.ensures.sent);
       room = omega arith;
+      total = omega arith;
+      capacity = omega arith;
     }

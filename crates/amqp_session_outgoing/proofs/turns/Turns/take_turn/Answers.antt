@@ -3,23 +3,27 @@ use Rattle.amqp_session_outgoing.specs.Queues.{Lists, held_in, firsts_in}
 use Rattle.amqp_session_outgoing.specs.Fields.{queues_of}
 use Rattle.amqp_session_outgoing.proofs.Turning.{held-turn}
 use Rattle.amqp_session_outgoing.proofs.Numbering.{firsts-turn}
+use Rattle.amqp_session_outgoing.proofs.Counting.{frames-turn, short-turn}
 use Rattle.amqp_session_outgoing.proofs.turns.Turns.take_turn.Goals as goal
 
 pub invariant_of-self : goal.invariant_of-self
 invariant_of-self g c =
-    let less : held_in (queues_of c.take_turn.new.queues.items) + 1 ≡ held_in (queues_of c.self.inside.queues.items) = held-turn _ _ _ _ c.take_turn.ensures.taken in
+    let less : held_in (queues_of c.take_turn-unit.new.queues.items) + 1 ≡ held_in (queues_of c.self.inside.queues.items) = held-turn _ _ _ _ c.take_turn-unit.ensures.taken in
+    let fewer = frames-turn _ _ _ _ c.take_turn-unit.ensures.taken in
     record {
       counted = omega (arith, c.self.invariant.counted);
-      waits = c.take_turn.ensures.waits;
-      empty = c.take_turn.ensures.empty;
-      fits = λ some. omega (arith, c.self.invariant.fits some, c.take_turn.ensures.fits);
-      place = λ some. omega (arith, c.self.invariant.place some, c.take_turn.ensures.len, c.take_turn.ensures.capacity);
+      waits = c.take_turn-unit.ensures.waits;
+      empty = c.take_turn-unit.ensures.empty;
+      fits = λ some. omega (arith, c.self.invariant.fits some, c.take_turn-unit.ensures.fits);
+      place = λ some. omega (arith, c.self.invariant.place some, c.take_turn-unit.ensures.len, c.take_turn-unit.ensures.capacity);
+      framed = omega (arith, c.self.invariant.framed, fewer, c.len.ensures);
+      short = short-turn _ _ _ _ c.take_turn-unit.ensures.taken c.self.invariant.short;
     }
 
 pub returns-clause-held : goal.returns-clause-held
 returns-clause-held g c =
-    let less : held_in (queues_of c.take_turn.new.queues.items) + 1 ≡ held_in (queues_of c.self.inside.queues.items) = held-turn _ _ _ _ c.take_turn.ensures.taken in
+    let less : held_in (queues_of c.take_turn-unit.new.queues.items) + 1 ≡ held_in (queues_of c.self.inside.queues.items) = held-turn _ _ _ _ c.take_turn-unit.ensures.taken in
     omega (arith, ap (λ (s : Lists _ _). held_in s.queues) c.self.view_is)
 
 pub returns-clause-firsts : goal.returns-clause-firsts
-returns-clause-firsts g c = firsts-turn _ _ _ _ c.take_turn.ensures.taken ∙ ap (λ (s : Lists _ _). firsts_in s.queues) c.self.view_is
+returns-clause-firsts g c = firsts-turn _ _ _ _ c.take_turn-unit.ensures.taken ∙ ap (λ (s : Lists _ _). firsts_in s.queues) c.self.view_is

@@ -1,7 +1,7 @@
 use Rattle.std.proofs.Common.{ℕ, ◌<◌, ◌≤◌}
 use Rattle.amqp_session_outgoing.specs.Queues.{firsts_in}
 use Rattle.amqp_session_outgoing.specs.History.{IsFree}
-use Rattle.amqp_session_outgoing.proofs.outgoing.Outgoing.test.Given as goal
+use Rattle.amqp_session_outgoing.proofs.outgoing.Outgoing.admits.Given as goal
 
 abbrev pub invariant-loop-others : goal.invariant-loop-others
 invariant-loop-others g l = record {

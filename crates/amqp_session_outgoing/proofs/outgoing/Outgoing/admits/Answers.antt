@@ -2,7 +2,7 @@ use Rattle.std.proofs.Common.{arith, rules, sym, true≢false, ap, ◌∙◌, �
 use Rattle.amqp_session_outgoing.specs.Queues.{firsts_in}
 use Rattle.amqp_session_outgoing.specs.State.{State}
 use Rattle.amqp_session_outgoing.proofs.Numbering.{taken}
-use Rattle.amqp_session_outgoing.proofs.outgoing.Outgoing.test.Goals as goal
+use Rattle.amqp_session_outgoing.proofs.outgoing.Outgoing.admits.Goals as goal
 
 pub returns-then-not-is_free-clause-err : goal.returns-then-not-is_free-clause-err
 returns-then-not-is_free-clause-err g c =

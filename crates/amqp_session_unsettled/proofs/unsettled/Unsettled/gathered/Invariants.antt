@@ -1,7 +1,7 @@
 use Rattle.std.proofs.Common.{◌≡◌, List, ◌++◌, ℕ, length}
 use Rattle.std.specs.Prelude.{map}
 use Rattle.amqp_session_unsettled.specs.Touched.{number_at}
-use Rattle.amqp_session_unsettled.proofs.unsettled.Unsettled.touched.Given as goal
+use Rattle.amqp_session_unsettled.proofs.unsettled.Unsettled.gathered.Given as goal
 
 abbrev pub invariant-loop-distance : goal.invariant-loop-distance
 invariant-loop-distance l = (taken : List ℕ) × (l.initial.distances.keys ≡ taken ++ l.distances.keys) × (l.numbers.items ≡ map (number_at l.range.first) taken)

@@ -1,7 +1,7 @@
 use Rattle.std.proofs.Common.{rules}
 use Rattle.amqp_session_unsettled.specs.Touched.{number_at}
 use Rattle.amqp_session_unsettled.proofs.Gathering.{taken-more, touched-all}
-use Rattle.amqp_session_unsettled.proofs.unsettled.Unsettled.touched.Goals as goal
+use Rattle.amqp_session_unsettled.proofs.unsettled.Unsettled.gathered.Goals as goal
 
 pub loop-distance-preserved : goal.loop-distance-preserved
 loop-distance-preserved c =
