@@ -16,10 +16,11 @@ try:
 test:
 	rt ci
 
-# Counts the instructions that the codec, the frames of a session and the endpoint take, by valgrind.
+# Counts the instructions that the codec, the frames of a session, sessions and the endpoint take, by valgrind.
 bench:
 	@crates/serde_amqp_bench/measure
 	@crates/amqp_session_bench/measure
+	@crates/amqp_session_core_bench/measure
 	@crates/amqp_bench/measure
 
 # Runs the script once for each of its requests for memory, with that request refused. It takes minutes, and proves nothing.

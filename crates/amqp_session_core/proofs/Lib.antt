@@ -1,0 +1,17 @@
+pub mod Tables
+pub mod Taking
+pub mod Handing
+pub mod Owning
+pub mod Parting
+pub mod Window
+pub mod SendingSide
+pub mod Freeing
+pub mod Telling
+pub mod Replying
+pub mod Answering
+pub mod Copying
+pub mod Echoing
+pub mod Running
+pub mod Settling
+pub mod Walking
+pub mod Batches

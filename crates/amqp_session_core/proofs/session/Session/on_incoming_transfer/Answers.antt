@@ -1,0 +1,15 @@
+use Rattle.std.proofs.Common.{rules}
+use Rattle.amqp_session_core.proofs.Taking.{transfer-taken}
+use Rattle.amqp_session_core.proofs.session.Session.on_incoming_transfer.Goals as goal
+
+pub returns : goal.returns
+returns g c =
+    transfer-taken g.R.LinkRelay.attach_gives g.R.LinkRelay.flow_gives g.R.LinkRelay.transfer_gives g.R.LinkRelay.disposition_gives g.R.LinkRelay.detach_gives _ _ c.args.transfer c.args.payload
+    c.room_for_transfer-place.result
+    c.in_ok-handle.handle
+    c.in_ok-handle.answer
+    c.count_transfer-flow.result
+    (search rules)
+    (search rules)
+    (search rules)
+    (search rules)

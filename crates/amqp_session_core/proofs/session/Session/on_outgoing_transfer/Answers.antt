@@ -1,0 +1,46 @@
+use Rattle.std.proofs.Common.{inl, inr, rules, arith, ap, sym, subst, ◌∙◌, length}
+use Rattle.amqp_session_outgoing.specs.Frames.{sent_count}
+use Rattle.amqp_session_outgoing.specs.Queues.{held_in}
+use Rattle.amqp_session_outgoing.specs.History.{RefusesBatch}
+use Rattle.amqp_session_core.specs.Batch.{Transfers}
+use Rattle.amqp_session_core.specs.Flowing.{Sending}
+use Rattle.amqp_session_core.specs.State.{State}
+use Rattle.amqp_session_core.specs.Frames.{Left}
+use Rattle.amqp_session_core.specs.Refusals.{RefusesTransfers}
+use Rattle.amqp_session_core.proofs.Batches.{whole-count, room-used, refuses}
+use Rattle.amqp_session_core.proofs.session.Session.on_outgoing_transfer.Goals as goal
+
+pub returns-in-Err-clause-err : goal.returns-in-Err-clause-err
+returns-in-Err-clause-err g c =
+    let here = subst (λ (b : Transfers). RefusesBatch c.self.inside.outgoing b c.in-Err.error) c.batch.view_is c.in-Err.ensures.err in
+    let there = subst (λ (o : Sending). RefusesBatch o c.args.batch.now c.in-Err.error) (ap (λ (s : State _). s.outgoing) c.self.view_is) here in
+    subst (λ e. RefusesTransfers c.args.self.now c.args.batch.now e) (sym c.refusal.ensures) (refuses c.args.self.now c.args.batch.now c.in-Err.error there)
+
+pub hand_out-requires : goal.hand_out-requires
+hand_out-requires g c =
+    let none = ap (λ (l : Left). sent_count l) (c.in_ok-make_room.ensures.sent ∙ c.self.invariant.empty) in
+    omega (arith, none, whole-count c.batch.inside.transfers.items c.batch.invariant, ap (λ (b : Transfers). length b) c.batch.view_is, c.in_ok-accept.ensures.frames, c.in_ok-make_room.ensures.out_room)
+
+pub invariant_of-self-then-hand_out : goal.invariant_of-self-then-hand_out
+invariant_of-self-then-hand_out g c =
+    let held = c.in_ok-accept.ensures.held in
+    let grown = c.in_ok-accept.ensures.capacity in
+    elim (room-used c.args.handle c.batch.inside.transfers.items c.in_ok-accept.ensures.ok.left _ _ c.in_ok-accept.ensures.ok.stepped) [
+      | inl none ↦ record { empty = search rules; room = omega (arith, none, held, grown, c.in_ok-make_room.ensures.sent_room, ap (λ (b : Transfers). length b) c.batch.view_is, c.hand_out.ensures.capacity); open_window = search rules }
+      | inr same ↦
+          let as_held = ap (λ (s : Sending). held_in s.queues) same in
+          let as_room = ap (λ (s : Sending). s.room) same in
+          record { empty = search rules; room = omega (arith, as_held, as_room, grown, c.self.invariant.room, c.in_ok-make_room.ensures.capacity, c.hand_out.ensures.capacity); open_window = search rules }
+    ]
+
+pub invariant_of-self-else-hand_out : goal.invariant_of-self-else-hand_out
+invariant_of-self-else-hand_out g c =
+    let held = c.in_ok-accept.ensures.held in
+    let grown = c.in_ok-accept.ensures.capacity in
+    elim (room-used c.args.handle c.batch.inside.transfers.items c.in_ok-accept.ensures.ok.left _ _ c.in_ok-accept.ensures.ok.stepped) [
+      | inl none ↦ record { empty = search rules; room = omega (arith, none, held, grown, c.in_ok-make_room.ensures.sent_room, ap (λ (b : Transfers). length b) c.batch.view_is, c.hand_out.ensures.capacity); open_window = search rules }
+      | inr same ↦
+          let as_held = ap (λ (s : Sending). held_in s.queues) same in
+          let as_room = ap (λ (s : Sending). s.room) same in
+          record { empty = search rules; room = omega (arith, as_held, as_room, grown, c.self.invariant.room, c.in_ok-make_room.ensures.capacity, c.hand_out.ensures.capacity); open_window = search rules }
+    ]

@@ -1,0 +1,107 @@
+-- How a session takes a Flow, part by part.
+use Rattle.std.specs.Prelude.{◌≡◌, ◌≢◌, ℕ, ◌++◌, Bool, List, Option, Some, None, Result, Ok, Err, IsOk, ◌≤◌, ⊤, if◌then◌else◌}
+use Rattle.amqp_session_types.specs.declared.handles.Handle.{Handle}
+use Rattle.amqp_session_types.specs.declared.refusals.SessionError.{SessionError}
+use Rattle.amqp_session_types.specs.declared.refusals.SessionError.TheVariants as session
+use Rattle.amqp_session_types.specs.declared.modes.Role.{Role}
+use Rattle.amqp_session_states.specs.declared.delivery_state.DeliveryState.{DeliveryState}
+use Rattle.amqp_session_performatives.specs.declared.attach.Attach.{Attach}
+use Rattle.amqp_session_performatives.specs.declared.detach.Detach.{Detach}
+use Rattle.amqp_session_performatives.specs.declared.transfer.Transfer.{Transfer}
+use Rattle.amqp_session_core.specs.declared.relay.TransferAnswer.{TransferAnswer}
+use Rattle.amqp_session_performatives.specs.declared.flow.Flow.{Flow}
+use Rattle.amqp_session_items.specs.declared.link_flow.LinkFlow.{LinkFlow}
+use Rattle.amqp_session_items.specs.declared.session_frame.SessionFrame.{SessionFrame}
+use Rattle.amqp_session_outgoing.specs.Queues.{room_behind}
+use Rattle.amqp_session_outgoing.specs.History as sending_history
+use Rattle.amqp_session_outgoing.specs.State as sending
+use Rattle.amqp_session_core.specs.declared.batch.TransferFrame.{TransferFrame}
+use Rattle.amqp_session_core.specs.declared.batch.BehindFrame.{BehindFrame}
+use Rattle.amqp_session_core.specs.declared.fields.SessionFields.{SessionFields}
+use Rattle.amqp_session_core.specs.declared.flows.Answer.{Answer}
+use Rattle.amqp_session_core.specs.declared.flows.Answer.TheVariants as answer
+use Rattle.amqp_session_core.specs.declared.relay.RelayError.{RelayError}
+use Rattle.amqp_session_core.specs.declared.relay.RelayError.TheVariants as relay
+use Rattle.amqp_session_core.specs.Relay.{session_error}
+use Rattle.amqp_session_core.specs.Frames.{Left, frames_left, has_flow}
+use Rattle.amqp_session_core.specs.Steps.{Reply, NoReply, OfSession, OfLink, Replies, reply_frames, FlowAt}
+use Rattle.amqp_session_core.specs.Tables.{RouteTable}
+use Rattle.amqp_session_core.specs.State.{StepsAt}
+
+abbrev pub Sending : Type 0
+Sending = sending.State TransferFrame BehindFrame
+
+abbrev pub Told : Type 0
+Told = Option (ℕ × Result (Option LinkFlow) RelayError)
+
+-- what a Flow is answered with, once its link told what it takes
+abbrev pub AnswersFlow : Sending → ℕ → Result (Option LinkFlow) RelayError → Result Answer SessionError → Type 0
+AnswersFlow out h (Err e) result = (e ≢ relay.Memory) × (result ≡ Err (session_error e))
+AnswersFlow out h (Ok None) result = result ≡ Ok answer.Nothing
+AnswersFlow out h (Ok (Some f)) result =
+    (place : ℕ) × (result ≡ Ok (answer.OfLink (record { 0 = h }) place (record f { handle = record { 0 = h } })))
+
+abbrev pub IsAnswer : Sending → Flow → Option Handle → Told → Result Answer SessionError → Type 0
+IsAnswer out flow None told result = result ≡ Ok (if flow.echo then answer.OfSession else answer.Nothing)
+IsAnswer out flow (Some handle) None result = result ≡ Err session.UnattachedHandle
+IsAnswer out flow (Some handle) (Some (h, said)) result = AnswersFlow out h said result
+
+module _ {R A T D : Type 0}
+    (attach_gives : R → Attach → Result A RelayError → R → Type 0)
+    (flow_gives : R → LinkFlow → Result (Option LinkFlow) RelayError → R → Type 0)
+    (transfer_gives : R → Transfer → List ℕ → Result (TransferAnswer T) RelayError → R → Type 0)
+    (disposition_gives : R → List ℕ → Role → Bool → Option DeliveryState → Bool → R → Type 0)
+    (detach_gives : R → Detach → Result D RelayError → R → Type 0) where
+  -- a link took a Flow, and this is the answer
+  pub record LinkFlowed (out : Sending) (routes : RouteTable) (flow : Flow) (old : List (Option R)) (result : Result Answer SessionError) (new : List (Option R)) : Type 0 where
+    pub told : Told
+    pub link : FlowAt attach_gives flow_gives transfer_gives disposition_gives detach_gives old routes flow flow.handle told new
+    pub answered : IsAnswer out flow flow.handle told result
+
+-- a link took a Flow at the handle that it reaches, and this is the answer
+abbrev pub FlowedAt : {R : Type 0} → (R → LinkFlow → Result (Option LinkFlow) RelayError → R → Type 0) → Sending → LinkFlow → Option ℕ → List (Option R) → Result Answer SessionError → List (Option R) → Type 0
+FlowedAt gives out flow None old result new = (result ≡ Err session.UnattachedHandle) × (new ≡ old)
+FlowedAt gives out flow (Some h) old result new =
+    (told : Result (Option LinkFlow) RelayError) × StepsAt (λ before after. gives before flow told after) old h new × AnswersFlow out h told result
+
+-- the reply of an answer
+abbrev pub IsReplyOf : Result Answer SessionError → Reply → Type 0
+IsReplyOf (Err e) reply = reply ≡ NoReply
+IsReplyOf (Ok answer.Nothing) reply = reply ≡ NoReply
+IsReplyOf (Ok answer.OfSession) reply = reply ≡ OfSession
+IsReplyOf (Ok (answer.OfLink handle place flow)) NoReply = ⊥
+IsReplyOf (Ok (answer.OfLink handle place flow)) OfSession = ⊥
+IsReplyOf (Ok (answer.OfLink handle place flow)) (OfLink h g left) = (h ≡ handle) × (g ≡ flow)
+
+-- a reply was handed out, or waits
+pub record Replied (fields : SessionFields) (old : Sending) (out : List SessionFrame) (result : Result Answer SessionError) (flows : Bool) (new : Sending) (out_new : List SessionFrame) : Type 0 where
+  pub reply : Reply
+  pub is : IsReplyOf result reply
+  pub replied : Replies old reply new
+  pub added : out_new ≡ out ++ reply_frames fields old.next_outgoing_id reply
+  pub flows_is : flows ≡ has_flow (reply_frames fields old.next_outgoing_id reply)
+
+-- there is room for an answer behind what its link has waiting
+abbrev pub HasPlace : Sending → Result Answer SessionError → Type 0
+HasPlace out (Err e) = Unit {0}
+HasPlace out (Ok answer.Nothing) = Unit {0}
+HasPlace out (Ok answer.OfSession) = Unit {0}
+HasPlace out (Ok (answer.OfLink handle place flow)) = room_behind handle.0 out.queues ≤ place
+
+-- the refusal stays
+abbrev pub SameRefusal : Result Answer SessionError → Result ⊤ SessionError → Type 0
+SameRefusal (Ok answer) result = IsOk result
+SameRefusal (Err e) result = result ≡ Err e
+
+-- a window was taken, and what left was handed out
+pub record Hands (fields : SessionFields) (step : Left → sending_history.Step TransferFrame BehindFrame) (old : Sending) (out : List SessionFrame) (flows : Bool) (new : Sending) (out_new : List SessionFrame) : Type 0 where
+  pub left : Left
+  pub window : sending_history.Steps old (step left) new
+  pub added : out_new ≡ out ++ frames_left fields left
+  pub flows_is : flows ≡ has_flow (frames_left fields left)
+
+abbrev pub Opens : SessionFields → Sending → List SessionFrame → Option ℕ → ℕ → Bool → Sending → List SessionFrame → Type 0
+Opens fields old out base width flows new out_new = Hands fields (sending_history.TakesWindow (sending.base_of old base) width) old out flows new out_new
+
+abbrev pub Begins : SessionFields → Sending → List SessionFrame → ℕ → Bool → Sending → List SessionFrame → Type 0
+Begins fields old out width flows new out_new = Hands fields (sending_history.TakesWindow old.next_outgoing_id width) old out flows new out_new

@@ -1,0 +1,16 @@
+pub mod Relay
+pub mod Table
+pub mod Tables
+pub mod Batch
+pub mod Frames
+pub mod State
+pub mod Inside
+pub mod Echoes
+pub mod Steps
+pub mod Incoming
+pub mod Disposing
+pub mod Flowing
+pub mod Refusals
+pub mod Told
+pub mod History
+pub mod Lends

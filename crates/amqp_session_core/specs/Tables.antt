@@ -1,0 +1,16 @@
+-- The own handles of links by the handles that the peer gave them (part 2, 2.6.2).
+use Rattle.std.specs.Prelude.{ℕ, ◌==◌, Option, Some, None, if◌then◌else◌}
+use Rattle.std.specs.Coded.{Coded, coded_ℕ}
+use Rattle.std.specs.Ordering.{nat_cmp}
+use Rattle.std.specs.FinMap as map
+
+abbrev pub RouteTable : Type 0
+RouteTable = map.FinMap nat_cmp ℕ
+
+abbrev pub route_code : Coded RouteTable
+route_code = map.code coded_ℕ coded_ℕ
+
+-- an own handle, where it is another than this
+abbrev pub unless_to : ℕ → Option ℕ → Option ℕ
+unless_to link None = None
+unless_to link (Some to) = if to == link then None else Some to

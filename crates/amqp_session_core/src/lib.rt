@@ -1,0 +1,29 @@
+//! A session of AMQP 1.0 over links of any type (part 2, 2.5): what a link is to its session (`LinkRelay`), and a
+//! session (`Session`) that is proved once for every such link.
+//!
+//! What a call does says `Steps` in specs/Steps.antt. Laws of whole histories of calls are in `laws`.
+#![tactic(auto)]
+
+mod accessors;
+mod batch;
+mod begins;
+mod dispositions;
+mod fields;
+mod flows;
+mod incoming;
+pub mod laws;
+mod leaving;
+mod links;
+mod relay;
+mod routes;
+mod sending;
+mod session;
+mod state;
+
+pub use batch::{Batch, BehindFrame, TransferFrame};
+pub use fields::{OUTGOING_WINDOW, SessionFields};
+pub use incoming::TransferTaken;
+pub use links::Unallocated;
+pub use relay::{LinkRelay, Registration, RelayError, TransferAnswer};
+pub use session::Session;
+pub use state::SessionState;
