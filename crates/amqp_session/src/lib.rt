@@ -1,15 +1,20 @@
 //! AMQP 1.0's transport without a network (OASIS AMQP 1.0, part 2): performatives and what stands in them, frames and
-//! their bytes, and the connection.
+//! their bytes, the connection, and sessions over links of any type.
 #![tactic(auto)]
 
 pub use amqp_session_connection::{Connection, ConnectionState};
+pub use amqp_session_core::{
+    Batch, BehindFrame, LinkRelay, OUTGOING_WINDOW, Registration, RelayError, Session,
+    SessionFields, SessionState, TransferAnswer, TransferFrame, TransferTaken, Unallocated,
+};
 pub use amqp_session_frames::{
-    Error as FrameError, Frame, FrameBody, FrameDecoder, FrameEncoder, Piece,
+    Error as FrameError, Frame, FrameBody, FrameDecoder, FrameEncoder, Piece, Pieces,
 };
 pub use amqp_session_items::{
     LinkFlow, LinkFrame, LinkTransfer, MissingHandle, SessionFrame, SessionFrameBody,
     SessionOutgoingItem,
 };
+pub use amqp_session_outgoing::{Behind, Outbound, Outgoing, Part, Place, Sent, TransferError};
 pub use amqp_session_performatives::{
     Attach, Begin, Close, Detach, Disposition, End, Flow, Open, Performative, Transfer,
     clear_continuation_fields,
@@ -19,12 +24,13 @@ pub use amqp_session_states::{
     Source, Target, TargetArchetype, TerminusDurability, TerminusExpiryPolicy,
 };
 pub use amqp_session_types::{
-    BeginError, ConnectionError, ConnectionStopReason, DeliveryNumber, DeliveryTag, Fields,
+    BeginError, Boxed, ConnectionError, ConnectionStopReason, DeliveryNumber, DeliveryTag, Fields,
     FilterSet, Handle, IncomingChannel, InputHandle, MessageFormat, Milliseconds, OpenError,
     OutgoingChannel, OutputHandle, ReceiverSettleMode, Role, Seconds, SenderSettleMode,
     SequenceNumber, SessionError, SessionStopReason, TransferNumber, TryCloseError, TryEndError,
     definitions,
 };
+pub use amqp_session_unsettled::{Delivery, DeliveryRange, Unsettled};
 
 #[cfg(test)]
 mod tests;

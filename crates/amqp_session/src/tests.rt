@@ -4,18 +4,21 @@ mod connection_states;
 mod frames;
 mod items;
 mod memory;
+mod outgoing;
 mod performatives;
+mod sessions;
 mod states;
 mod termini;
 mod transfers;
 mod types;
+mod unsettled;
 
 use crate::{
     Begin, Connection, ConnectionState, Frame, FrameDecoder, FrameEncoder, FrameError,
-    IncomingChannel, Open, Piece,
+    IncomingChannel, Open, OpenError, Piece, Pieces,
 };
 use bytes::Bytes;
-use serde_amqp::{Array, Text};
+use serde_amqp::{Array, Deserialize, Error, Serialize, Text, from_slice, to_vec};
 use std::alloc::{AllocError, Global};
 
 // What holds a value of a type with many fields takes long to prove, and what is generic over the type doesn't. So the next
@@ -34,10 +37,11 @@ where
 }
 
 /// What the call answers on the value.
-fn on<T, A, F>(made: Result<T, AllocError>, call: F) -> Result<A, AllocError>
+fn on<T, A, E, F>(made: Result<T, E>, call: F) -> Result<A, E>
 where
     T: Drop,
     A: Drop,
+    E: Drop,
     F: FnOnce(&mut T) -> A,
     requires { F.IsAlwaysCallable call }
 {
@@ -90,32 +94,80 @@ fn is_refused<T: Drop, E: PartialEq + Drop>(answer: Result<T, E>, refusal: Optio
 }
 
 /// The first value, or the second where the first could not be made.
-fn either<T: Drop>(
-    first: Result<T, AllocError>,
-    second: Result<T, AllocError>,
-) -> Result<T, AllocError> {
+fn either<T: Drop, E: Drop>(first: Result<T, E>, second: Result<T, E>) -> Result<T, E> {
     match first {
         Ok(made) => Ok(made),
         Err(_) => second,
     }
 }
 
-/// The value behind the call, with what it is given.
-fn changed<T, U, F>(
+/// The value behind the call, with what it is given, where the call goes through.
+fn changed<T, U, E, F>(
     made: Result<T, AllocError>,
     given: Result<U, AllocError>,
     change: F,
-) -> Result<T, AllocError>
+) -> Result<T, E>
 where
     T: Drop,
     U: Drop,
-    F: FnOnce(&mut T, U),
+    E: From<AllocError> + Drop,
+    F: FnOnce(&mut T, U) -> Result<(), E>,
     requires { F.IsAlwaysCallable change }
 {
     let mut value = made?;
     let given = given?;
-    change(&mut value, given);
+    change(&mut value, given)?;
     Ok(value)
+}
+
+/// Whether the value is written as these bytes, and they are read as the value.
+fn is_form<T: Serialize + Deserialize + PartialEq + Drop>(
+    alloc: Global,
+    value: &T,
+    form: &[u8],
+) -> Result<bool, Error> {
+    let text = to_vec(alloc, value)?;
+    let read: T = from_slice(alloc, form)?;
+    Ok(text.as_slice() == form && read == *value)
+}
+
+/// Whether the bytes are read as a value that is written as these bytes, as its clone is, which is equal to it.
+fn is_kept<T: Serialize + Deserialize + Clone + PartialEq + Drop>(
+    alloc: Global,
+    form: &[u8],
+) -> Result<bool, Error> {
+    let value: T = from_slice(alloc, form)?;
+    let cloned = value.clone()?;
+    let text = to_vec(alloc, &value)?;
+    Ok(text.as_slice() == form && to_vec(alloc, &cloned)? == text && cloned == value)
+}
+
+/// Whether the bytes are read as such a value.
+fn reads<T: Deserialize + Drop, F: FnOnce(&T) -> bool>(
+    alloc: Global,
+    form: &[u8],
+    is_such: F,
+) -> Result<bool, Error>
+    requires { F.IsAlwaysCallable is_such }
+{
+    let value: T = from_slice(alloc, form)?;
+    Ok(is_such(&value))
+}
+
+/// Whether these bytes are read as the value that those are read as.
+fn reads_alike<T: Deserialize + PartialEq + Drop>(
+    alloc: Global,
+    these: &[u8],
+    those: &[u8],
+) -> Result<bool, Error> {
+    let value: T = from_slice(alloc, these)?;
+    let other: T = from_slice(alloc, those)?;
+    Ok(value == other)
+}
+
+/// Why the bytes are no form of the type's values, if they are none.
+fn refusal<T: Deserialize + Drop>(alloc: Global, form: &[u8]) -> Option<Error> {
+    from_slice::<T>(alloc, form).err()
 }
 
 /// The frame that the bytes are.
@@ -130,13 +182,15 @@ fn decoded(alloc: Global, bytes: &[u8]) -> Result<Frame, FrameError> {
 fn encoded(alloc: Global, limit: usize, frame: Frame) -> Result<Vec<Vec<u8>>, FrameError> {
     FrameEncoder::new(limit.max(4))
         .encode(alloc, frame)
-        .and_then(|pieces| with_sizes(alloc, pieces.as_slice()))
+        .and_then(|pieces| with_sizes(alloc, &pieces))
 }
 
 /// The bytes of each piece, with its size in front.
-fn with_sizes(alloc: Global, pieces: &[Piece]) -> Result<Vec<Vec<u8>>, FrameError> {
+fn with_sizes(alloc: Global, pieces: &Pieces) -> Result<Vec<Vec<u8>>, FrameError> {
     let mut frames = Vec::new(alloc);
-    for piece in pieces {
+    let first = with_size(alloc, pieces.first())?;
+    frames.push(first)?;
+    for piece in pieces.others() {
         let frame = with_size(alloc, piece)?;
         frames.push(frame)?;
     }
@@ -229,13 +283,10 @@ fn connection_in(
 }
 
 /// A connection behind both Open, with these channel-max.
-fn opened(alloc: Global, own_max: u16, peer_max: u16) -> Result<Connection, AllocError> {
+fn opened(alloc: Global, own_max: u16, peer_max: u16) -> Result<Connection, OpenError> {
     changed(
         connection_in(alloc, ConnectionState::OpenSent, own_max),
         own_open(alloc, peer_max),
-        |connection, remote_open| {
-            // where it is refused, no session can begin
-            let _ = connection.on_incoming_open(CHANNEL, remote_open);
-        },
+        |connection, remote_open| connection.on_incoming_open(CHANNEL, remote_open),
     )
 }

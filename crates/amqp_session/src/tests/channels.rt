@@ -1,9 +1,10 @@
 //! Outgoing channels of sessions, and the routes of the peer's channels to them (part 2, 2.5.1 and 2.5.2).
 use super::{begin, connection_in, is_frame, on, opened};
 use crate::{
-    BeginError, Connection, ConnectionError, ConnectionState, End, IncomingChannel, OutgoingChannel,
+    BeginError, Connection, ConnectionError, ConnectionState, End, IncomingChannel, OpenError,
+    OutgoingChannel,
 };
-use std::alloc::{AllocError, Global};
+use std::alloc::Global;
 use std::test::Fail;
 
 /// What a call answers.
@@ -100,7 +101,7 @@ fn first_wrong(
     own_max: u16,
     peer_max: u16,
     calls: &[Call],
-) -> Result<Option<usize>, AllocError> {
+) -> Result<Option<usize>, OpenError> {
     on(opened(alloc, own_max, peer_max), |connection| {
         calls
             .iter()

@@ -1,9 +1,10 @@
 //! What a session hands its links and its connection (part 2, 2.5 and 2.6).
 use super::is_equal;
 use crate::{
-    End, Flow, Handle, LinkFlow, MissingHandle, OutgoingChannel, SessionFrame, SessionFrameBody,
+    Boxed, End, Flow, Handle, LinkFlow, MissingHandle, OutgoingChannel, SessionFrame,
+    SessionFrameBody,
 };
-use std::alloc::AllocError;
+use std::alloc::{AllocError, Global};
 
 /// A flow with a different value in each field, with this handle.
 fn flow(handle: Option<Handle>) -> Flow {
@@ -77,4 +78,17 @@ fn frames_of_sessions(rt: HostRuntime) {
             }
         )
     );
+}
+
+/// Whether a number behind a pointer equals its clone, and the number that each is.
+fn boxed(alloc: Global) -> Result<(bool, u32, u32), AllocError> {
+    let first = Boxed::new(alloc, 7u32)?;
+    let second = first.clone()?;
+    let same = first == second;
+    Ok((same, *second, first.into_inner()))
+}
+
+#[test]
+fn values_behind_pointers_are_the_values(rt: HostRuntime) {
+    assert!(rt; is_equal(|| boxed(rt.alloc()), || Ok((true, 7, 7))));
 }

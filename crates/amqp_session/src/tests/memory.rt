@@ -14,7 +14,7 @@ fn open_received(alloc: Global) -> Result<Connection, AllocError> {
 }
 
 /// A connection behind both Open. Of two that are made one at most is refused memory.
-fn opened_at_last(alloc: Global) -> Result<Connection, AllocError> {
+fn opened_at_last(alloc: Global) -> Result<Connection, OpenError> {
     either(opened(alloc, 255, 255), opened(alloc, 255, 255))
 }
 

@@ -1,7 +1,8 @@
+use super::{is_kept, reads, reads_alike, refusal};
 use crate::definitions::Error as Details;
 use crate::{
-    Attach, Begin, Close, DeliveryState, Detach, Disposition, End, Fields, Flow, Handle, Open,
-    Performative, ReceiverSettleMode, Role, SenderSettleMode, TargetArchetype, Transfer,
+    Attach, Begin, Boxed, Close, DeliveryState, Detach, Disposition, End, Fields, Flow, Handle,
+    Open, Performative, ReceiverSettleMode, Role, SenderSettleMode, TargetArchetype, Transfer,
     clear_continuation_fields,
 };
 use serde_amqp::{
@@ -231,17 +232,6 @@ fn with_one_more(alloc: Global, fields: &[&'static [u8]]) -> Result<Vec<&'static
     Ok(more)
 }
 
-/// Whether the bytes are read as a value that is written as these bytes, as its clone is, which is equal to it.
-fn is_kept<T: Serialize + Deserialize + Clone + PartialEq + Drop>(
-    alloc: Global,
-    bytes: &[u8],
-) -> Result<bool, Error> {
-    let value: T = from_slice(alloc, bytes)?;
-    let cloned = value.clone()?;
-    let written = to_vec(alloc, &value)?;
-    Ok(written.as_slice() == bytes && to_vec(alloc, &cloned)? == written && cloned == value)
-}
-
 /// What the value that the bytes are read as is written as.
 fn written_anew<T: Serialize + Deserialize + Drop>(
     alloc: Global,
@@ -249,33 +239,6 @@ fn written_anew<T: Serialize + Deserialize + Drop>(
 ) -> Result<Vec<u8>, Error> {
     let value: T = from_slice(alloc, bytes)?;
     to_vec(alloc, &value)
-}
-
-/// Whether these bytes are read as the value that those are read as.
-fn reads_alike<T: Deserialize + PartialEq + Drop>(
-    alloc: Global,
-    these: &[u8],
-    those: &[u8],
-) -> Result<bool, Error> {
-    let value: T = from_slice(alloc, these)?;
-    let other: T = from_slice(alloc, those)?;
-    Ok(value == other)
-}
-
-/// Whether the bytes are read as such a value.
-fn reads<T: Deserialize + Drop, F: FnOnce(&T) -> bool>(
-    alloc: Global,
-    bytes: &[u8],
-    is_such: F,
-) -> Result<bool, Error>
-    requires { F.IsAlwaysCallable is_such }
-{
-    let value: T = from_slice(alloc, bytes)?;
-    Ok(is_such(&value))
-}
-
-fn refusal<T: Deserialize + Drop>(alloc: Global, bytes: &[u8]) -> Option<Error> {
-    from_slice::<T>(alloc, bytes).err()
 }
 
 /// Whether a performative with these fields is read and written anew.
@@ -518,7 +481,7 @@ fn is_symbol(symbols: &Array<Symbol>, expected: &str) -> bool {
 }
 
 /// Whether they are k: true.
-fn are_values(fields: &Option<Fields>) -> bool {
+fn are_values(fields: &Option<Boxed<Fields>>) -> bool {
     match fields {
         Some(fields) => {
             fields.len() == 1

@@ -1,65 +1,32 @@
-use crate::{Accepted, DeliveryState, Fields, Modified, Outcome, Received, Rejected, Released};
-use serde_amqp::{Deserialize, Error, Serialize, from_slice, to_vec};
+use super::types::{error, info, is_form_of_clone, is_read};
+use super::{is_form, is_kept, reads, reads_alike, refusal};
+use crate::{
+    Accepted, Boxed, DeliveryState, Fields, Modified, Outcome, Received, Rejected, Released,
+};
+use serde_amqp::{Error, from_slice};
 use std::alloc::Global;
+use std::test::Fail;
 
-/// Whether the value is written as these bytes, and they are read as the value.
-pub(crate) fn is_form<T: Serialize + Deserialize + PartialEq + Drop>(
-    alloc: Global,
-    value: &T,
-    form: &[u8],
-) -> Result<bool, Error> {
-    let text = to_vec(alloc, value)?;
-    let read: T = from_slice(alloc, form)?;
-    Ok(text.as_slice() == form && read == *value)
-}
-
-/// Whether the bytes are read as a value that is written as these bytes, as its clone is, which is equal to it.
-pub(crate) fn is_kept<T: Serialize + Deserialize + Clone + PartialEq + Drop>(
-    alloc: Global,
-    form: &[u8],
-) -> Result<bool, Error> {
-    let value: T = from_slice(alloc, form)?;
-    let cloned = value.clone()?;
-    let text = to_vec(alloc, &value)?;
-    Ok(text.as_slice() == form && to_vec(alloc, &cloned)? == text && cloned == value)
-}
-
-/// Whether the bytes are read as such a value.
-pub(crate) fn reads<T: Deserialize + Drop, F: FnOnce(&T) -> bool>(
-    alloc: Global,
-    form: &[u8],
-    is_such: F,
-) -> Result<bool, Error>
-    requires { F.IsAlwaysCallable is_such }
-{
-    let value: T = from_slice(alloc, form)?;
-    Ok(is_such(&value))
-}
-
-/// Whether these bytes are read as the value that those are read as.
-pub(crate) fn reads_alike<T: Deserialize + PartialEq + Drop>(
-    alloc: Global,
-    these: &[u8],
-    those: &[u8],
-) -> Result<bool, Error> {
-    let value: T = from_slice(alloc, these)?;
-    let other: T = from_slice(alloc, those)?;
-    Ok(value == other)
-}
-
-pub(crate) fn refusal<T: Deserialize + Drop>(alloc: Global, form: &[u8]) -> Option<Error> {
-    from_slice::<T>(alloc, form).err()
+/// Whether there is one field alone, and it is null and has this name.
+fn is_null_alone(fields: &Fields, name: &str) -> bool {
+    fields.len() == 1
+        && fields
+            .iter()
+            .all(|(k, v)| k.as_str() == name && v.is_null())
 }
 
 /// Whether there are fields, and their only one is null and has this name.
 pub(crate) fn has_null(fields: &Option<Fields>, name: &str) -> bool {
     match fields {
-        Some(fields) => {
-            fields.len() == 1
-                && fields
-                    .iter()
-                    .all(|(k, v)| k.as_str() == name && v.is_null())
-        }
+        Some(fields) => is_null_alone(fields, name),
+        None => false,
+    }
+}
+
+/// Whether there are annotations, and their only one is null and has this name.
+fn has_annotation(annotations: &Option<Boxed<Fields>>, name: &str) -> bool {
+    match annotations {
+        Some(annotations) => is_null_alone(annotations, name),
         None => false,
     }
 }
@@ -237,7 +204,7 @@ fn a_whole_modification(rt: HostRuntime) -> Result<(), Error> {
 fn is_modification(modified: &Modified) -> bool {
     modified.delivery_failed == Some(true)
         && modified.undeliverable_here == Some(false)
-        && has_null(&modified.message_annotations, "k")
+        && has_annotation(&modified.message_annotations, "k")
 }
 
 #[test]
@@ -347,4 +314,146 @@ fn no_states(rt: HostRuntime) {
         refusal::<Outcome>(alloc, b"\x00\x53\x23\xc0\x03\x02\x43\x44"),
         Some(Error::InvalidValue)
     );
+}
+
+/// A rejection for an error with a description and an info, or without.
+fn rejection(alloc: Global, described: bool, informed: bool) -> Result<Rejected, Fail> {
+    let error = error(alloc, described, informed)?;
+    Ok(Rejected {
+        error: Some(Boxed::new(alloc, error)?),
+    })
+}
+
+/// Rejections for errors with a description and an info, or without.
+const REJECTIONS: [(bool, bool, &[u8]); 4] = [
+    (false, false, REJECTED),
+    (
+        true,
+        false,
+        b"\x00\x53\x25\xc0\x0d\x01\x00\x53\x1d\xc0\x07\x02\xa3\x01a\xa1\x01b",
+    ),
+    (
+        false,
+        true,
+        b"\x00\x53\x25\xc0\x12\x01\x00\x53\x1d\xc0\x0c\x03\xa3\x01a\x40\xc1\x05\x02\xa3\x01k\x40",
+    ),
+    (
+        true,
+        true,
+        b"\x00\x53\x25\xc0\x14\x01\x00\x53\x1d\xc0\x0e\x03\xa3\x01a\xa1\x01b\xc1\x05\x02\xa3\x01k\x40",
+    ),
+];
+
+#[test]
+fn rejections_are_written(rt: HostRuntime) -> Result<(), Fail> {
+    let alloc = rt.alloc();
+    for (described, informed, form) in REJECTIONS {
+        let is_right = is_form_of_clone(alloc, rejection(alloc, described, informed), form)?;
+        assert!(rt; is_right, "{form:?}");
+    }
+    Ok(())
+}
+
+/// Whether the rejection is written as these bytes as a state, too, and has an equal clone.
+fn is_written_as_state(
+    alloc: Global,
+    described: bool,
+    informed: bool,
+    form: &[u8],
+) -> Result<bool, Fail> {
+    let made = rejection(alloc, described, informed);
+    is_form_of_clone(alloc, made.map(DeliveryState::Rejected), form)
+}
+
+#[test]
+fn rejections_are_written_as_states(rt: HostRuntime) -> Result<(), Fail> {
+    for (described, informed, form) in REJECTIONS {
+        let is_right = is_written_as_state(rt.alloc(), described, informed, form)?;
+        assert!(rt; is_right, "{form:?}");
+    }
+    Ok(())
+}
+
+#[test]
+fn rejections_for_other_errors_are_not_equal(rt: HostRuntime) -> Result<(), Fail> {
+    let alloc = rt.alloc();
+    assert!(rt; is_read(alloc, rejection(alloc, false, false), REJECTED)?);
+    assert!(rt; !is_read(alloc, rejection(alloc, true, false), REJECTED)?);
+    assert!(rt; !is_read(alloc, rejection(alloc, false, true), REJECTED)?);
+    Ok(())
+}
+
+/// A modification with the annotation k.
+fn modification(
+    alloc: Global,
+    delivery_failed: Option<bool>,
+    undeliverable_here: Option<bool>,
+) -> Result<Modified, Fail> {
+    let annotations = info(alloc)?;
+    Ok(Modified {
+        delivery_failed,
+        undeliverable_here,
+        message_annotations: Some(Boxed::new(alloc, annotations)?),
+    })
+}
+
+/// Modifications with the annotation k.
+const MODIFICATIONS: [(Option<bool>, Option<bool>, &[u8]); 3] = [
+    (
+        None,
+        None,
+        b"\x00\x53\x27\xc0\x0a\x03\x40\x40\xc1\x05\x02\xa3\x01k\x40",
+    ),
+    (
+        None,
+        Some(true),
+        b"\x00\x53\x27\xc0\x0a\x03\x40\x41\xc1\x05\x02\xa3\x01k\x40",
+    ),
+    (Some(true), Some(false), MODIFIED),
+];
+
+#[test]
+fn modifications_are_written(rt: HostRuntime) -> Result<(), Fail> {
+    let alloc = rt.alloc();
+    for (failed, undeliverable, form) in MODIFICATIONS {
+        let made = modification(alloc, failed, undeliverable);
+        assert!(rt; is_form_of_clone(alloc, made, form)?, "{form:?}");
+    }
+    Ok(())
+}
+
+/// Whether the modification is written as these bytes as an outcome, too, and has an equal clone.
+fn is_written_as_outcome(
+    alloc: Global,
+    failed: Option<bool>,
+    undeliverable: Option<bool>,
+    form: &[u8],
+) -> Result<bool, Fail> {
+    let made = modification(alloc, failed, undeliverable);
+    is_form_of_clone(alloc, made.map(Outcome::Modified), form)
+}
+
+#[test]
+fn modifications_are_written_as_outcomes(rt: HostRuntime) -> Result<(), Fail> {
+    for (failed, undeliverable, form) in MODIFICATIONS {
+        let is_right = is_written_as_outcome(rt.alloc(), failed, undeliverable, form)?;
+        assert!(rt; is_right, "{form:?}");
+    }
+    Ok(())
+}
+
+#[test]
+fn modifications_with_other_annotations_are_not_equal(rt: HostRuntime) -> Result<(), Fail> {
+    let alloc = rt.alloc();
+    let other = b"\x00\x53\x27\xc0\x0a\x03\x41\x42\xc1\x05\x02\xa3\x01j\x40";
+    assert!(rt;
+        is_read(
+            alloc,
+            modification(alloc, Some(true), Some(false)),
+            MODIFIED
+        )?
+    );
+    assert!(rt; !is_read(alloc, modification(alloc, Some(true), Some(false)), other)?);
+    assert!(rt; !is_read(alloc, modification(alloc, Some(true), None), MODIFIED)?);
+    Ok(())
 }

@@ -1,4 +1,5 @@
-use crate::tests::states::{has_null, is_form, is_kept, reads, reads_alike, refusal};
+use super::states::has_null;
+use super::{is_form, is_kept, reads, reads_alike, refusal};
 use crate::{
     DistributionMode, Outcome, Source, Target, TargetArchetype, TerminusDurability,
     TerminusExpiryPolicy,

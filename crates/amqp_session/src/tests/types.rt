@@ -1,26 +1,16 @@
 //! Errors, modes, handles and channels (part 2, 2.8), and what refusals say.
+use super::{is_form, refusal};
 use crate::definitions::{Error, Handle, ReceiverSettleMode, Role, SenderSettleMode};
 use crate::{
-    BeginError, ConnectionError, ConnectionStopReason, Fields, IncomingChannel, InputHandle,
+    BeginError, Boxed, ConnectionError, ConnectionStopReason, Fields, IncomingChannel, InputHandle,
     OpenError, OutgoingChannel, OutputHandle, SessionError, SessionStopReason, TryCloseError,
     TryEndError,
 };
 use amqp_session_types::OrDefault;
-use serde_amqp::{Deserialize, RawValue, Serialize, Symbol, Text, from_slice, to_vec};
+use serde_amqp::{Deserialize, RawValue, Serialize, Symbol, Text, from_slice};
 use std::alloc::{AllocError, Global};
 use std::fmt::Display;
 use std::test::Fail;
-
-/// Whether the value is written as these bytes, and they are read as the value.
-fn is_form<T: Serialize + Deserialize + PartialEq + Drop>(
-    alloc: Global,
-    value: &T,
-    form: &[u8],
-) -> Result<bool, serde_amqp::Error> {
-    let text = to_vec(alloc, value)?;
-    let read: T = from_slice(alloc, form)?;
-    Ok(text.as_slice() == form && read == *value)
-}
 
 /// Whether each value is written as its bytes, and they are read as the value.
 fn are_forms<T: Serialize + Deserialize + PartialEq + Drop>(
@@ -36,7 +26,7 @@ fn are_forms<T: Serialize + Deserialize + PartialEq + Drop>(
 }
 
 /// Whether the bytes are read as the value.
-fn is_read<T: Deserialize + PartialEq + Drop>(
+pub(crate) fn is_read<T: Deserialize + PartialEq + Drop>(
     alloc: Global,
     made: Result<T, Fail>,
     form: &[u8],
@@ -47,7 +37,7 @@ fn is_read<T: Deserialize + PartialEq + Drop>(
 }
 
 /// Whether the value is written as these bytes, and they are read as the value, which is also that of its clone.
-fn is_form_of_clone<T: Serialize + Deserialize + Clone + PartialEq + Drop>(
+pub(crate) fn is_form_of_clone<T: Serialize + Deserialize + Clone + PartialEq + Drop>(
     alloc: Global,
     made: Result<T, Fail>,
     form: &[u8],
@@ -57,27 +47,22 @@ fn is_form_of_clone<T: Serialize + Deserialize + Clone + PartialEq + Drop>(
     Ok(is_form(alloc, &value, form)? && copy == value)
 }
 
-/// Why the bytes are no form of the type's values.
-fn refusal<T: Deserialize + Drop>(alloc: Global, form: &[u8]) -> Option<serde_amqp::Error> {
-    from_slice::<T>(alloc, form).err()
-}
-
 /// An info of one field.
-fn info(alloc: Global) -> Result<Fields, Fail> {
+pub(crate) fn info(alloc: Global) -> Result<Fields, Fail> {
     let mut fields = Fields::new(alloc);
     fields.insert(Symbol::from_str(alloc, "k")?, RawValue::null(alloc)?)?;
     Ok(fields)
 }
 
 /// An error with a description and an info, or without.
-fn error(alloc: Global, described: bool, informed: bool) -> Result<Error, Fail> {
+pub(crate) fn error(alloc: Global, described: bool, informed: bool) -> Result<Error, Fail> {
     let condition = Symbol::from_str(alloc, "a")?;
     let description = match described {
         true => Some(Text::from_str(alloc, "b")?),
         false => None,
     };
     let info = match informed {
-        true => Some(info(alloc)?),
+        true => Some(Boxed::new(alloc, info(alloc)?)?),
         false => None,
     };
     Ok(Error {

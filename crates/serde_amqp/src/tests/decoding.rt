@@ -1,9 +1,11 @@
 //! Wire forms of the standard's tables, and what is refused.
+use super::is_read;
 use crate::{
     Deserialize, Deserializer, Double, Error, Float, IoReader, Read, SliceReader, from_reader,
     from_slice, read_multiple, read_record,
 };
 use std::alloc::Global;
+use std::fmt::Debug;
 use std::io::{ErrorKind, Read as StdRead};
 use std::process::Abort;
 
@@ -56,36 +58,55 @@ fn refuses_what_is_no_form_of_a_scalar(rt: HostRuntime) {
     );
 }
 
+/// The bytes of each row are read as its value.
+fn are_read<T: Deserialize + PartialEq + Debug + Drop>(
+    rt: &impl Abort,
+    alloc: Global,
+    rows: &[(&[u8], T)],
+) -> Result<(), Error> {
+    for (bytes, value) in rows {
+        is_read(rt, alloc, value, bytes)?;
+    }
+    Ok(())
+}
+
 #[test]
-fn reads_numbers_of_each_width(rt: HostRuntime) {
+fn reads_bytes(rt: HostRuntime) -> Result<(), Error> {
     let alloc = rt.alloc();
-    assert_eq!(rt; from_slice::<u8>(alloc, &[0x50, 0x00]), Ok(0));
-    assert_eq!(rt; from_slice::<u8>(alloc, &[0x50, 0xff]), Ok(255));
-    assert_eq!(rt; from_slice::<i8>(alloc, &[0x51, 0x80]), Ok(-128));
-    assert_eq!(rt; from_slice::<i8>(alloc, &[0x51, 0x7f]), Ok(127));
-    assert_eq!(rt; from_slice::<i16>(alloc, &[0x61, 0xff, 0xfe]), Ok(-2));
-    assert_eq!(rt; from_slice::<i16>(alloc, &[0x61, 0x01, 0x00]), Ok(256));
-    assert_eq!(rt; from_slice::<i32>(alloc, &[0x54, 0x80]), Ok(-128));
-    assert_eq!(rt; from_slice::<i32>(alloc, &[0x54, 0x7f]), Ok(127));
-    assert_eq!(rt; from_slice::<i32>(alloc, &[0x71, 0, 0, 0, 0x80]), Ok(128));
-    assert_eq!(rt;
-        from_slice::<i32>(alloc, &[0x71, 0x80, 0, 0, 0]),
-        Ok(-2147483648)
-    );
-    assert_eq!(rt; from_slice::<i64>(alloc, &[0x55, 0xff]), Ok(-1));
-    assert_eq!(rt; from_slice::<i64>(alloc, &[0x55, 0x7f]), Ok(127));
-    assert_eq!(rt;
-        from_slice::<i64>(alloc, &[0x81, 0x80, 0, 0, 0, 0, 0, 0, 0]),
-        Ok(i64::MIN)
-    );
-    assert_eq!(rt;
-        from_slice::<i64>(alloc, &[0x81, 0, 0, 0, 1, 0, 0, 0, 0]),
-        Ok(4294967296)
-    );
-    let one = from_slice::<Float>(alloc, &[0x72, 0x3f, 0x80, 0, 0]);
-    assert_eq!(rt; one, Ok(Float::from_bits(0x3f800000)));
-    let two = from_slice::<Double>(alloc, &[0x82, 0x40, 0, 0, 0, 0, 0, 0, 0]);
-    assert_eq!(rt; two, Ok(Double::from_bits(0x4000000000000000)));
+    let unsigned: [(&[u8], u8); 2] = [(&[0x50, 0x00], 0), (&[0x50, 0xff], 255)];
+    are_read(&rt, alloc, &unsigned)?;
+    let signed: [(&[u8], i8); 2] = [(&[0x51, 0x80], -128), (&[0x51, 0x7f], 127)];
+    are_read(&rt, alloc, &signed)
+}
+
+#[test]
+fn reads_signed_numbers_of_each_width(rt: HostRuntime) -> Result<(), Error> {
+    let alloc = rt.alloc();
+    let shorts: [(&[u8], i16); 2] = [(&[0x61, 0xff, 0xfe], -2), (&[0x61, 0x01, 0x00], 256)];
+    are_read(&rt, alloc, &shorts)?;
+    let ints: [(&[u8], i32); 4] = [
+        (&[0x54, 0x80], -128),
+        (&[0x54, 0x7f], 127),
+        (&[0x71, 0, 0, 0, 0x80], 128),
+        (&[0x71, 0x80, 0, 0, 0], -2147483648),
+    ];
+    are_read(&rt, alloc, &ints)?;
+    let longs: [(&[u8], i64); 4] = [
+        (&[0x55, 0xff], -1),
+        (&[0x55, 0x7f], 127),
+        (&[0x81, 0x80, 0, 0, 0, 0, 0, 0, 0], i64::MIN),
+        (&[0x81, 0, 0, 0, 1, 0, 0, 0, 0], 4294967296),
+    ];
+    are_read(&rt, alloc, &longs)
+}
+
+#[test]
+fn reads_floats(rt: HostRuntime) -> Result<(), Error> {
+    let alloc = rt.alloc();
+    let one = Float::from_bits(0x3f800000);
+    is_read(&rt, alloc, &one, &[0x72, 0x3f, 0x80, 0, 0])?;
+    let two = Double::from_bits(0x4000000000000000);
+    is_read(&rt, alloc, &two, &[0x82, 0x40, 0, 0, 0, 0, 0, 0, 0])
 }
 
 #[test]

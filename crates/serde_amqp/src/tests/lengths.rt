@@ -1,7 +1,9 @@
 //! Binaries, strings and symbols by their length (part 1, sections 1.6.19 to 1.6.21).
 use super::{both_ways, is_read, is_refused, repeated};
-use crate::{ByteBuf, Error, Symbol};
+use crate::{ByteBuf, Deserialize, Error, Symbol};
 use std::alloc::Global;
+use std::fmt::Debug;
+use std::process::Abort;
 
 /// Up to 254 bytes a value is written with a size of one byte, from then on with one of four.
 const LENGTHS: [(usize, &[u8], &[u8]); 6] = [
@@ -93,19 +95,40 @@ const NO_TEXTS: [&[u8]; 6] = [
     &[0xf4, 0x90, 0x80, 0x80],
 ];
 
+/// The content is no value of the type, whose constructors have so much added, neither with a size of one byte nor of four.
+fn is_no_text<T: Deserialize + Debug + Drop>(
+    rt: &impl Abort,
+    alloc: Global,
+    kind: u8,
+    content: &[u8],
+) -> Result<(), Error> {
+    let length = u8::try_from(content.len()).unwrap_or(u8::MAX);
+    let narrow = form(alloc, &[0xa0, length], kind, content)?;
+    is_refused::<T>(rt, alloc, &narrow, Error::InvalidUtf8Encoding)?;
+    let wide = form(alloc, &[0xb0, 0, 0, 0, length], kind, content)?;
+    is_refused::<T>(rt, alloc, &wide, Error::InvalidUtf8Encoding)
+}
+
 #[test]
 fn bytes_that_are_no_text(rt: HostRuntime) -> Result<(), Error> {
-    let alloc = rt.alloc();
-    let utf8 = Error::InvalidUtf8Encoding;
     for content in NO_TEXTS {
-        let head = [0xa0, content.len() as u8];
-        let wide = [0xb0, 0, 0, 0, content.len() as u8];
-        is_refused::<String>(&rt, alloc, &form(alloc, &head, 1, content)?, utf8)?;
-        is_refused::<String>(&rt, alloc, &form(alloc, &wide, 1, content)?, utf8)?;
-        is_refused::<Symbol>(&rt, alloc, &form(alloc, &head, 3, content)?, utf8)?;
-        is_refused::<Symbol>(&rt, alloc, &form(alloc, &wide, 3, content)?, utf8)?;
-        let value = ByteBuf::from_slice(alloc, content)?;
-        both_ways(&rt, alloc, &value, &form(alloc, &head, 0, content)?)?;
+        is_no_text::<String>(&rt, rt.alloc(), 1, content)?;
+        is_no_text::<Symbol>(&rt, rt.alloc(), 3, content)?;
+    }
+    Ok(())
+}
+
+/// The content is a binary.
+fn is_binary(rt: &impl Abort, alloc: Global, content: &[u8]) -> Result<(), Error> {
+    let length = u8::try_from(content.len()).unwrap_or(u8::MAX);
+    let bytes = form(alloc, &[0xa0, length], 0, content)?;
+    both_ways(rt, alloc, &ByteBuf::from_slice(alloc, content)?, &bytes)
+}
+
+#[test]
+fn binaries_that_are_no_text(rt: HostRuntime) -> Result<(), Error> {
+    for content in NO_TEXTS {
+        is_binary(&rt, rt.alloc(), content)?;
     }
     Ok(())
 }

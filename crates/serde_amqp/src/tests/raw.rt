@@ -1,6 +1,8 @@
 //! Values of any type that are kept as their bytes.
 use super::{both_ways, filled, is_read, is_refused};
 use crate::{Array, Error, OrderedMap, RawValue, Symbol, from_slice, to_vec};
+use std::alloc::Global;
+use std::hash::Hash;
 use std::io::ErrorKind;
 
 /// The bytes of one value, of whatever type, and the bytes that are written are the same.
@@ -125,22 +127,52 @@ fn more_elements_than_are_read(rt: HostRuntime) -> Result<(), Error> {
     Ok(())
 }
 
+/// Puts the pair last.
+fn put<K: Eq + Hash + Drop, V: Drop>(
+    map: &mut OrderedMap<K, V>,
+    key: Result<K, Error>,
+    value: Result<V, Error>,
+) -> Result<(), Error> {
+    let _ = map.insert(key?, value?)?;
+    Ok(())
+}
+
+/// A symbol.
+fn symbol(alloc: Global, text: &str) -> Result<Symbol, Error> {
+    Ok(Symbol::from_str(alloc, text)?)
+}
+
+/// A null.
+fn null(alloc: Global) -> Result<RawValue, Error> {
+    Ok(RawValue::null(alloc)?)
+}
+
+/// The map of a to the number 1 and of bc to null.
+fn fields(alloc: Global) -> Result<OrderedMap<Symbol, RawValue>, Error> {
+    let mut fields = OrderedMap::new(alloc);
+    put(&mut fields, symbol(alloc, "a"), RawValue::of(alloc, &1u32))?;
+    put(&mut fields, symbol(alloc, "bc"), null(alloc))?;
+    Ok(fields)
+}
+
+/// The map of the number 1 to true and of the same number in another form to false.
+fn forms(alloc: Global) -> Result<OrderedMap<RawValue, RawValue>, Error> {
+    let mut forms = OrderedMap::new(alloc);
+    let narrow = RawValue::from_bytes(alloc, &[0x52, 1]);
+    put(&mut forms, narrow, RawValue::of(alloc, &true))?;
+    let wide = RawValue::from_bytes(alloc, &[0x70, 0, 0, 0, 1]);
+    put(&mut forms, wide, RawValue::of(alloc, &false))?;
+    Ok(forms)
+}
+
 /// Maps whose keys or values are of any type; keys are told apart by their bytes.
 #[test]
 fn in_maps(rt: HostRuntime) -> Result<(), Error> {
     let alloc = rt.alloc();
-    let mut fields = OrderedMap::new(alloc);
-    let _ = fields.insert(Symbol::from_str(alloc, "a")?, RawValue::of(alloc, &1u32)?)?;
-    let _ = fields.insert(Symbol::from_str(alloc, "bc")?, RawValue::null(alloc)?)?;
     let bytes = b"\xc1\x0b\x04\xa3\x01a\x52\x01\xa3\x02bc\x40";
-    both_ways(&rt, alloc, &fields, bytes)?;
-    let mut map = OrderedMap::new(alloc);
-    let narrow = RawValue::from_bytes(alloc, &[0x52, 1])?;
-    let wide = RawValue::from_bytes(alloc, &[0x70, 0, 0, 0, 1])?;
-    let _ = map.insert(narrow, RawValue::of(alloc, &true)?)?;
-    let _ = map.insert(wide, RawValue::of(alloc, &false)?)?;
+    both_ways(&rt, alloc, &fields(alloc)?, bytes)?;
     let bytes = b"\xc1\x0a\x04\x52\x01\x41\x70\0\0\0\x01\x42";
-    both_ways(&rt, alloc, &map, bytes)
+    both_ways(&rt, alloc, &forms(alloc)?, bytes)
 }
 
 /// A kept null is no value, and a kept value is no element of an array.

@@ -22,31 +22,57 @@ impl io::Read for Failing {
     }
 }
 
-// Takes the bytes 1 to 9 by each call, and meets the end.
-fn reads_nine<R: Read + Drop>(rt: &impl Abort, alloc: Global, mut reader: R) -> Result<(), Error> {
+// Looks at the first of the bytes 1 to 9, which stay unread.
+fn looks_ahead<R: Read>(rt: &impl Abort, reader: &mut R) -> Result<(), Error> {
     assert_eq!(rt; reader.peek(), Ok(1));
     assert_eq!(rt; reader.bytes_consumed(), 0);
     let mut ahead = [0; 3];
     reader.peek_bytes(&mut ahead)?;
     assert_eq!(rt; ahead, [1, 2, 3]);
+    Ok(())
+}
+
+// Takes the bytes 1 to 4.
+fn reads_four<R: Read>(rt: &impl Abort, reader: &mut R) -> Result<(), Error> {
     assert_eq!(rt; reader.next(), Ok(1));
     let mut two = [0; 2];
     reader.read_exact(&mut two)?;
     assert_eq!(rt; two, [2, 3]);
     assert_eq!(rt; reader.read_const_bytes::<1>(), Ok([4]));
-    let mut bytes = vec![in alloc; 0]?;
-    reader.append_bytes(2, &mut bytes)?;
+    Ok(())
+}
+
+// Takes the bytes 5 to 8, of which the first two go behind a 0.
+fn reads_into_vecs<R: Read>(
+    rt: &impl Abort,
+    alloc: Global,
+    reader: &mut R,
+    bytes: &mut Vec<u8>,
+) -> Result<(), Error> {
+    reader.append_bytes(2, bytes)?;
     assert_eq!(rt; bytes.as_slice(), [0, 5, 6].as_slice());
     assert_eq!(rt; reader.read_bytes(alloc, 1)?.as_slice(), [7].as_slice());
-    assert_eq!(rt;
-        reader.forward_read_bytes_with_hint(alloc, 1)?.as_slice(),
-        [8].as_slice()
-    );
+    let hinted = reader.forward_read_bytes_with_hint(alloc, 1)?;
+    assert_eq!(rt; hinted.as_slice(), [8].as_slice());
+    Ok(())
+}
+
+// Has the byte 9 left, where two are wanted.
+fn has_one_left<R: Read>(rt: &impl Abort, reader: &mut R, bytes: &mut Vec<u8>) {
     assert_eq!(rt; reader.bytes_consumed(), 8);
-    assert_eq!(rt; reader.append_bytes(2, &mut bytes), Err(END));
+    assert_eq!(rt; reader.append_bytes(2, bytes), Err(END));
     assert_eq!(rt; bytes.as_slice(), [0, 5, 6].as_slice());
     assert_eq!(rt; reader.next(), Err(END));
     assert_eq!(rt; reader.bytes_consumed(), 8);
+}
+
+// Takes the bytes 1 to 9 by each call, and meets the end.
+fn reads_nine<R: Read + Drop>(rt: &impl Abort, alloc: Global, mut reader: R) -> Result<(), Error> {
+    looks_ahead(rt, &mut reader)?;
+    reads_four(rt, &mut reader)?;
+    let mut bytes = vec![in alloc; 0]?;
+    reads_into_vecs(rt, alloc, &mut reader, &mut bytes)?;
+    has_one_left(rt, &mut reader, &mut bytes);
     Ok(())
 }
 

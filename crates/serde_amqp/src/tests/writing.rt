@@ -1,72 +1,83 @@
+use super::is_written;
 use crate::{
-    Double, Error, Float, IsArrayElement, Serializer, append_to_vec, serialize_record,
+    Double, Error, Float, IsArrayElement, Serialize, Serializer, append_to_vec, serialize_record,
     serialized_size, to_vec,
 };
 use std::alloc::Global;
 use std::collections::BTreeMap;
+use std::fmt::Debug;
+use std::process::Abort;
 use std::test::Fail;
 
-#[test]
-fn scalars(rt: HostRuntime) -> Result<(), Fail> {
-    let alloc = rt.alloc();
-    assert_eq!(rt; to_vec(alloc, &())?.as_slice(), [0x40].as_slice());
-    assert_eq!(rt; to_vec(alloc, &true)?.as_slice(), [0x41].as_slice());
-    assert_eq!(rt; to_vec(alloc, &false)?.as_slice(), [0x42].as_slice());
-    assert_eq!(rt; to_vec(alloc, &258u16)?.as_slice(), [0x60, 1, 2].as_slice());
-    assert_eq!(rt; to_vec(alloc, &0u32)?.as_slice(), [0x43].as_slice());
-    assert_eq!(rt; to_vec(alloc, &255u32)?.as_slice(), [0x52, 255].as_slice());
-    assert_eq!(rt;
-        to_vec(alloc, &256u32)?.as_slice(),
-        [0x70, 0, 0, 1, 0].as_slice()
-    );
-    assert_eq!(rt; to_vec(alloc, &0u64)?.as_slice(), [0x44].as_slice());
-    assert_eq!(rt; to_vec(alloc, &255u64)?.as_slice(), [0x53, 255].as_slice());
-    assert_eq!(rt;
-        to_vec(alloc, &256u64)?.as_slice(),
-        [0x80, 0, 0, 0, 0, 0, 0, 1, 0].as_slice()
-    );
-    assert_eq!(rt; to_vec(alloc, &Some(&true))?.as_slice(), [0x41].as_slice());
-    assert_eq!(rt; to_vec(alloc, &None::<bool>)?.as_slice(), [0x40].as_slice());
+/// The value of each row is written as its bytes.
+fn are_written<T: Serialize + Debug>(
+    rt: &impl Abort,
+    alloc: Global,
+    rows: &[(T, &[u8])],
+) -> Result<(), Error> {
+    for (value, bytes) in rows {
+        is_written(rt, alloc, value, bytes)?;
+    }
     Ok(())
 }
 
 #[test]
-fn signed_numbers(rt: HostRuntime) -> Result<(), Fail> {
+fn scalars(rt: HostRuntime) -> Result<(), Error> {
     let alloc = rt.alloc();
-    assert_eq!(rt; to_vec(alloc, &255u8)?.as_slice(), [0x50, 255].as_slice());
-    assert_eq!(rt; to_vec(alloc, &-1i8)?.as_slice(), [0x51, 0xff].as_slice());
-    assert_eq!(rt;
-        to_vec(alloc, &-2i16)?.as_slice(),
-        [0x61, 0xff, 0xfe].as_slice()
-    );
-    assert_eq!(rt; to_vec(alloc, &0i32)?.as_slice(), [0x54, 0].as_slice());
-    assert_eq!(rt; to_vec(alloc, &127i32)?.as_slice(), [0x54, 0x7f].as_slice());
-    assert_eq!(rt;
-        to_vec(alloc, &-128i32)?.as_slice(),
-        [0x54, 0x80].as_slice()
-    );
-    assert_eq!(rt;
-        to_vec(alloc, &128i32)?.as_slice(),
-        [0x71, 0, 0, 0, 0x80].as_slice()
-    );
-    assert_eq!(rt;
-        to_vec(alloc, &-129i32)?.as_slice(),
-        [0x71, 0xff, 0xff, 0xff, 0x7f].as_slice()
-    );
-    assert_eq!(rt; to_vec(alloc, &127i64)?.as_slice(), [0x55, 0x7f].as_slice());
-    assert_eq!(rt;
-        to_vec(alloc, &-128i64)?.as_slice(),
-        [0x55, 0x80].as_slice()
-    );
-    assert_eq!(rt;
-        to_vec(alloc, &128i64)?.as_slice(),
-        [0x81, 0, 0, 0, 0, 0, 0, 0, 0x80].as_slice()
-    );
-    assert_eq!(rt;
-        to_vec(alloc, &-129i64)?.as_slice(),
-        [0x81, 0xff, 0xff, 0xff, 0xff, 0xff, 0xff, 0xff, 0x7f].as_slice()
-    );
-    Ok(())
+    is_written(&rt, alloc, &(), &[0x40])?;
+    is_written(&rt, alloc, &258u16, &[0x60, 1, 2])?;
+    is_written(&rt, alloc, &Some(&true), &[0x41])?;
+    is_written(&rt, alloc, &None::<bool>, &[0x40])?;
+    let truths: [(bool, &[u8]); 2] = [(true, &[0x41]), (false, &[0x42])];
+    are_written(&rt, alloc, &truths)
+}
+
+#[test]
+fn unsigned_numbers(rt: HostRuntime) -> Result<(), Error> {
+    let alloc = rt.alloc();
+    let uints: [(u32, &[u8]); 3] = [
+        (0, &[0x43]),
+        (255, &[0x52, 255]),
+        (256, &[0x70, 0, 0, 1, 0]),
+    ];
+    are_written(&rt, alloc, &uints)?;
+    let ulongs: [(u64, &[u8]); 3] = [
+        (0, &[0x44]),
+        (255, &[0x53, 255]),
+        (256, &[0x80, 0, 0, 0, 0, 0, 0, 1, 0]),
+    ];
+    are_written(&rt, alloc, &ulongs)
+}
+
+#[test]
+fn small_numbers(rt: HostRuntime) -> Result<(), Error> {
+    let alloc = rt.alloc();
+    is_written(&rt, alloc, &255u8, &[0x50, 255])?;
+    is_written(&rt, alloc, &-1i8, &[0x51, 0xff])?;
+    is_written(&rt, alloc, &-2i16, &[0x61, 0xff, 0xfe])
+}
+
+#[test]
+fn signed_numbers(rt: HostRuntime) -> Result<(), Error> {
+    let alloc = rt.alloc();
+    let ints: [(i32, &[u8]); 5] = [
+        (0, &[0x54, 0]),
+        (127, &[0x54, 0x7f]),
+        (-128, &[0x54, 0x80]),
+        (128, &[0x71, 0, 0, 0, 0x80]),
+        (-129, &[0x71, 0xff, 0xff, 0xff, 0x7f]),
+    ];
+    are_written(&rt, alloc, &ints)?;
+    let longs: [(i64, &[u8]); 4] = [
+        (127, &[0x55, 0x7f]),
+        (-128, &[0x55, 0x80]),
+        (128, &[0x81, 0, 0, 0, 0, 0, 0, 0, 0x80]),
+        (
+            -129,
+            &[0x81, 0xff, 0xff, 0xff, 0xff, 0xff, 0xff, 0xff, 0x7f],
+        ),
+    ];
+    are_written(&rt, alloc, &longs)
 }
 
 #[test]
@@ -370,45 +381,76 @@ fn map_serializers(rt: HostRuntime) -> Result<(), Fail> {
     Ok(())
 }
 
-#[test]
-fn structs(rt: HostRuntime) -> Result<(), Fail> {
-    let alloc = rt.alloc();
+/// What the call writes.
+fn written<F>(alloc: Global, write: F) -> Result<Vec<u8>, Error>
+where
+    F: FnOnce(&mut Serializer<Vec<u8>>) -> Result<(), Error>,
+    requires { F.IsAlwaysCallable write }
+{
     let mut s = Serializer::new(Vec::new(alloc));
+    write(&mut s)?;
+    Ok(s.into_inner())
+}
+
+/// A struct of one field, as a list.
+fn plain(s: &mut Serializer<Vec<u8>>) -> Result<(), Error> {
     let mut plain = s.serialize_struct();
     plain.serialize_field("x", &1u32)?;
-    plain.end()?;
-    assert_eq!(rt; s.into_inner().as_slice(), [0xc0, 3, 1, 0x52, 1].as_slice());
-    let mut s = Serializer::new(Vec::new(alloc));
+    plain.end()
+}
+
+/// A struct of two fields, as a list with the descriptor 16.
+fn listed(s: &mut Serializer<Vec<u8>>) -> Result<(), Error> {
     let mut list = s.described_list(16)?;
     list.serialize_field("x", &1u32)?;
     list.serialize_field("y", &())?;
-    list.end()?;
-    assert_eq!(rt;
-        s.into_inner().as_slice(),
-        [0, 0x53, 16, 0xc0, 4, 2, 0x52, 1, 0x40].as_slice()
-    );
-    let mut s = Serializer::new(Vec::new(alloc));
+    list.end()
+}
+
+/// A struct of one field, as a map with the descriptor 256.
+fn mapped(s: &mut Serializer<Vec<u8>>) -> Result<(), Error> {
     let mut map = s.described_map(256)?;
     map.serialize_field("x", &1u32)?;
-    map.end()?;
+    map.end()
+}
+
+#[test]
+fn structs(rt: HostRuntime) -> Result<(), Fail> {
+    let alloc = rt.alloc();
     assert_eq!(rt;
-        s.into_inner().as_slice(),
+        written(alloc, plain)?.as_slice(),
+        [0xc0, 3, 1, 0x52, 1].as_slice()
+    );
+    assert_eq!(rt;
+        written(alloc, listed)?.as_slice(),
+        [0, 0x53, 16, 0xc0, 4, 2, 0x52, 1, 0x40].as_slice()
+    );
+    assert_eq!(rt;
+        written(alloc, mapped)?.as_slice(),
         [
             0, 0x80, 0, 0, 0, 0, 0, 0, 1, 0, 0xc1, 6, 2, 0xa3, 1, b'x', 0x52, 1
         ]
         .as_slice()
     );
-    let mut s = Serializer::new(Vec::new(alloc));
-    s.described_basic(0x77, &true)?;
-    assert_eq!(rt; s.into_inner().as_slice(), [0, 0x53, 0x77, 0x41].as_slice());
+    Ok(())
+}
+
+#[test]
+fn described_values(rt: HostRuntime) -> Result<(), Fail> {
+    let truth = written(rt.alloc(), |s| s.described_basic(0x77, &true))?;
+    assert_eq!(rt; truth.as_slice(), [0, 0x53, 0x77, 0x41].as_slice());
+    Ok(())
+}
+
+#[test]
+fn no_element_is_described(rt: HostRuntime) {
     let mut s = Serializer {
-        writer: Vec::new(alloc),
+        writer: Vec::new(rt.alloc()),
         element: IsArrayElement::FirstElement,
     };
     assert_eq!(rt; s.described_basic(1, &true), Err(Error::InvalidValue));
     assert!(rt; matches!(s.described_list(1), Err(Error::InvalidValue)));
     assert!(rt; matches!(s.described_map(1), Err(Error::InvalidValue)));
-    Ok(())
 }
 
 #[test]
