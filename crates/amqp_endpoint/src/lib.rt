@@ -9,10 +9,12 @@ pub use amqp_endpoint_model::{
 };
 pub use amqp_endpoint_world::play;
 pub use amqp_session_frames::{
-    Error as FrameError, Frame, FrameBody, FrameDecoder, FrameEncoder, Piece,
+    Error as FrameError, Frame, FrameBody, FrameDecoder, FrameEncoder, Piece, Pieces,
 };
 pub use amqp_session_performatives::{
     Attach, Begin, Close, Detach, Disposition, End, Flow, Open, Transfer,
 };
-pub use amqp_session_types::{ConnectionError, Fields, SessionError, TryCloseError, definitions};
+pub use amqp_session_types::{
+    Boxed, ConnectionError, Fields, SessionError, TryCloseError, definitions,
+};
 pub use serde_amqp_types::{Symbol, Text};

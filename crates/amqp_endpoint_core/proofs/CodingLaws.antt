@@ -1,5 +1,5 @@
 -- Laws of frames as they are queued.
-use Rattle.std.proofs.Common.{◌≡◌, ℕ, ◌+◌, ◌-◌, ◌≤◌, ◌<◌, List, [], ◌∷◌, ◌++◌, length, map, inl, inr, Option, Some, None, true, refl, sym, ◌∙◌, ap, arith, subst, option_to_list, All}
+use Rattle.std.proofs.Common.{◌≡◌, ℕ, ◌+◌, ◌-◌, ◌≤◌, List, [], ◌∷◌, length, map, inl, inr, Option, Some, None, true, refl, sym, ◌∙◌, ap, arith, subst, All}
 use Rattle.std.proofs.lemmas.List.{length-append}
 use Rattle.std.specs.Int.{w32, to_be_bytes}
 use Rattle.std.proofs.lemmas.Bool.Decides.{nat_tests}
@@ -34,16 +34,9 @@ in_one_piece limit f pieces w none =
       | inr (t, payload, is, over, two, carries) ↦ absurd (no_transfer f.body t payload is none)
     ]
 
--- the pieces of a frame are one
-pub some_piece : (f : Frame) (pieces : List (List ℕ)) → IsAll f pieces → 0 < length pieces
-some_piece f [] w = absurd (let e : [] ≡ frame_text f ∷ [] = w in cc)
-some_piece f (p ∷ ps) w = omega arith
-
--- the last piece of a frame is all of it
-pub last_piece : (f : Frame) (front : List (List ℕ)) (piece : List ℕ) → IsAll f (front ++ piece ∷ []) → frame_text f ≡ Some (with_size piece)
-last_piece f [] piece w = let e : Some (with_size piece) ∷ [] ≡ frame_text f ∷ [] = w in cc
-last_piece f (p ∷ []) piece w = absurd (let e : Some (with_size p) ∷ Some (with_size piece) ∷ [] ≡ frame_text f ∷ [] = w in cc)
-last_piece f (p ∷ q ∷ ps) piece w = absurd (let e : Some (with_size p) ∷ Some (with_size q) ∷ map (λ x. Some (with_size x)) (ps ++ piece ∷ []) ≡ frame_text f ∷ [] = w in cc)
+-- the first piece of a frame is all of it
+first_piece : (f : Frame) (piece : List ℕ) (others : List (List ℕ)) → IsAll f (piece ∷ others) → frame_text f ≡ Some (with_size piece)
+first_piece f piece others w = let e : Some (with_size piece) ∷ map (λ x. Some (with_size x)) others ≡ frame_text f ∷ [] = w in cc
 
 pub length-with_size : (piece : List ℕ) → length (with_size piece) ≡ 4 + length piece
 length-with_size piece = length-append (to_be_bytes w32 (4 + length piece)) piece
@@ -75,21 +68,13 @@ close_fits DecodeError = refl
 close_fits NotAllowed = refl
 close_fits NotFound = refl
 
-alone : (f : Frame) (front : List (List ℕ)) (piece : List ℕ) → IsAll f (front ++ piece ∷ []) → front ≡ []
-alone f [] piece w = refl
-alone f (p ∷ []) piece w = absurd (let e : Some (with_size p) ∷ Some (with_size piece) ∷ [] ≡ frame_text f ∷ [] = w in cc)
-alone f (p ∷ q ∷ ps) piece w = absurd (let e : Some (with_size p) ∷ Some (with_size q) ∷ map (λ x. Some (with_size x)) (ps ++ piece ∷ []) ≡ frame_text f ∷ [] = w in cc)
-
 -- what was encoded is the frame, within the limit
-pub encoded_is : (least : ℕ) (f : Frame) (pieces front : List (List ℕ)) (popped : Option (List ℕ)) (piece queued : List ℕ) (limit : ℕ)
-    → IsWritten least f pieces → session_refusal f.body ≡ None → All (λ p. length p ≤ limit - 4) pieces → 4 ≤ limit → pieces ≡ front ++ option_to_list popped → popped ≡ Some piece → queued ≡ with_size piece
+pub encoded_is : (least : ℕ) (f : Frame) (pieces others : List (List ℕ)) (piece queued : List ℕ) (limit : ℕ)
+    → IsWritten least f pieces → session_refusal f.body ≡ None → All (λ p. length p ≤ limit - 4) pieces → 4 ≤ limit → pieces ≡ piece ∷ others → queued ≡ with_size piece
     → (queued ≡ written f) × (fits limit f ≡ true)
-encoded_is least f pieces front popped piece queued limit w none short four split last is =
-    let all : IsAll f pieces = in_one_piece least f pieces w none in
-    let e : pieces ≡ front ++ piece ∷ [] = split ∙ ap (λ o. front ++ option_to_list o) last in
+encoded_is least f pieces others piece queued limit w none short four both is =
     let P : List (List ℕ) → Type 0 = IsAll f in
-    let text = last_piece f front piece (subst P e all) in
-    let one : pieces ≡ piece ∷ [] = e ∙ ap (λ x. x ++ piece ∷ []) (alone f front piece (subst P e all)) in
+    let text = first_piece f piece others (subst P both (in_one_piece least f pieces w none)) in
     let Q : List (List ℕ) → Type 0 = All (λ p. length p ≤ limit - 4) in
-    let h : length piece ≤ limit - 4 = subst Q one short 0 [] (omega arith) in
+    let h : length piece ≤ limit - 4 = subst Q both short 0 [] (omega arith) in
     (is ∙ sym (written_is f (with_size piece) text), fits_is f (with_size piece) limit text (omega (arith, length-with_size piece)))

@@ -30,7 +30,10 @@ pub(crate) fn encoded(alloc: Global, limit: u32, frame: Frame) -> Result<Queued,
 {
     let encoder = FrameEncoder::new(limit as usize - SIZE_FIELD);
     match encoder.encode(alloc, frame) {
-        Ok(mut pieces) => Ok(Queued::frame(pieces.pop().unwrap())),
+        Ok(pieces) => {
+            let (piece, _) = pieces.into_parts();
+            Ok(Queued::frame(piece))
+        }
         Err(FrameError::TooLarge) => Err(EndpointError::FrameTooLarge),
         Err(_) => Err(EndpointError::Memory),
     }

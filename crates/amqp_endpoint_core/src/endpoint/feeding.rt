@@ -47,6 +47,7 @@ impl Endpoint {
         }
     }
 
+    #[inline(never)]
     fn feed_header(&mut self, bytes: &[u8]) -> Fed
         requires { self.old.phase ≡ Greeting }
         ensures { Greets self.old (self.old.rest ++ bytes.now) (result.events.items) result.fault self.new }
@@ -84,6 +85,7 @@ impl Endpoint {
         Ok(true)
     }
 
+    #[inline(never)]
     fn feed_frames(&mut self, bytes: &[u8]) -> Fed
         requires { self.old.phase ≡ Running }
         ensures { ReadsOn self.old (self.old.rest ++ bytes.now) (result.events.items) result.fault self.new }
@@ -96,6 +98,7 @@ impl Endpoint {
     }
 
     /// Takes the whole frames of the input, up to the peer's Close or a fault.
+    #[inline(always)]
     #[tactic(auto, using(crate::proofs::FeedLaws::so_far_none, crate::proofs::FeedLaws::so_far_more, crate::proofs::FeedLaws::front_shorter, crate::proofs::FeedLaws::ends_waiting, crate::proofs::FeedLaws::ends_closed, crate::proofs::FeedLaws::ends_by_fault))]
     fn read_frames(&mut self) -> Fed
         requires { self.old.phase ≡ Running }
@@ -127,31 +130,42 @@ impl Endpoint {
     }
 
     /// Takes the frame in front, if it is whole.
-    #[tactic(auto, using(crate::proofs::ReadingLaws::front_not_read, crate::proofs::ReadingLaws::front_refused, crate::proofs::ReadingLaws::front_taken))]
+    #[tactic(auto, using(crate::proofs::ReadingLaws::front_size, crate::proofs::ReadingLaws::front_not_read))]
     fn read_frame(&mut self, events: &mut Vec<Event>) -> Result<bool, EndpointError>
         requires { self.old.phase ≡ Running }
         ensures ok { IfOk result (λ whole. FrontTaken whole self.old events.old.items events.new.items self.new) }
         ensures err { IfErr result (λ e. FrontRefused self.old self.old.rest e × (events.new.items ≡ events.old.items) × (self.new ≡ record self.old { rest = self.new.rest })) }
     {
-        let Some(frame) = self.next_frame()? else {
+        let Some(size) = self.next_size()? else {
             return Ok(false);
         };
-        self.take(frame.body, events)?;
+        self.read_whole(size, events)?;
         Ok(true)
     }
 
-    /// Splits the frame in front off the input, if it is whole.
-    #[tactic(auto, using(crate::proofs::ReadingLaws::front_size, crate::proofs::ReadingLaws::front_unread, crate::proofs::ReadingLaws::frame_split))]
-    fn next_frame(&mut self) -> Result<Option<Frame>, EndpointError>
-        ensures ok { IfOk result (λ frame. MatchOption frame (Waits self.old.settings.max_frame_size self.old.rest × (self.new ≡ self.old)) (λ f. FrameSplit self.old f self.new)) }
+    /// Takes the frame in front, which has so many bytes. A frame is large: what owns one stands apart from what runs
+    /// where none is whole.
+    #[inline(never)]
+    #[tactic(auto, using(crate::proofs::ReadingLaws::front_not_read, crate::proofs::ReadingLaws::front_refused, crate::proofs::ReadingLaws::front_taken))]
+    fn read_whole(&mut self, size: usize, events: &mut Vec<Event>) -> Result<(), EndpointError>
+        requires running { self.old.phase ≡ Running }
+        requires piece { PieceOf self.old.settings.max_frame_size self.old.rest size }
+        ensures ok { OnOk result (FrontTaken true self.old events.old.items events.new.items self.new) }
+        ensures err { IfErr result (λ e. FrontRefused self.old self.old.rest e × (events.new.items ≡ events.old.items) × (self.new ≡ record self.old { rest = self.new.rest })) }
+    {
+        let frame = self.next_frame(size)?;
+        self.take(frame.body, events)
+    }
+
+    /// Splits the frame in front, which has so many bytes, off the input.
+    #[tactic(auto, using(crate::proofs::ReadingLaws::front_unread, crate::proofs::ReadingLaws::frame_split))]
+    fn next_frame(&mut self, size: usize) -> Result<Frame, EndpointError>
+        requires { PieceOf self.old.settings.max_frame_size self.old.rest size }
+        ensures ok { IfOk result (λ f. FrameSplit self.old f self.new) }
         ensures err { IfErr result (λ e. FrontUnread self.old.settings.max_frame_size self.old.rest e × (self.new ≡ record self.old { rest = self.new.rest })) }
     {
-        let Some(size) = self.next_size()? else {
-            return Ok(None);
-        };
         let piece = self.input.freeze_to(size)?;
-        let frame = decoded(self.alloc, piece)?;
-        Ok(Some(frame))
+        decoded(self.alloc, piece)
     }
 
     /// The size of the frame in front, if it is whole.

@@ -4,5 +4,5 @@ use Rattle.amqp_endpoint_core.proofs.coding.encoded.Goals as goal
 
 pub returns-in-Ok-clause-ok : goal.returns-in-Ok-clause-ok
 returns-in-Ok-clause-ok c =
-    encoded_is _ c.args.frame c.in-Ok.pieces.items c.pop.new.self.items c.pop.result c.unwrap.result c.frame.result c.args.limit
-    c.in-Ok.ensures.text c.requires.own (λ k d lt. rw (← c.new-encoder.ensures) (c.in-Ok.ensures.limit k d lt)) (omega arith) c.pop.ensures.items c.unwrap.ensures c.frame.ensures
+    encoded_is _ c.args.frame c.in-Ok.pieces _ _ c.frame.result c.args.limit
+    c.in-Ok.ensures.text c.requires.own (λ k d lt. rw (← c.new-encoder.ensures) (c.in-Ok.ensures.limit k d lt)) (omega arith) c.into_parts-piece.ensures c.frame.ensures
