@@ -1,7 +1,7 @@
 # The script that `run` and `try` run.
 SCENARIO ?= examples/open_close.scenario
 
-.PHONY: run try test bench memory
+.PHONY: run try test edits bench memory
 
 # Proves and builds the program, runs the script with it and prints what the endpoint answers.
 run:
@@ -15,6 +15,10 @@ try:
 # Every proof, edit that must fail, test and program, from nothing.
 test:
 	rt ci
+
+# The edits that the gate leaves out for time. They take hours; CRATES names those to try.
+edits:
+	@tools/try_edits $(CRATES)
 
 # Counts the instructions that the codec, the frames of a session, sessions and the endpoint take, by valgrind.
 bench:

@@ -9,8 +9,6 @@ ghost use Rattle.amqp_endpoint.specs.Parsed.{script_of};
 mod printing;
 mod script;
 mod statement;
-#[cfg(test)]
-mod tests;
 
 use amqp_endpoint_model::EndpointError;
 use amqp_endpoint_world::play;

@@ -8,8 +8,6 @@ mod event;
 mod laws;
 mod phase;
 mod settings;
-#[cfg(test)]
-mod tests;
 
 pub use answer::{Answer, Fed, Reply};
 pub use call::Call;

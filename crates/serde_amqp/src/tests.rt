@@ -1,11 +1,13 @@
 //! Cases of the standard's tables (part 1), over all crates of the codec.
 mod accesses;
 mod borrowed;
+mod codes;
 mod compounds;
 mod constructors;
 mod decoding;
 mod described;
 mod elements;
+mod errors;
 mod fixed;
 mod forms;
 mod fronts;

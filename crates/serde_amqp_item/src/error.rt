@@ -49,26 +49,3 @@ impl<T: Drop> From<AllocFailed<T>> for Error {
         Error::from(AllocError)
     }
 }
-
-#[cfg(test)]
-mod tests {
-    use super::*;
-
-    #[test]
-    fn texts(rt: HostRuntime) -> Result<(), AllocError> {
-        assert_eq!(rt;
-            format!(in rt.alloc(); "{}", Error::Io(ErrorKind::UnexpectedEof))?.as_str(),
-            "input error: unexpected end of file"
-        );
-        assert_eq!(rt;
-            format!(in rt.alloc(); "{}", Error::Memory)?.as_str(),
-            "out of memory"
-        );
-        Ok(())
-    }
-
-    #[test]
-    fn from_allocation_errors(rt: HostRuntime) {
-        assert_eq!(rt; Error::from(AllocError), Error::Memory);
-    }
-}

@@ -1,7 +1,7 @@
 //! Performatives of sessions, of which there are none.
 use super::{CLOSE_NOT_ALLOWED, HEADER, OPEN, Row, first_wrong, named};
-use crate::play;
 use amqp_endpoint_model::{Answer, Call, EndpointError};
+use amqp_endpoint_world::play;
 use amqp_session_types::ConnectionError;
 use bytes::Bytes;
 use std::alloc::Global;

@@ -1,8 +1,9 @@
 //! Outgoing channels of sessions, and the routes of the peer's channels to them (part 2, 2.5.1 and 2.5.2).
 use super::{begin, connection_in, is_frame, on, opened};
-use crate::{
-    BeginError, Connection, ConnectionError, ConnectionState, End, IncomingChannel, OpenError,
-    OutgoingChannel,
+use amqp_session_connection::{Connection, ConnectionState};
+use amqp_session_performatives::End;
+use amqp_session_types::{
+    BeginError, ConnectionError, IncomingChannel, OpenError, OutgoingChannel,
 };
 use std::alloc::Global;
 use std::test::Fail;

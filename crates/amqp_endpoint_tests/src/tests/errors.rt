@@ -1,4 +1,5 @@
-use crate::{EndpointError, LinkError};
+//! Each error's number and text.
+use amqp_endpoint_model::{EndpointError, LinkError};
 use amqp_session_frames::Error as FrameError;
 use amqp_session_types::{ConnectionError, SessionError};
 use std::alloc::AllocError;

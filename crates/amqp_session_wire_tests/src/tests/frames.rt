@@ -1,6 +1,6 @@
 //! Frames of the standard in and out (part 2, 2.3 and 2.7).
 use super::{again, decoded, encoded, framed, is_one, seen};
-use crate::{Frame, FrameBody, FrameError};
+use amqp_session_frames::{Error as FrameError, Frame, FrameBody};
 use std::alloc::{AllocError, Global};
 use std::test::Fail;
 

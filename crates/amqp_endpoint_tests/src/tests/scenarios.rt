@@ -1,4 +1,8 @@
-use super::*;
+//! Scripts that can be read and scripts that can't, what they print, and readers and writers that refuse.
+use amqp_endpoint::scenario::{ScenarioError, run};
+use std::alloc::Global;
+use std::io;
+use std::io::{ErrorKind, Read, Write};
 use std::test::Fail;
 
 // The line of `one`, settings, the headers and the Open frames: 7 lines.

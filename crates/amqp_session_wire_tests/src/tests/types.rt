@@ -1,12 +1,11 @@
 //! Errors, modes, handles and channels (part 2, 2.8), and what refusals say.
 use super::{is_form, refusal};
-use crate::definitions::{Error, Handle, ReceiverSettleMode, Role, SenderSettleMode};
-use crate::{
+use amqp_session_types::definitions::{Error, Handle, ReceiverSettleMode, Role, SenderSettleMode};
+use amqp_session_types::{
     BeginError, Boxed, ConnectionError, ConnectionStopReason, Fields, IncomingChannel, InputHandle,
-    OpenError, OutgoingChannel, OutputHandle, SessionError, SessionStopReason, TryCloseError,
-    TryEndError,
+    OpenError, OrDefault, OutgoingChannel, OutputHandle, SessionError, SessionStopReason,
+    TryCloseError, TryEndError,
 };
-use amqp_session_types::OrDefault;
 use serde_amqp::{Deserialize, RawValue, Serialize, Symbol, Text, from_slice};
 use std::alloc::{AllocError, Global};
 use std::fmt::Display;

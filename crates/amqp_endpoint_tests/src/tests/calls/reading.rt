@@ -1,7 +1,7 @@
 //! How the peer's frames are read: their headers, descriptors and maps.
 use super::{CLOSE, CLOSE_DECODE, EMPTY, HEADER, OPEN, Row, first_wrong, named};
-use crate::play;
 use amqp_endpoint_model::{Answer, Call, EndpointError, Event};
+use amqp_endpoint_world::play;
 use amqp_session_types::definitions;
 use bytes::Bytes;
 use std::alloc::Global;

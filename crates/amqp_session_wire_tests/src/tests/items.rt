@@ -1,9 +1,8 @@
 //! What a session hands its links and its connection (part 2, 2.5 and 2.6).
 use super::is_equal;
-use crate::{
-    Boxed, End, Flow, Handle, LinkFlow, MissingHandle, OutgoingChannel, SessionFrame,
-    SessionFrameBody,
-};
+use amqp_session_items::{LinkFlow, MissingHandle, SessionFrame, SessionFrameBody};
+use amqp_session_performatives::{End, Flow};
+use amqp_session_types::{Boxed, Handle, OutgoingChannel};
 use std::alloc::{AllocError, Global};
 
 /// A flow with a different value in each field, with this handle.

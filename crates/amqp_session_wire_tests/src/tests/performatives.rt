@@ -1,10 +1,11 @@
 use super::{is_kept, reads, reads_alike, refusal};
-use crate::definitions::Error as Details;
-use crate::{
-    Attach, Begin, Boxed, Close, DeliveryState, Detach, Disposition, End, Fields, Flow, Handle,
-    Open, Performative, ReceiverSettleMode, Role, SenderSettleMode, TargetArchetype, Transfer,
+use amqp_session_performatives::{
+    Attach, Begin, Close, Detach, Disposition, End, Flow, Open, Performative, Transfer,
     clear_continuation_fields,
 };
+use amqp_session_states::{DeliveryState, TargetArchetype};
+use amqp_session_types::definitions::Error as Details;
+use amqp_session_types::{Boxed, Fields, Handle, ReceiverSettleMode, Role, SenderSettleMode};
 use serde_amqp::{
     Array, ByteBuf, Deserialize, Error, OrderedMap, Serialize, Symbol, Text, from_slice, to_vec,
 };

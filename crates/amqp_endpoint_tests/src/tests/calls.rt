@@ -2,9 +2,9 @@
 mod reading;
 mod sessions;
 
-use crate::play;
 use amqp_endpoint_core::Endpoint;
 use amqp_endpoint_model::{Answer, Call, EndpointError, Event, Fed, Settings};
+use amqp_endpoint_world::play;
 use amqp_session_types::TryCloseError;
 use bytes::Bytes;
 use serde_amqp_types::Text;

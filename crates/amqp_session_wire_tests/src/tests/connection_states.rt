@@ -1,8 +1,10 @@
 //! Every state of a connection, with every call that it decides (part 2, 2.4.6).
 use super::{CHANNEL, connection_in, is_frame, is_refused, on, on_with, own_open, taken};
-use crate::{
-    BeginError, Close, Connection, ConnectionError, ConnectionState, ConnectionStopReason, Frame,
-    OpenError, definitions,
+use amqp_session_connection::{Connection, ConnectionState};
+use amqp_session_frames::Frame;
+use amqp_session_performatives::Close;
+use amqp_session_types::{
+    BeginError, ConnectionError, ConnectionStopReason, OpenError, definitions,
 };
 use serde_amqp::Symbol;
 use std::alloc::{AllocError, Global};

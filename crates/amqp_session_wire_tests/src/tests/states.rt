@@ -1,8 +1,9 @@
 use super::types::{error, info, is_form_of_clone, is_read};
 use super::{is_form, is_kept, reads, reads_alike, refusal};
-use crate::{
-    Accepted, Boxed, DeliveryState, Fields, Modified, Outcome, Received, Rejected, Released,
+use amqp_session_states::{
+    Accepted, DeliveryState, Modified, Outcome, Received, Rejected, Released,
 };
+use amqp_session_types::{Boxed, Fields};
 use serde_amqp::{Error, from_slice};
 use std::alloc::Global;
 use std::test::Fail;

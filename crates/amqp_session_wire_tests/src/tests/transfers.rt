@@ -1,6 +1,6 @@
 //! Transfers of one frame and of several (part 2, 2.6.14 and 2.7.5).
 use super::{again, decoded, framed, is_one, seen};
-use crate::{Frame, FrameBody, FrameError};
+use amqp_session_frames::{Error as FrameError, Frame, FrameBody};
 use std::alloc::{AllocError, Global};
 use std::test::Fail;
 

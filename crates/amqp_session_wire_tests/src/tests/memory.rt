@@ -1,7 +1,8 @@
 //! Meant for runs in which one request for memory is refused, too (`rt try --test --fail-alloc N`): a call that answers want
 //! of memory changes nothing, and the same call goes on once there is memory.
 use super::{CHANNEL, begin, connection_in, either, on, opened};
-use crate::{BeginError, Connection, ConnectionError, ConnectionState, IncomingChannel, OpenError};
+use amqp_session_connection::{Connection, ConnectionState};
+use amqp_session_types::{BeginError, ConnectionError, IncomingChannel, OpenError};
 use std::alloc::{AllocError, Global};
 use std::test::Fail;
 

@@ -1,6 +1,6 @@
 use super::states::has_null;
 use super::{is_form, is_kept, reads, reads_alike, refusal};
-use crate::{
+use amqp_session_states::{
     DistributionMode, Outcome, Source, Target, TargetArchetype, TerminusDurability,
     TerminusExpiryPolicy,
 };
