@@ -2,12 +2,10 @@
 mod reading;
 mod sessions;
 
-use amqp_endpoint_core::Endpoint;
-use amqp_endpoint_model::{Answer, Call, EndpointError, Event, Fed, Settings};
-use amqp_endpoint_world::play;
-use amqp_session_types::TryCloseError;
+use amqp_endpoint::{
+    Answer, Call, Endpoint, EndpointError, Event, Fed, Settings, Text, TryCloseError, play,
+};
 use bytes::Bytes;
-use serde_amqp_types::Text;
 use std::alloc::Global;
 use std::test::Fail;
 

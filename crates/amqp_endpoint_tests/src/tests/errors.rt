@@ -1,7 +1,5 @@
 //! Each error's number and text.
-use amqp_endpoint_model::{EndpointError, LinkError};
-use amqp_session_frames::Error as FrameError;
-use amqp_session_types::{ConnectionError, SessionError};
+use amqp_endpoint::{ConnectionError, EndpointError, FrameError, LinkError, SessionError};
 use std::alloc::AllocError;
 
 /// Every error, in the order of the numbers.

@@ -1,8 +1,6 @@
 //! How the peer's frames are read: their headers, descriptors and maps.
 use super::{CLOSE, CLOSE_DECODE, EMPTY, HEADER, OPEN, Row, first_wrong, named};
-use amqp_endpoint_model::{Answer, Call, EndpointError, Event};
-use amqp_endpoint_world::play;
-use amqp_session_types::definitions;
+use amqp_endpoint::{Answer, Call, EndpointError, Event, definitions, play};
 use bytes::Bytes;
 use std::alloc::Global;
 use std::test::Fail;

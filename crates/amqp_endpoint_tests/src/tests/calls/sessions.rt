@@ -1,8 +1,6 @@
 //! Performatives of sessions, of which there are none.
 use super::{CLOSE_NOT_ALLOWED, HEADER, OPEN, Row, first_wrong, named};
-use amqp_endpoint_model::{Answer, Call, EndpointError};
-use amqp_endpoint_world::play;
-use amqp_session_types::ConnectionError;
+use amqp_endpoint::{Answer, Call, ConnectionError, EndpointError, play};
 use bytes::Bytes;
 use std::alloc::Global;
 use std::test::Fail;
