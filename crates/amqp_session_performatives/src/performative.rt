@@ -4,6 +4,7 @@ ghost use Rattle.serde_amqp_read.specs.Reads.{Unless};
 ghost use Rattle.serde_amqp_de.specs.Reads.{at_of};
 ghost use Rattle.serde_amqp_choice.specs.Choice.{RefusesList};
 ghost use Rattle.amqp_session_performatives.specs.Reading.{TookRecord};
+ghost use Rattle.amqp_session_performatives.specs.Attach.{attach_takes};
 ghost use Rattle.amqp_session_performatives.specs.Performative.{performative_item, performative_table, performative_taken};
 ghost use Rattle.amqp_session_performatives.specs.PerformativeLaws.{performatives_decided, performatives_differ, performative_decided, performative_again, performative_same, performative_present};
 
@@ -134,7 +135,7 @@ impl Choice for Performative {
         match code {
             open::CODE => read_as::<Open, R>(alloc, de),
             begin::CODE => read_as::<Begin, R>(alloc, de),
-            attach::CODE => Ok(Performative::Attach(Attach::read_boxed(alloc, de)?)),
+            attach::CODE => read_attach(alloc, de),
             flow::CODE => read_as::<Flow, R>(alloc, de),
             transfer::CODE => read_as::<Transfer, R>(alloc, de),
             disposition::CODE => read_as::<Disposition, R>(alloc, de),
@@ -169,6 +170,21 @@ fn read_as<C: Performs, R: Read>(
 {
     let row = read_fields_of::<C::Row, R>(alloc, de)?;
     Ok(C::from_row(row).into_performative())
+}
+
+/// Reads the list of the fields of an attach, which stands behind its descriptor.
+///
+/// Errors: as those of `read_as`.
+#[inline(never)]
+#[tactic(auto, using(crate::proofs::Reading::composed))]
+fn read_attach<R: Read>(alloc: Global, de: &mut Deserializer<R>) -> Result<Performative, Error>
+    requires { de.old.element ≡ None }
+    ensures ok { IfOk result (λ p. TookRecord attach_takes 0x12 (at_of R.rest de.old) (at_of R.rest de.new) (performative_item p)) }
+    ensures element { OnOk result (de.new.element ≡ None) }
+    ensures refused { Unless R.faulty result (RefusesList attach_takes (at_of R.rest de.old)) }
+{
+    let attach = Attach::read_boxed(alloc, de)?;
+    Ok(Performative::Attach(attach))
 }
 
 /// A described list with the descriptor of one of the performatives. Any other descriptor answers `InvalidValue`.

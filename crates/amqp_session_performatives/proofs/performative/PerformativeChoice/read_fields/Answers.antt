@@ -1,9 +1,8 @@
 use Rattle.std.proofs.Common.{refl}
-use Rattle.serde_amqp_choice.proofs.Choosing.{chosen_took}
 use Rattle.amqp_session_performatives.proofs.Reading.{arm_took, arm_refused}
 use Rattle.amqp_session_performatives.specs.Open.{open_takes}
 use Rattle.amqp_session_performatives.specs.Begin.{begin_takes}
-use Rattle.amqp_session_performatives.specs.Attach.{attach_fields, attach_takes}
+use Rattle.amqp_session_performatives.specs.Attach.{attach_takes}
 use Rattle.amqp_session_performatives.specs.Flow.{flow_takes}
 use Rattle.amqp_session_performatives.specs.Transfer.{transfer_takes}
 use Rattle.amqp_session_performatives.specs.Disposition.{disposition_takes}
@@ -25,8 +24,11 @@ returns-in-17-clause-ok g c = arm_took c.read_as-in-17.result performative_table
 pub returns-in-17-clause-refused : goal.returns-in-17-clause-refused
 returns-in-17-clause-refused g c = arm_refused g.R.Read.faulty c.read_as-in-17.result performative_table c.args.code 0x11 begin_takes _ c.in-17.is c.read_as-in-17.ensures.refused refl
 
-pub returns-in_ok-read_boxed-in-18-clause-ok : goal.returns-in_ok-read_boxed-in-18-clause-ok
-returns-in_ok-read_boxed-in-18-clause-ok g c = chosen_took performative_table c.args.code 0x12 attach_takes (attach_fields c.in_ok-read_boxed-in-18.field-0) _ _ c.in-18.is c.in_ok-read_boxed-in-18.ensures.ok refl
+pub returns-in-18-clause-ok : goal.returns-in-18-clause-ok
+returns-in-18-clause-ok g c = arm_took c.read_attach.result performative_table c.args.code 0x12 attach_takes _ _ c.in-18.is c.read_attach.ensures.ok refl
+
+pub returns-in-18-clause-refused : goal.returns-in-18-clause-refused
+returns-in-18-clause-refused g c = arm_refused g.R.Read.faulty c.read_attach.result performative_table c.args.code 0x12 attach_takes _ c.in-18.is c.read_attach.ensures.refused refl
 
 pub returns-in-19-clause-ok : goal.returns-in-19-clause-ok
 returns-in-19-clause-ok g c = arm_took c.read_as-in-19.result performative_table c.args.code 0x13 flow_takes _ _ c.in-19.is c.read_as-in-19.ensures.ok refl
