@@ -94,6 +94,7 @@ impl<'a, R: Read> ListAccess<'a, R> {
     /// Ends the list. Items that were not read are refused with `SequenceLengthMismatch`, and a size
     /// that isn't theirs with `InvalidLength`. After an error the reader has failed.
     pub fn end(self) -> Result<(), Error>
+        ensures all { OnOk result (self.entry.content.left ≡ 0) }
         ensures ok { OnOk result ((j k : Option ℕ) (old : At) (xs : List Item) → HasRead R.rest a_list j k old xs self.entry.content → Reads k old (at_of R.rest self.exit.0.0.now) (list (items_of xs)) × (self.exit.0.0.now.element ≡ k)) }
         ensures refused { OnErr result ((j k : Option ℕ) (old : At) (xs : List Item) → HasRead R.rest a_list j k old xs self.entry.content → IsNot k old (list (items_of xs))) }
         ensures failed { OnErr result (HasFailed R.rest self.exit.0.0.now) }
@@ -152,6 +153,7 @@ impl<'a, R: Read> ArrayAccess<'a, R> {
     /// Ends the array. Elements that were not read are refused with `SequenceLengthMismatch`, and a size
     /// that isn't theirs with `InvalidLength`. After an error the reader has failed.
     pub fn end(self) -> Result<(), Error>
+        ensures all { OnOk result (self.entry.content.left ≡ 0) }
         ensures ok { OnOk result ((j k : Option ℕ) (old : At) (xs : List Item) → HasRead R.rest an_array j k old xs self.entry.content → Reads k old (at_of R.rest self.exit.0.0.now) (array (items_of xs)) × (self.exit.0.0.now.element ≡ k)) }
         ensures refused { OnErr result ((j k : Option ℕ) (old : At) (xs : List Item) → HasRead R.rest an_array j k old xs self.entry.content → IsNot k old (array (items_of xs))) }
         ensures failed { OnErr result (HasFailed R.rest self.exit.0.0.now) }
@@ -259,6 +261,7 @@ impl<'a, R: Read> MapAccess<'a, R> {
     /// Ends the map. Keys and values that were not read are refused with `SequenceLengthMismatch`, and a size
     /// that isn't theirs with `InvalidLength`. After an error the reader has failed.
     pub fn end(self) -> Result<(), Error>
+        ensures all { OnOk result (self.entry.content.left ≡ 0) }
         ensures ok { OnOk result ((j k : Option ℕ) (old : At) (ps : List (Item × Item)) → HasRead R.rest a_map j k old (in_turn ps) self.entry.content → Reads k old (at_of R.rest self.exit.0.0.now) (map (pairs_of ps)) × (self.exit.0.0.now.element ≡ k)) }
         ensures refused { OnErr result ((j k : Option ℕ) (old : At) (ps : List (Item × Item)) → HasRead R.rest a_map j k old (in_turn ps) self.entry.content → IsNot k old (map (pairs_of ps))) }
         ensures failed { OnErr result (HasFailed R.rest self.exit.0.0.now) }
@@ -351,6 +354,7 @@ impl<'a, R: Read> VariantAccess<'a, R> {
     /// Ends the variant. A value that was not read is refused with `SequenceLengthMismatch`, and a size
     /// that isn't theirs with `InvalidLength`. After an error the reader has failed.
     pub fn end(self) -> Result<(), Error>
+        ensures all { OnOk result (self.entry.content.left ≡ 0) }
         ensures ok { OnOk result ((j k : Option ℕ) (old : At) (x y : Item) → HasRead R.rest a_map j k old (x ∷ y ∷ []) self.entry.content → Reads k old (at_of R.rest self.exit.0.0.now) (map (pairs_of ((x, y) ∷ []))) × (self.exit.0.0.now.element ≡ k)) }
         ensures refused { OnErr result ((j k : Option ℕ) (old : At) (x y : Item) → HasRead R.rest a_map j k old (x ∷ y ∷ []) self.entry.content → IsNot k old (map (pairs_of ((x, y) ∷ [])))) }
         ensures failed { OnErr result (HasFailed R.rest self.exit.0.0.now) }
@@ -441,6 +445,7 @@ impl<'a, R: Read> DescribedAccess<'a, R> {
     /// Ends the described value. A descriptor or a value that was not read is refused with
     /// `SequenceLengthMismatch`. After an error the reader has failed.
     pub fn end(self) -> Result<(), Error>
+        ensures all { OnOk result (self.entry.content.left ≡ 0) }
         ensures ok { OnOk result ((j k : Option ℕ) (old : At) (d v : Item) → HasRead R.rest a_described_value j k old (d ∷ v ∷ []) self.entry.content → Reads k old (at_of R.rest self.exit.0.0.now) (described d v) × (self.exit.0.0.now.element ≡ k)) }
         ensures refused { OnErr result ((j k : Option ℕ) (old : At) (d v : Item) → HasRead R.rest a_described_value j k old (d ∷ v ∷ []) self.entry.content → IsNot k old (described d v)) }
         ensures failed { OnErr result (HasFailed R.rest self.exit.0.0.now) }
