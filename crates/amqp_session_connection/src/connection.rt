@@ -109,9 +109,9 @@ impl Connection {
     pub fn on_incoming_open(
         &mut self,
         channel: IncomingChannel,
-        remote_open: Open,
+        remote_open: &Open,
     ) -> Result<(), OpenError>
-        ensures step { Steps self.old (TakesOpen channel remote_open result) self.new }
+        ensures step { Steps self.old (TakesOpen channel remote_open.now result) self.new }
     {
         let Some(next) = self.local_state.after_incoming_open() else {
             return Err(OpenError::IllegalState);
@@ -143,9 +143,9 @@ impl Connection {
     pub fn on_incoming_close(
         &mut self,
         channel: IncomingChannel,
-        close: Close,
+        close: &Close,
     ) -> Result<(), ConnectionError>
-        ensures step { Steps self.old (TakesClose channel close result) self.new }
+        ensures step { Steps self.old (TakesClose channel close.now result) self.new }
     {
         let Some(next) = self.local_state.after_incoming_close() else {
             return Err(ConnectionError::IllegalState);

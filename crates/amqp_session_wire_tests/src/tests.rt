@@ -285,6 +285,6 @@ fn opened(alloc: Global, own_max: u16, peer_max: u16) -> Result<Connection, Open
     changed(
         connection_in(alloc, ConnectionState::OpenSent, own_max),
         own_open(alloc, peer_max),
-        |connection, remote_open| connection.on_incoming_open(CHANNEL, remote_open),
+        |connection, remote_open| connection.on_incoming_open(CHANNEL, &remote_open),
     )
 }

@@ -100,7 +100,7 @@ fn own_open_is_sent(rt: HostRuntime) -> Result<(), Fail> {
 fn takes_open(alloc: Global, rows: Rows<'_>, state: ConnectionState) -> Result<bool, AllocError> {
     let made = connection_in(alloc, state, 7);
     on_with(made, own_open(alloc, 9), |connection, remote_open| {
-        let answer = connection.on_incoming_open(CHANNEL, remote_open);
+        let answer = connection.on_incoming_open(CHANNEL, &remote_open);
         let answer = taken(answer, OpenError::IllegalState);
         follows(rows, (state, connection.local_state()), answer)
     })
@@ -183,7 +183,7 @@ fn close_with_an_error_is_sent(rt: HostRuntime) -> Result<(), Fail> {
 /// Whether `on_incoming_close` goes by the rows in this state.
 fn takes_close(alloc: Global, rows: Rows<'_>, state: ConnectionState) -> Result<bool, AllocError> {
     on(connection_in(alloc, state, 7), |connection| {
-        let answer = connection.on_incoming_close(CHANNEL, Close { error: None });
+        let answer = connection.on_incoming_close(CHANNEL, &Close { error: None });
         let answer = taken(answer, ConnectionError::IllegalState);
         follows(rows, (state, connection.local_state()), answer)
     })
