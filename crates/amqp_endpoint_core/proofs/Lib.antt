@@ -1,3 +1,4 @@
+pub mod ConnectedLaws
 pub mod CodingLaws
 pub mod ReadingLaws
 pub mod FeedLaws

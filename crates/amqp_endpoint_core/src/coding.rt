@@ -1,6 +1,7 @@
 ghost use Rattle.std.specs.Prelude.{◌≡◌, ◌≤◌, ◌⊎◌, true, false, None, IfOk, IfErr};
 ghost use Rattle.amqp_session_frames.specs.Text.{FrameText};
 ghost use Rattle.amqp_session_frames.specs.Cutting.{IsPiece};
+ghost use Rattle.amqp_session_connection.specs.Steps.{frame_on};
 ghost use Rattle.amqp_endpoint_model.specs.State.{written, fits, own_open, own_close_with, error_of};
 ghost use Rattle.amqp_endpoint_model.specs.Step.{session_refusal};
 ghost use Rattle.amqp_endpoint_model.specs.declared.error.EndpointError.TheVariants.{Memory, FrameTooLarge};
@@ -39,12 +40,12 @@ pub(crate) fn encoded(alloc: Global, limit: u32, frame: Frame) -> Result<Queued,
     }
 }
 
-/// The own Open (part 2, 2.7.1).
-pub(crate) fn open_frame(alloc: Global, settings: &Settings) -> Result<Frame, EndpointError>
-    ensures ok { IfOk result (λ f. f ≡ own_open settings.now) }
+/// What the own Open says (part 2, 2.7.1).
+pub(crate) fn open_of(alloc: Global, settings: &Settings) -> Result<Open, EndpointError>
+    ensures ok { IfOk result (λ opening. frame_on 0 (FrameBody.Open opening) ≡ own_open settings.now) }
     ensures err { IfErr result (λ e. e ≡ Memory) }
 {
-    let open = Open {
+    Ok(Open {
         container_id: settings.container_id.try_clone(alloc)?,
         hostname: None,
         max_frame_size: settings.max_frame_size,
@@ -55,10 +56,6 @@ pub(crate) fn open_frame(alloc: Global, settings: &Settings) -> Result<Frame, En
         offered_capabilities: Array::new(alloc),
         desired_capabilities: Array::new(alloc),
         properties: None,
-    };
-    Ok(Frame {
-        channel: 0,
-        body: FrameBody::Open(open),
     })
 }
 
@@ -66,10 +63,7 @@ pub(crate) fn open_frame(alloc: Global, settings: &Settings) -> Result<Frame, En
 pub(crate) fn close_frame(error: Option<definitions::Error>) -> Frame
     ensures { result ≡ own_close_with error }
 {
-    Frame {
-        channel: 0,
-        body: FrameBody::Close(Close { error }),
-    }
+    Frame::new(0, FrameBody::Close(Close { error }))
 }
 
 /// An error that says this condition alone (part 2, 2.8.14).

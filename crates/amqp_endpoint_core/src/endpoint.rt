@@ -1,13 +1,15 @@
-ghost use Rattle.std.specs.Prelude.{◌≡◌, ◌==◌, ◌&&◌, ◌⊎◌, ◌++◌, ◌∷◌, [], true, length, Some, None, IfOk, IfErr, OnOk, MatchOption, MatchResult};
-ghost use Rattle.amqp_endpoint_model.specs.State.{fresh, is_running, written, heartbeat, fits, own_close_with};
+ghost use Rattle.std.specs.Prelude.{◌≡◌, ◌==◌, ◌&&◌, ◌⊎◌, ◌++◌, ◌∷◌, [], true, false, length, Some, None, IfOk, IfErr, OnOk, MatchOption, MatchResult};
+ghost use Rattle.amqp_endpoint_model.specs.State.{fresh, has_opened, is_running, protocol_header, written, heartbeat, fits, own_close_with};
 ghost use Rattle.amqp_endpoint_model.specs.Said.{said};
-ghost use Rattle.amqp_endpoint_model.specs.Step.{refusal_of_settings, refusal, MayRefuse, Pulls, Step, broken, close_refusal, connected, session_refusal, with_close};
+ghost use Rattle.amqp_endpoint_model.specs.Step.{refusal_of_settings, refusal, MayRefuse, Pulls, Step, broken, close_refusal, connected, session_refusal};
 ghost use Rattle.amqp_endpoint_model.specs.declared.error.EndpointError.TheVariants.{Memory};
 
-use crate::coding::{MIN_MAX_FRAME_SIZE, close_frame, encoded, open_frame};
+use crate::coding::{MIN_MAX_FRAME_SIZE, close_frame, encoded};
+use crate::connecting::{begin_anew, close, unopened};
 use crate::queued::Queued;
 use amqp_endpoint_model::{Answer, Call, EndpointError, Phase, Settings};
-use amqp_session_frames::{Frame, FrameBody};
+use amqp_session_connection::{Connection, ConnectionState};
+use amqp_session_frames::Frame;
 use amqp_session_types::{TryCloseError, definitions};
 use bytes::{Bytes, BytesMut};
 use std::alloc::Global;
@@ -25,30 +27,30 @@ const MAX_WINDOW: u32 = 0x7fff_ffff;
 /// One end of an AMQP connection, without a network: `feed` takes the peer's bytes and answers what they say,
 /// `pull` gives the bytes for the peer. A clause sees it as a `State`: its settings, where it stands with its
 /// connection, the bytes that are no whole frame yet, and what is queued.
+///
+/// Which Open and Close may come and go says its `Connection`.
 #[derive(Drop)]
 pub struct Endpoint {
     alloc: Global,
     settings: Settings,
-    /// The own Open as it is written, with its size in front.
-    open_text: Bytes,
+    connection: Connection,
     phase: Phase,
     peer_limit: Option<u32>,
-    own_close: bool,
-    peer_close: bool,
     close_told: bool,
     input: BytesMut,
     queue: VecDeque<Queued>,
 }
 
 impl Model for Endpoint {
-    ghost use Rattle.std.specs.Prelude.{◌≡◌, ◌≤◌};
-    ghost use Rattle.amqp_endpoint_model.specs.State.{State, written, own_open, limit_of};
+    ghost use Rattle.std.specs.Prelude.{◌≡◌, ◌≤◌, true};
+    ghost use Rattle.amqp_endpoint_model.specs.State.{State, fits, own_open, limit_of};
+    ghost use Rattle.amqp_endpoint_core.specs.Connected.{Stands, sent_close, took_close};
 
     ghost Value = { State };
 
-    ghost view = { λ a. record { settings = a.settings; phase = a.phase; peer_limit = a.peer_limit; own_close = a.own_close; peer_close = a.peer_close; close_told = a.close_told; rest = a.input.items; queue = a.queue.items } };
+    ghost view = { λ a. record { settings = a.settings; phase = a.phase; peer_limit = a.peer_limit; own_close = sent_close a.connection.local_state; peer_close = took_close a.connection.local_state; close_told = a.close_told; rest = a.input.items; queue = a.queue.items } };
 
-    ghost invariant = { λ a. (a.open_text ≡ written (own_open a.settings)) × (512 ≤ limit_of a.peer_limit) };
+    ghost invariant = { λ a. Stands a.settings a.phase a.peer_limit a.connection × (fits 512 (own_open a.settings) ≡ true) × (512 ≤ limit_of a.peer_limit) };
 }
 
 impl Endpoint {
@@ -70,16 +72,13 @@ impl Endpoint {
         if settings.incoming_window > MAX_WINDOW {
             return Err(EndpointError::WindowOutOfRange);
         }
-        let open = open_frame(alloc, &settings)?;
-        let open_text = Bytes::from_vec(encoded(alloc, MIN_MAX_FRAME_SIZE, open)?.to_vec(alloc)?)?;
+        let connection = unopened(alloc, &settings)?;
         Ok(Endpoint {
             alloc,
             settings,
-            open_text,
+            connection,
             phase: Phase::Unconnected,
             peer_limit: None,
-            own_close: false,
-            peer_close: false,
             close_told: false,
             input: BytesMut::new(alloc),
             queue: VecDeque::new(alloc),
@@ -97,12 +96,10 @@ impl Endpoint {
         if self.phase != Phase::Unconnected {
             return Err(EndpointError::AlreadyConnected);
         }
-        let mut queue = VecDeque::new(self.alloc);
-        queue.push_back(Queued::whole(Bytes::from_static(PROTOCOL_HEADER)))?;
+        let queue = greeting(self.alloc)?;
+        begin_anew(self.alloc, &mut self.connection)?;
         self.phase = Phase::Greeting;
         self.peer_limit = None;
-        self.own_close = false;
-        self.peer_close = false;
         self.close_told = false;
         self.input = BytesMut::new(self.alloc);
         self.queue = queue;
@@ -150,13 +147,12 @@ impl Endpoint {
         if !self.is_running() {
             return Err(EndpointError::NotConnected);
         }
-        if self.own_close {
+        if self.own_close() {
             return Err(EndpointError::NotConnected);
         }
-        self.queue_frame(Frame {
-            channel: 0,
-            body: FrameBody::Empty,
-        })
+        let heartbeat = self.written(Frame::empty())?;
+        self.queue.push_back(heartbeat)?;
+        Ok(())
     }
 
     /// Ends the connection without a frame. What is queued and unread goes.
@@ -180,17 +176,17 @@ impl Endpoint {
             Phase::Unconnected | Phase::Greeting => return Err(EndpointError::NotConnected),
             Phase::Running | Phase::Over => {}
         }
-        if self.own_close {
+        if self.own_close() {
             return Err(EndpointError::IllegalState);
         }
-        self.queue_close(None)
+        self.send_close(None)
     }
 
     /// Whether both Close went since the latest `connect`: the own one was queued, and the peer's came.
     pub fn is_closed(&self) -> bool
         ensures { result ≡ (self.now.own_close && self.now.peer_close) }
     {
-        self.own_close && self.peer_close
+        self.own_close() && self.peer_close()
     }
 
     /// Ok once, after the peer's Close came.
@@ -201,7 +197,7 @@ impl Endpoint {
         ensures ok { OnOk result ((close_refusal self.old ≡ None) × (self.new ≡ record self.old { close_told = true })) }
         ensures err { IfErr result (λ e. (close_refusal self.old ≡ Some e) × (self.new ≡ self.old)) }
     {
-        if !self.peer_close {
+        if !self.peer_close() {
             return Err(TryCloseError::RemoteCloseNotReceived);
         }
         if self.close_told {
@@ -241,32 +237,66 @@ impl Endpoint {
         self.phase == Phase::Running
     }
 
-    /// Queues a frame of no session that fits any peer's limit.
-    fn queue_frame(&mut self, frame: Frame) -> Result<(), EndpointError>
-        requires short { fits 512 frame ≡ true }
-        requires own { session_refusal frame.body ≡ None }
-        ensures ok { OnOk result (self.new ≡ record self.old { queue = self.old.queue ++ written frame ∷ [] }) }
-        ensures err { IfErr result (λ e. (e ≡ Memory) × (self.new ≡ self.old)) }
+    /// Whether the own Close was queued since the latest `connect`.
+    fn own_close(&self) -> bool
+        ensures { result ≡ self.now.own_close }
     {
-        let limit = self.peer_limit.unwrap_or(MIN_MAX_FRAME_SIZE);
-        let frame = encoded(self.alloc, limit, frame)?;
-        self.queue.push_back(frame)?;
-        Ok(())
+        match self.connection.local_state() {
+            ConnectionState::OpenClosePipe
+            | ConnectionState::ClosePipe
+            | ConnectionState::CloseSent
+            | ConnectionState::Discarding
+            | ConnectionState::End => true,
+            _ => false,
+        }
     }
 
-    /// Queues the own Close with this error, unless the own Close is queued.
-    fn queue_close(&mut self, error: Option<definitions::Error>) -> Result<(), EndpointError>
-        requires { fits 512 (own_close_with error) ≡ true }
-        ensures ok { OnOk result (self.new ≡ record self.old { own_close = true; queue = with_close self.old (written (own_close_with error)) }) }
+    /// Whether the peer's Close came since the latest `connect`.
+    fn peer_close(&self) -> bool
+        ensures { result ≡ self.now.peer_close }
+    {
+        match self.connection.local_state() {
+            ConnectionState::CloseReceived | ConnectionState::End => true,
+            _ => false,
+        }
+    }
+
+    /// A frame of no session that fits any peer's limit, as it is queued.
+    fn written(&self, frame: Frame) -> Result<Queued, EndpointError>
+        requires short { fits 512 frame ≡ true }
+        requires own { session_refusal frame.body ≡ None }
+        ensures ok { IfOk result (λ q. q ≡ written frame) }
+        ensures err { IfErr result (λ e. e ≡ Memory) }
+    {
+        let limit = self.peer_limit.unwrap_or(MIN_MAX_FRAME_SIZE);
+        encoded(self.alloc, limit, frame)
+    }
+
+    /// Queues the own Close with this error. It is written first, since a connection that has sent it can't take it
+    /// back where there is no memory for it.
+    fn send_close(&mut self, error: Option<definitions::Error>) -> Result<(), EndpointError>
+        requires short { fits 512 (own_close_with error) ≡ true }
+        requires opened { has_opened self.old.phase ≡ true }
+        requires first { self.old.own_close ≡ false }
+        ensures ok { OnOk result (self.new ≡ record self.old { own_close = true; queue = self.old.queue ++ written (own_close_with error) ∷ [] }) }
         ensures err { IfErr result (λ e. (e ≡ Memory) × (self.new ≡ self.old)) }
     {
-        if self.own_close {
-            return Ok(());
-        }
-        self.queue_frame(close_frame(error))?;
-        self.own_close = true;
+        let text = self.written(close_frame(error.clone()?))?;
+        self.queue.reserve(1)?;
+        close(&mut self.connection, error)?;
+        self.queue.push_back_reserved(text);
         Ok(())
     }
+}
+
+/// The queue in which the own protocol header waits alone.
+fn greeting(alloc: Global) -> Result<VecDeque<Queued>, EndpointError>
+    ensures ok { IfOk result (λ queue. queue.items ≡ protocol_header ∷ []) }
+    ensures err { IfErr result (λ e. e ≡ Memory) }
+{
+    let mut queue = VecDeque::new(alloc);
+    queue.push_back(Queued::whole(Bytes::from_static(PROTOCOL_HEADER)))?;
+    Ok(queue)
 }
 
 fn done(outcome: Result<(), EndpointError>) -> Answer

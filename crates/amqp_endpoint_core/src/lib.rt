@@ -3,6 +3,7 @@
 
 mod coding;
 mod condition;
+mod connecting;
 mod endpoint;
 mod queued;
 

@@ -1,4 +1,5 @@
 pub mod Numbers
+pub mod Refusals
 pub mod Said
 pub mod State
 pub mod Step

@@ -1,6 +1,7 @@
 ghost use Rattle.std.specs.Prelude.{◌≡◌};
 ghost use Rattle.amqp_endpoint_model.specs.declared.error.EndpointError.TheVariants.{Memory};
 ghost use Rattle.amqp_endpoint_model.specs.Numbers.{number};
+ghost use Rattle.amqp_endpoint_model.specs.Refusals.{of_connection};
 
 use amqp_session_frames::Error as FrameError;
 use amqp_session_types::{ConnectionError, SessionError};
@@ -142,6 +143,18 @@ impl EndpointError {
             EndpointError::Connection(_) => 27,
             EndpointError::Session(_) => 28,
             EndpointError::Link(_) => 29,
+        }
+    }
+}
+
+/// Want of memory is the endpoint's own; any other refusal is the connection's (27).
+impl From<ConnectionError> for EndpointError {
+    ghost from_gives = { λ refusal e. e ≡ of_connection refusal };
+
+    fn from(refusal: ConnectionError) -> EndpointError {
+        match refusal {
+            ConnectionError::Memory => EndpointError::Memory,
+            other => EndpointError::Connection(other),
         }
     }
 }

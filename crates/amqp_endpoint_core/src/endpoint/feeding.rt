@@ -1,18 +1,18 @@
-ghost use Rattle.std.specs.Prelude.{◌≡◌, ◌++◌, [], true, Some, None, IfOk, IfErr, OnOk, MatchOption};
-ghost use Rattle.amqp_endpoint_model.specs.State.{error_of, own_close_with, written};
-ghost use Rattle.amqp_endpoint_model.specs.Step.{FeedsIn, Greets, ReadsOn, Waits, with_close};
+ghost use Rattle.std.specs.Prelude.{◌≡◌, ◌++◌, [], true, Some, None, IsSome, IfOk, IfErr, OnOk, MatchOption, MatchResult};
+ghost use Rattle.amqp_endpoint_model.specs.State.{error_of, has_opened, own_close_with, written};
+ghost use Rattle.amqp_endpoint_model.specs.Step.{FeedsIn, Greets, ReadsOn, Waits, closed, opened as opened_state, session_refusal, with_close};
 ghost use Rattle.amqp_endpoint_model.specs.declared.error.EndpointError.TheVariants.{Memory};
 ghost use Rattle.amqp_endpoint_model.specs.declared.phase.Phase.TheVariants.{Greeting, Running};
 ghost use Rattle.amqp_endpoint_core.specs.Reading.{BodyRefused, BodyTaken, EndsBy, FrameSplit, FrontRefused, FrontTaken, FrontUnread, HeaderRefused, HeaderTaken, PieceOf, SizeRefused, condition_text};
 
 use super::{Endpoint, PROTOCOL_HEADER};
-use crate::coding::{MIN_MAX_FRAME_SIZE, decoded, error_of_condition};
+use crate::coding::{MIN_MAX_FRAME_SIZE, close_frame, decoded, error_of_condition};
 use crate::condition::Condition;
-use crate::queued::Queued;
+use crate::connecting::{close, find_session, opened, take_begin, take_close, take_end};
 use amqp_endpoint_model::{Closed, EndpointError, Event, Fed, Opened, Phase};
 use amqp_session_frames::{Frame, FrameBody};
 use amqp_session_performatives::{Close, Open};
-use amqp_session_types::ConnectionError;
+use amqp_session_types::{ConnectionError, IncomingChannel};
 use bytes::{Buf, BytesMut};
 use std::alloc::Global;
 
@@ -78,11 +78,23 @@ impl Endpoint {
         if header != PROTOCOL_HEADER {
             return Err(EndpointError::ProtocolHeaderMismatch);
         }
-        let open = self.open_text.clone()?;
-        self.queue.push_back(Queued::whole(open))?;
+        self.send_open()?;
         self.input.advance(PROTOCOL_HEADER.len());
-        self.phase = Phase::Running;
         Ok(true)
+    }
+
+    /// Queues the own Open, the headers being exchanged (part 2, 2.4.1): the connection begins.
+    fn send_open(&mut self) -> Result<(), EndpointError>
+        requires { self.old.phase ≡ Greeting }
+        ensures ok { OnOk result (self.new ≡ record (opened_state self.old) { rest = self.old.rest }) }
+        ensures err { IfErr result (λ e. (e ≡ Memory) × (self.new ≡ self.old)) }
+    {
+        self.queue.reserve(1)?;
+        let (connection, open) = opened(self.alloc, &self.connection)?;
+        self.queue.push_back_reserved(open);
+        self.connection = connection;
+        self.phase = Phase::Running;
+        Ok(())
     }
 
     #[inline(never)]
@@ -154,7 +166,7 @@ impl Endpoint {
         ensures err { IfErr result (λ e. FrontRefused self.old self.old.rest e × (events.new.items ≡ events.old.items) × (self.new ≡ record self.old { rest = self.new.rest })) }
     {
         let frame = self.next_frame(size)?;
-        self.take(frame.body, events)
+        self.take(frame, events)
     }
 
     /// Splits the frame in front, which has so many bytes, off the input.
@@ -190,63 +202,110 @@ impl Endpoint {
     }
 
     /// Takes what a frame says. There are no sessions: what says something of one is refused.
-    fn take(&mut self, body: FrameBody, events: &mut Vec<Event>) -> Result<(), EndpointError>
+    fn take(&mut self, frame: Frame, events: &mut Vec<Event>) -> Result<(), EndpointError>
         requires { self.old.phase ≡ Running }
-        ensures ok { OnOk result (BodyTaken self.old body events.old.items events.new.items self.new) }
-        ensures err { IfErr result (λ e. BodyRefused self.old body e × (events.new.items ≡ events.old.items) × (self.new ≡ self.old)) }
+        ensures ok { OnOk result (BodyTaken self.old frame.body events.old.items events.new.items self.new) }
+        ensures err { IfErr result (λ e. BodyRefused self.old frame.body e × (events.new.items ≡ events.old.items) × (self.new ≡ self.old)) }
     {
-        match body {
+        let channel = IncomingChannel(frame.channel);
+        match frame.body {
             FrameBody::Empty => Ok(()),
-            FrameBody::Open(open) => self.take_open(open, events),
-            FrameBody::Close(close) => self.take_close(close, events),
-            FrameBody::Begin(begin) => match begin.remote_channel {
-                None => Err(EndpointError::Connection(ConnectionError::NotImplemented)),
-                Some(_) => Err(EndpointError::Connection(ConnectionError::NotFound)),
-            },
-            FrameBody::Attach(_)
+            FrameBody::Open(open) => self.take_open(channel, open, events),
+            FrameBody::Close(close) => self.take_close(channel, close, events),
+            body @ (FrameBody::Begin(_)
+            | FrameBody::Attach(_)
             | FrameBody::Flow(_)
             | FrameBody::Transfer { .. }
             | FrameBody::Disposition(_)
             | FrameBody::Detach(_)
-            | FrameBody::End(_) => Err(EndpointError::Connection(ConnectionError::NotFound)),
+            | FrameBody::End(_)) => self.route(channel, &body),
         }
     }
 
-    fn take_open(&mut self, peer: Open, events: &mut Vec<Event>) -> Result<(), EndpointError>
+    fn take_open(
+        &mut self,
+        channel: IncomingChannel,
+        peer: Open,
+        events: &mut Vec<Event>,
+    ) -> Result<(), EndpointError>
+        requires { self.old.phase ≡ Running }
         ensures ok { OnOk result (BodyTaken self.old (FrameBody.Open peer) events.old.items events.new.items self.new) }
         ensures err { IfErr result (λ e. BodyRefused self.old (FrameBody.Open peer) e × (events.new.items ≡ events.old.items) × (self.new ≡ self.old)) }
     {
-        if self.peer_limit.is_some() {
+        match self.peer_limit {
+            None if peer.max_frame_size < MIN_MAX_FRAME_SIZE => {
+                return Err(EndpointError::PeerLimitUnder512);
+            }
+            _ => {}
+        }
+        events.reserve(1)?;
+        if self.connection.on_incoming_open(channel, &peer).is_err() {
             return Err(EndpointError::Connection(ConnectionError::IllegalState));
         }
-        if peer.max_frame_size < MIN_MAX_FRAME_SIZE {
-            return Err(EndpointError::PeerLimitUnder512);
-        }
-        events.push(Event::Opened(Opened {
+        self.peer_limit = Some(peer.max_frame_size);
+        events.push_reserved(Event::Opened(Opened {
             container_id: peer.container_id,
             max_frame_size: peer.max_frame_size,
             channel_max: peer.channel_max,
             idle_time_out: peer.idle_time_out,
-        }))?;
-        self.peer_limit = Some(peer.max_frame_size);
+        }));
         Ok(())
     }
 
-    fn take_close(&mut self, close: Close, events: &mut Vec<Event>) -> Result<(), EndpointError>
+    fn take_close(
+        &mut self,
+        channel: IncomingChannel,
+        close: Close,
+        events: &mut Vec<Event>,
+    ) -> Result<(), EndpointError>
+        requires { self.old.phase ≡ Running }
         ensures ok { OnOk result (BodyTaken self.old (FrameBody.Close close) events.old.items events.new.items self.new) }
         ensures err { IfErr result (λ e. BodyRefused self.old (FrameBody.Close close) e × (events.new.items ≡ events.old.items) × (self.new ≡ self.old)) }
     {
         events.reserve(1)?;
-        self.queue_close(None)?;
+        self.close_both(channel, &close)?;
         events.push_reserved(Event::Closed(Closed { error: close.error }));
-        self.phase = Phase::Over;
-        self.peer_close = true;
         self.input = BytesMut::new(self.alloc);
         Ok(())
     }
 
+    /// The peer's Close came: it is answered by the own one, unless that was queued.
+    fn close_both(&mut self, channel: IncomingChannel, peer: &Close) -> Result<(), EndpointError>
+        requires { self.old.phase ≡ Running }
+        ensures ok { OnOk result (self.new ≡ record (closed self.old) { rest = self.old.rest }) }
+        ensures err { IfErr result (λ e. (e ≡ Memory) × (self.new ≡ self.old)) }
+    {
+        if self.own_close() {
+            take_close(&mut self.connection, channel, peer)?;
+            self.phase = Phase::Over;
+            return Ok(());
+        }
+        let answer = self.written(close_frame(None))?;
+        self.queue.reserve(1)?;
+        take_close(&mut self.connection, channel, peer)?;
+        close(&mut self.connection, None)?;
+        self.queue.push_back_reserved(answer);
+        self.phase = Phase::Over;
+        Ok(())
+    }
+
+    /// Refuses what says something of a session.
+    #[tactic(auto, using(crate::proofs::ConnectedLaws::session_refused))]
+    fn route(&mut self, channel: IncomingChannel, body: &FrameBody) -> Result<(), EndpointError>
+        requires { IsSome (session_refusal body.now) }
+        ensures refused { MatchResult result (λ _. ⊥) (λ e. BodyRefused self.old body.now e) }
+        ensures same { self.new ≡ self.old }
+    {
+        match body {
+            FrameBody::Begin(begin) => take_begin(&mut self.connection, channel, begin),
+            FrameBody::End(end) => take_end(&mut self.connection, channel, end),
+            _ => find_session(&self.connection, channel),
+        }
+    }
+
     /// Ends the connection by this fault, or by want of memory for the Close that tells of it.
     fn end_by(&mut self, fault: EndpointError) -> EndpointError
+        requires { self.old.phase ≡ Running }
         ensures { EndsBy fault result self.old self.new }
     {
         let Some(condition) = Condition::of(&fault) else {
@@ -264,14 +323,15 @@ impl Endpoint {
 
     /// Queues the own Close with this condition, unless the own Close is queued.
     fn close_with(&mut self, condition: Condition) -> Result<(), EndpointError>
+        requires { has_opened self.old.phase ≡ true }
         ensures ok { OnOk result (self.new ≡ record self.old { own_close = true; queue = with_close self.old (written (own_close_with (Some (error_of (condition_text condition))))) }) }
         ensures err { IfErr result (λ e. (e ≡ Memory) × (self.new ≡ self.old)) }
     {
-        if self.own_close {
+        if self.own_close() {
             return Ok(());
         }
         let error = error_of_condition(self.alloc, condition.as_str())?;
-        self.queue_close(Some(error))
+        self.send_close(Some(error))
     }
 }
 

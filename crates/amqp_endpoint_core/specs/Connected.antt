@@ -1,0 +1,71 @@
+-- How an endpoint and its connection agree.
+use Rattle.std.specs.Prelude.{◌≡◌, ℕ, Bool, true, false, List, Option, Some, None}
+use Rattle.std.specs.FinMap as map
+use Rattle.amqp_session_frames.specs.declared.frame.FrameBody.TheVariants as body
+use Rattle.amqp_session_connection.specs.declared.state.ConnectionState.{ConnectionState}
+use Rattle.amqp_session_connection.specs.declared.state.ConnectionState.TheVariants.{HeaderSent, OpenClosePipe, OpenSent, ClosePipe, Opened, CloseReceived, CloseSent, Discarding, End}
+use Rattle.amqp_session_performatives.specs.declared.open.Open.{Open}
+use Rattle.amqp_session_connection.specs.State.{State, fresh}
+use Rattle.amqp_session_connection.specs.Steps.{frame_on}
+use Rattle.amqp_endpoint_model.specs.declared.phase.Phase.{Phase}
+use Rattle.amqp_endpoint_model.specs.declared.phase.Phase.TheVariants.{Unconnected, Greeting, Running, Over}
+use Rattle.amqp_endpoint_model.specs.declared.settings.Settings.{Settings}
+use Rattle.amqp_endpoint_model.specs.State.{own_open, written}
+
+-- the own Close was sent (part 2, 2.4.6)
+abbrev pub sent_close : ConnectionState → Bool
+sent_close OpenClosePipe = true
+sent_close ClosePipe = true
+sent_close CloseSent = true
+sent_close Discarding = true
+sent_close End = true
+sent_close state = false
+
+-- the peer's Close came (part 2, 2.4.6)
+abbrev pub took_close : ConnectionState → Bool
+took_close CloseReceived = true
+took_close End = true
+took_close state = false
+
+-- the own Open was sent, and the peer's Close did not come: the peer's limit is known where its Open came (part 2, 2.4.6)
+abbrev pub Runs : Option ℕ → ConnectionState → Type 0
+Runs None OpenSent = Unit {0}
+Runs None ClosePipe = Unit {0}
+Runs (Some limit) Opened = Unit {0}
+Runs (Some limit) CloseSent = Unit {0}
+Runs (Some limit) Discarding = Unit {0}
+Runs limit state = ⊥
+
+-- where an endpoint stands, the peer's limit, and the state of its connection belong together
+abbrev pub Agrees : Phase → Option ℕ → ConnectionState → Type 0
+Agrees Unconnected limit state = Unit {0}
+Agrees Greeting limit state = (limit ≡ None) × (state ≡ HeaderSent)
+Agrees Running limit state = Runs limit state
+Agrees Over limit state = sent_close state ≡ true
+
+-- no session is live, and no channel of the peer is routed to one
+pub record HasNoSession (connection : State) : Type 0 where
+  pub live : connection.live ≡ map.empty
+  pub routes : connection.routes ≡ map.empty
+
+-- the connection of an endpoint with these settings, which stands so: it sends their Open, and has no sessions
+pub record Stands (settings : Settings) (phase : Phase) (limit : Option ℕ) (connection : State) : Type 0 where
+  pub opening : frame_on 0 (body.Open connection.local_open) ≡ own_open settings
+  pub sessions : HasNoSession connection
+  pub agrees : Agrees phase limit connection.local_state
+
+-- a new connection in this state, which will send the Open of these settings
+pub record BeginsWith (state : ConnectionState) (settings : Settings) (connection : State) : Type 0 where
+  pub opening : Open
+  pub own : frame_on 0 (body.Open opening) ≡ own_open settings
+  pub is : connection ≡ fresh state opening
+
+-- a new connection that sent this Open, and the Open as it is written
+pub record Sends (opening : Open) (connection : State) (text : List ℕ) : Type 0 where
+  pub is : connection ≡ fresh OpenSent opening
+  pub text_is : text ≡ written (frame_on 0 (body.Open opening))
+
+-- the connection went on as a row of the table says, and nothing else changed (part 2, 2.4.6)
+pub record MovesBy (row : ConnectionState → Option ConnectionState) (old new : State) : Type 0 where
+  pub to : row old.local_state ≡ Some new.local_state
+  pub is : new ≡ record old { local_state = new.local_state }
