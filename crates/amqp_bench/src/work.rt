@@ -62,7 +62,7 @@ impl Found {
 
 impl Work {
     /// The work that this line names.
-    pub fn parse(line: &str) -> Option<Work> {
+    pub(crate) fn parse(line: &str) -> Option<Work> {
         let (name, numbers) = line.split_once(' ')?;
         match name {
             "frames" => {
@@ -80,7 +80,7 @@ impl Work {
     }
 
     /// Does the work.
-    pub fn run(self, alloc: Global) -> Result<Found, EndpointError> {
+    pub(crate) fn run(self, alloc: Global) -> Result<Found, EndpointError> {
         let mut found = Found {
             opened: 0,
             closed: 0,

@@ -28,7 +28,7 @@ const ATTACH: &[u8] = b"\x00\x53\x12\xd0\x00\x00\x01\x17\x00\x00\x00\x0e\
     \xc1\x0b\x02\xa3\x07product\x40";
 
 /// The performative of a frame.
-pub fn performative(kind: Kind) -> &'static [u8] {
+pub(crate) fn performative(kind: Kind) -> &'static [u8] {
     match kind {
         Kind::Transfer => TRANSFER,
         Kind::Flow => FLOW,

@@ -64,7 +64,7 @@ fn kind_of(name: &str) -> Option<Kind> {
 
 impl Work {
     /// The work that this line names.
-    pub fn parse(line: &str) -> Option<Work> {
+    pub(crate) fn parse(line: &str) -> Option<Work> {
         let (way, others) = line.split_once(' ')?;
         let (kind, others) = others.split_once(' ')?;
         let (payload, others) = others.split_once(' ')?;
@@ -79,7 +79,7 @@ impl Work {
     }
 
     /// Does the work, and says how many bytes were read or written.
-    pub fn run(self, alloc: Global) -> Result<u64, Error> {
+    pub(crate) fn run(self, alloc: Global) -> Result<u64, Error> {
         let text = self.text(alloc)?;
         let decoder = FrameDecoder::new();
         let encoder = FrameEncoder::new(self.limit.max(4));

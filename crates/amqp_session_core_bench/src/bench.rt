@@ -30,7 +30,7 @@ pub struct Bench {
 
 impl Bench {
     /// A session that has neither begun nor links, whose transfers all carry this payload.
-    pub fn new(alloc: Global, payload: Bytes) -> Self {
+    pub(crate) fn new(alloc: Global, payload: Bytes) -> Self {
         Bench {
             session: Session::new(alloc, OutgoingChannel(0), 0, 2048),
             out: VecDeque::new(alloc),
@@ -44,12 +44,12 @@ impl Bench {
     }
 
     /// What was counted.
-    pub fn counts(&self) -> Counts {
+    pub(crate) fn counts(&self) -> Counts {
         self.counts
     }
 
     /// Both Begins are exchanged: the peer takes so many transfers.
-    pub fn begin(&mut self, alloc: Global, window: u32) -> Result<(), BeginError> {
+    pub(crate) fn begin(&mut self, alloc: Global, window: u32) -> Result<(), BeginError> {
         let _ = self.session.send_begin(alloc)?;
         let begin = frames::begin(alloc, window);
         self.session
@@ -57,7 +57,7 @@ impl Bench {
     }
 
     /// A link gets a handle.
-    pub fn link(&mut self, echo: bool) -> Result<OutputHandle, SessionError> {
+    pub(crate) fn link(&mut self, echo: bool) -> Result<OutputHandle, SessionError> {
         match self.session.allocate_link(PlainLink { echo }) {
             Ok(handle) => Ok(handle),
             Err(refused) => Err(refused.error),
@@ -65,7 +65,7 @@ impl Bench {
     }
 
     /// A link hands so many deliveries to the session at once.
-    pub fn send(
+    pub(crate) fn send(
         &mut self,
         alloc: Global,
         handle: OutputHandle,
@@ -81,7 +81,7 @@ impl Bench {
 
     /// So many deliveries are handed to the session one by one, and leave. Where the window is used up the peer opens
     /// it again.
-    pub fn send_each(
+    pub(crate) fn send_each(
         &mut self,
         alloc: Global,
         handle: OutputHandle,
@@ -103,7 +103,7 @@ impl Bench {
     }
 
     /// So many deliveries are put together and dropped: the session has no part in it.
-    pub fn put_together(&self, alloc: Global, count: u32) -> Result<(), AllocError> {
+    pub(crate) fn put_together(&self, alloc: Global, count: u32) -> Result<(), AllocError> {
         for _ in 0..count {
             let _transfer = frames::transfer(alloc, true)?;
             let _payload = self.payload.clone()?;
@@ -112,7 +112,7 @@ impl Bench {
     }
 
     /// The peer opens its window so many times, for one transfer each time.
-    pub fn open_each(&mut self, alloc: Global, count: u32) -> Result<(), SessionError> {
+    pub(crate) fn open_each(&mut self, alloc: Global, count: u32) -> Result<(), SessionError> {
         for _ in 0..count {
             self.open(alloc, 1)?;
             self.take_out();
@@ -121,7 +121,7 @@ impl Bench {
     }
 
     /// The peer settles or accepts the deliveries from the first to the last.
-    pub fn dispose(
+    pub(crate) fn dispose(
         &mut self,
         alloc: Global,
         first: u32,
@@ -135,7 +135,7 @@ impl Bench {
     }
 
     /// The peer settles so many deliveries one by one.
-    pub fn dispose_each(&mut self, alloc: Global, count: u32) -> Result<(), SessionError> {
+    pub(crate) fn dispose_each(&mut self, alloc: Global, count: u32) -> Result<(), SessionError> {
         for number in 0..count {
             self.dispose(alloc, number, None, true)?;
         }

@@ -9,7 +9,7 @@ use std::alloc::{AllocError, Global};
 const TAG: [u8; 8] = [0, 0, 0, 0, 0, 0, 0, 7];
 
 /// The peer's Begin, with this incoming-window (part 2, 2.7.2).
-pub fn begin(alloc: Global, incoming_window: u32) -> Begin {
+pub(crate) fn begin(alloc: Global, incoming_window: u32) -> Begin {
     Begin {
         remote_channel: Some(0),
         next_outgoing_id: 0,
@@ -23,7 +23,7 @@ pub fn begin(alloc: Global, incoming_window: u32) -> Begin {
 }
 
 /// A Flow of the peer that tells this window (part 2, 2.5.6).
-pub fn flow(next_incoming_id: u32, incoming_window: u32) -> Flow {
+pub(crate) fn flow(next_incoming_id: u32, incoming_window: u32) -> Flow {
     Flow {
         next_incoming_id: Some(next_incoming_id),
         incoming_window,
@@ -40,7 +40,7 @@ pub fn flow(next_incoming_id: u32, incoming_window: u32) -> Flow {
 }
 
 /// The first and only transfer of a delivery (part 2, 2.7.5).
-pub fn transfer(alloc: Global, settled: bool) -> Result<Transfer, AllocError> {
+pub(crate) fn transfer(alloc: Global, settled: bool) -> Result<Transfer, AllocError> {
     let tag = DeliveryTag::from_slice(alloc, &TAG)?;
     Ok(Transfer {
         handle: Handle(0),
@@ -58,7 +58,7 @@ pub fn transfer(alloc: Global, settled: bool) -> Result<Transfer, AllocError> {
 }
 
 /// A disposition of the peer that accepts deliveries (part 2, 2.7.6).
-pub fn disposition(first: u32, last: Option<u32>, settled: bool) -> Disposition {
+pub(crate) fn disposition(first: u32, last: Option<u32>, settled: bool) -> Disposition {
     Disposition {
         role: Role::Receiver,
         first,

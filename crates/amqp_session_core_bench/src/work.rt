@@ -64,7 +64,7 @@ fn way_of(name: &str) -> Option<Way> {
 
 impl Work {
     /// The work that this line names.
-    pub fn parse(line: &str) -> Option<Work> {
+    pub(crate) fn parse(line: &str) -> Option<Work> {
         let (name, numbers) = line.split_once(' ')?;
         match numbers.split_once(' ') {
             Some((first, count)) => Work::of_two(name, first.parse().ok()?, count.parse().ok()?),
@@ -103,7 +103,7 @@ impl Work {
     }
 
     /// Does the work, and says what was counted.
-    pub fn run(self, alloc: Global) -> Result<Counts> {
+    pub(crate) fn run(self, alloc: Global) -> Result<Counts> {
         let payload = payload(alloc)?;
         let mut bench = Bench::new(alloc, payload);
         self.run_in(alloc, &mut bench)

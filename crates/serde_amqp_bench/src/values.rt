@@ -31,7 +31,7 @@ fn symbol(alloc: Global, text: &str) -> Result<Symbol, Error> {
 }
 
 /// So many small numbers.
-pub fn numbers(alloc: Global, count: usize) -> Result<Vec<u32>, Error> {
+pub(crate) fn numbers(alloc: Global, count: usize) -> Result<Vec<u32>, Error> {
     let mut numbers = Vec::with_capacity(alloc, count)?;
     for _ in 0..count {
         numbers.push(7u32)?;
@@ -40,7 +40,7 @@ pub fn numbers(alloc: Global, count: usize) -> Result<Vec<u32>, Error> {
 }
 
 /// So many times 64 KiB.
-pub fn binary(alloc: Global, count: usize) -> Result<Binary, Error> {
+pub(crate) fn binary(alloc: Global, count: usize) -> Result<Binary, Error> {
     let mut bytes = Vec::new(alloc);
     for _ in 0..count {
         bytes.extend_from_slice(&[0x5a; 65_536])?;
@@ -75,7 +75,7 @@ fn entries(alloc: Global) -> Result<OrderedMap<Symbol, u32>, Error> {
 }
 
 /// So many composites as Open is.
-pub fn open_likes(alloc: Global, count: usize) -> Result<Vec<OpenLike>, Error> {
+pub(crate) fn open_likes(alloc: Global, count: usize) -> Result<Vec<OpenLike>, Error> {
     let mut values = Vec::with_capacity(alloc, count)?;
     for _ in 0..count {
         let name = String::from_str(alloc, "container")?;
@@ -98,7 +98,7 @@ fn four<T: Drop>(alloc: Global, inner: T) -> Result<Layer<Layer<Layer<Layer<T>>>
 }
 
 /// So many composites that are eight deep.
-pub fn nested(alloc: Global, count: usize) -> Result<Vec<Nested>, Error> {
+pub(crate) fn nested(alloc: Global, count: usize) -> Result<Vec<Nested>, Error> {
     let mut values = Vec::with_capacity(alloc, count)?;
     for _ in 0..count {
         values.push(four(alloc, four(alloc, ())?)?)?;
@@ -116,7 +116,7 @@ fn eight<T: Drop>(alloc: Global, others: T) -> Result<Two<Two<Two<Two<T>>>>, Err
 }
 
 /// So many composites with the same fields side by side.
-pub fn flat(alloc: Global, count: usize) -> Result<Vec<Flat>, Error> {
+pub(crate) fn flat(alloc: Global, count: usize) -> Result<Vec<Flat>, Error> {
     let mut values = Vec::with_capacity(alloc, count)?;
     for _ in 0..count {
         values.push(Record(eight(alloc, eight(alloc, ())?)?))?;

@@ -59,7 +59,7 @@ fn shape_of(name: &str) -> Option<Shape> {
 
 impl Work {
     /// The work that this line names.
-    pub fn parse(line: &str) -> Option<Work> {
+    pub(crate) fn parse(line: &str) -> Option<Work> {
         let (way, others) = line.split_once(' ')?;
         let (shape, others) = others.split_once(' ')?;
         let (size, times) = others.split_once(' ')?;
@@ -72,7 +72,7 @@ impl Work {
     }
 
     /// Does the work, and says how many bytes were written, counted or read.
-    pub fn run(self, alloc: Global) -> Result<u64, Error> {
+    pub(crate) fn run(self, alloc: Global) -> Result<u64, Error> {
         match self.shape {
             Shape::List => self.repeat(alloc, &values::numbers(alloc, self.size)?),
             Shape::Record => self.repeat(alloc, &values::open_likes(alloc, self.size)?),

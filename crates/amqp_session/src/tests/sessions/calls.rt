@@ -367,7 +367,7 @@ fn sent_flow_in(peer: &mut Peer, alloc: Global, handle: u32) -> Answer<Option<Le
 }
 
 /// The Flow that leaves at once where one of the link gets a place, if one leaves.
-pub fn placed_flow(
+pub(crate) fn placed_flow(
     session: &mut Session<Plain>,
     alloc: Global,
     handle: OutputHandle,
@@ -383,7 +383,7 @@ fn sent_detach_in(peer: &mut Peer, alloc: Global, handle: u32) -> Answer<Option<
 }
 
 /// The Detach that leaves at once where one of the link gets a place, if one leaves.
-pub fn placed_detach(
+pub(crate) fn placed_detach(
     session: &mut Session<Plain>,
     alloc: Global,
     handle: OutputHandle,
@@ -568,7 +568,7 @@ fn holds_at_last(peer: &mut Peer, alloc: Global, call: Call) -> Result<bool, All
 }
 
 /// The first call that doesn't answer right.
-pub fn find_wrong(
+pub(crate) fn find_wrong(
     peer: &mut Peer,
     alloc: Global,
     calls: &[Call],
@@ -582,7 +582,7 @@ pub fn find_wrong(
 }
 
 /// A session that gives its first transfer this number, with this incoming-window.
-pub fn new_peer(alloc: Global, first: u32, own_window: u32) -> Peer {
+pub(crate) fn new_peer(alloc: Global, first: u32, own_window: u32) -> Peer {
     Peer {
         session: Session::new(alloc, OutgoingChannel(7), first, own_window),
         out: VecDeque::new(alloc),
@@ -591,7 +591,7 @@ pub fn new_peer(alloc: Global, first: u32, own_window: u32) -> Peer {
 
 /// The first call that doesn't answer right, of a session that gives its first transfer this number, with this
 /// incoming-window.
-pub fn first_wrong(
+pub(crate) fn first_wrong(
     alloc: Global,
     first: u32,
     own_window: u32,

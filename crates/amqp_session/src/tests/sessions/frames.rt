@@ -27,7 +27,7 @@ pub enum Left {
 }
 
 /// What is seen of the frame.
-pub fn look_at(frame: &SessionFrame) -> Left {
+pub(crate) fn look_at(frame: &SessionFrame) -> Left {
     match &frame.body {
         SessionFrameBody::Begin(_) => Left::Begin,
         SessionFrameBody::Attach(attach) => Left::Attach(attach.handle.0),
@@ -51,7 +51,7 @@ fn left_flow(flow: &Flow) -> Left {
 }
 
 /// Whether these frames left, and no others. They are taken away.
-pub fn take_left(out: &mut VecDeque<SessionFrame>, wanted: &[Left]) -> bool {
+pub(crate) fn take_left(out: &mut VecDeque<SessionFrame>, wanted: &[Left]) -> bool {
     let is_right = are_left(out, wanted);
     out.clear();
     is_right
@@ -71,7 +71,7 @@ fn are_left(out: &VecDeque<SessionFrame>, wanted: &[Left]) -> bool {
 }
 
 /// Whether the dispositions go back settled and accepted, from a sender, for these runs of deliveries.
-pub fn are_echoes(echoes: &[Disposition], wanted: &[(u32, u32)]) -> bool {
+pub(crate) fn are_echoes(echoes: &[Disposition], wanted: &[(u32, u32)]) -> bool {
     if echoes.len() != wanted.len() {
         return false;
     }
@@ -91,7 +91,12 @@ fn is_echo(echo: &Disposition, (first, last): (u32, u32)) -> bool {
 }
 
 /// The peer's Begin.
-pub fn begin(alloc: Global, next_outgoing_id: u32, incoming_window: u32, handle_max: u32) -> Begin {
+pub(crate) fn begin(
+    alloc: Global,
+    next_outgoing_id: u32,
+    incoming_window: u32,
+    handle_max: u32,
+) -> Begin {
     Begin {
         remote_channel: None,
         next_outgoing_id,
@@ -121,7 +126,7 @@ pub struct FlowOf {
 
 impl FlowOf {
     /// It awaits the transfer with this number and takes so many, and says nothing of a link.
-    pub fn window(number: u32, window: u32) -> Self {
+    pub(crate) fn window(number: u32, window: u32) -> Self {
         FlowOf {
             next_incoming_id: Some(number),
             window,
@@ -132,7 +137,7 @@ impl FlowOf {
     }
 
     /// The Flow.
-    pub fn flow(self) -> Flow {
+    pub(crate) fn flow(self) -> Flow {
         Flow {
             next_incoming_id: self.next_incoming_id,
             incoming_window: self.window,
@@ -150,7 +155,7 @@ impl FlowOf {
 }
 
 /// A Flow of a link, with a handle that isn't the link's.
-pub fn link_flow() -> LinkFlow {
+pub(crate) fn link_flow() -> LinkFlow {
     LinkFlow {
         handle: Handle(99),
         delivery_count: Some(3),
@@ -163,7 +168,7 @@ pub fn link_flow() -> LinkFlow {
 }
 
 /// A Detach of the link with this handle.
-pub fn detach(handle: u32) -> Detach {
+pub(crate) fn detach(handle: u32) -> Detach {
     Detach {
         handle: Handle(handle),
         closed: true,
@@ -172,12 +177,12 @@ pub fn detach(handle: u32) -> Detach {
 }
 
 /// A tag of one byte.
-pub fn tag(alloc: Global, byte: u8) -> Result<Option<DeliveryTag>, AllocError> {
+pub(crate) fn tag(alloc: Global, byte: u8) -> Result<Option<DeliveryTag>, AllocError> {
     DeliveryTag::from_slice(alloc, &[byte]).map(Some)
 }
 
 /// A transfer that a link sends, with a handle that isn't the link's.
-pub fn transfer(delivery_tag: Option<DeliveryTag>, settled: bool) -> Transfer {
+pub(crate) fn transfer(delivery_tag: Option<DeliveryTag>, settled: bool) -> Transfer {
     Transfer {
         handle: Handle(99),
         delivery_id: None,
@@ -210,7 +215,7 @@ pub struct TransferOf {
 
 impl TransferOf {
     /// The one transfer of a delivery.
-    pub fn whole(handle: u32, delivery: u32, settled: bool) -> Self {
+    pub(crate) fn whole(handle: u32, delivery: u32, settled: bool) -> Self {
         TransferOf {
             handle,
             delivery: Some(delivery),
@@ -221,7 +226,7 @@ impl TransferOf {
     }
 
     /// The transfer. A delivery that it begins has the tag of its number's last byte.
-    pub fn transfer(self, alloc: Global) -> Result<Transfer, AllocError> {
+    pub(crate) fn transfer(self, alloc: Global) -> Result<Transfer, AllocError> {
         self.tag(alloc).map(|delivery_tag| Transfer {
             handle: Handle(self.handle),
             delivery_id: self.delivery,
@@ -247,7 +252,7 @@ impl TransferOf {
 }
 
 /// A disposition with the state accepted.
-pub fn disposition(role: Role, first: u32, last: u32, settled: bool) -> Disposition {
+pub(crate) fn disposition(role: Role, first: u32, last: u32, settled: bool) -> Disposition {
     Disposition {
         role,
         first,
@@ -259,7 +264,7 @@ pub fn disposition(role: Role, first: u32, last: u32, settled: bool) -> Disposit
 }
 
 /// The Attach of a receiver with this handle.
-pub fn attach(alloc: Global, handle: u32) -> Result<Attach, AllocError> {
+pub(crate) fn attach(alloc: Global, handle: u32) -> Result<Attach, AllocError> {
     Text::from_str(alloc, "link").map(|name| Attach {
         name,
         handle: Handle(handle),

@@ -31,7 +31,7 @@ pub struct Plain {
 
 impl Plain {
     /// A link that nothing has reached.
-    pub fn new(is_sender: bool, wants_echo: bool) -> Self {
+    pub(crate) fn new(is_sender: bool, wants_echo: bool) -> Self {
         Plain {
             is_sender,
             wants_echo,
