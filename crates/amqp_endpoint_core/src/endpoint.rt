@@ -33,7 +33,8 @@ const MAX_WINDOW: u32 = 0x7fff_ffff;
 pub struct Endpoint {
     alloc: Global,
     settings: Settings,
-    connection: Connection,
+    /// Behind a pointer, so that an endpoint is small.
+    connection: Box<Connection>,
     phase: Phase,
     peer_limit: Option<u32>,
     close_told: bool,
@@ -48,9 +49,9 @@ impl Model for Endpoint {
 
     ghost Value = { State };
 
-    ghost view = { λ a. record { settings = a.settings; phase = a.phase; peer_limit = a.peer_limit; own_close = sent_close a.connection.local_state; peer_close = took_close a.connection.local_state; close_told = a.close_told; rest = a.input.items; queue = a.queue.items } };
+    ghost view = { λ a. record { settings = a.settings; phase = a.phase; peer_limit = a.peer_limit; own_close = sent_close a.connection.value.local_state; peer_close = took_close a.connection.value.local_state; close_told = a.close_told; rest = a.input.items; queue = a.queue.items } };
 
-    ghost invariant = { λ a. Stands a.settings a.phase a.peer_limit a.connection × (fits 512 (own_open a.settings) ≡ true) × (512 ≤ limit_of a.peer_limit) };
+    ghost invariant = { λ a. Stands a.settings a.phase a.peer_limit a.connection.value × (fits 512 (own_open a.settings) ≡ true) × (512 ≤ limit_of a.peer_limit) };
 }
 
 impl Endpoint {
@@ -72,7 +73,7 @@ impl Endpoint {
         if settings.incoming_window > MAX_WINDOW {
             return Err(EndpointError::WindowOutOfRange);
         }
-        let connection = unopened(alloc, &settings)?;
+        let connection = Box::new(alloc, unopened(alloc, &settings)?)?;
         Ok(Endpoint {
             alloc,
             settings,
@@ -97,7 +98,7 @@ impl Endpoint {
             return Err(EndpointError::AlreadyConnected);
         }
         let queue = greeting(self.alloc)?;
-        begin_anew(self.alloc, &mut self.connection)?;
+        begin_anew(self.alloc, &mut *self.connection)?;
         self.phase = Phase::Greeting;
         self.peer_limit = None;
         self.close_told = false;
@@ -283,7 +284,7 @@ impl Endpoint {
     {
         let text = self.written(close_frame(error.clone()?))?;
         self.queue.reserve(1)?;
-        close(&mut self.connection, error)?;
+        close(&mut *self.connection, error)?;
         self.queue.push_back_reserved(text);
         Ok(())
     }

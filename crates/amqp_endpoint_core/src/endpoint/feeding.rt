@@ -90,9 +90,9 @@ impl Endpoint {
         ensures err { IfErr result (λ e. (e ≡ Memory) × (self.new ≡ self.old)) }
     {
         self.queue.reserve(1)?;
-        let (connection, open) = opened(self.alloc, &self.connection)?;
+        let (connection, open) = opened(self.alloc, &*self.connection)?;
         self.queue.push_back_reserved(open);
-        self.connection = connection;
+        *self.connection = connection;
         self.phase = Phase::Running;
         Ok(())
     }
@@ -276,14 +276,14 @@ impl Endpoint {
         ensures err { IfErr result (λ e. (e ≡ Memory) × (self.new ≡ self.old)) }
     {
         if self.own_close() {
-            take_close(&mut self.connection, channel, peer)?;
+            take_close(&mut *self.connection, channel, peer)?;
             self.phase = Phase::Over;
             return Ok(());
         }
         let answer = self.written(close_frame(None))?;
         self.queue.reserve(1)?;
-        take_close(&mut self.connection, channel, peer)?;
-        close(&mut self.connection, None)?;
+        take_close(&mut *self.connection, channel, peer)?;
+        close(&mut *self.connection, None)?;
         self.queue.push_back_reserved(answer);
         self.phase = Phase::Over;
         Ok(())
@@ -297,9 +297,9 @@ impl Endpoint {
         ensures same { self.new ≡ self.old }
     {
         match body {
-            FrameBody::Begin(begin) => take_begin(&mut self.connection, channel, begin),
-            FrameBody::End(end) => take_end(&mut self.connection, channel, end),
-            _ => find_session(&self.connection, channel),
+            FrameBody::Begin(begin) => take_begin(&mut *self.connection, channel, begin),
+            FrameBody::End(end) => take_end(&mut *self.connection, channel, end),
+            _ => find_session(&*self.connection, channel),
         }
     }
 
