@@ -1,5 +1,5 @@
 ghost use Rattle.std.specs.Prelude.{◌≡◌, ◌⊎◌, true, false, None, is_some, IfOk, IfErr, OnOk, MatchResult};
-ghost use Rattle.amqp_session_types.specs.declared.refusals.ConnectionError.TheVariants.{NotFound};
+ghost use Rattle.amqp_session_types.specs.declared.refusals.ConnectionError.TheVariants.{IllegalState, NotFound};
 ghost use Rattle.amqp_session_connection.specs.State.{fresh};
 ghost use Rattle.amqp_session_connection.specs.Steps.{frame_on};
 ghost use Rattle.amqp_session_connection.specs.Table.{after_incoming_close, after_send_close};
@@ -89,7 +89,7 @@ pub(crate) fn close(
     ensures ok { OnOk result (MovesBy (after_send_close (is_some error)) connection.old connection.new) }
     ensures own { OnOk result (sent_close connection.new.local_state ≡ true) }
     ensures peer { OnOk result (took_close connection.new.local_state ≡ took_close connection.old.local_state) }
-    ensures err { IfErr result (λ e. (after_send_close (is_some error) connection.old.local_state ≡ None) × (connection.new ≡ connection.old)) }
+    ensures err { IfErr result (λ e. (e ≡ EndpointError.Connection IllegalState) × (after_send_close (is_some error) connection.old.local_state ≡ None) × (connection.new ≡ connection.old)) }
 {
     connection.send_close(error)?;
     Ok(())
@@ -102,7 +102,7 @@ pub(crate) fn take_close(
     close: &Close,
 ) -> Result<(), EndpointError>
     ensures ok { OnOk result (MovesBy after_incoming_close connection.old connection.new) }
-    ensures err { IfErr result (λ e. (after_incoming_close connection.old.local_state ≡ None) × (connection.new ≡ connection.old)) }
+    ensures err { IfErr result (λ e. (e ≡ EndpointError.Connection IllegalState) × (after_incoming_close connection.old.local_state ≡ None) × (connection.new ≡ connection.old)) }
 {
     connection.on_incoming_close(channel, close)?;
     Ok(())
