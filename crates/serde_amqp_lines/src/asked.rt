@@ -15,7 +15,7 @@ pub fn typed<T: Serialize + Deserialize + Shown + Drop>(
     alloc: Global,
     question: &Question<'_>,
 ) -> Result<Option<String>, AllocError> {
-    let bytes = question.bytes.as_slice();
+    let bytes = question.named.bytes.as_slice();
     let answer = match question.verb {
         Verb::As => read_as::<T>(alloc, bytes)?,
         Verb::Array => array_of::<T>(alloc, bytes)?,
@@ -65,7 +65,8 @@ fn read_from_reader<T: Serialize + Deserialize + Shown + Drop>(
     }
 }
 
-fn refused(alloc: Global, error: Error) -> Result<String, AllocError> {
+/// The text of an error.
+pub fn refused(alloc: Global, error: Error) -> Result<String, AllocError> {
     match error {
         Error::Memory => Err(AllocError),
         error => format!(in alloc; "refused {error:?}"),
@@ -185,7 +186,7 @@ pub fn lent<'a, T: BorrowDeserialize<'a> + Serialize + Shown + Drop>(
     if question.verb != Verb::As {
         return Ok(None);
     }
-    let answer = match borrow_from_slice::<T>(question.bytes.as_slice()) {
+    let answer = match borrow_from_slice::<T>(question.named.bytes.as_slice()) {
         Ok(value) => shown_and_written(alloc, &value)?,
         Err(error) => refused(alloc, error)?,
     };

@@ -14,34 +14,44 @@ pub enum Verb {
     Constructors,
 }
 
-/// A line that was read.
-#[derive(Debug, Drop)]
+/// A line about a type that was read.
+#[derive(Drop)]
 pub struct Question<'a> {
     /// What is asked.
     pub verb: Verb,
-    /// The name of the type.
-    pub type_name: &'a str,
+    /// The type and the bytes.
+    pub named: NamedBytes<'a>,
+}
+
+/// A name, and bytes behind it.
+#[derive(Drop)]
+pub struct NamedBytes<'a> {
+    /// The name.
+    pub name: &'a str,
     /// The bytes.
     pub bytes: Vec<u8>,
 }
 
-/// What the line asks; none where it can't be read.
-pub fn question_of(alloc: Global, line: &str) -> Result<Option<Question<'_>>, AllocError> {
-    let Some((word, behind)) = line.split_once(' ') else {
-        return Ok(None);
-    };
+/// What a line asks whose first word is this one; none where it can't be read.
+pub fn question_of<'a>(
+    alloc: Global,
+    word: &str,
+    behind: &'a str,
+) -> Result<Option<Question<'a>>, AllocError> {
     let Some(verb) = verb_of(word) else {
         return Ok(None);
     };
-    let Some((type_name, words)) = behind.split_once(' ') else {
+    let named = named_bytes(alloc, behind)?;
+    Ok(named.map(|named| Question { verb, named }))
+}
+
+/// The words' name and bytes; none where they can't be read.
+pub fn named_bytes(alloc: Global, words: &str) -> Result<Option<NamedBytes<'_>>, AllocError> {
+    let Some((name, words)) = words.split_once(' ') else {
         return Ok(None);
     };
     let bytes = bytes_of(alloc, words)?;
-    Ok(bytes.map(|bytes| Question {
-        verb,
-        type_name,
-        bytes,
-    }))
+    Ok(bytes.map(|bytes| NamedBytes { name, bytes }))
 }
 
 fn verb_of(word: &str) -> Option<Verb> {

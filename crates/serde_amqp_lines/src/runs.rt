@@ -5,7 +5,7 @@ use std::alloc::{AllocError, Global};
 const LONG: usize = 20;
 
 /// Parts one behind the other.
-#[derive(Debug, Drop)]
+#[derive(Drop)]
 pub struct Runs {
     text: String,
     last: Option<String>,
@@ -86,7 +86,7 @@ pub fn bracketed(
 }
 
 /// Bytes in hex digits. From twenty equal bytes on they are a word of their own, with their number.
-#[derive(Debug, Drop)]
+#[derive(Drop)]
 struct HexWords {
     text: String,
     byte: u8,

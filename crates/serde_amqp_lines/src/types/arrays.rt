@@ -6,7 +6,7 @@ use std::alloc::{AllocError, Global};
 
 /// Answers a question about an array of compound values, or another one.
 pub fn ask(alloc: Global, question: &Question<'_>) -> Result<Option<String>, AllocError> {
-    match question.type_name {
+    match question.named.name {
         "array-of-optional-uint" => typed::<Array<Option<u32>>>(alloc, question),
         "array-of-list-of-boolean" => typed::<Array<Vec<bool>>>(alloc, question),
         "array-of-list-of-uint" => typed::<Array<Vec<u32>>>(alloc, question),

@@ -6,7 +6,7 @@ use std::alloc::{AllocError, Global};
 
 /// Answers a question about a type with a size, or another one.
 pub fn ask(alloc: Global, question: &Question<'_>) -> Result<Option<String>, AllocError> {
-    match question.type_name {
+    match question.named.name {
         "binary" => typed::<ByteBuf>(alloc, question),
         "string" => typed::<String>(alloc, question),
         "text" => typed::<Text>(alloc, question),

@@ -6,7 +6,7 @@ use std::alloc::{AllocError, Global};
 
 /// Answers a question about a field whose default is null, or another one.
 pub fn ask(alloc: Global, question: &Question<'_>) -> Result<Option<String>, AllocError> {
-    match question.type_name {
+    match question.named.name {
         "ubyte-or-4" => typed::<UByteOr<4>>(alloc, question),
         "ushort-or-1" => typed::<UShortOr<1>>(alloc, question),
         "uint-or-255" => typed::<UIntOr<255>>(alloc, question),

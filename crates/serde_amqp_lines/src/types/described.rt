@@ -6,7 +6,7 @@ use std::alloc::{AllocError, Global};
 
 /// Answers a question about a described value, or another one.
 pub fn ask(alloc: Global, question: &Question<'_>) -> Result<Option<String>, AllocError> {
-    match question.type_name {
+    match question.named.name {
         "described-boolean" => typed::<Described<bool>>(alloc, question),
         "described-ushort" => typed::<Described<u16>>(alloc, question),
         "described-uint" => typed::<Described<u32>>(alloc, question),

@@ -6,7 +6,7 @@ use std::alloc::{AllocError, Global};
 
 /// Answers a question about another type of fixed width, or another one.
 pub fn ask(alloc: Global, question: &Question<'_>) -> Result<Option<String>, AllocError> {
-    match question.type_name {
+    match question.named.name {
         "null" => typed::<()>(alloc, question),
         "boolean" => typed::<bool>(alloc, question),
         "float" => typed::<Float>(alloc, question),

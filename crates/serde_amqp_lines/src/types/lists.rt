@@ -6,7 +6,7 @@ use std::alloc::{AllocError, Global};
 
 /// Answers a question about a list of compound values, or another one.
 pub fn ask(alloc: Global, question: &Question<'_>) -> Result<Option<String>, AllocError> {
-    match question.type_name {
+    match question.named.name {
         "list-of-optional-boolean" => typed::<Vec<Option<bool>>>(alloc, question),
         "list-of-optional-ushort" => typed::<Vec<Option<u16>>>(alloc, question),
         "list-of-optional-uint" => typed::<Vec<Option<u32>>>(alloc, question),

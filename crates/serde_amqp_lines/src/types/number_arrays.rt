@@ -6,7 +6,7 @@ use std::alloc::{AllocError, Global};
 
 /// Answers a question about an array of numbers, or another one.
 pub fn ask(alloc: Global, question: &Question<'_>) -> Result<Option<String>, AllocError> {
-    match question.type_name {
+    match question.named.name {
         "array-of-ubyte" => typed::<Array<u8>>(alloc, question),
         "array-of-ushort" => typed::<Array<u16>>(alloc, question),
         "array-of-uint" => typed::<Array<u32>>(alloc, question),

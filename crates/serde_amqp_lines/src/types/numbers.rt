@@ -5,7 +5,7 @@ use std::alloc::{AllocError, Global};
 
 /// Answers a question about a type of numbers, or another one.
 pub fn ask(alloc: Global, question: &Question<'_>) -> Result<Option<String>, AllocError> {
-    match question.type_name {
+    match question.named.name {
         "ubyte" => typed::<u8>(alloc, question),
         "ushort" => typed::<u16>(alloc, question),
         "uint" => typed::<u32>(alloc, question),

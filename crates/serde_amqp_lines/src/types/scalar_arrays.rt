@@ -8,7 +8,7 @@ use std::alloc::{AllocError, Global};
 
 /// Answers a question about an array of values other than numbers, or another one.
 pub fn ask(alloc: Global, question: &Question<'_>) -> Result<Option<String>, AllocError> {
-    match question.type_name {
+    match question.named.name {
         "array-of-boolean" => typed::<Array<bool>>(alloc, question),
         "array-of-float" => typed::<Array<Float>>(alloc, question),
         "array-of-double" => typed::<Array<Double>>(alloc, question),

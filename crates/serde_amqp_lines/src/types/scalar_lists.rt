@@ -6,7 +6,7 @@ use std::alloc::{AllocError, Global};
 
 /// Answers a question about a list, or another one.
 pub fn ask(alloc: Global, question: &Question<'_>) -> Result<Option<String>, AllocError> {
-    match question.type_name {
+    match question.named.name {
         "list-of-null" => typed::<Vec<()>>(alloc, question),
         "list-of-boolean" => typed::<Vec<bool>>(alloc, question),
         "list-of-ubyte" => typed::<Vec<u8>>(alloc, question),
