@@ -1,40 +1,10 @@
-use crate::{Error, OrderedMap, from_slice, to_vec};
+//! The calls of a map in the order of its pairs.
+use crate::OrderedMap;
 use std::alloc::Global;
 use std::cmp::Ordering;
 use std::hash::{DefaultHasher, Hash, Hasher};
 use std::process::Abort;
 use std::test::Fail;
-
-#[test]
-fn encoded(rt: HostRuntime) -> Result<(), Fail> {
-    let alloc = rt.alloc();
-    let map: OrderedMap<u32, bool> = OrderedMap::from_pairs(
-        alloc,
-        vec![in alloc; (7, true), (0, false)]?,
-    )?;
-    let bytes = b"\xc1\x06\x04\x52\x07\x41\x43\x42";
-    assert_eq!(rt; to_vec(alloc, &map)?.as_slice(), bytes.as_slice());
-    assert!(rt; from_slice::<OrderedMap<u32, bool>>(alloc, bytes)? == map);
-    let read: OrderedMap<u32, bool> = from_slice(
-        alloc,
-        b"\xc1\x09\x06\x52\x07\x42\x43\x42\x52\x07\x41",
-    )?;
-    assert!(rt; read == map);
-    assert_eq!(rt;
-        from_slice::<OrderedMap<u32, bool>>(alloc, b"\xc1\x02\x01\x43").err(),
-        Some(Error::InvalidLength)
-    );
-    assert_eq!(rt;
-        from_slice::<OrderedMap<u32, bool>>(alloc, b"\xc0\x02\x01\x43").err(),
-        Some(Error::InvalidFormatCode)
-    );
-    let empty: OrderedMap<u32, bool> = OrderedMap::new(alloc);
-    assert_eq!(rt;
-        to_vec(alloc, &empty)?.as_slice(),
-        b"\xc1\x01\x00".as_slice()
-    );
-    Ok(())
-}
 
 fn hash_of(map: &OrderedMap<u32, u32>) -> u64 {
     let mut hasher = DefaultHasher::new();
