@@ -1,0 +1,26 @@
+/// What a line of a table says.
+#[derive(Debug, Clone, Copy, PartialEq, Eq)]
+pub enum Line<'a> {
+    /// Nothing: it is empty, or begins with `#`.
+    Empty,
+    /// What is to be answered.
+    Plain(&'a str),
+    /// What is to be answered, and the answer that is wanted.
+    Row {
+        /// What stands before the first ` => `.
+        given: &'a str,
+        /// What stands behind it.
+        wanted: &'a str,
+    },
+}
+
+/// Reads a line.
+pub fn parse(line: &str) -> Line<'_> {
+    if line.is_empty() || line.starts_with('#') {
+        return Line::Empty;
+    }
+    match line.split_once(" => ") {
+        Some((given, wanted)) => Line::Row { given, wanted },
+        None => Line::Plain(line),
+    }
+}
