@@ -17,7 +17,7 @@ pub struct Sending {
 }
 
 /// A step.
-#[derive(Debug, Clone, Copy)]
+#[derive(Clone, Copy)]
 enum Step<'a> {
     /// `send transfer handle=0 first:9:1 continuation:2`: transfers of the link with this handle.
     Sends(u32, &'a [&'a str]),
@@ -28,7 +28,7 @@ enum Step<'a> {
 }
 
 /// A call that isn't that of transfers.
-#[derive(Debug, Clone, Copy)]
+#[derive(Clone, Copy)]
 enum Change {
     /// `take begin incoming-window=8`: the window of the peer's Begin.
     Begin(u32),
@@ -47,7 +47,7 @@ enum Change {
 }
 
 /// What is to be seen of the sending side.
-#[derive(Debug, Clone, Copy)]
+#[derive(Clone, Copy)]
 enum Look {
     /// `left`: what left since the last look.
     Left,

@@ -5,7 +5,7 @@ use bytes::Bytes;
 use std::alloc::Global;
 
 /// A link that counts what reaches it.
-#[derive(Debug, Clone, Copy)]
+#[derive(Clone, Copy)]
 pub struct Plain {
     /// Whether it sends: then transfers may not come.
     pub is_sender: bool,

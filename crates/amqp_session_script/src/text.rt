@@ -71,7 +71,7 @@ pub fn write_flags(text: &mut String, flags: &[(&str, bool)]) -> Result<(), Allo
 }
 
 /// Items parted by commas.
-#[derive(Debug, Drop)]
+#[derive(Drop)]
 pub struct List {
     /// The items so far.
     pub text: String,

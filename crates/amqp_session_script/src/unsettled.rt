@@ -11,7 +11,7 @@ pub struct Table {
 }
 
 /// A step.
-#[derive(Debug, Clone, Copy)]
+#[derive(Clone, Copy)]
 enum Step<'a> {
     /// `register 3:0 4:1`: the deliveries of these numbers, each with the handle of its link.
     Registers(&'a [&'a str]),
@@ -22,7 +22,7 @@ enum Step<'a> {
 }
 
 /// What changes the table.
-#[derive(Debug, Clone, Copy)]
+#[derive(Clone, Copy)]
 enum Change {
     /// `reserve 1`: room for so many.
     Reserve(u32),
@@ -35,7 +35,7 @@ enum Change {
 }
 
 /// What is to be seen of the table.
-#[derive(Debug, Clone, Copy)]
+#[derive(Clone, Copy)]
 enum Look {
     /// `contains 3`: whether there is a delivery of this number.
     Contains(u32),

@@ -1,9 +1,10 @@
 use std::alloc::{AllocError, Global};
 
-/// The words of a step that weren't read yet.
-#[derive(Debug, Clone, Copy)]
+/// The words of a step, and how many of them were read.
+#[derive(Clone, Copy)]
 pub struct Words<'a> {
-    rest: &'a [&'a str],
+    all: &'a [&'a str],
+    read: usize,
 }
 
 /// The words of a text, which are parted by one space each.
@@ -34,50 +35,54 @@ fn truth_of(word: &str) -> Option<bool> {
 }
 
 impl<'a> Words<'a> {
-    /// All of these.
+    /// All of these are still to be read.
     pub fn new(words: &'a [&'a str]) -> Self {
-        Words { rest: words }
+        Words {
+            all: words,
+            read: 0,
+        }
     }
 
     /// Whether all were read.
     pub fn is_empty(&self) -> bool {
-        self.rest.is_empty()
+        self.read >= self.all.len()
+    }
+
+    /// The next word.
+    fn next(&self) -> Option<&'a str> {
+        self.all.get(self.read).copied()
     }
 
     /// Reads the next word.
     pub fn word(&mut self) -> Option<&'a str> {
-        let (first, rest) = self.rest.split_first()?;
-        self.rest = rest;
-        Some(*first)
+        let word = self.next()?;
+        self.read = self.read.saturating_add(1);
+        Some(word)
     }
 
     /// Reads all that are left.
     pub fn take_all(&mut self) -> &'a [&'a str] {
-        let all = self.rest;
-        self.rest = &[];
-        all
+        let read = self.read;
+        self.read = self.all.len();
+        self.all.get(read..).unwrap_or(&[])
     }
 
     /// Reads the next word where it is this one, and says whether it was.
     pub fn takes(&mut self, word: &str) -> bool {
-        let Some((first, rest)) = self.rest.split_first() else {
-            return false;
-        };
-        if *first != word {
+        if self.next() != Some(word) {
             return false;
         }
-        self.rest = rest;
+        self.read = self.read.saturating_add(1);
         true
     }
 
     /// Reads the next word where it is a field of this name, `name=value`, and answers the value.
-    fn value(&mut self, name: &str) -> Option<&'a str> {
-        let (first, rest) = self.rest.split_first()?;
-        let (found, value) = first.split_once('=')?;
+    pub fn value(&mut self, name: &str) -> Option<&'a str> {
+        let (found, value) = self.next()?.split_once('=')?;
         if found != name {
             return None;
         }
-        self.rest = rest;
+        self.read = self.read.saturating_add(1);
         Some(value)
     }
 
@@ -94,10 +99,5 @@ impl<'a> Words<'a> {
     /// Reads a field whose value is `true` or `false`.
     pub fn truth(&mut self, name: &str) -> Option<bool> {
         truth_of(self.value(name)?)
-    }
-
-    /// Reads a field whose value is a word.
-    pub fn named(&mut self, name: &str) -> Option<&'a str> {
-        self.value(name)
     }
 }

@@ -1,7 +1,7 @@
 use amqp_session::Role;
 
 /// A transfer of a batch.
-#[derive(Debug, Clone, Copy)]
+#[derive(Clone, Copy)]
 pub enum Part {
     /// `first:9`: the first of a delivery with the tag of this byte.
     First(u8),
@@ -14,7 +14,7 @@ pub enum Part {
 }
 
 /// What a disposition says: it accepts the deliveries.
-#[derive(Debug, Clone, Copy)]
+#[derive(Clone, Copy)]
 pub struct DispositionOf {
     /// Which end of the link says it.
     pub role: Role,
@@ -27,7 +27,7 @@ pub struct DispositionOf {
 }
 
 /// What a Flow of the peer says.
-#[derive(Debug, Clone, Copy)]
+#[derive(Clone, Copy)]
 pub struct FlowOf {
     /// The number of the transfer that the peer awaits.
     pub next_incoming_id: Option<u32>,
@@ -42,7 +42,7 @@ pub struct FlowOf {
 }
 
 /// What a transfer of the peer says.
-#[derive(Debug, Clone, Copy)]
+#[derive(Clone, Copy)]
 pub struct TransferOf {
     /// The link.
     pub handle: u32,
@@ -57,7 +57,7 @@ pub struct TransferOf {
 }
 
 /// A frame of a link that may wait behind its transfers.
-#[derive(Debug, Clone, Copy)]
+#[derive(Clone, Copy)]
 pub enum LinkFrame {
     /// `flow`
     Flow,
@@ -66,7 +66,7 @@ pub enum LinkFrame {
 }
 
 /// What a session is to send.
-#[derive(Debug, Drop)]
+#[derive(Drop)]
 pub enum Sending {
     /// `send begin`
     Begin,
@@ -87,7 +87,7 @@ pub enum Sending {
 }
 
 /// A frame of the peer.
-#[derive(Debug, Clone, Copy)]
+#[derive(Clone, Copy)]
 pub enum Frame {
     /// `take begin next-outgoing-id=0 incoming-window=5 handle-max=255`
     Begin(u32, u32, u32),
@@ -106,7 +106,7 @@ pub enum Frame {
 }
 
 /// What changes the links of a session, or makes room.
-#[derive(Debug, Clone, Copy)]
+#[derive(Clone, Copy)]
 pub enum Change {
     /// `link role=sender echoes`: a link gets an own handle. It may want dispositions to be echoed.
     Link(Role, bool),
@@ -121,7 +121,7 @@ pub enum Change {
 }
 
 /// What is to be seen of a session.
-#[derive(Debug, Clone, Copy)]
+#[derive(Clone, Copy)]
 pub enum Look {
     /// `left`: the frames that left since the last look.
     Left,
@@ -146,7 +146,7 @@ pub enum Look {
 }
 
 /// A step.
-#[derive(Debug, Drop)]
+#[derive(Drop)]
 pub enum Call {
     /// `send` and a frame: what the session sends.
     Sends(Sending),

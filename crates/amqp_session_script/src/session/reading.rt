@@ -97,7 +97,7 @@ fn read_link_frame(frame: LinkFrame, words: &mut Words<'_>) -> Option<Sending> {
 }
 
 fn read_role(words: &mut Words<'_>) -> Option<Role> {
-    match words.named("role")? {
+    match words.value("role")? {
         "sender" => Some(Role::Sender),
         "receiver" => Some(Role::Receiver),
         _ => None,

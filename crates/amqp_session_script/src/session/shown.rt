@@ -4,7 +4,7 @@ use std::alloc::{AllocError, Global};
 use std::collections::VecDeque;
 
 /// How much of a frame is shown.
-#[derive(Debug, Clone, Copy)]
+#[derive(Clone, Copy)]
 pub enum Detail {
     /// Which link or delivery it is of, and the numbers of a Flow.
     Short,
