@@ -108,7 +108,7 @@ fn read_sent<'a>(words: &mut Words<'a>) -> Option<Step<'a>> {
             let handle = words.field("handle")?;
             Some(Step::Sends(handle, words.take_all()))
         }
-        "frame" => read_frame(words).map(Step::Changes),
+        "frame" => Some(Step::Changes(read_frame(words)?)),
         _ => None,
     }
 }
@@ -126,8 +126,8 @@ fn read_other(word: &str, words: &mut Words<'_>) -> Option<Change> {
 fn read_step<'a>(words: &mut Words<'a>) -> Option<Step<'a>> {
     match words.word()? {
         "send" => read_sent(words),
-        "see" => read_look(words).map(Step::Sees),
-        word => read_other(word, words).map(Step::Changes),
+        "see" => Some(Step::Sees(read_look(words)?)),
+        word => Some(Step::Changes(read_other(word, words)?)),
     }
 }
 

@@ -79,8 +79,8 @@ fn read_change(word: &str, words: &mut Words<'_>) -> Option<Change> {
 fn read_step<'a>(words: &mut Words<'a>) -> Option<Step<'a>> {
     match words.word()? {
         "register" => Some(Step::Registers(words.take_all())),
-        "see" => read_look(words).map(Step::Sees),
-        word => read_change(word, words).map(Step::Changes),
+        "see" => Some(Step::Sees(read_look(words)?)),
+        word => Some(Step::Changes(read_change(word, words)?)),
     }
 }
 
