@@ -29,9 +29,6 @@ pub use amqp_session_types::{
 };
 pub use amqp_session_unsettled::{Delivery, DeliveryRange, Unsettled};
 
-#[cfg(test)]
-mod tests;
-
 /// The max-frame-size of an Open that names no other, in bytes (part 2, 2.7.1).
 pub const DEFAULT_MAX_FRAME_SIZE: u32 = 262_144;
 

@@ -1,11 +1,11 @@
 //! A link of the simplest kind: it counts what reaches it.
-use crate::{Attach, DeliveryState, DeliveryTag, Detach, Handle, LinkFlow, Role, Transfer};
-use amqp_session_core::{LinkRelay, Registration, RelayError, TransferAnswer};
+use amqp_session::{Attach, DeliveryState, DeliveryTag, Detach, Handle, LinkFlow, Role, Transfer};
+use amqp_session::{LinkRelay, Registration, RelayError, TransferAnswer};
 use bytes::Bytes;
 use std::alloc::Global;
 
 /// A link that counts what reaches it.
-#[derive(Clone, Copy, PartialEq, Eq)]
+#[derive(Clone, Copy)]
 pub struct Plain {
     /// Whether it sends: then transfers may not come.
     pub is_sender: bool,
