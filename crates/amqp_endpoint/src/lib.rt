@@ -3,11 +3,10 @@
 
 pub mod scenario;
 
-pub use amqp_endpoint_core::Endpoint;
+pub use amqp_endpoint_core::{Endpoint, play};
 pub use amqp_endpoint_model::{
     Answer, Call, Closed, EndpointError, Event, Fed, LinkError, Opened, Reply, Settings,
 };
-pub use amqp_endpoint_world::play;
 pub use amqp_session_frames::{
     Error as FrameError, Frame, FrameBody, FrameDecoder, FrameEncoder, Piece, Pieces,
 };

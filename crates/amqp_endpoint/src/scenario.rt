@@ -10,8 +10,8 @@ mod printing;
 mod script;
 mod statement;
 
+use amqp_endpoint_core::play;
 use amqp_endpoint_model::EndpointError;
-use amqp_endpoint_world::play;
 use printing::print_replies;
 use script::{Parsed, Script, parse};
 use std::alloc::{AllocError, Global};

@@ -5,6 +5,8 @@ mod coding;
 mod condition;
 mod connecting;
 mod endpoint;
+mod playing;
 mod queued;
 
 pub use endpoint::Endpoint;
+pub use playing::play;

@@ -10,14 +10,11 @@ pub use amqp_session_core::{
 pub use amqp_session_frames::{
     Error as FrameError, Frame, FrameBody, FrameDecoder, FrameEncoder, Piece, Pieces,
 };
-pub use amqp_session_items::{
-    LinkFlow, LinkFrame, LinkTransfer, MissingHandle, SessionFrame, SessionFrameBody,
-    SessionOutgoingItem,
-};
 pub use amqp_session_outgoing::{Behind, Outbound, Outgoing, Part, Place, Sent, TransferError};
 pub use amqp_session_performatives::{
-    Attach, Begin, Close, Detach, Disposition, End, Flow, Open, Performative, Transfer,
-    clear_continuation_fields,
+    Attach, Begin, Close, Detach, Disposition, End, Flow, LinkFlow, LinkFrame, LinkTransfer,
+    MissingHandle, Open, Performative, SessionFrame, SessionFrameBody, SessionOutgoingItem,
+    Transfer, clear_continuation_fields,
 };
 pub use amqp_session_states::{
     Accepted, DeliveryState, DistributionMode, Modified, Outcome, Received, Rejected, Released,

@@ -1,7 +1,7 @@
 -- How frames are handed out, one after another.
 use Rattle.std.proofs.Common.{◌≡◌, ℕ, ◌+◌, ◌%◌, ◌^◌, List, [], ◌∷◌, ◌++◌, Bool, true, false, ◌||◌, length, reverse, refl, sym, ◌∙◌, ap, arith, if◌then◌else◌}
 use Rattle.std.proofs.lemmas.List.{reverse-append, append_assoc}
-use Rattle.amqp_session_items.specs.declared.session_frame.SessionFrame.{SessionFrame}
+use Rattle.amqp_session_performatives.specs.declared.session_frame.SessionFrame.{SessionFrame}
 use Rattle.amqp_session_outgoing.specs.Frames.{sent_count}
 use Rattle.amqp_session_outgoing.specs.declared.frames.Sent.{Sent}
 use Rattle.amqp_session_core.specs.declared.fields.SessionFields.{SessionFields}

@@ -12,9 +12,9 @@ use Rattle.amqp_session_performatives.specs.declared.attach.Attach.{Attach}
 use Rattle.amqp_session_performatives.specs.declared.detach.Detach.{Detach}
 use Rattle.amqp_session_performatives.specs.declared.flow.Flow.{Flow}
 use Rattle.amqp_session_performatives.specs.declared.transfer.Transfer.{Transfer}
-use Rattle.amqp_session_items.specs.LinkFlow.{link_flow}
-use Rattle.amqp_session_items.specs.declared.link_flow.LinkFlow.{LinkFlow}
-use Rattle.amqp_session_items.specs.declared.session_frame.SessionFrame.{SessionFrame}
+use Rattle.amqp_session_performatives.specs.LinkFlow.{link_flow}
+use Rattle.amqp_session_performatives.specs.declared.link_flow.LinkFlow.{LinkFlow}
+use Rattle.amqp_session_performatives.specs.declared.session_frame.SessionFrame.{SessionFrame}
 use Rattle.amqp_session_outgoing.specs.Queues.{Queues, held_in, FollowsIn, followed, trailed}
 use Rattle.amqp_session_outgoing.specs.State as sending
 use Rattle.amqp_session_outgoing.specs.History as sending_history

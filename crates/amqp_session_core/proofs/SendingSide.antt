@@ -7,7 +7,7 @@ use Rattle.amqp_session_states.specs.declared.delivery_state.DeliveryState.{Deli
 use Rattle.amqp_session_performatives.specs.declared.attach.Attach.{Attach}
 use Rattle.amqp_session_performatives.specs.declared.detach.Detach.{Detach}
 use Rattle.amqp_session_performatives.specs.declared.transfer.Transfer.{Transfer}
-use Rattle.amqp_session_items.specs.declared.link_flow.LinkFlow.{LinkFlow}
+use Rattle.amqp_session_performatives.specs.declared.link_flow.LinkFlow.{LinkFlow}
 use Rattle.amqp_session_core.specs.declared.relay.RelayError.{RelayError}
 use Rattle.amqp_session_core.specs.declared.relay.TransferAnswer.{TransferAnswer}
 use Rattle.amqp_session_performatives.specs.declared.disposition.Disposition.{Disposition}

@@ -10,8 +10,8 @@ use Rattle.amqp_session_performatives.specs.declared.detach.Detach.{Detach}
 use Rattle.amqp_session_performatives.specs.declared.transfer.Transfer.{Transfer}
 use Rattle.amqp_session_core.specs.declared.relay.TransferAnswer.{TransferAnswer}
 use Rattle.amqp_session_performatives.specs.declared.flow.Flow.{Flow}
-use Rattle.amqp_session_items.specs.declared.link_flow.LinkFlow.{LinkFlow}
-use Rattle.amqp_session_items.specs.declared.session_frame.SessionFrame.{SessionFrame}
+use Rattle.amqp_session_performatives.specs.declared.link_flow.LinkFlow.{LinkFlow}
+use Rattle.amqp_session_performatives.specs.declared.session_frame.SessionFrame.{SessionFrame}
 use Rattle.amqp_session_outgoing.specs.Queues.{room_behind}
 use Rattle.amqp_session_outgoing.specs.History as sending_history
 use Rattle.amqp_session_outgoing.specs.State as sending

@@ -9,10 +9,10 @@ use Rattle.amqp_session_performatives.specs.declared.detach.Detach.{Detach}
 use Rattle.amqp_session_performatives.specs.declared.disposition.Disposition.{Disposition}
 use Rattle.amqp_session_performatives.specs.declared.flow.Flow.{Flow}
 use Rattle.amqp_session_performatives.specs.declared.transfer.Transfer.{Transfer}
-use Rattle.amqp_session_items.specs.declared.link_flow.LinkFlow.{LinkFlow}
-use Rattle.amqp_session_items.specs.declared.session_frame.SessionFrame.{SessionFrame}
-use Rattle.amqp_session_items.specs.declared.session_frame.SessionFrameBody.{SessionFrameBody}
-use Rattle.amqp_session_items.specs.declared.session_frame.SessionFrameBody.TheVariants as body
+use Rattle.amqp_session_performatives.specs.declared.link_flow.LinkFlow.{LinkFlow}
+use Rattle.amqp_session_performatives.specs.declared.session_frame.SessionFrame.{SessionFrame}
+use Rattle.amqp_session_performatives.specs.declared.session_frame.SessionFrameBody.{SessionFrameBody}
+use Rattle.amqp_session_performatives.specs.declared.session_frame.SessionFrameBody.TheVariants as body
 use Rattle.amqp_session_outgoing.specs.History as sending
 use Rattle.amqp_session_core.specs.declared.batch.TransferFrame.{TransferFrame}
 use Rattle.amqp_session_core.specs.declared.batch.BehindFrame.{BehindFrame}

@@ -1,9 +1,8 @@
 ghost use Rattle.std.specs.Prelude.{◌≡◌, [], ◌∷◌, ◌++◌, length, OnOk, OnErr, IfOk, IsTrue, ◌↔◌};
 ghost use Rattle.amqp_session_core.specs.Batch.{first_of, continuation_of, first_part, whole_of, is_flow, IsWhole};
 
-use amqp_session_items::LinkFlow;
 use amqp_session_outgoing::{Behind, Outbound, Part};
-use amqp_session_performatives::{Detach, Transfer};
+use amqp_session_performatives::{Detach, LinkFlow, Transfer};
 use bytes::Bytes;
 use std::alloc::{AllocError, Global};
 use std::collections::VecDeque;

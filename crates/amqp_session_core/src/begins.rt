@@ -1,5 +1,5 @@
 ghost use Rattle.std.specs.Prelude.{◌≡◌, None, IfOk, IfErr, OnOk, OnErr};
-ghost use Rattle.amqp_session_items.specs.declared.session_frame.SessionFrameBody.TheVariants as body;
+ghost use Rattle.amqp_session_performatives.specs.declared.session_frame.SessionFrameBody.TheVariants as body;
 ghost use Rattle.amqp_session_core.specs.Frames.{frame_of};
 ghost use Rattle.amqp_session_core.specs.Refusals.{RefusesBegin};
 ghost use Rattle.amqp_session_core.specs.Steps.{Steps, SendsBegin, SendsEnd, TakesEnd};
@@ -10,8 +10,7 @@ use crate::fields::OUTGOING_WINDOW;
 use crate::leaving::{make_room, take_begin};
 use crate::relay::LinkRelay;
 use crate::session::Session;
-use amqp_session_items::{SessionFrame, SessionFrameBody};
-use amqp_session_performatives::{Begin, End};
+use amqp_session_performatives::{Begin, End, SessionFrame, SessionFrameBody};
 use amqp_session_types::{BeginError, IncomingChannel, SessionError, definitions};
 use serde_amqp_types::Array;
 use std::alloc::Global;

@@ -9,9 +9,8 @@ ghost use Rattle.amqp_session_core.specs.Told.{DispositionTaken, DispositionSent
 use crate::batch::{BehindFrame, TransferFrame};
 use crate::relay::LinkRelay;
 use crate::session::Session;
-use amqp_session_items::{SessionFrame, SessionFrameBody};
 use amqp_session_outgoing::Outgoing;
-use amqp_session_performatives::Disposition;
+use amqp_session_performatives::{Disposition, SessionFrame, SessionFrameBody};
 use amqp_session_states::DeliveryState;
 use amqp_session_types::{Role, SessionError};
 use amqp_session_unsettled::{Delivery, DeliveryRange, Unsettled};

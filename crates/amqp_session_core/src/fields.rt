@@ -1,8 +1,7 @@
 ghost use Rattle.std.specs.Prelude.{◌≡◌, Some, None};
 ghost use Rattle.amqp_session_core.specs.Frames.{frame_of, session_flow, link_flow};
 
-use amqp_session_items::{LinkFlow, SessionFrame, SessionFrameBody};
-use amqp_session_performatives::Flow;
+use amqp_session_performatives::{Flow, LinkFlow, SessionFrame, SessionFrameBody};
 use amqp_session_types::OutgoingChannel;
 
 /// The outgoing-window that a session tells of itself (part 2, 2.5.6).

@@ -8,8 +8,8 @@ ghost use Rattle.amqp_session_core.specs.Flowing.{Opens, Begins};
 
 use crate::batch::{BehindFrame, TransferFrame};
 use crate::fields::SessionFields;
-use amqp_session_items::{SessionFrame, SessionFrameBody};
 use amqp_session_outgoing::{Behind, Outgoing, Sent};
+use amqp_session_performatives::{SessionFrame, SessionFrameBody};
 use amqp_session_types::Handle;
 use std::alloc::AllocError;
 use std::collections::VecDeque;

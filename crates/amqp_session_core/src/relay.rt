@@ -1,8 +1,7 @@
 ghost use Rattle.std.specs.Prelude.{◌≡◌};
 ghost use Rattle.amqp_session_core.specs.Relay.{session_error};
 
-use amqp_session_items::LinkFlow;
-use amqp_session_performatives::{Attach, Detach, Transfer};
+use amqp_session_performatives::{Attach, Detach, LinkFlow, Transfer};
 use amqp_session_states::DeliveryState;
 use amqp_session_types::{DeliveryTag, Role, SessionError};
 use bytes::Bytes;
@@ -75,7 +74,7 @@ pub trait LinkRelay: Drop {
     ghost use Rattle.amqp_session_performatives.specs.declared.attach.Attach.{Attach};
     ghost use Rattle.amqp_session_performatives.specs.declared.detach.Detach.{Detach};
     ghost use Rattle.amqp_session_performatives.specs.declared.transfer.Transfer.{Transfer};
-    ghost use Rattle.amqp_session_items.specs.declared.link_flow.LinkFlow.{LinkFlow};
+    ghost use Rattle.amqp_session_performatives.specs.declared.link_flow.LinkFlow.{LinkFlow};
     ghost use Rattle.amqp_session_core.specs.declared.relay.RelayError.{RelayError};
     ghost use Rattle.amqp_session_core.specs.declared.relay.TransferAnswer.{TransferAnswer};
 

@@ -1,6 +1,6 @@
 ghost use Rattle.std.specs.Prelude.{◌≡◌, ◌≢◌, ◌+◌, ◌*◌, ◌≤◌, ◌<◌, [], Err, IfOk, IfErr, IfSome, IfNone, OnOk, OnErr, length};
 ghost use Rattle.std.specs.VecDeque.{deque_len, deque_capacity};
-ghost use Rattle.amqp_session_items.specs.declared.session_frame.SessionFrameBody.TheVariants as body;
+ghost use Rattle.amqp_session_performatives.specs.declared.session_frame.SessionFrameBody.TheVariants as body;
 ghost use Rattle.amqp_session_outgoing.specs.Queues.{frames_in, room_behind};
 ghost use Rattle.amqp_session_core.specs.declared.batch.BehindFrame.TheVariants as behind;
 ghost use Rattle.amqp_session_core.specs.Frames.{frame_of};
@@ -13,9 +13,8 @@ use crate::flows::own;
 use crate::leaving::make_room;
 use crate::relay::LinkRelay;
 use crate::session::Session;
-use amqp_session_items::{LinkFlow, SessionFrame, SessionFrameBody};
 use amqp_session_outgoing::{Place, TransferError};
-use amqp_session_performatives::{Attach, Detach};
+use amqp_session_performatives::{Attach, Detach, LinkFlow, SessionFrame, SessionFrameBody};
 use amqp_session_types::{Boxed, Handle, OutputHandle, SessionError};
 use std::alloc::Global;
 use std::collections::VecDeque;

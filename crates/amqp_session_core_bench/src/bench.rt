@@ -1,7 +1,7 @@
 use crate::frames;
 use crate::link::PlainLink;
 use amqp_session_core::{Batch, Session};
-use amqp_session_items::SessionFrame;
+use amqp_session_performatives::SessionFrame;
 use amqp_session_types::{
     BeginError, IncomingChannel, OutgoingChannel, OutputHandle, SessionError,
 };

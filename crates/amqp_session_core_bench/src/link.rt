@@ -1,6 +1,5 @@
 use amqp_session_core::{LinkRelay, Registration, RelayError, TransferAnswer};
-use amqp_session_items::LinkFlow;
-use amqp_session_performatives::{Attach, Detach, Transfer};
+use amqp_session_performatives::{Attach, Detach, LinkFlow, Transfer};
 use amqp_session_states::DeliveryState;
 use amqp_session_types::{DeliveryTag, Role};
 use bytes::Bytes;

@@ -11,6 +11,7 @@ pub mod Close
 pub mod Performative
 pub mod Reading
 pub mod Continuation
+pub mod LinkFlow
 pub mod Short
 pub mod FieldLaws
 pub mod OpenLaws

@@ -1,7 +1,8 @@
 //! What a session hands its links and its connection (part 2, 2.5 and 2.6).
 use super::is_equal;
-use amqp_session_items::{LinkFlow, MissingHandle, SessionFrame, SessionFrameBody};
-use amqp_session_performatives::{End, Flow};
+use amqp_session_performatives::{
+    End, Flow, LinkFlow, MissingHandle, SessionFrame, SessionFrameBody,
+};
 use amqp_session_types::{Boxed, Handle, OutgoingChannel};
 use std::alloc::{AllocError, Global};
 

@@ -1,6 +1,6 @@
 //! What a session and its links hand each other (part 2, 2.6).
 use crate::link_flow::LinkFlow;
-use amqp_session_performatives::{Attach, Detach, Disposition, Transfer};
+use crate::{Attach, Detach, Disposition, Transfer};
 use amqp_session_types::{Boxed, InputHandle};
 use bytes::Bytes;
 

@@ -1,8 +1,8 @@
 //! The state of a link (part 2, 2.6.7).
 ghost use Rattle.std.specs.Prelude.{◌≡◌, MatchResult, Some, None};
-ghost use Rattle.amqp_session_items.specs.LinkFlow.{link_flow};
+ghost use Rattle.amqp_session_performatives.specs.LinkFlow.{link_flow};
 
-use amqp_session_performatives::Flow;
+use crate::Flow;
 use amqp_session_types::{Boxed, Fields, Handle};
 use std::alloc::AllocError;
 use thiserror::Error;

@@ -1,7 +1,7 @@
 use Rattle.std.proofs.Common.{◌≤◌, ◌≡◌, take, map, length, vec_capacity, vec_len}
 use Rattle.amqp_endpoint_model.specs.Said.{told}
 use Rattle.amqp_endpoint_model.specs.History.{Run}
-use Rattle.amqp_endpoint_world.proofs.playing.play.Given as goal
+use Rattle.amqp_endpoint_core.proofs.playing.play.Given as goal
 
 abbrev pub invariant-loop-call : goal.invariant-loop-call
 invariant-loop-call l = record {

@@ -2,7 +2,7 @@
 use Rattle.std.specs.Prelude.{Option, Some}
 use Rattle.serde_amqp_item.specs.Canon.{◌>>=◌}
 use Rattle.amqp_session_performatives.specs.declared.flow.Flow.{Flow}
-use Rattle.amqp_session_items.specs.declared.link_flow.LinkFlow.{LinkFlow}
+use Rattle.amqp_session_performatives.specs.declared.link_flow.LinkFlow.{LinkFlow}
 
 -- a flow without its session's fields; one without a handle tells no link's state
 abbrev pub link_flow : Flow → Option LinkFlow

@@ -5,7 +5,7 @@ ghost use Rattle.amqp_endpoint_model.specs.Step.{refusal_of_settings};
 ghost use Rattle.amqp_endpoint_model.specs.History.{KeepsLimit, Pieces, Run, nothing, summary};
 ghost use Rattle.amqp_endpoint_model.specs.declared.error.EndpointError.TheVariants.{Memory};
 
-use amqp_endpoint_core::Endpoint;
+use crate::endpoint::Endpoint;
 use amqp_endpoint_model::{Call, EndpointError, Reply, Settings};
 use std::alloc::Global;
 

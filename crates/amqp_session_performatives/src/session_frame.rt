@@ -1,7 +1,7 @@
 //! What a session and its connection hand each other (part 2, 2.5).
 ghost use Rattle.std.specs.Prelude.{◌≡◌};
 
-use amqp_session_performatives::{Attach, Begin, Detach, Disposition, End, Flow, Transfer};
+use crate::{Attach, Begin, Detach, Disposition, End, Flow, Transfer};
 use amqp_session_types::Boxed;
 use bytes::Bytes;
 

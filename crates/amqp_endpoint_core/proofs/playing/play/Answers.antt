@@ -3,8 +3,8 @@ use Rattle.amqp_endpoint_model.specs.State.{fresh}
 use Rattle.amqp_endpoint_model.specs.Said.{told}
 use Rattle.amqp_endpoint_model.proofs.Keeping.{pieces}
 use Rattle.amqp_endpoint_model.proofs.LimitLaws.{limit_kept}
-use Rattle.amqp_endpoint_world.proofs.RunLaws.{Run-next, Run-whole}
-use Rattle.amqp_endpoint_world.proofs.playing.play.Goals as goal
+use Rattle.amqp_endpoint_core.proofs.RunLaws.{Run-next, Run-whole}
+use Rattle.amqp_endpoint_core.proofs.playing.play.Goals as goal
 
 pub loop-call-preserved : goal.loop-call-preserved
 loop-call-preserved c = record {
