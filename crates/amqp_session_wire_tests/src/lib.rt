@@ -1,5 +1,5 @@
-//! Tests of what goes over the wire below sessions (OASIS AMQP 1.0, part 2): data, performatives, frames and the
-//! connection. They need none of the crates of sessions, so they are proved beside these.
+//! Tests of what goes over the wire below sessions (OASIS AMQP 1.0, part 2) that are no rows of a table: those are in
+//! crates/amqp_trace/stdin.
 #![tactic(auto)]
 
 #[cfg(test)]

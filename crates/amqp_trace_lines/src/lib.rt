@@ -1,0 +1,19 @@
+//! Lines that ask what AMQP bytes say, and their answers. docs/TRACE.md has the words.
+#![tactic(auto)]
+
+mod calls;
+mod connection;
+mod division;
+mod frames;
+mod hexadecimal;
+mod lines;
+mod reading;
+mod refusal;
+mod stream;
+mod types;
+
+pub use division::divided;
+pub use frames::{SeenFrame, seen_frame};
+pub use lines::answer;
+pub use reading::{Rewritten, reread};
+pub use refusal::Refusal;

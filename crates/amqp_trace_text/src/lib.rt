@@ -1,0 +1,10 @@
+//! The text of AMQP's values: one line that a person reads, and no two values have the same. docs/TRACE.md has its grammar.
+#![tactic(auto)]
+
+mod composites;
+mod escapes;
+mod leaves;
+mod printer;
+mod shapes;
+
+pub use printer::text_of;
