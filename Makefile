@@ -1,7 +1,10 @@
 # The script that `run` and `try` run.
 SCENARIO ?= examples/open_close.scenario
 
-.PHONY: run try test edits bench memory
+# The lines that `trace` and `try-trace` answer.
+TRACE ?= examples/connection.trace
+
+.PHONY: run try trace try-trace test time edits bench memory
 
 # Proves and builds the program, runs the script with it and prints each step and what the endpoint answers.
 run:
@@ -12,9 +15,22 @@ try:
 	@echo "This run is tried only: nothing is proved." >&2
 	@cd crates/amqp_scenario && ../../tools/with_steps "$(abspath $(SCENARIO))" rt try
 
+# Proves and builds amqp-trace, and prints what it says of the lines.
+trace:
+	@cd crates/amqp_trace && rt run < "$(abspath $(TRACE))"
+
+# The same without any proof. It takes one to two minutes.
+try-trace:
+	@echo "This run is tried only: nothing is proved." >&2
+	@cd crates/amqp_trace && rt try < "$(abspath $(TRACE))"
+
 # Every proof, edit that must fail, test and program, from nothing.
 test:
 	rt ci
+
+# The same, and then what it took of a processor, by crate and kind.
+time:
+	@tools/gate_time
 
 # The edits that the gate leaves out for time. They take hours; CRATES names those to try.
 edits:
