@@ -127,25 +127,6 @@ fn read_compounds(rt: HostRuntime) {
     }
 }
 
-#[test]
-fn inserted(rt: HostRuntime) {
-    let alloc = rt.alloc();
-    let (Ok(mut map), Ok(before), Ok(key)) = (
-        one_pair(alloc),
-        one_pair(alloc),
-        String::from_str(alloc, "a"),
-    ) else {
-        return;
-    };
-    match map.insert(key, 8) {
-        Ok(old) => {
-            assert_eq!(rt; old, None);
-            assert!(rt; map.values().copied().eq([7, 8]));
-        }
-        Err(_) => assert!(rt; map == before),
-    }
-}
-
 /// A reader whose call was refused has failed.
 #[test]
 fn read_on(rt: HostRuntime) {
