@@ -3,14 +3,14 @@ SCENARIO ?= examples/open_close.scenario
 
 .PHONY: run try test edits bench memory
 
-# Proves and builds the program, runs the script with it and prints what the endpoint answers.
+# Proves and builds the program, runs the script with it and prints each step and what the endpoint answers.
 run:
-	@cd crates/amqp_scenario && rt run < "$(abspath $(SCENARIO))"
+	@cd crates/amqp_scenario && ../../tools/with_steps "$(abspath $(SCENARIO))" rt run
 
-# The same in seconds, without any proof.
+# The same without any proof. It takes one to two minutes.
 try:
 	@echo "This run is tried only: nothing is proved." >&2
-	@cd crates/amqp_scenario && rt try < "$(abspath $(SCENARIO))"
+	@cd crates/amqp_scenario && ../../tools/with_steps "$(abspath $(SCENARIO))" rt try
 
 # Every proof, edit that must fail, test and program, from nothing.
 test:
@@ -27,6 +27,6 @@ bench:
 	@crates/amqp_session_core_bench/measure
 	@crates/amqp_bench/measure
 
-# Runs the script once for each of its requests for memory, with that request refused. It takes minutes, and proves nothing.
+# Proves and builds the program, and runs the script once for each of its requests for memory, with that request refused.
 memory:
 	@tools/refuse_memory "$(SCENARIO)"

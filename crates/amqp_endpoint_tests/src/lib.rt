@@ -1,5 +1,5 @@
-//! Tests of the endpoint: the answers of each call in each phase, frames of the standard in and out, the texts of its
-//! errors, and scripts. They stand in a crate of their own, since a crate with tests is proved twice.
+//! Tests of the endpoint that are no rows of the crate `amqp_scenario`: the texts of its errors, scripts that no row can
+//! have, and readers and writers that refuse. They stand in a crate of their own, since a crate with tests is proved twice.
 #![tactic(auto)]
 
 #[cfg(test)]

@@ -1,3 +1,2 @@
-mod calls;
 mod errors;
 mod scenarios;

@@ -1,6 +1,11 @@
 //! The loop of programs that read tables: each line is answered, and a row `given => wanted` is compared with its answer.
 #![tactic(auto)]
 
+ghost use Rattle.std.specs.Prelude.{◌≡◌, ◌≢◌, ◌+◌, ◌-◌, ◌<◌, ◌≤◌, ◌^◌, ℕ, List, IfOk, IfErr, OnOk, string_bytes, map};
+ghost use Rattle.std.specs.Io.KnownBytes.{Appends, Consumes, IsAtEnd};
+ghost use Rattle.amqp_rows.specs.declared.RowsError.TheVariants.{Memory, Write as WriteRefused};
+ghost use Rattle.amqp_rows.specs.Rows.{Answers, Tally, tally_of, nothing_told, LineDone, TextDone, LinesDone, lines_of, all_text, status_of};
+
 mod line;
 mod report;
 
@@ -26,6 +31,8 @@ pub enum RowsError {
 }
 
 impl From<AllocError> for RowsError {
+    ghost from_gives = { λ _ e. e ≡ Memory };
+
     fn from(_e: AllocError) -> RowsError {
         RowsError::Memory
     }
@@ -48,6 +55,9 @@ pub fn run<R: Read, W: Write, F: Fn(&str) -> Result<String, AllocError>>(
     answer: F,
 ) -> Result<u8, RowsError>
     requires { F.IsAlwaysCallable answer }
+    ensures printed { IfOk result (λ status. (text : List ℕ) × (told : Tally) × Consumes (R.remaining reader.old) (R.remaining reader.new) text × IsAtEnd (R.remaining reader.new)
+        × LinesDone (Answers F.Fn answer) 1 (lines_of text) nothing_told told × Appends (W.contents writer.old) (W.contents writer.new) (all_text told) × (status ≡ status_of told)) }
+    ensures nothing_written { IfErr result (λ e. e ≢ WriteRefused → writer.new ≡ writer.old) }
 {
     let text = read_all(alloc, reader)?;
     let report = answer_all(alloc, text.as_slice(), &answer)?;
@@ -57,7 +67,10 @@ pub fn run<R: Read, W: Write, F: Fn(&str) -> Result<String, AllocError>>(
     Ok(status)
 }
 
-fn read_all<R: Read>(alloc: Global, reader: &mut R) -> Result<Vec<u8>, RowsError> {
+fn read_all<R: Read>(alloc: Global, reader: &mut R) -> Result<Vec<u8>, RowsError>
+    ensures text { IfOk result (λ text. Consumes (R.remaining reader.old) (R.remaining reader.new) text.items × IsAtEnd (R.remaining reader.new)) }
+    ensures error { IfErr result (λ e. e ≢ WriteRefused) }
+{
     let mut text = Vec::new(alloc);
     match reader.read_to_end(&mut text) {
         Ok(_) => Ok(text),
@@ -65,14 +78,19 @@ fn read_all<R: Read>(alloc: Global, reader: &mut R) -> Result<Vec<u8>, RowsError
     }
 }
 
-fn read_error(error: &io::Error) -> RowsError {
+fn read_error(error: &io::Error) -> RowsError
+    ensures { result ≢ WriteRefused }
+{
     match error.kind() {
         ErrorKind::OutOfMemory => RowsError::Memory,
         _ => RowsError::Read,
     }
 }
 
-fn write_out<W: Write>(writer: &mut W, output: &str) -> Result<(), RowsError> {
+fn write_out<W: Write>(writer: &mut W, output: &str) -> Result<(), RowsError>
+    ensures ok { OnOk result (Appends (W.contents writer.old) (W.contents writer.new) output.now) }
+    ensures err { IfErr result (λ e. e ≡ WriteRefused) }
+{
     if writer.write_all(output.as_bytes()).is_err() {
         return Err(RowsError::Write);
     }
@@ -88,35 +106,80 @@ fn answer_all<F: Fn(&str) -> Result<String, AllocError>>(
     answer: &F,
 ) -> Result<Report, AllocError>
     requires { F.IsAlwaysCallable answer.now }
+    ensures { IfOk result (λ report. LinesDone (Answers F.Fn answer.now) 1 (lines_of text.now) nothing_told (tally_of report)) }
 {
     let lines = lines_of(alloc, text)?;
+    answer_lines(alloc, lines.as_slice(), answer)
+}
+
+fn lines_of(alloc: Global, text: &[u8]) -> Result<Vec<&[u8]>, AllocError>
+    ensures { IfOk result (λ lines. map (λ l. l.now) lines.items ≡ lines_of text.now) }
+{
+    text.split(|byte| *byte == b'\n').collect(alloc)
+}
+
+fn answer_lines<F: Fn(&str) -> Result<String, AllocError>>(
+    alloc: Global,
+    lines: &[&[u8]],
+    answer: &F,
+) -> Result<Report, AllocError>
+    requires { F.IsAlwaysCallable answer.now }
+    ensures { IfOk result (λ report. LinesDone (Answers F.Fn answer.now) 1 (map (λ l. l.now) lines.now) nothing_told (tally_of report)) }
+{
     let mut report = Report::new(alloc);
     for (index, line) in lines.iter().enumerate() {
-        answer_line(&mut report, index + 1, line, answer)?;
+        answer_text(&mut report, index + 1, line, answer)?;
     }
     Ok(report)
 }
 
-fn lines_of(alloc: Global, text: &[u8]) -> Result<Vec<&[u8]>, AllocError> {
-    text.split(|byte| *byte == b'\n').collect(alloc)
+fn answer_text<F: Fn(&str) -> Result<String, AllocError>>(
+    report: &mut Report,
+    number: usize,
+    text: &[u8],
+    answer: &F,
+) -> Result<(), AllocError>
+    requires callable { F.IsAlwaysCallable answer.now }
+    requires room { report.now.held + report.now.differing < 2 ^ 64 - 1 }
+    ensures done { OnOk result (TextDone (Answers F.Fn answer.now) number text.now (tally_of report.old) (tally_of report.new)) }
+    ensures counted { OnOk result (report.new.held + report.new.differing ≤ report.old.held + report.old.differing + 1) }
+{
+    match str::from_utf8(text) {
+        Ok(text) => answer_line(report, number, &parse(text), answer),
+        Err(_) => report.print("unreadable"),
+    }
 }
 
 fn answer_line<F: Fn(&str) -> Result<String, AllocError>>(
     report: &mut Report,
     number: usize,
-    line: &[u8],
+    line: &Line<'_>,
     answer: &F,
 ) -> Result<(), AllocError>
-    requires { F.IsAlwaysCallable answer.now }
+    requires callable { F.IsAlwaysCallable answer.now }
+    requires room { report.now.held + report.now.differing < 2 ^ 64 - 1 }
+    ensures done { OnOk result (LineDone (Answers F.Fn answer.now) number line.now (tally_of report.old) (tally_of report.new)) }
+    ensures counted { OnOk result (report.new.held + report.new.differing ≤ report.old.held + report.old.differing + 1) }
 {
-    let Ok(line) = str::from_utf8(line) else {
-        return report.print("unreadable");
-    };
-    match parse(line) {
+    match line {
         Line::Empty => Ok(()),
-        Line::Plain(given) => report.print(answer(given)?.as_str()),
+        Line::Plain(given) => {
+            let text = answer_of(answer, given)?;
+            report.print(text.as_str())
+        }
         Line::Row { given, wanted } => {
-            report.judge(number, given, wanted, answer(given)?.as_str())
+            let text = answer_of(answer, given)?;
+            report.judge(number, given, wanted, text.as_str())
         }
     }
+}
+
+fn answer_of<F: Fn(&str) -> Result<String, AllocError>>(
+    answer: &F,
+    given: &str,
+) -> Result<String, AllocError>
+    requires { F.IsAlwaysCallable answer.now }
+    ensures { IfOk result (λ text. Answers F.Fn answer.now given.now (string_bytes text)) }
+{
+    answer(given)
 }
