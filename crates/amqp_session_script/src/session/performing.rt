@@ -1,11 +1,10 @@
-use super::Peer;
 use super::calls::{
     Call, Change, DispositionOf, FlowOf, Frame, LinkFrame, Part, Sending, TransferOf,
 };
-use super::frames;
 use super::refusals::told;
 use super::seen::see;
 use super::shown::{show_echoes, show_frame, show_left};
+use super::{Peer, frames};
 use crate::plain::Plain;
 use crate::text;
 use amqp_session::{
@@ -266,7 +265,11 @@ fn take_disposition(
 ) -> Result<String, AllocError> {
     let disposition = frames::disposition(disposition);
     let answer = peer.session.on_incoming_disposition(alloc, &disposition);
-    told(alloc, answer, |echoes| show_echoes(alloc, echoes.as_slice()))
+    told(
+        alloc,
+        answer,
+        |echoes| show_echoes(alloc, echoes.as_slice()),
+    )
 }
 
 fn take_detach(peer: &mut Peer, alloc: Global, handle: u32) -> Result<String, AllocError> {
