@@ -220,9 +220,21 @@ fn take_attach(
     handle: u32,
     link: OutputHandle,
 ) -> Result<String, AllocError> {
-    let attach = frames::attach(alloc, handle)?;
-    let answer = peer.session.on_incoming_attach(alloc, link, &attach);
+    let answer = attach_taken(&mut peer.session, alloc, handle, link);
     told(alloc, answer, |count| count_text(alloc, *count))
+}
+
+/// How many Attach the link took, with this one of the peer.
+fn attach_taken(
+    session: &mut Session<Plain>,
+    alloc: Global,
+    handle: u32,
+    link: OutputHandle,
+) -> Result<u32, SessionError> {
+    match frames::attach(alloc, handle) {
+        Ok(attach) => session.on_incoming_attach(alloc, link, &attach),
+        Err(_) => Err(SessionError::Memory),
+    }
 }
 
 /// How many such frames the link took.
