@@ -166,25 +166,37 @@ impl Sending {
             }
         }
         let handle = OutputHandle(handle);
-        let answer =
-            self.outgoing
-                .on_outgoing_transfer(alloc, &mut self.out, handle, &mut batch);
+        let answer = self
+            .outgoing
+            .on_outgoing_transfer(alloc, &mut self.out, handle, &mut batch);
         Ok(Some(sent(alloc, answer, batch.len())?))
     }
 
     fn change(&mut self, alloc: Global, change: Change) -> Result<String, AllocError> {
         match change {
             Change::Begin(window) => {
-                text::done(alloc, self.outgoing.on_incoming_begin(&mut self.out, window))
+                text::done(
+                    alloc,
+                    self.outgoing.on_incoming_begin(&mut self.out, window),
+                )
             }
             Change::Flow(next, window) => {
-                text::done(alloc, self.outgoing.on_incoming_flow(&mut self.out, next, window))
+                text::done(
+                    alloc,
+                    self.outgoing.on_incoming_flow(&mut self.out, next, window),
+                )
             }
             Change::Frame(handle, frame) => {
-                left(alloc, self.outgoing.on_outgoing_frame(OutputHandle(handle), frame))
+                left(
+                    alloc,
+                    self.outgoing.on_outgoing_frame(OutputHandle(handle), frame),
+                )
             }
             Change::Placed(handle, frame) => {
-                left(alloc, placed(&mut self.outgoing, alloc, OutputHandle(handle), frame))
+                left(
+                    alloc,
+                    placed(&mut self.outgoing, alloc, OutputHandle(handle), frame),
+                )
             }
             Change::Reserve(count) => {
                 let answer = self

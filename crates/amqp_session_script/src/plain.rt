@@ -1,6 +1,8 @@
 //! A link of the simplest kind: it counts what reaches it.
-use amqp_session::{Attach, DeliveryState, DeliveryTag, Detach, Handle, LinkFlow, Role, Transfer};
-use amqp_session::{LinkRelay, Registration, RelayError, TransferAnswer};
+use amqp_session::{
+    Attach, DeliveryState, DeliveryTag, Detach, Handle, LinkFlow, LinkRelay, Registration,
+    RelayError, Role, Transfer, TransferAnswer,
+};
 use bytes::Bytes;
 use std::alloc::Global;
 

@@ -8,12 +8,7 @@ use serde_amqp_types::{Array, Text};
 use std::alloc::{AllocError, Global};
 
 /// The peer's Begin.
-pub fn begin(
-    alloc: Global,
-    next_outgoing_id: u32,
-    incoming_window: u32,
-    handle_max: u32,
-) -> Begin {
+pub fn begin(alloc: Global, next_outgoing_id: u32, incoming_window: u32, handle_max: u32) -> Begin {
     Begin {
         remote_channel: None,
         next_outgoing_id,

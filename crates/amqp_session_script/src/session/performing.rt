@@ -1,11 +1,10 @@
-use super::Peer;
 use super::calls::{
     Call, Change, DispositionOf, FlowOf, Frame, LinkFrame, Part, Sending, TransferOf,
 };
-use super::frames;
 use super::refusals::told;
 use super::seen::see;
 use super::shown::{show_echoes, show_frame, show_left};
+use super::{Peer, frames};
 use crate::plain::Plain;
 use crate::text;
 use amqp_session::{
@@ -221,9 +220,21 @@ fn take_attach(
     handle: u32,
     link: OutputHandle,
 ) -> Result<String, AllocError> {
-    let attach = frames::attach(alloc, handle)?;
-    let answer = peer.session.on_incoming_attach(alloc, link, &attach);
+    let answer = attach_taken(&mut peer.session, alloc, handle, link);
     told(alloc, answer, |count| count_text(alloc, *count))
+}
+
+/// How many Attach the link took, with this one of the peer.
+fn attach_taken(
+    session: &mut Session<Plain>,
+    alloc: Global,
+    handle: u32,
+    link: OutputHandle,
+) -> Result<u32, SessionError> {
+    match frames::attach(alloc, handle) {
+        Ok(attach) => session.on_incoming_attach(alloc, link, &attach),
+        Err(_) => Err(SessionError::Memory),
+    }
 }
 
 /// How many such frames the link took.
@@ -266,7 +277,11 @@ fn take_disposition(
 ) -> Result<String, AllocError> {
     let disposition = frames::disposition(disposition);
     let answer = peer.session.on_incoming_disposition(alloc, &disposition);
-    told(alloc, answer, |echoes| show_echoes(alloc, echoes.as_slice()))
+    told(
+        alloc,
+        answer,
+        |echoes| show_echoes(alloc, echoes.as_slice()),
+    )
 }
 
 fn take_detach(peer: &mut Peer, alloc: Global, handle: u32) -> Result<String, AllocError> {

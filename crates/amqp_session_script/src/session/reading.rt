@@ -22,7 +22,11 @@ fn read_words(alloc: Global, words: &mut Words<'_>) -> Result<Option<Call>, Allo
     }
 }
 
-fn read_named(alloc: Global, word: &str, words: &mut Words<'_>) -> Result<Option<Call>, AllocError> {
+fn read_named(
+    alloc: Global,
+    word: &str,
+    words: &mut Words<'_>,
+) -> Result<Option<Call>, AllocError> {
     match word {
         "send" => Ok(read_sending(alloc, words)?.map(Call::Sends)),
         "take" => Ok(read_frame(words).map(Call::Takes)),

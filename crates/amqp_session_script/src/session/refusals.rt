@@ -42,11 +42,7 @@ impl Refuses for Unallocated<Plain> {
 }
 
 /// What is shown of an answer, or the word of the error that the call is refused with.
-pub fn told<T, E, F>(
-    alloc: Global,
-    answer: Result<T, E>,
-    show: F,
-) -> Result<String, AllocError>
+pub fn told<T, E, F>(alloc: Global, answer: Result<T, E>, show: F) -> Result<String, AllocError>
 where
     T: Drop,
     E: Refuses + Drop,

@@ -1,5 +1,7 @@
 use crate::text::{self, List, write_fields, write_flags};
-use amqp_session::{Begin, DeliveryState, Detach, Disposition, Flow, Role, SessionFrame, SessionFrameBody, Transfer};
+use amqp_session::{
+    Begin, DeliveryState, Detach, Disposition, Flow, Role, SessionFrame, SessionFrameBody, Transfer,
+};
 use std::alloc::{AllocError, Global};
 use std::collections::VecDeque;
 
@@ -13,7 +15,11 @@ pub enum Detail {
 }
 
 /// What is shown of a frame.
-pub fn show_frame(alloc: Global, frame: &SessionFrame, detail: Detail) -> Result<String, AllocError> {
+pub fn show_frame(
+    alloc: Global,
+    frame: &SessionFrame,
+    detail: Detail,
+) -> Result<String, AllocError> {
     let mut text = String::new(alloc);
     write_frame(&mut text, frame, detail)?;
     Ok(text)
@@ -136,7 +142,10 @@ fn state_word(state: &DeliveryState) -> &'static str {
 fn write_full_begin(text: &mut String, begin: &Begin) -> Result<(), AllocError> {
     text.push_str("begin")?;
     let fields = [
-        ("remote-channel", begin.remote_channel.map(|channel| channel as u32)),
+        (
+            "remote-channel",
+            begin.remote_channel.map(|channel| channel as u32),
+        ),
         ("next-outgoing-id", Some(begin.next_outgoing_id)),
         ("incoming-window", Some(begin.incoming_window)),
         ("outgoing-window", Some(begin.outgoing_window)),
@@ -164,6 +173,9 @@ fn write_full_flow(text: &mut String, flow: &Flow) -> Result<(), AllocError> {
 
 fn write_full_detach(text: &mut String, detach: &Detach) -> Result<(), AllocError> {
     write!(text, "detach handle={}", detach.handle.0)?;
-    let flags = [("closed", detach.closed), ("has-error", detach.error.is_some())];
+    let flags = [
+        ("closed", detach.closed),
+        ("has-error", detach.error.is_some()),
+    ];
     write_flags(text, &flags)
 }
