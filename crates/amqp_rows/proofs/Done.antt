@@ -7,8 +7,8 @@ use Rattle.std.specs.Result.{IfOk, OnOk}
 use Rattle.std.specs.Str.{IsUtf8, is_utf8}
 use Rattle.std.proofs.lemmas.Str.{IsUtf8-from_is_utf8, is_utf8-from_IsUtf8}
 use Rattle.amqp_rows.specs.declared.line.Line.{Line}
-use Rattle.amqp_rows.specs.declared.line.Line.TheVariants.{Empty, Plain, Row}
-use Rattle.amqp_rows.specs.Rows.{Tally, Says, printed, judged, Answers, IsAnswered, LineDone, IsRead, TextDone}
+use Rattle.amqp_rows.specs.declared.line.Line.TheVariants.{Plain, Row}
+use Rattle.amqp_rows.specs.Rows.{Tally, Says, printed, judged, Answers, LineDone, TextDone}
 
 not_utf8 : (text : List ℕ) → (IsUtf8 text → ⊥) → is_utf8 text ≡ false
 not_utf8 text h = go (is_utf8 text) refl

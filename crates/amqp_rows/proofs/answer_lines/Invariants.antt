@@ -1,4 +1,4 @@
-use Rattle.std.proofs.Common.{◌≡◌, ◌+◌, ◌≤◌, map, drop}
+use Rattle.std.proofs.Common.{◌+◌, ◌≤◌, map, drop}
 use Rattle.amqp_rows.specs.Rows.{Answers, Tally, tally_of, nothing_told, LinesDone}
 use Rattle.amqp_rows.proofs.answer_lines.Given as goal
 
