@@ -1,7 +1,7 @@
 use Rattle.std.proofs.Common.{arith}
 use Rattle.serde_amqp_de.specs.Reads.{at_of}
-use Rattle.serde_amqp_de.proofs.Heads.{carried}
-use Rattle.serde_amqp_de.proofs.Arrays.{counted8, counted32, array8, array32, small_array8, not_bare, long_array32, no_elements8, no_elements32}
+use Rattle.serde_amqp_de.proofs.Heads.{carried, no_head_refuses}
+use Rattle.serde_amqp_de.proofs.Arrays.{counted8, counted32, array8, array32, small_array8, not_bare, bare_array, small_array32, long_array32, no_elements8, no_elements32, short_array8, short_array32, wrong_array}
 use Rattle.serde_amqp_de.proofs.deserializer.Deserializer.array_head.Goals as goal
 
 pub returns-then-size-lt1-clause-refused : goal.returns-then-size-lt1-clause-refused
@@ -43,3 +43,24 @@ pub returns-in_ok-element-in-Array32-clause-ok : goal.returns-in_ok-element-in-A
 returns-in_ok-element-in-Array32-clause-ok g c =
     let h = counted32 c.args.self.now.element (at_of g.R.Read.rest c.args.self.now) (at_of g.R.Read.rest c.code.new.self) (at_of g.R.Read.rest c.count32.new.self) c.in_ok-size-in-Array32.size c.in_ok-size-in-Array32.count (rw c.in-Array32.is at c.in_ok-code.ensures.ok) c.in_ok-size-in-Array32.ensures.ok in
     array32 c.args.self.now.element (at_of g.R.Read.rest c.args.self.now) (at_of g.R.Read.rest c.code.new.self) (at_of g.R.Read.rest c.count32.new.self) (at_of g.R.Read.rest c.element_code-in-Array32.new.self) c.in_ok-size-in-Array32.size c.in_ok-size-in-Array32.count c.in_ok-element-in-Array32.element _ h c.in_ok-element-in-Array32.ensures.ok c.in_ok-element-in-Array32.ensures.plain (omega (arith, c.if-size-lt5.false)) (omega (arith, c.if-count-gt-MAX_ARRAY_COUNT.false))
+
+pub returns-in_err-code-clause-refused : goal.returns-in_err-code-clause-refused
+returns-in_err-code-clause-refused g c = carried g.R.Read.faulty _ c.in_err-code.field-0.0 _ _ c.from_residual.ensures.1 (no_head_refuses _ _ _) c.in_err-code.ensures.refused
+
+pub returns-in_err-size-in-Array8-clause-refused : goal.returns-in_err-size-in-Array8-clause-refused
+returns-in_err-size-in-Array8-clause-refused g c = carried g.R.Read.faulty _ c.in_err-size-in-Array8.field-0.0 _ _ c.from_residual-in_err-size-in-Array8.ensures.1 (short_array8 _ _ _ (rw c.in-Array8.is at c.in_ok-code.ensures.ok)) c.in_err-size-in-Array8.ensures.end
+
+pub returns-in_err-size-in-Array32-clause-refused : goal.returns-in_err-size-in-Array32-clause-refused
+returns-in_err-size-in-Array32-clause-refused g c = carried g.R.Read.faulty _ c.in_err-size-in-Array32.field-0.0 _ _ c.from_residual-in_err-size-in-Array32.ensures.1 (short_array32 _ _ _ (rw c.in-Array32.is at c.in_ok-code.ensures.ok)) c.in_err-size-in-Array32.ensures.end
+
+pub returns-then-size-lt5-clause-refused : goal.returns-then-size-lt5-clause-refused
+returns-then-size-lt5-clause-refused g c = small_array32 _ _ _ _ _ _ (counted32 _ _ _ _ _ _ (rw c.in-Array32.is at c.in_ok-code.ensures.ok) c.in_ok-size-in-Array32.ensures.ok) c.if-size-lt5.true
+
+pub returns-then-size-eq1-clause-ok : goal.returns-then-size-eq1-clause-ok
+returns-then-size-eq1-clause-ok g c = bare_array _ _ _ _ _ _ _ (rw c.in-Array8.is at c.in_ok-code.ensures.ok) c.in_ok-size-in-Array8.ensures.ok c.if-size-eq1.true c.if-count-ne0.false
+
+pub returns-in_default : goal.returns-in_default
+returns-in_default g c = record {
+  ok = tt;
+  refused = wrong_array _ _ _ _ c.in_ok-code.ensures.ok c.in_default.not-Array8 c.in_default.not-Array32;
+}

@@ -1,0 +1,21 @@
+use Rattle.serde_amqp_de.proofs.Heads.{carried, no_head_refuses}
+use Rattle.serde_amqp_de.proofs.Values.{some_took, some_refused, none_took, none_refused}
+use Rattle.serde_amqp_de.proofs.deserialize.OptionDeserialize.read.Goals as goal
+
+pub returns-in_err-peek-clause-refused : goal.returns-in_err-peek-clause-refused
+returns-in_err-peek-clause-refused g c = carried g.R.Read.faulty _ c.in_err-peek.field-0.0 _ _ c.from_residual.ensures.1 (no_head_refuses _ _ _) c.in_err-peek.ensures.refused
+
+pub returns-in_err-deserialize_unit-in-Null-clause-refused :
+    goal.returns-in_err-deserialize_unit-in-Null-clause-refused
+returns-in_err-deserialize_unit-in-Null-clause-refused g c = carried g.R.Read.faulty _ c.in_err-deserialize_unit-in-Null.field-0.0 _ _ c.from_residual-in_err-deserialize_unit-in-Null.ensures.1 (none_refused g.T.Deserialize.take _ _ _ (rw c.in-Null.is at c.in_ok-peek.ensures.ok) c.in_ok-peek.ensures.same) (rw c.in_ok-peek.ensures.element at c.in_err-deserialize_unit-in-Null.ensures.refused)
+
+pub returns-in_ok-deserialize_unit-in-Null-clause-ok :
+    goal.returns-in_ok-deserialize_unit-in-Null-clause-ok
+returns-in_ok-deserialize_unit-in-Null-clause-ok g c = none_took g.T.Deserialize.take _ _ _ _ c.in_ok-peek.ensures.same (rw c.in_ok-peek.ensures.element at c.in_ok-deserialize_unit-in-Null.ensures.ok)
+
+pub returns-in_err-read-in_default-clause-refused :
+    goal.returns-in_err-read-in_default-clause-refused
+returns-in_err-read-in_default-clause-refused g c = carried g.R.Read.faulty _ c.in_err-read-in_default.field-0.0 _ _ c.from_residual-in_err-read-in_default.ensures.1 (some_refused g.T.Deserialize.take _ _ _ _ c.in_ok-peek.ensures.ok c.in_ok-peek.ensures.same c.in_default.not-Null) (rw c.in_ok-peek.ensures.element at c.in_err-read-in_default.ensures.refused)
+
+pub returns-in_ok-read-in_default-clause-ok : goal.returns-in_ok-read-in_default-clause-ok
+returns-in_ok-read-in_default-clause-ok g c = some_took g.T.Deserialize.take _ _ _ _ _ _ c.in_ok-peek.ensures.ok c.in_ok-peek.ensures.same c.in_default.not-Null (rw c.in_ok-peek.ensures.element at c.in_ok-read-in_default.ensures.ok)
