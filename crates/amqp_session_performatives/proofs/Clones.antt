@@ -1,5 +1,6 @@
 -- Clones are equal to what they are clones of.
-use Rattle.std.proofs.Common.{◌≡◌, ℕ, List, Option, Some, None, refl, ap}
+use Rattle.std.proofs.Common.{◌≡◌, ℕ, List, Option, Some, None, Result, Ok, Err, refl, ap, subst}
+use Rattle.std.specs.Prelude.{IfOk}
 use Rattle.std.specs.List.{AllZip, each_same}
 use Rattle.serde_amqp_map.proofs.PairLaws.{clones_equal}
 use Rattle.amqp_session_states.specs.declared.delivery_state.DeliveryState.{DeliveryState}
@@ -28,3 +29,11 @@ values_cloned = option_cloned (AllZip (λ p q. (q.0 ≡ p.0) × (q.1 ≡ p.1))) 
 -- where a state's clone is the state, the clone of a link's unsettled deliveries is the same
 pub unsettled_cloned : (D : DeliveryState → DeliveryState → Type 0) → ((x y : DeliveryState) → D x y → y ≡ x) → (o p : Option (List (List ℕ × Option DeliveryState))) → IsCloned (AllZip (λ p q. (q.0 ≡ p.0) × IsCloned D p.1 q.1)) o p → p ≡ o
 unsettled_cloned D d = option_cloned (AllZip (λ p q. (q.0 ≡ p.0) × IsCloned D p.1 q.1)) (clones_equal (λ x y. y ≡ x) (IsCloned D) (λ x y e. e) (option_cloned D d))
+
+-- what is known of each of two results, of both
+pub both_are : {A B E : Type 0} (r : Result (A × B) E) (a : Result A E) (b : Result B E) (P : A → Type 0) (Q : B → Type 0) → IfOk a P → IfOk b Q → IfOk r (λ c. (a ≡ Ok c.0) × (b ≡ Ok c.1)) → IfOk r (λ c. P c.0 × Q c.1)
+both_are (Err e) a b P Q p q h = tt
+both_are {A} {B} {E} (Ok c) a b P Q p q h =
+    let F : Result A E → Type 0 = λ x. IfOk x P in
+    let G : Result B E → Type 0 = λ x. IfOk x Q in
+    (subst F h.0 p, subst G h.1 q)

@@ -5,6 +5,7 @@ ghost use Rattle.serde_amqp_choice.specs.Choice.{TookList, RefusesList};
 ghost use Rattle.amqp_session_performatives.specs.Attach.{attach_fields, attach_item, attach_takes, attach_taken};
 ghost use Rattle.amqp_session_performatives.specs.AttachLaws.{attach_decided, attach_again, attach_same};
 
+use crate::both::both;
 use amqp_session_states::{DeliveryState, Source, TargetArchetype};
 use amqp_session_types::{
     Aside, Boxed, DeliveryTag, Fields, Handle, OrDefault, ReceiverSettleMode, Role,
@@ -60,11 +61,12 @@ impl Clone for Attach {
     ghost is_clone = { λ x y. y ≡ x };
 
     fn clone(&self) -> Result<Self, AllocError> {
-        let unsettled = self.clone_unsettled()?;
-        let (source, target) = self.clone_termini()?;
-        let (offered_capabilities, desired_capabilities) = self.clone_capabilities()?;
+        let (
+            ((name, properties), (offered_capabilities, desired_capabilities)),
+            (unsettled, (source, target)),
+        ) = self.clone_parts()?;
         Ok(Attach {
-            name: self.name.clone()?,
+            name,
             handle: self.handle,
             role: self.role,
             snd_settle_mode: self.snd_settle_mode,
@@ -77,7 +79,7 @@ impl Clone for Attach {
             max_message_size: self.max_message_size,
             offered_capabilities,
             desired_capabilities,
-            properties: self.properties.clone()?,
+            properties,
         })
     }
 }
@@ -85,7 +87,35 @@ impl Clone for Attach {
 /// The states of unsettled deliveries by their tags.
 type Unsettled = OrderedMap<DeliveryTag, Option<DeliveryState>>;
 
+/// What of an attach isn't copied: its name and its properties, the capabilities, the unsettled deliveries, and its source
+/// and its target.
+type Parts = (
+    (
+        (Text, Option<Boxed<Fields>>),
+        (Array<Symbol>, Array<Symbol>),
+    ),
+    (Option<Unsettled>, (Option<Source>, Option<TargetArchetype>)),
+);
+
 impl Attach {
+    /// Clones of what isn't copied.
+    fn clone_parts(&self) -> Result<Parts, AllocError>
+        ensures { IfOk result (λ c. (((c.0.0.0 ≡ self.now.name) × (c.0.0.1 ≡ self.now.properties)) × ((c.0.1.0 ≡ self.now.offered_capabilities) × (c.0.1.1 ≡ self.now.desired_capabilities)))
+            × ((c.1.0 ≡ self.now.unsettled) × ((c.1.1.0 ≡ self.now.source) × (c.1.1.1 ≡ self.now.target)))) }
+    {
+        both(
+            both(self.clone_name(), self.clone_capabilities()),
+            both(self.clone_unsettled(), self.clone_termini()),
+        )
+    }
+
+    /// Clones of the name and the properties.
+    fn clone_name(&self) -> Result<(Text, Option<Boxed<Fields>>), AllocError>
+        ensures { IfOk result (λ c. (c.0 ≡ self.now.name) × (c.1 ≡ self.now.properties)) }
+    {
+        Ok((self.name.clone()?, self.properties.clone()?))
+    }
+
     /// A clone of the map of unsettled deliveries.
     fn clone_unsettled(&self) -> Result<Option<Unsettled>, AllocError>
         ensures { IfOk result (λ c. c ≡ self.now.unsettled) }
@@ -97,7 +127,8 @@ impl Attach {
     fn clone_termini(&self) -> Result<(Option<Source>, Option<TargetArchetype>), AllocError>
         ensures { IfOk result (λ c. (c.0 ≡ self.now.source) × (c.1 ≡ self.now.target)) }
     {
-        Ok((self.source.clone()?, self.target.clone()?))
+        let target = self.target.clone()?;
+        Ok((self.source.clone()?, target))
     }
 
     /// Clones of the capabilities.

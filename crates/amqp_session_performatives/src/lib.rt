@@ -16,6 +16,7 @@ macro_rules! row_pattern {
 
 mod attach;
 mod begin;
+mod both;
 mod close;
 mod composite;
 mod continuation;

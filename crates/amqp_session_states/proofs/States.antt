@@ -38,5 +38,3 @@ later_took code o s k old new t n e = record {
 
 pub later_refused : (code : ℕ) (k : Option ℕ) (old : At) → Refuses (fields_chosen outcome_rows code) k old → code ≢ 0x23 → Refuses (fields_chosen delivery_state_rows code) k old
 later_refused code k old r n = record { none = λ x f more w e. later_chosen code n x ∙ r.none x f more w e }
-
-pub ruleset later = (later_took, later_refused)

@@ -1,5 +1,8 @@
 //! The states of a delivery (part 3, 3.4).
-ghost use Rattle.std.specs.Prelude.{◌≡◌, MatchResult, Some, None, refl};
+ghost use Rattle.std.specs.Prelude.{◌≡◌, ◌≢◌, IfOk, MatchResult, OnOk, Some, None, refl};
+ghost use Rattle.serde_amqp_read.specs.Reads.{Unless};
+ghost use Rattle.serde_amqp_de.specs.Reads.{Refuses, Took, at_of};
+ghost use Rattle.serde_amqp_choice.specs.Choice.{fields_chosen};
 ghost use Rattle.amqp_session_states.specs.DeliveryStateLaws.{delivery_state_rows_decided, delivery_state_rows_differ, delivery_state_decided, delivery_state_again, delivery_state_same, delivery_state_present};
 ghost use Rattle.amqp_session_states.specs.DeliveryState.{delivery_state_item, delivery_state_rows, delivery_state_taken};
 ghost use Rattle.amqp_session_states.specs.Terminal.{is_terminal, terminal_state, state_outcome};
@@ -113,28 +116,59 @@ impl Choice for DeliveryState {
         Outcome::code_of_name(name)
     }
 
-    #[tactic(auto, using(serde_amqp_choice::proofs::Choosing::chosen, crate::proofs::States::later))]
     fn read_fields<R: Read>(
         alloc: Global,
         de: &mut Deserializer<R>,
         code: u64,
     ) -> Result<DeliveryState, Error> {
         if code == received::CODE {
-            let (section_number, (section_offset, ())) = read_fields_of::<received::Fields, R>(
-                alloc, de,
-            )?;
-            return Ok(DeliveryState::Received(Received {
-                section_number,
-                section_offset,
-            }));
+            return read_received(alloc, de, code);
         }
-        let outcome = Outcome::read_fields(alloc, de, code)?;
-        Ok(DeliveryState::from(outcome))
+        read_outcome(alloc, de, code)
     }
 
     ghost decided = { delivery_state_rows_decided };
 
     ghost differ = { delivery_state_rows_differ };
+}
+
+/// Reads the fields of a received state, which has this code.
+///
+/// Errors: as those of `Choice::read_fields`.
+fn read_received<R: Read>(
+    alloc: Global,
+    de: &mut Deserializer<R>,
+    code: u64,
+) -> Result<DeliveryState, Error>
+    requires bare { de.old.element ≡ None }
+    requires received { code ≡ 0x23 }
+    ensures ok { IfOk result (λ s. Took (fields_chosen delivery_state_rows code) None (at_of R.rest de.old) (at_of R.rest de.new) (delivery_state_item s)) }
+    ensures element { OnOk result (de.new.element ≡ None) }
+    ensures refused { Unless R.faulty result (Refuses (fields_chosen delivery_state_rows code) None (at_of R.rest de.old)) }
+{
+    let (section_number, (section_offset, ())) = read_fields_of::<received::Fields, R>(alloc, de)?;
+    Ok(DeliveryState::Received(Received {
+        section_number,
+        section_offset,
+    }))
+}
+
+/// Reads the fields of a state that isn't received, which has this code.
+///
+/// Errors: as those of `Choice::read_fields`.
+fn read_outcome<R: Read>(
+    alloc: Global,
+    de: &mut Deserializer<R>,
+    code: u64,
+) -> Result<DeliveryState, Error>
+    requires bare { de.old.element ≡ None }
+    requires other { code ≢ 0x23 }
+    ensures ok { IfOk result (λ s. Took (fields_chosen delivery_state_rows code) None (at_of R.rest de.old) (at_of R.rest de.new) (delivery_state_item s)) }
+    ensures element { OnOk result (de.new.element ≡ None) }
+    ensures refused { Unless R.faulty result (Refuses (fields_chosen delivery_state_rows code) None (at_of R.rest de.old)) }
+{
+    let outcome = Outcome::read_fields(alloc, de, code)?;
+    Ok(DeliveryState::from(outcome))
 }
 
 /// A described list with the descriptor of one of the states. Any other descriptor answers `InvalidValue`.

@@ -1,5 +1,8 @@
 //! The outcomes of a delivery (part 3, 3.4).
-ghost use Rattle.std.specs.Prelude.{◌≡◌, refl};
+ghost use Rattle.std.specs.Prelude.{◌≡◌, IfOk, OnOk, None, refl};
+ghost use Rattle.serde_amqp_read.specs.Reads.{Unless};
+ghost use Rattle.serde_amqp_de.specs.Reads.{Refuses, Took, at_of};
+ghost use Rattle.serde_amqp_choice.specs.Choice.{fields_chosen};
 ghost use Rattle.amqp_session_states.specs.OutcomeLaws.{outcome_rows_decided, outcome_rows_differ, outcome_decided, outcome_again, outcome_same, outcome_present};
 ghost use Rattle.amqp_session_states.specs.Outcome.{outcome_item, outcome_rows, outcome_taken};
 
@@ -85,27 +88,10 @@ impl Choice for Outcome {
         code: u64,
     ) -> Result<Outcome, Error> {
         match code {
-            accepted::CODE => {
-                read_fields_of::<accepted::Fields, R>(alloc, de)?;
-                Ok(Outcome::Accepted(Accepted {}))
-            }
-            rejected::CODE => {
-                let (Aside(error), ()) = read_fields_of::<rejected::Fields, R>(alloc, de)?;
-                Ok(Outcome::Rejected(Rejected { error }))
-            }
-            released::CODE => {
-                read_fields_of::<released::Fields, R>(alloc, de)?;
-                Ok(Outcome::Released(Released {}))
-            }
-            modified::CODE => {
-                let (delivery_failed, (undeliverable_here, (Aside(message_annotations), ()))) =
-                    read_fields_of::<modified::Fields, R>(alloc, de)?;
-                Ok(Outcome::Modified(Modified {
-                    delivery_failed,
-                    undeliverable_here,
-                    message_annotations,
-                }))
-            }
+            accepted::CODE => read_accepted(alloc, de, code),
+            rejected::CODE => read_rejected(alloc, de, code),
+            released::CODE => read_released(alloc, de, code),
+            modified::CODE => read_modified(alloc, de, code),
             _ => Err(Error::InvalidValue),
         }
     }
@@ -113,6 +99,83 @@ impl Choice for Outcome {
     ghost decided = { outcome_rows_decided };
 
     ghost differ = { outcome_rows_differ };
+}
+
+/// Reads the fields of an accepted outcome, which has this code.
+///
+/// Errors: as those of `Choice::read_fields`.
+fn read_accepted<R: Read>(
+    alloc: Global,
+    de: &mut Deserializer<R>,
+    code: u64,
+) -> Result<Outcome, Error>
+    requires bare { de.old.element ≡ None }
+    requires coded { code ≡ 0x24 }
+    ensures ok { IfOk result (λ o. Took (fields_chosen outcome_rows code) None (at_of R.rest de.old) (at_of R.rest de.new) (outcome_item o)) }
+    ensures element { OnOk result (de.new.element ≡ None) }
+    ensures refused { Unless R.faulty result (Refuses (fields_chosen outcome_rows code) None (at_of R.rest de.old)) }
+{
+    read_fields_of::<accepted::Fields, R>(alloc, de)?;
+    Ok(Outcome::Accepted(Accepted {}))
+}
+
+/// Reads the fields of a rejected outcome, which has this code.
+///
+/// Errors: as those of `Choice::read_fields`.
+fn read_rejected<R: Read>(
+    alloc: Global,
+    de: &mut Deserializer<R>,
+    code: u64,
+) -> Result<Outcome, Error>
+    requires bare { de.old.element ≡ None }
+    requires coded { code ≡ 0x25 }
+    ensures ok { IfOk result (λ o. Took (fields_chosen outcome_rows code) None (at_of R.rest de.old) (at_of R.rest de.new) (outcome_item o)) }
+    ensures element { OnOk result (de.new.element ≡ None) }
+    ensures refused { Unless R.faulty result (Refuses (fields_chosen outcome_rows code) None (at_of R.rest de.old)) }
+{
+    let (Aside(error), ()) = read_fields_of::<rejected::Fields, R>(alloc, de)?;
+    Ok(Outcome::Rejected(Rejected { error }))
+}
+
+/// Reads the fields of a released outcome, which has this code.
+///
+/// Errors: as those of `Choice::read_fields`.
+fn read_released<R: Read>(
+    alloc: Global,
+    de: &mut Deserializer<R>,
+    code: u64,
+) -> Result<Outcome, Error>
+    requires bare { de.old.element ≡ None }
+    requires coded { code ≡ 0x26 }
+    ensures ok { IfOk result (λ o. Took (fields_chosen outcome_rows code) None (at_of R.rest de.old) (at_of R.rest de.new) (outcome_item o)) }
+    ensures element { OnOk result (de.new.element ≡ None) }
+    ensures refused { Unless R.faulty result (Refuses (fields_chosen outcome_rows code) None (at_of R.rest de.old)) }
+{
+    read_fields_of::<released::Fields, R>(alloc, de)?;
+    Ok(Outcome::Released(Released {}))
+}
+
+/// Reads the fields of a modified outcome, which has this code.
+///
+/// Errors: as those of `Choice::read_fields`.
+fn read_modified<R: Read>(
+    alloc: Global,
+    de: &mut Deserializer<R>,
+    code: u64,
+) -> Result<Outcome, Error>
+    requires bare { de.old.element ≡ None }
+    requires coded { code ≡ 0x27 }
+    ensures ok { IfOk result (λ o. Took (fields_chosen outcome_rows code) None (at_of R.rest de.old) (at_of R.rest de.new) (outcome_item o)) }
+    ensures element { OnOk result (de.new.element ≡ None) }
+    ensures refused { Unless R.faulty result (Refuses (fields_chosen outcome_rows code) None (at_of R.rest de.old)) }
+{
+    let (delivery_failed, (undeliverable_here, (Aside(message_annotations), ()))) =
+        read_fields_of::<modified::Fields, R>(alloc, de)?;
+    Ok(Outcome::Modified(Modified {
+        delivery_failed,
+        undeliverable_here,
+        message_annotations,
+    }))
 }
 
 /// A described list with the descriptor of one of the outcomes. Any other descriptor answers `InvalidValue`.

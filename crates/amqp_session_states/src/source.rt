@@ -1,5 +1,5 @@
 //! The source of a link (part 3, 3.5.3).
-ghost use Rattle.std.specs.Prelude.{◌≡◌, refl};
+ghost use Rattle.std.specs.Prelude.{◌≡◌, IfOk, refl};
 ghost use Rattle.amqp_session_states.specs.Source.{source_item, source_taken};
 ghost use Rattle.amqp_session_states.specs.SourceLaws.{source_again, source_decided, source_same};
 
@@ -77,19 +77,48 @@ impl Clone for Source {
     ghost is_clone = { λ x y. y ≡ x };
 
     fn clone(&self) -> Result<Self, AllocError> {
+        let (outcomes, capabilities) = self.clone_symbols()?;
+        let (address, dynamic_node_properties) = self.clone_node()?;
+        let (filter, default_outcome) = self.clone_choice()?;
         Ok(Source {
-            address: self.address.clone()?,
+            address,
             durable: self.durable,
             expiry_policy: self.expiry_policy,
             timeout: self.timeout,
             dynamic: self.dynamic,
-            dynamic_node_properties: self.dynamic_node_properties.clone()?,
+            dynamic_node_properties,
             distribution_mode: self.distribution_mode,
-            filter: self.filter.clone()?,
-            default_outcome: self.default_outcome.clone()?,
-            outcomes: self.outcomes.clone()?,
-            capabilities: self.capabilities.clone()?,
+            filter,
+            default_outcome,
+            outcomes,
+            capabilities,
         })
+    }
+}
+
+impl Source {
+    /// Clones of the address and of what the node is to be like.
+    #[tactic(auto, using(amqp_session_types::proofs::Clones::clones))]
+    fn clone_node(&self) -> Result<(Option<Text>, Option<Properties>), AllocError>
+        ensures { IfOk result (λ c. (c.0 ≡ self.now.address) × (c.1 ≡ self.now.dynamic_node_properties)) }
+    {
+        Ok((self.address.clone()?, self.dynamic_node_properties.clone()?))
+    }
+
+    /// Clones of what says which messages are wanted, and of the outcome of those that are settled without one.
+    #[tactic(auto, using(amqp_session_types::proofs::Clones::clones))]
+    fn clone_choice(&self) -> Result<(Option<FilterSet>, Option<Outcome>), AllocError>
+        ensures { IfOk result (λ c. (c.0 ≡ self.now.filter) × (c.1 ≡ self.now.default_outcome)) }
+    {
+        Ok((self.filter.clone()?, self.default_outcome.clone()?))
+    }
+
+    /// Clones of the outcomes that may be chosen and of the capabilities.
+    #[tactic(auto, using(amqp_session_types::proofs::Clones::clones))]
+    fn clone_symbols(&self) -> Result<(Array<Symbol>, Array<Symbol>), AllocError>
+        ensures { IfOk result (λ c. (c.0 ≡ self.now.outcomes) × (c.1 ≡ self.now.capabilities)) }
+    {
+        Ok((self.outcomes.clone()?, self.capabilities.clone()?))
     }
 }
 

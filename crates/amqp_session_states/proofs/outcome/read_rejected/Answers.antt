@@ -1,0 +1,12 @@
+use Rattle.std.proofs.Common.{refl}
+use Rattle.serde_amqp_de.proofs.Heads.{carried}
+use Rattle.serde_amqp_choice.proofs.Choosing.{chosen_took, chosen_refused}
+use Rattle.amqp_session_states.specs.Rejected.{rejected_fields, rejected_takes}
+use Rattle.amqp_session_states.specs.Outcome.{outcome_rows}
+use Rattle.amqp_session_states.proofs.outcome.read_rejected.Goals as goal
+
+pub returns-in_err-error-clause-refused : goal.returns-in_err-error-clause-refused
+returns-in_err-error-clause-refused g c = carried g.R.Read.faulty c.from_residual.result _ _ _ c.from_residual.ensures.1 (λ r. chosen_refused outcome_rows c.args.code 0x25 rejected_takes _ c.requires.coded r refl) c.in_err-error.ensures.refused
+
+pub returns-clause-ok : goal.returns-clause-ok
+returns-clause-ok g c = chosen_took outcome_rows c.args.code 0x25 rejected_takes (rejected_fields (record { error = c.in_ok-error.field-0-0.0 })) _ _ c.requires.coded c.in_ok-error.ensures.ok refl
