@@ -1,12 +1,11 @@
 -- Values are finished one after the other, the last first.
 use Rattle.std.proofs.Common.{◌≡◌, ℕ, ◌+◌, List, [], ◌∷◌, ◌++◌, length, reverse, Bool, true, false, cond, Option, Some, None, sym, ◌∙◌, ap, subst, refl, arith, length-append, append_assoc, append-nil}
 use Rattle.serde_amqp_item.specs.declared.codes.EncodingCodes.{EncodingCodes}
-use Rattle.serde_amqp_item.specs.Item.{Item}
-use Rattle.serde_amqp_item.specs.Wire.{Form, IsCapped, IsStrict, row_of, row_at, byte_of}
+use Rattle.serde_amqp_item.specs.Wire.{row_at, byte_of}
 use Rattle.serde_amqp_item.proofs.Constructors.{row_of_byte}
 use Rattle.serde_amqp_tree.specs.declared.finished.Finished.{Finished}
 use Rattle.serde_amqp_tree.specs.declared.finished.Lengths.{Lengths}
-use Rattle.serde_amqp_tree.specs.Tree.{IsCanonical, Body, Value, Forest, Closed, Closes, Finishes, CutsConstructor, IsOne, wide_byte}
+use Rattle.serde_amqp_tree.specs.Tree.{IsCanonical, Value, Forest, Closed, Closes, Finishes, CutsConstructor, IsOne, wide_byte}
 use Rattle.serde_amqp_tree.proofs.Joining.{popped}
 
 -- a value whose head is this stands in front
