@@ -58,9 +58,6 @@ field_long : (w : Width) (n : ℕ) → length (field w n) ≡ field_width w
 field_long one_byte n = refl
 field_long four_bytes n = refl
 
-abbrev head_of : Width → ℕ → ℕ → List ℕ
-head_of w count long = field w (long + field_width w) ++ field w count
-
 -- the size is exact
 head_sized : (w : Width) (count long : ℕ) (parts : List ℕ) → length parts ≡ long → long + field_width w < room w → IsSized w (field w count ++ parts) ((field w (long + field_width w) ++ field w count) ++ parts)
 head_sized w count long parts l fits =

@@ -53,6 +53,7 @@ pub fn tokens(alloc: Global, bytes: &[u8]) -> Result<Vec<Token>, Error> {
     let mut tokens = Vec::new(alloc);
     let mut stack = Vec::new(alloc);
     stack.push(take_token(&mut reader, &mut tokens, None)?)?;
+    // It ends by itself: a value takes a byte at least, or is one of at most 65,536 elements of an array.
     for _ in 0..u64::MAX {
         let Some(open) = stack.pop() else {
             break;
