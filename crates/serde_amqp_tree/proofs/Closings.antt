@@ -1,18 +1,17 @@
 -- Bodies of values: what stands behind a constructor, and its text.
-use Rattle.std.proofs.Common.{◌≡◌, ◌≢◌, ℕ, ◌+◌, ◌*◌, ◌%◌, ◌<◌, ◌≤◌, ◌^◌, ◌⊎◌, inl, inr, List, [], ◌∷◌, ◌++◌, length, Bool, true, false, cond, Option, Some, None, sym, ◌∙◌, ap, subst, refl, arith, length-append, append_assoc, append-nil}
-use Rattle.std.specs.Prelude.{nat_lt, ◌==◌, IsSome}
-use Rattle.std.specs.Int.{w32, to_be_bytes}
+use Rattle.std.proofs.Common.{◌≡◌, ◌≢◌, ℕ, ◌+◌, ◌*◌, ◌%◌, ◌<◌, ◌≤◌, inl, inr, List, [], ◌∷◌, ◌++◌, length, Bool, true, false, cond, Option, Some, None, sym, ◌∙◌, ap, subst, refl, arith, length-append, append_assoc, append-nil}
+use Rattle.std.specs.Prelude.{◌==◌}
 use Rattle.std.proofs.lemmas.Bool.Decides.{nat_tests}
 use Rattle.serde_amqp_item.specs.declared.codes.EncodingCodes.{EncodingCodes}
-use Rattle.serde_amqp_item.specs.Item.{Scalar, Item, scalar, list, map, array, described, Items, no_items, more_items, item_count, Pairs, no_pairs, more_pairs, pair_count, keys_and_values}
-use Rattle.serde_amqp_item.specs.Wire.{Width, one_byte, four_bytes, field, field_width, room, Row, fixed, variable, empty_list, list_of, map_of, array_of, described_by, no_row, row_of, row_at, code_of, byte_of, Form, Forms, ScalarForm, IsSized, IsElementCode, IsBareArray, IsCapped, IsStrict, NoRaw}
-use Rattle.serde_amqp_item.specs.Canon.{◌>>=◌, canon, canon_all, canon_pairs, wide, elements, elements_of, same_constructor, list_text, list_wide, map_text, map_wide, array_text, array_wide, WithoutRaw, EachRawKept, EachPairRawKept}
+use Rattle.serde_amqp_item.specs.Item.{Scalar, scalar, list, map, array, described, Items, no_items, more_items, item_count, Pairs, no_pairs, more_pairs, pair_count, keys_and_values}
+use Rattle.serde_amqp_item.specs.Wire.{Width, one_byte, four_bytes, field, field_width, room, Row, fixed, variable, empty_list, list_of, map_of, array_of, described_by, byte_of, Forms, ScalarForm, IsSized, IsElementCode, IsCapped, IsStrict, NoRaw}
+use Rattle.serde_amqp_item.specs.Canon.{◌>>=◌, canon, canon_all, canon_pairs, wide, elements, elements_of, same_constructor, list_text, list_wide, map_text, map_wide, array_text, array_wide, EachRawKept, EachPairRawKept}
 use Rattle.serde_amqp_item.proofs.Constructors.{code_of_byte}
 use Rattle.serde_amqp_item.proofs.PairRows.{pair_items, forms_as_pairs, canon_in_turn}
 use Rattle.serde_amqp_tree.specs.declared.finished.Finished.{Finished}
 use Rattle.serde_amqp_tree.specs.declared.finished.Lengths.{Lengths}
-use Rattle.serde_amqp_tree.specs.Tree.{Body, Forest, Group, Grouped, Joins, Closed, Closes, CutsNumber, CutsHead, CutsElement, CutsSize, Sizes, Puts, PutsScalar, reading, text_of, scalar_of, counted_of, list_of_text, element_byte, wide_byte, width_of}
-use Rattle.serde_amqp_tree.proofs.Puttings.{on_true, on_false, is_equal, not_equal}
+use Rattle.serde_amqp_tree.specs.Tree.{Body, Group, Joins, Closes, CutsHead, CutsElement, CutsSize, Sizes, Puts, PutsScalar, reading, text_of, scalar_of, counted_of, list_of_text, element_byte, wide_byte, width_of}
+use Rattle.serde_amqp_tree.proofs.Puttings.{on_false, not_equal}
 
 -- a value is closed whose body is made of a group of parts
 closes_group : (inherited : Bool) (row : Row) (c : ℕ) (k : Option EncodingCodes) (count : ℕ) (l : Lengths) (made : List ℕ → Option (List ℕ)) (head front rest : List ℕ) (old new : List Finished) (old_text new_text : List ℕ) → front ≡ rest ++ head → Joins k count l old new → Puts made l.text old_text new_text → ((parts parts_text text : List ℕ) → length parts ≡ l.bytes → Group k count parts parts_text → made parts_text ≡ Some text → Body inherited row c (head ++ parts) text) → Closes inherited row c l front rest old new old_text new_text
@@ -58,9 +57,6 @@ closes_alone inherited row c l head text front rest old_text new_text b z cut pu
 field_long : (w : Width) (n : ℕ) → length (field w n) ≡ field_width w
 field_long one_byte n = refl
 field_long four_bytes n = refl
-
-abbrev head_of : Width → ℕ → ℕ → List ℕ
-head_of w count long = field w (long + field_width w) ++ field w count
 
 -- the size is exact
 head_sized : (w : Width) (count long : ℕ) (parts : List ℕ) → length parts ≡ long → long + field_width w < room w → IsSized w (field w count ++ parts) ((field w (long + field_width w) ++ field w count) ++ parts)

@@ -1,13 +1,12 @@
 -- What is cut off the bytes in front.
-use Rattle.std.proofs.Common.{◌≡◌, ◌≢◌, ℕ, ◌+◌, ◌<◌, ◌^◌, List, [], ◌∷◌, ◌++◌, length, take, drop, take-append-drop, Bool, true, false, Option, Some, None, sym, ◌∙◌, ap, subst, refl, arith, append_assoc, append-nil}
+use Rattle.std.proofs.Common.{◌≡◌, ◌≢◌, ℕ, ◌+◌, ◌<◌, ◌^◌, List, [], ◌∷◌, ◌++◌, Bool, true, false, Option, Some, sym, ◌∙◌, ap, subst, refl, arith, append_assoc, append-nil}
 use Rattle.std.specs.Int.{w32, to_be_bytes}
 use Rattle.std.specs.Str.{bytes_eq}
 use Rattle.std.specs.Cmp.Lexicographic.{same_text}
 use Rattle.serde_amqp_item.specs.declared.codes.EncodingCodes.{EncodingCodes}
-use Rattle.serde_amqp_item.specs.declared.codes.Category.{Category}
 use Rattle.serde_amqp_item.specs.declared.codes.Category.TheVariants.{Fixed}
 use Rattle.serde_amqp_item.specs.Item.{Scalar}
-use Rattle.serde_amqp_item.specs.Wire.{Width, one_byte, four_bytes, field, field_width, room, Row, fixed, variable, empty_list, list_of, map_of, array_of, described_by, no_row, row_at, category_of, code_of, byte_of}
+use Rattle.serde_amqp_item.specs.Wire.{Width, four_bytes, field, field_width, room, Row, fixed, variable, empty_list, list_of, map_of, array_of, described_by, no_row, category_of, code_of, byte_of}
 use Rattle.serde_amqp_item.proofs.Constructors.{byte_of_code}
 use Rattle.serde_amqp_tree.specs.Tree.{CutsNumber, CutsHead, CutsElement, CutsSize, HasWidth, width_of}
 

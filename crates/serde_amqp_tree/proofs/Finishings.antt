@@ -1,17 +1,16 @@
 -- Values are finished one after the other, the last first.
 use Rattle.std.proofs.Common.{◌≡◌, ℕ, ◌+◌, List, [], ◌∷◌, ◌++◌, length, reverse, Bool, true, false, cond, Option, Some, None, sym, ◌∙◌, ap, subst, refl, arith, length-append, append_assoc, append-nil}
 use Rattle.serde_amqp_item.specs.declared.codes.EncodingCodes.{EncodingCodes}
-use Rattle.serde_amqp_item.specs.Item.{Item}
-use Rattle.serde_amqp_item.specs.Wire.{Form, IsCapped, IsStrict, row_of, row_at, byte_of}
+use Rattle.serde_amqp_item.specs.Wire.{row_at, byte_of}
 use Rattle.serde_amqp_item.proofs.Constructors.{row_of_byte}
 use Rattle.serde_amqp_tree.specs.declared.finished.Finished.{Finished}
 use Rattle.serde_amqp_tree.specs.declared.finished.Lengths.{Lengths}
-use Rattle.serde_amqp_tree.specs.Tree.{IsCanonical, Body, Value, Forest, Closed, Closes, Finishes, CutsConstructor, IsOne, wide_byte}
+use Rattle.serde_amqp_tree.specs.Tree.{IsCanonical, Value, Forest, Closed, Closes, Finishes, CutsConstructor, IsOne, wide_byte}
 use Rattle.serde_amqp_tree.proofs.Joining.{popped}
 
 -- a value whose head is this stands in front
-value_first : (f : Finished) (new : List Finished) (l : Lengths) (row_head head behind_head : List ℕ) (old_text new_text bytes : List ℕ) (inherited : Bool) (code : EncodingCodes) (z : Closed inherited (row_at (Some code)) (wide_byte code) l behind_head new old_text new_text bytes) → f.bytes ≡ length head + l.bytes → f.text + length old_text ≡ length new_text + l.text → Value f.inherited (head ++ z.parts) z.text → Forest (f ∷ new) (head ++ bytes) new_text
-value_first f new l row_head head behind_head old_text new_text bytes inherited code z b t v = (
+value_first : (f : Finished) (new : List Finished) (l : Lengths) (head behind_head : List ℕ) (old_text new_text bytes : List ℕ) (inherited : Bool) (code : EncodingCodes) (z : Closed inherited (row_at (Some code)) (wide_byte code) l behind_head new old_text new_text bytes) → f.bytes ≡ length head + l.bytes → f.text + length old_text ≡ length new_text + l.text → Value f.inherited (head ++ z.parts) z.text → Forest (f ∷ new) (head ++ bytes) new_text
+value_first f new l head behind_head old_text new_text bytes inherited code z b t v = (
   head ++ z.parts,
   z.behind,
   z.text,
@@ -34,7 +33,7 @@ finishes_value true code l f front mid rest old new old_text new_text h c i b t 
       there = λ bytes fo.
           let z = h.there bytes fo in
           let v : Value (Some code) (h.head ++ z.parts) z.text = z.body in
-          value_first f new l [] h.head h.head old_text new_text bytes true code z long t (subst (λ (k : Option EncodingCodes). Value k (h.head ++ z.parts) z.text) (sym i) v);
+          value_first f new l h.head h.head old_text new_text bytes true code z long t (subst (λ (k : Option EncodingCodes). Value k (h.head ++ z.parts) z.text) (sym i) v);
     }
 finishes_value false code l f front mid rest old new old_text new_text h c i b t =
     let head = byte_of code ∷ h.head in
@@ -46,7 +45,7 @@ finishes_value false code l f front mid rest old new old_text new_text h c i b t
       there = λ bytes fo.
           let z = h.there bytes fo in
           let v : Value None (head ++ z.parts) z.text = (code, h.head ++ z.parts, refl, z.body) in
-          value_first f new l [] head h.head old_text new_text bytes false code z long t (subst (λ (k : Option EncodingCodes). Value k (head ++ z.parts) z.text) (sym i) v);
+          value_first f new l head h.head old_text new_text bytes false code z long t (subst (λ (k : Option EncodingCodes). Value k (head ++ z.parts) z.text) (sym i) v);
     }
 
 -- a finished value is pushed

@@ -1,14 +1,14 @@
 -- Values that stand one behind the other.
-use Rattle.std.proofs.Common.{◌≡◌, ℕ, ◌+◌, List, [], ◌∷◌, ◌++◌, length, reverse, Option, Some, None, true, false, sym, ◌∙◌, ap, subst, refl, arith, length-append, append_assoc, append-nil}
-use Rattle.std.proofs.lemmas.List.{reverse-append, reverse-reverse}
+use Rattle.std.proofs.Common.{◌≡◌, ℕ, ◌+◌, List, [], ◌∷◌, ◌++◌, reverse, Option, Some, None, sym, ◌∙◌, ap, subst, refl, arith, length-append, append_assoc}
+use Rattle.std.proofs.lemmas.List.{reverse-append}
 use Rattle.serde_amqp_item.specs.declared.codes.EncodingCodes.{EncodingCodes}
-use Rattle.serde_amqp_item.specs.Item.{Item, Items, no_items, more_items, item_count}
-use Rattle.serde_amqp_item.specs.Wire.{Forms, IsCapped, IsStrict, NoRaw, code_of, byte_of, row_of, row_at}
-use Rattle.serde_amqp_item.specs.Canon.{◌>>=◌, canon, canon_all, wide, elements_of, same_constructor, EachRawKept}
+use Rattle.serde_amqp_item.specs.Item.{Item, Items, no_items, more_items}
+use Rattle.serde_amqp_item.specs.Wire.{code_of, byte_of}
+use Rattle.serde_amqp_item.specs.Canon.{◌>>=◌, canon, canon_all, wide, elements_of, same_constructor}
 use Rattle.serde_amqp_item.proofs.Constructors.{row_of_byte, code_of_byte}
 use Rattle.serde_amqp_tree.specs.declared.finished.Finished.{Finished}
 use Rattle.serde_amqp_tree.specs.declared.finished.Lengths.{Lengths}
-use Rattle.serde_amqp_tree.specs.Tree.{Value, Forest, Group, Grouped, Joins, Body, text_of, texts_of, constructor_of, wide_byte}
+use Rattle.serde_amqp_tree.specs.Tree.{Value, Forest, Group, Joins, wide_byte}
 
 -- constructors with the same byte are the same
 pub same_code : (a b : EncodingCodes) → byte_of a ≡ byte_of b → a ≡ b

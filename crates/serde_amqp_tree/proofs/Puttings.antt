@@ -1,9 +1,9 @@
 -- The heads of the texts of values that hold others.
-use Rattle.std.proofs.Common.{◌≡◌, ◌≢◌, ℕ, ◌+◌, ◌<◌, ◌≤◌, ◌^◌, List, [], ◌∷◌, ◌++◌, length, Bool, true, false, cond, Option, Some, None, sym, ◌∙◌, ap, subst, refl, arith, length-append, append_assoc}
+use Rattle.std.proofs.Common.{◌≡◌, ◌≢◌, ℕ, ◌+◌, ◌<◌, ◌≤◌, ◌^◌, List, [], ◌∷◌, ◌++◌, length, Bool, true, false, cond, Option, Some, None, sym, ◌∙◌, ap, refl, arith, append_assoc}
 use Rattle.std.specs.Prelude.{nat_lt, ◌==◌}
 use Rattle.std.specs.Int.{w32, to_be_bytes}
 use Rattle.std.proofs.lemmas.Bool.Decides.{nat_tests}
-use Rattle.serde_amqp_item.specs.Canon.{◌>>=◌, same_constructor, counted_text, counted_wide, list_text}
+use Rattle.serde_amqp_item.specs.Canon.{◌>>=◌, same_constructor, counted_wide, list_text}
 use Rattle.serde_amqp_tree.specs.Tree.{Puts, PutsWide, counted_of, list_of_text}
 
 pub on_true : {A : Type 0} (b : Bool) (x y : A) → b ≡ true → cond b x y ≡ x

@@ -1,5 +1,5 @@
 -- Texts that are kept from the last byte to the first.
-use Rattle.std.proofs.Common.{◌≡◌, ℕ, List, [], ◌∷◌, ◌++◌, length, reverse, sym, ◌∙◌, ap, refl, arith, length-append}
+use Rattle.std.proofs.Common.{◌≡◌, ℕ, List, ◌++◌, reverse, ◌∙◌, ap}
 use Rattle.std.proofs.lemmas.List.{reverse-append, reverse-reverse}
 
 pub put_front : (old new part : List ℕ) → new ≡ old ++ reverse part → reverse new ≡ part ++ reverse old

@@ -1,16 +1,16 @@
 -- The texts of scalars.
-use Rattle.std.proofs.Common.{◌≡◌, ◌≢◌, ℕ, ◌+◌, ◌<◌, ◌≤◌, ◌^◌, List, [], ◌∷◌, ◌++◌, length, Bool, true, false, cond, Option, Some, None, sym, ◌∙◌, ap, subst, refl, arith, append_assoc}
-use Rattle.std.specs.Prelude.{nat_lt, nat_eq, ◌==◌, ℤ, pos, negsuc, FitsSigned, slice_index}
-use Rattle.std.specs.Int.{w8, w16, w32, w64, to_be_bytes, from_be_bytes, cast_signed, cast_unsigned}
+use Rattle.std.proofs.Common.{◌≡◌, ◌≢◌, ℕ, ◌<◌, ◌≤◌, ◌^◌, List, [], ◌∷◌, ◌++◌, length, Bool, true, false, Option, Some, None, sym, ◌∙◌, ap, subst, refl, arith, append_assoc}
+use Rattle.std.specs.Prelude.{nat_lt, ◌==◌, ℤ, pos, negsuc, FitsSigned}
+use Rattle.std.specs.Int.{w8, w16, w32, w64, to_be_bytes, cast_unsigned}
 use Rattle.std.specs.Str.{IsUtf8, is_utf8}
 use Rattle.std.proofs.lemmas.Str.{is_utf8-from_IsUtf8}
 use Rattle.std.proofs.lemmas.Bool.Decides.{nat_tests}
-use Rattle.serde_amqp_item.specs.declared.codes.EncodingCodes.TheVariants.{Decimal32, Decimal64, Decimal128, Uuid, Vbin8, Str8, Sym8}
+use Rattle.serde_amqp_item.specs.declared.codes.EncodingCodes.TheVariants.{Vbin8, Str8, Sym8}
 use Rattle.serde_amqp_item.specs.Item.{Scalar, null, boolean, ubyte, ushort, uint, ulong, byte, short, int, long, float, double, decimal32, decimal64, decimal128, char, timestamp, uuid, binary, string, symbol}
-use Rattle.serde_amqp_item.specs.Wire.{row_at, boolean_at, is_scalar_value, char_of}
-use Rattle.serde_amqp_item.specs.Canon.{◌>>=◌, is_signed, sized_text, wide_sized, same_constructor, scalar_text, scalar_wide}
+use Rattle.serde_amqp_item.specs.Wire.{row_at, is_scalar_value}
+use Rattle.serde_amqp_item.specs.Canon.{◌>>=◌, is_signed, wide_sized, same_constructor, scalar_text, scalar_wide}
 use Rattle.serde_amqp_tree.specs.Tree.{PutsScalar, PutsSized, PutsWideSized, reading, scalar_of, sized_of, led, boolean_byte}
-use Rattle.serde_amqp_tree.proofs.Puttings.{on_true, on_false, is_below, not_below, is_equal, not_equal, of_same}
+use Rattle.serde_amqp_tree.proofs.Puttings.{on_true, on_false, is_below, not_below, not_equal, of_same}
 
 -- ---- one text for both
 

@@ -15,7 +15,11 @@ use crate::taking::{Token, tokens};
 use serde_amqp_item::{EncodingCodes, Error};
 use std::alloc::Global;
 
-/// The canonical text of the value that takes all of the bytes.
+/// The canonical text of the value that takes all of the bytes: these are a wire form, with counts of at most
+/// 65,536, of an item without raw ones, and its canonical text is answered (part 1, section 1.6).
+///
+/// Errors: `Memory`; those of [`tokens`]; `InvalidLength` for a text with a size of 2^32 or more. The answer is
+/// proved, and of the errors nothing: neither which one comes, nor that one comes only where there is no text.
 #[tactic(auto, using(crate::proofs::Finishings::finishing))]
 pub fn canonical(alloc: Global, bytes: &[u8]) -> Result<Vec<u8>, Error>
     ensures { IfOk result (λ text. IsCanonical bytes.now text.items) }
