@@ -186,9 +186,15 @@ pub fn lent<'a, T: BorrowDeserialize<'a> + Serialize + Shown + Drop>(
     if question.verb != Verb::As {
         return Ok(None);
     }
-    let answer = match borrow_from_slice::<T>(question.named.bytes.as_slice()) {
-        Ok(value) => shown_and_written(alloc, &value)?,
-        Err(error) => refused(alloc, error)?,
-    };
-    Ok(Some(answer))
+    Ok(Some(read_lent::<T>(alloc, question.named.bytes.as_slice())?))
+}
+
+fn read_lent<'a, T: BorrowDeserialize<'a> + Serialize + Shown + Drop>(
+    alloc: Global,
+    bytes: &'a [u8],
+) -> Result<String, AllocError> {
+    match borrow_from_slice::<T>(bytes) {
+        Ok(value) => shown_and_written(alloc, &value),
+        Err(error) => refused(alloc, error),
+    }
 }
