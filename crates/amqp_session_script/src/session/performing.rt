@@ -1,7 +1,7 @@
 use super::calls::{
     Call, Change, DispositionOf, FlowOf, Frame, LinkFrame, Part, Sending, TransferOf,
 };
-use super::refusals::told;
+use super::refusals::{seen, told};
 use super::seen::see;
 use super::shown::{show_echoes, show_frame, show_left};
 use super::{Peer, frames};
@@ -182,8 +182,9 @@ fn send_disposition(
 
 fn send_session_flow(peer: &mut Peer, alloc: Global) -> Result<String, AllocError> {
     let detail = peer.detail;
-    let flow = peer.session.maybe_outgoing_session_flow();
-    show_left(alloc, &flow, detail)
+    seen(peer.session.maybe_outgoing_session_flow(), |flow| {
+        show_left(alloc, flow, detail)
+    })
 }
 
 fn take(peer: &mut Peer, alloc: Global, frame: Frame) -> Result<String, AllocError> {

@@ -54,3 +54,13 @@ where
         Err(error) => text::refused(alloc, error.word()),
     }
 }
+
+/// What is shown of a value.
+pub fn seen<T, F>(value: T, show: F) -> Result<String, AllocError>
+where
+    T: Drop,
+    F: FnOnce(&T) -> Result<String, AllocError>,
+    requires { F.IsAlwaysCallable show }
+{
+    show(&value)
+}
