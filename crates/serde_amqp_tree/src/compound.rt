@@ -1,34 +1,54 @@
 //! The texts of values that hold others, whose texts stand there already.
+ghost use Rattle.std.specs.Prelude.{◌≡◌, ◌+◌, ◌<◌, ◌∷◌, List, reverse, true, false, IfOk, OnOk};
+ghost use Rattle.serde_amqp_item.specs.Wire.{one_byte, list_of, map_of, array_of, described_by, empty_list};
+ghost use Rattle.serde_amqp_tree.specs.declared.finished.Finished.{Finished};
+ghost use Rattle.serde_amqp_tree.specs.Tree.{Puts, PutsWide, Closes, counted_of, list_of_text, element_byte, wide_code, width_of};
+
 use crate::backwards::Backwards;
-use crate::finished::{Finished, join};
+use crate::cutting::{cut, cut_element, cut_head};
+use crate::finished::{Finished, Lengths, join};
 use serde_amqp_item::{EncodingCodes, Error, MAX_ARRAY_COUNT};
 
-/// Cuts off these last bytes, which stand before what is finished.
-pub(crate) fn cut<'a>(front: &'a [u8], last: &[u8]) -> Result<&'a [u8], Error> {
-    front.strip_suffix(last).ok_or(Error::InvalidLength)
-}
+/// What holds nothing.
+pub(crate) const NOTHING: Lengths = Lengths { bytes: 0, text: 0 };
 
-/// Cuts off a number field of one or of four bytes.
-pub(crate) fn cut_number(front: &[u8], wide: bool, number: usize) -> Result<&[u8], Error> {
-    if wide {
-        let number = u32::try_from(number).map_err(|_| Error::InvalidLength)?;
-        return cut(front, &number.to_be_bytes());
-    }
-    let number = u8::try_from(number).map_err(|_| Error::InvalidLength)?;
-    cut(front, &[number])
-}
-
-/// Cuts off the size and the count of a value that holds so many others, in so many bytes.
-fn cut_head(front: &[u8], wide: bool, count: usize, length: usize) -> Result<&[u8], Error> {
-    let front = cut_number(front, wide, count)?;
-    let width = if wide { 4 } else { 1 };
-    let Some(size) = length.checked_add(width) else {
+/// Puts the size and the count in four bytes each.
+#[tactic(auto, using(crate::proofs::Puttings::putting))]
+fn put_wide_head(text: &mut Backwards, count: usize, length: usize) -> Result<(), Error>
+    ensures { OnOk result (PutsWide count length text.old text.new) }
+{
+    let Some(size) = length.checked_add(4) else {
         return Err(Error::InvalidLength);
     };
-    cut_number(front, wide, size)
+    let Ok(size) = u32::try_from(size) else {
+        return Err(Error::InvalidLength);
+    };
+    let Ok(count) = u32::try_from(count) else {
+        return Err(Error::InvalidLength);
+    };
+    text.put(&count.to_be_bytes())?;
+    text.put(&size.to_be_bytes())
 }
 
-/// Puts the constructor, the size and the count in front of this many bytes of content.
+/// Puts the constructor, the size and the count in one byte each.
+fn put_narrow_head(
+    text: &mut Backwards,
+    narrow: u8,
+    count: usize,
+    length: usize,
+) -> Result<(), Error>
+    requires { length < 255 }
+    ensures { OnOk result (text.new ≡ narrow ∷ (length + 1) ∷ count ∷ text.old) }
+{
+    let Ok(count) = u8::try_from(count) else {
+        return Err(Error::InvalidLength);
+    };
+    text.put(&[narrow, length as u8 + 1, count])
+}
+
+/// Puts the size and the count in front of so many bytes of content, and the constructor unless it is
+/// inherited: the narrow one up to 254 bytes.
+#[tactic(auto, using(crate::proofs::Puttings::putting))]
 fn put_head(
     text: &mut Backwards,
     inherited: bool,
@@ -36,46 +56,55 @@ fn put_head(
     wide: u8,
     count: usize,
     length: usize,
-) -> Result<(), Error> {
-    if !inherited && length < 255 {
-        let count = u8::try_from(count).map_err(|_| Error::InvalidLength)?;
-        return text.put(&[narrow, length as u8 + 1, count]);
+) -> Result<(), Error>
+    ensures { OnOk result (Puts (counted_of inherited narrow wide count) length text.old text.new) }
+{
+    if inherited {
+        return put_wide_head(text, count, length);
+    }
+    if length < 255 {
+        return put_narrow_head(text, narrow, count, length);
     }
     put_wide_head(text, count, length)?;
-    if inherited {
-        return Ok(());
-    }
-    text.put(&[wide])
-}
-
-/// Puts the size and the count in four bytes each.
-fn put_wide_head(text: &mut Backwards, count: usize, length: usize) -> Result<(), Error> {
-    let Some(size) = length.checked_add(4) else {
-        return Err(Error::InvalidLength);
-    };
-    let size = u32::try_from(size).map_err(|_| Error::InvalidLength)?;
-    let count = u32::try_from(count).map_err(|_| Error::InvalidLength)?;
-    text.put(&count.to_be_bytes())?;
-    text.put(&size.to_be_bytes())
-}
-
-/// Refuses a count above the cap.
-fn check_count(count: usize) -> Result<(), Error> {
-    if count > MAX_ARRAY_COUNT {
-        return Err(Error::InvalidLength);
-    }
+    text.put(&[wide])?;
     Ok(())
 }
 
-/// Finishes a list with no bytes behind its constructor.
-pub(crate) fn finish_empty_list(text: &mut Backwards, inherited: bool) -> Result<(), Error> {
+/// The same for a list, which is one byte where it has no content.
+#[tactic(auto, using(crate::proofs::Puttings::putting))]
+fn put_list_head(
+    text: &mut Backwards,
+    inherited: bool,
+    count: usize,
+    length: usize,
+) -> Result<(), Error>
+    ensures { OnOk result (Puts (list_of_text inherited count) length text.old text.new) }
+{
     if inherited {
-        return put_wide_head(text, 0, 0);
+        return put_head(text, inherited, 0xc0, 0xd0, count, length);
     }
-    text.put(&[0x45])
+    if length == 0 {
+        text.put(&[0x45])?;
+        return Ok(());
+    }
+    put_head(text, inherited, 0xc0, 0xd0, count, length)
+}
+
+/// Finishes a list with no bytes behind its constructor.
+#[tactic(auto, using(crate::proofs::Closings::closing))]
+pub(crate) fn finish_empty_list<'a>(
+    front: &'a [u8],
+    text: &mut Backwards,
+    inherited: bool,
+) -> Result<(&'a [u8], Lengths), Error>
+    ensures { IfOk result (λ r. (fs : List Finished) → Closes inherited empty_list 0xd0 r.1 front.now r.0.now fs fs text.old text.new) }
+{
+    put_list_head(text, inherited, 0, 0)?;
+    Ok((front, NOTHING))
 }
 
 /// Finishes a list of the first so many values.
+#[tactic(auto, using(crate::proofs::Closings::closing))]
 pub(crate) fn finish_list<'a>(
     front: &'a [u8],
     stack: &mut Vec<Finished>,
@@ -83,19 +112,20 @@ pub(crate) fn finish_list<'a>(
     inherited: bool,
     wide: bool,
     count: usize,
-) -> Result<&'a [u8], Error> {
-    check_count(count)?;
-    let lengths = join(stack, count, None)?;
-    let front = cut_head(front, wide, count, lengths.bytes)?;
-    if !inherited && lengths.text == 0 {
-        text.put(&[0x45])?;
-    } else {
-        put_head(text, inherited, 0xc0, 0xd0, count, lengths.text)?;
+) -> Result<(&'a [u8], Lengths), Error>
+    ensures { IfOk result (λ r. Closes inherited (list_of (width_of wide)) 0xd0 r.1 front.now r.0.now (reverse stack.old.items) (reverse stack.new.items) text.old text.new) }
+{
+    if count > MAX_ARRAY_COUNT {
+        return Err(Error::InvalidLength);
     }
-    Ok(front)
+    let parts = join(stack, count, None)?;
+    let rest = cut_head(front, wide, count, parts.bytes)?;
+    put_list_head(text, inherited, count, parts.text)?;
+    Ok((rest, parts))
 }
 
 /// Finishes a map of the first so many values, keys and values in turn.
+#[tactic(auto, using(crate::proofs::Closings::closing))]
 pub(crate) fn finish_map<'a>(
     front: &'a [u8],
     stack: &mut Vec<Finished>,
@@ -103,18 +133,41 @@ pub(crate) fn finish_map<'a>(
     inherited: bool,
     wide: bool,
     count: usize,
-) -> Result<&'a [u8], Error> {
-    check_count(count)?;
+) -> Result<(&'a [u8], Lengths), Error>
+    ensures { IfOk result (λ r. Closes inherited (map_of (width_of wide)) 0xd1 r.1 front.now r.0.now (reverse stack.old.items) (reverse stack.new.items) text.old text.new) }
+{
+    if count > MAX_ARRAY_COUNT {
+        return Err(Error::InvalidLength);
+    }
     if count % 2 != 0 {
         return Err(Error::InvalidLength);
     }
-    let lengths = join(stack, count, None)?;
-    let front = cut_head(front, wide, count, lengths.bytes)?;
-    put_head(text, inherited, 0xc1, 0xd1, count, lengths.text)?;
-    Ok(front)
+    let parts = join(stack, count, None)?;
+    let rest = cut_head(front, wide, count, parts.bytes)?;
+    put_head(text, inherited, 0xc1, 0xd1, count, parts.text)?;
+    Ok((rest, parts))
+}
+
+/// Finishes a described value: a descriptor and a value, the first two. It is no element of an array.
+#[tactic(auto, using(crate::proofs::Closings::closing))]
+pub(crate) fn finish_described<'a>(
+    front: &'a [u8],
+    stack: &mut Vec<Finished>,
+    text: &mut Backwards,
+    inherited: bool,
+) -> Result<(&'a [u8], Lengths), Error>
+    ensures { IfOk result (λ r. Closes inherited described_by 0x00 r.1 front.now r.0.now (reverse stack.old.items) (reverse stack.new.items) text.old text.new) }
+{
+    if inherited {
+        return Err(Error::InvalidFormatCode);
+    }
+    let parts = join(stack, 2, None)?;
+    text.put(&[0x00])?;
+    Ok((front, parts))
 }
 
 /// Finishes an array of the first so many values.
+#[tactic(auto, using(crate::proofs::Closings::closing))]
 pub(crate) fn finish_array<'a>(
     front: &'a [u8],
     stack: &mut Vec<Finished>,
@@ -122,46 +175,76 @@ pub(crate) fn finish_array<'a>(
     inherited: bool,
     wide: bool,
     count: usize,
-) -> Result<&'a [u8], Error> {
-    if !wide && count == 0 {
-        if let Some(front) = front.strip_suffix(&[1, 0]) {
-            finish_empty_array(text, inherited)?;
-            return Ok(front);
-        }
+) -> Result<(&'a [u8], Lengths), Error>
+    ensures { IfOk result (λ r. Closes inherited (array_of (width_of wide)) 0xf0 r.1 front.now r.0.now (reverse stack.old.items) (reverse stack.new.items) text.old text.new) }
+{
+    if is_bare(front, wide, count) {
+        return finish_bare_array(front, text, inherited);
     }
-    check_count(count)?;
-    let (element, front) = cut_element(front, count)?;
-    let lengths = join(stack, count, Some(element))?;
-    let front = cut_head(front, wide, count, add_one(lengths.bytes)?)?;
-    put_element(text, element, count)?;
-    put_head(text, inherited, 0xe0, 0xf0, count, add_one(lengths.text)?)?;
-    Ok(front)
+    finish_elements(front, stack, text, inherited, wide, count)
 }
 
-fn add_one(length: usize) -> Result<usize, Error> {
-    length.checked_add(1).ok_or(Error::InvalidLength)
+/// Is it an empty array without a constructor, of which the size is 1?
+fn is_bare(front: &[u8], wide: bool, count: usize) -> bool
+    ensures { result ≡ true → wide ≡ false }
+{
+    if wide {
+        return false;
+    }
+    count == 0 && front.ends_with(&[1, 0])
 }
 
-/// Finishes an array without elements.
-fn finish_empty_array(text: &mut Backwards, inherited: bool) -> Result<(), Error> {
+/// Finishes an empty array without a constructor.
+#[tactic(auto, using(crate::proofs::Closings::closing))]
+fn finish_bare_array<'a>(
+    front: &'a [u8],
+    text: &mut Backwards,
+    inherited: bool,
+) -> Result<(&'a [u8], Lengths), Error>
+    ensures { IfOk result (λ r. (fs : List Finished) → Closes inherited (array_of one_byte) 0xf0 r.1 front.now r.0.now fs fs text.old text.new) }
+{
+    let rest = cut(front, &[1, 0])?;
     text.put(&[0x40])?;
-    put_head(text, inherited, 0xe0, 0xf0, 0, 1)
+    put_head(text, inherited, 0xe0, 0xf0, 0, 1)?;
+    Ok((rest, NOTHING))
 }
 
-/// Cuts off the constructor of so many elements.
-fn cut_element(front: &[u8], count: usize) -> Result<(EncodingCodes, &[u8]), Error> {
-    let Some((byte, front)) = front.split_last() else {
+/// Finishes an array that has a constructor for its elements.
+#[tactic(auto, using(crate::proofs::Closings::closing))]
+fn finish_elements<'a>(
+    front: &'a [u8],
+    stack: &mut Vec<Finished>,
+    text: &mut Backwards,
+    inherited: bool,
+    wide: bool,
+    count: usize,
+) -> Result<(&'a [u8], Lengths), Error>
+    ensures { IfOk result (λ r. Closes inherited (array_of (width_of wide)) 0xf0 r.1 front.now r.0.now (reverse stack.old.items) (reverse stack.new.items) text.old text.new) }
+{
+    if count > MAX_ARRAY_COUNT {
         return Err(Error::InvalidLength);
-    };
-    let element = EncodingCodes::try_from(*byte)?;
-    if count > 0 && matches!(element, EncodingCodes::Null | EncodingCodes::DescribedType) {
-        return Err(Error::InvalidFormatCode);
     }
-    Ok((element, front))
+    let (element, before) = cut_element(front, count)?;
+    let parts = join(stack, count, Some(element))?;
+    let rest = cut_head(before, wide, count, one_more(parts.bytes)?)?;
+    put_element(text, element, count)?;
+    put_head(text, inherited, 0xe0, 0xf0, count, one_more(parts.text)?)?;
+    Ok((rest, parts))
 }
 
-/// Puts the constructor of so many elements that had this one.
-fn put_element(text: &mut Backwards, element: EncodingCodes, count: usize) -> Result<(), Error> {
+fn one_more(length: usize) -> Result<usize, Error>
+    ensures { IfOk result (λ n. n ≡ length + 1) }
+{
+    match length.checked_add(1) {
+        Some(more) => Ok(more),
+        None => Err(Error::InvalidLength),
+    }
+}
+
+/// Puts the constructor of so many elements that have this one.
+fn put_element(text: &mut Backwards, element: EncodingCodes, count: usize) -> Result<(), Error>
+    ensures { OnOk result (text.new ≡ element_byte count element ∷ text.old) }
+{
     if count == 0 {
         return text.put(&[0x40]);
     }
@@ -169,7 +252,9 @@ fn put_element(text: &mut Backwards, element: EncodingCodes, count: usize) -> Re
 }
 
 /// The constructor of the wide form of a value with this one, null and described ones aside.
-pub(crate) fn wide_code(code: EncodingCodes) -> EncodingCodes {
+fn wide_code(code: EncodingCodes) -> EncodingCodes
+    ensures { result ≡ wide_code code }
+{
     match code {
         EncodingCodes::BooleanTrue | EncodingCodes::BooleanFalse => EncodingCodes::Boolean,
         EncodingCodes::SmallUInt | EncodingCodes::UInt0 => EncodingCodes::UInt,
@@ -184,17 +269,4 @@ pub(crate) fn wide_code(code: EncodingCodes) -> EncodingCodes {
         EncodingCodes::Array8 => EncodingCodes::Array32,
         code => code,
     }
-}
-
-/// Finishes a described value: a descriptor and a value, the first two.
-pub(crate) fn finish_described(
-    stack: &mut Vec<Finished>,
-    text: &mut Backwards,
-    inherited: bool,
-) -> Result<(), Error> {
-    if inherited {
-        return Err(Error::InvalidFormatCode);
-    }
-    join(stack, 2, None)?;
-    text.put(&[0x00])
 }

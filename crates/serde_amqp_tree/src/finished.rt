@@ -1,6 +1,8 @@
 //! Values that are finished, the first of them on top.
+ghost use Rattle.std.specs.Prelude.{◌≡◌, ◌∷◌, ◌+◌, reverse, true, IfOk};
+ghost use Rattle.serde_amqp_tree.specs.Tree.{Joins};
+
 use serde_amqp_item::{EncodingCodes, Error};
-use std::alloc::Global;
 
 /// A value that is finished.
 #[derive(Debug, Clone, Copy)]
@@ -20,21 +22,28 @@ pub(crate) struct Lengths {
     pub(crate) text: usize,
 }
 
-/// Takes so many values off the top, all of which inherit this.
+/// Takes the first so many values off, all of which inherit this.
+#[tactic(auto, using(crate::proofs::Joining::joining))]
 pub(crate) fn join(
     stack: &mut Vec<Finished>,
     count: usize,
     inherited: Option<EncodingCodes>,
-) -> Result<Lengths, Error> {
+) -> Result<Lengths, Error>
+    ensures { IfOk result (λ l. Joins inherited count l (reverse stack.old.items) (reverse stack.new.items)) }
+{
     let mut lengths = Lengths { bytes: 0, text: 0 };
     for _ in 0..count {
         let value = pop(stack, inherited)?;
-        lengths = add(lengths, value)?;
+        lengths = longer(lengths, value)?;
     }
     Ok(lengths)
 }
 
-fn add(lengths: Lengths, value: Finished) -> Result<Lengths, Error> {
+/// The lengths with one value more.
+fn longer(lengths: Lengths, value: Finished) -> Result<Lengths, Error>
+    ensures bytes { IfOk result (λ l. l.bytes ≡ lengths.bytes + value.bytes) }
+    ensures text { IfOk result (λ l. l.text ≡ lengths.text + value.text) }
+{
     let Some(bytes) = lengths.bytes.checked_add(value.bytes) else {
         return Err(Error::Memory);
     };
@@ -44,12 +53,31 @@ fn add(lengths: Lengths, value: Finished) -> Result<Lengths, Error> {
     Ok(Lengths { bytes, text })
 }
 
-fn pop(stack: &mut Vec<Finished>, inherited: Option<EncodingCodes>) -> Result<Finished, Error> {
+/// Takes the first value off, which inherits this.
+#[tactic(auto, using(crate::proofs::Joining::joining))]
+fn pop(stack: &mut Vec<Finished>, inherited: Option<EncodingCodes>) -> Result<Finished, Error>
+    ensures inherits { IfOk result (λ f. f.inherited ≡ inherited) }
+    ensures first { IfOk result (λ f. reverse stack.old.items ≡ f ∷ reverse stack.new.items) }
+{
     let Some(value) = stack.pop() else {
         return Err(Error::InvalidLength);
     };
-    if value.inherited != inherited {
-        return Err(Error::InvalidFormatCode);
+    if is_same(value.inherited, inherited) {
+        return Ok(value);
     }
-    Ok(value)
+    Err(Error::InvalidFormatCode)
+}
+
+/// Are the constructors the same, or is there none?
+#[tactic(auto, using(crate::proofs::Joining::joining))]
+fn is_same(one: Option<EncodingCodes>, other: Option<EncodingCodes>) -> bool
+    ensures { result ≡ true → one ≡ other }
+{
+    match one {
+        None => other.is_none(),
+        Some(code) => match other {
+            None => false,
+            Some(wanted) => code.byte() == wanted.byte(),
+        },
+    }
 }

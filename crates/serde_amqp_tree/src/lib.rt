@@ -2,11 +2,12 @@
 #![tactic(auto)]
 
 mod backwards;
-mod canonical;
 mod compound;
+mod cutting;
 mod finished;
 mod scalar;
-mod token;
+mod taking;
+mod whole;
 
-pub use canonical::canonical;
-pub use token::{Token, tokens};
+pub use taking::{Token, tokens};
+pub use whole::canonical;

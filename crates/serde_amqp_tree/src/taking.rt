@@ -47,7 +47,7 @@ struct Head {
 /// Errors: `Memory`; `Io` where the bytes end within the value; `InvalidFormatCode`, `InvalidValue`,
 /// `InvalidUtf8Encoding`; `InvalidLength` for a size that is not exact, for a list or an array of more than
 /// 65,536 items, a map of more than 65,536 keys and values or of a key without its value, and for bytes
-/// behind the value.
+/// behind the value. Nothing is proved of the tokens; `canonical` proves of them what it needs.
 pub fn tokens(alloc: Global, bytes: &[u8]) -> Result<Vec<Token>, Error> {
     let mut reader = SliceReader::new(bytes);
     let mut tokens = Vec::new(alloc);
