@@ -98,7 +98,5 @@
 #![tactic(auto)]
 
 mod choice;
-#[cfg(test)]
-mod tests;
 
 pub use choice::{Choice, read_choice, read_fields_of};

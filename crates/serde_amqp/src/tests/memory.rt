@@ -63,21 +63,15 @@ fn many_texts(alloc: Global) -> Result<(Vec<&'static str>, Vec<u8>), Error> {
     Ok((texts, bytes))
 }
 
+/// The size is counted without memory.
 #[test]
 fn written_to_a_new_vec(rt: HostRuntime) {
     let alloc = rt.alloc();
     if let Ok((list, bytes)) = many_texts(alloc) {
+        assert_eq!(rt; serialized_size(&list), Ok(6009));
         if !is_right(&rt, to_vec(alloc, &list), &bytes) {
             assert!(rt; is_right(&rt, to_vec(alloc, &list), &bytes));
         }
-    }
-}
-
-/// The size is counted without memory.
-#[test]
-fn counted(rt: HostRuntime) {
-    if let Ok((list, _)) = many_texts(rt.alloc()) {
-        assert_eq!(rt; serialized_size(&list), Ok(6009));
     }
 }
 
@@ -113,23 +107,6 @@ fn read_texts_and_binaries(rt: HostRuntime) {
     }
 }
 
-#[test]
-fn read_lists(rt: HostRuntime) {
-    let alloc = rt.alloc();
-    if let Ok(list) = texts(alloc, 2) {
-        is_read_or_refused(&rt, alloc, b"\xc0\x0d\x02\xa1\x04amqp\xa1\x04amqp", &list);
-    }
-}
-
-#[test]
-fn read_arrays(rt: HostRuntime) {
-    let alloc = rt.alloc();
-    if let Ok(list) = texts(alloc, 2) {
-        let array = Array::from(list);
-        is_read_or_refused(&rt, alloc, b"\xe0\x0c\x02\xa1\x04amqp\x04amqp", &array);
-    }
-}
-
 /// The map of one pair.
 fn one_pair(alloc: Global) -> Result<OrderedMap<String, u32>, Error> {
     let mut map = OrderedMap::new(alloc);
@@ -138,29 +115,15 @@ fn one_pair(alloc: Global) -> Result<OrderedMap<String, u32>, Error> {
 }
 
 #[test]
-fn read_maps(rt: HostRuntime) {
+fn read_compounds(rt: HostRuntime) {
     let alloc = rt.alloc();
+    if let Ok(list) = texts(alloc, 2) {
+        is_read_or_refused(&rt, alloc, b"\xc0\x0d\x02\xa1\x04amqp\xa1\x04amqp", &list);
+        let array = Array::from(list);
+        is_read_or_refused(&rt, alloc, b"\xe0\x0c\x02\xa1\x04amqp\x04amqp", &array);
+    }
     if let Ok(map) = one_pair(alloc) {
         is_read_or_refused(&rt, alloc, b"\xc1\x09\x02\xa1\x04amqp\x52\x07", &map);
-    }
-}
-
-#[test]
-fn inserted(rt: HostRuntime) {
-    let alloc = rt.alloc();
-    let (Ok(mut map), Ok(before), Ok(key)) = (
-        one_pair(alloc),
-        one_pair(alloc),
-        String::from_str(alloc, "a"),
-    ) else {
-        return;
-    };
-    match map.insert(key, 8) {
-        Ok(old) => {
-            assert_eq!(rt; old, None);
-            assert!(rt; map.values().copied().eq([7, 8]));
-        }
-        Err(_) => assert!(rt; map == before),
     }
 }
 

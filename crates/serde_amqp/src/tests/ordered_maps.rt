@@ -1,40 +1,8 @@
-use crate::{Error, OrderedMap, from_slice, to_vec};
-use std::alloc::Global;
+//! The calls of a map in the order of its pairs.
+use crate::OrderedMap;
 use std::cmp::Ordering;
 use std::hash::{DefaultHasher, Hash, Hasher};
-use std::process::Abort;
 use std::test::Fail;
-
-#[test]
-fn encoded(rt: HostRuntime) -> Result<(), Fail> {
-    let alloc = rt.alloc();
-    let map: OrderedMap<u32, bool> = OrderedMap::from_pairs(
-        alloc,
-        vec![in alloc; (7, true), (0, false)]?,
-    )?;
-    let bytes = b"\xc1\x06\x04\x52\x07\x41\x43\x42";
-    assert_eq!(rt; to_vec(alloc, &map)?.as_slice(), bytes.as_slice());
-    assert!(rt; from_slice::<OrderedMap<u32, bool>>(alloc, bytes)? == map);
-    let read: OrderedMap<u32, bool> = from_slice(
-        alloc,
-        b"\xc1\x09\x06\x52\x07\x42\x43\x42\x52\x07\x41",
-    )?;
-    assert!(rt; read == map);
-    assert_eq!(rt;
-        from_slice::<OrderedMap<u32, bool>>(alloc, b"\xc1\x02\x01\x43").err(),
-        Some(Error::InvalidLength)
-    );
-    assert_eq!(rt;
-        from_slice::<OrderedMap<u32, bool>>(alloc, b"\xc0\x02\x01\x43").err(),
-        Some(Error::InvalidFormatCode)
-    );
-    let empty: OrderedMap<u32, bool> = OrderedMap::new(alloc);
-    assert_eq!(rt;
-        to_vec(alloc, &empty)?.as_slice(),
-        b"\xc1\x01\x00".as_slice()
-    );
-    Ok(())
-}
 
 fn hash_of(map: &OrderedMap<u32, u32>) -> u64 {
     let mut hasher = DefaultHasher::new();
@@ -59,55 +27,6 @@ fn compared(rt: HostRuntime) -> Result<(), Fail> {
     assert_eq!(rt; two.partial_cmp(&one), Some(Ordering::Greater));
     assert_eq!(rt; hash_of(&one.clone()?), hash_of(&one));
     assert!(rt; hash_of(&one) != hash_of(&two));
-    Ok(())
-}
-
-/// The map of 5 to 50, 3 to 30 and 4 to 40.
-fn three(alloc: Global) -> Result<OrderedMap<u32, u32>, Fail> {
-    let mut map = OrderedMap::with_capacity(alloc, 3)?;
-    for (key, value) in [(5, 50), (3, 30), (4, 40)] {
-        map.insert(key, value)?;
-    }
-    Ok(map)
-}
-
-/// The map has these keys and values.
-fn has(rt: &impl Abort, map: &OrderedMap<u32, u32>, keys: &[u32], values: &[u32]) {
-    assert_eq!(rt; map.len(), keys.len());
-    assert_eq!(rt; map.is_empty(), keys.is_empty());
-    assert_eq!(rt; map.keys().as_slice(), keys);
-    assert_eq!(rt; map.values().as_slice(), values);
-}
-
-/// A value comes in the place of another.
-fn replaces(rt: &impl Abort, map: &mut OrderedMap<u32, u32>) -> Result<(), Fail> {
-    assert_eq!(rt; map.insert(3, 31)?, Some(30));
-    has(rt, map, &[5, 3, 4], &[50, 31, 40]);
-    assert!(rt; map.contains_key(&3));
-    Ok(())
-}
-
-/// A pair goes, and the last one comes in its place; one goes, and the others stay in order.
-fn removes(rt: &impl Abort, map: &mut OrderedMap<u32, u32>) {
-    assert_eq!(rt; map.swap_remove(&5), Some(50));
-    has(rt, map, &[4, 3], &[40, 31]);
-    assert_eq!(rt; map.shift_remove(&4), Some(40));
-    has(rt, map, &[3], &[31]);
-}
-
-/// The last pair goes, and another that isn't there.
-fn removes_entries(rt: &impl Abort, map: &mut OrderedMap<u32, u32>) {
-    assert_eq!(rt; map.shift_remove_entry(&9), None);
-    assert_eq!(rt; map.swap_remove_entry(&3), Some((3, 31)));
-    has(rt, map, &[], &[]);
-}
-
-#[test]
-fn changed(rt: HostRuntime) -> Result<(), Fail> {
-    let mut map = three(rt.alloc())?;
-    replaces(&rt, &mut map)?;
-    removes(&rt, &mut map);
-    removes_entries(&rt, &mut map);
     Ok(())
 }
 

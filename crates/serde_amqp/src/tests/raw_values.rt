@@ -1,76 +1,46 @@
-use crate::{Error, RawValue, to_vec};
-use std::io::ErrorKind;
-
-fn refusal(found: Result<RawValue, Error>) -> Option<Error> {
-    found.err()
-}
+//! Values that are kept as their bytes.
+use crate::{Error, RawValue, from_slice, to_vec};
+use std::alloc::Global;
 
 #[test]
-fn keeps_the_bytes(rt: HostRuntime) -> Result<(), Error> {
+fn kept_bytes(rt: HostRuntime) -> Result<(), Error> {
     let alloc = rt.alloc();
-    let forms: [&[u8]; 4] = [
-        &[0x40],
-        &[0xd0, 0, 0, 0, 5, 0, 0, 0, 1, 0x41],
-        &[0xf0, 0, 0, 0, 5, 0xff, 0xff, 0xff, 0xff, 0x43],
-        &[0x00, 0x53, 0x75, 0xa0, 1, 7],
-    ];
-    for form in forms {
-        let value = RawValue::from_bytes(alloc, form)?;
-        assert_eq!(rt; value.as_bytes(), form);
-        assert_eq!(rt; value.try_clone(alloc)?, value);
-        assert_eq!(rt; to_vec(alloc, &value)?.as_slice(), form);
-        assert_eq!(rt; value.into_bytes().as_slice(), form);
-    }
-    Ok(())
-}
-
-#[test]
-fn one_strict_form_and_no_more(rt: HostRuntime) {
-    let alloc = rt.alloc();
-    let end = Error::Io(ErrorKind::UnexpectedEof);
-    let bad: [(&[u8], Error); 6] = [
-        (&[], end),
-        (&[0xa1, 4, 0x61, 0x6d], end),
-        (&[0x40, 0x40], Error::InvalidLength),
-        (&[0x3f], Error::InvalidFormatCode),
-        (&[0x56, 2], Error::InvalidValue),
-        (&[0xa1, 1, 0xff], Error::InvalidUtf8Encoding),
-    ];
-    for (bytes, error) in bad {
-        assert_eq!(rt;
-            refusal(RawValue::from_bytes(alloc, bytes)),
-            Some(error),
-            "of {bytes:?}"
-        );
-    }
-}
-
-#[test]
-fn values_and_null(rt: HostRuntime) -> Result<(), Error> {
-    let alloc = rt.alloc();
+    let form = &[0x00, 0x53, 0x75, 0xa0, 1, 7];
+    let value = RawValue::from_bytes(alloc, form)?;
+    assert_eq!(rt; value.as_bytes(), form.as_slice());
+    assert_eq!(rt; value.try_clone(alloc)?, value);
+    assert_eq!(rt; value.into_bytes().as_slice(), form.as_slice());
+    let behind = RawValue::from_bytes(alloc, &[0x40, 0x40]).err();
+    assert_eq!(rt; behind, Some(Error::InvalidLength));
     let seven = RawValue::of(alloc, &7u32)?;
     assert_eq!(rt; seven.as_bytes(), [0x52, 7].as_slice());
-    assert!(rt; !seven.is_null());
+    assert_eq!(rt; seven.read::<u32>(alloc), Ok(7));
+    assert_eq!(rt; seven.read::<u64>(alloc), Err(Error::InvalidFormatCode));
     assert!(rt; RawValue::null(alloc)?.is_null());
-    assert_eq!(rt; RawValue::of(alloc, &())?, RawValue::null(alloc)?);
-    assert_eq!(rt; RawValue::of(alloc, &seven)?, seven);
     Ok(())
 }
 
-// Lists in lists: d0, a size, the count 1, and the list within; the innermost is empty.
-#[test]
-fn deep_lists(rt: HostRuntime) -> Result<(), Error> {
-    let alloc = rt.alloc();
-    let depth: u32 = 100_000;
-    let mut form = Vec::new(alloc);
-    for level in 0..depth {
-        let size = 4 + 9 * (depth - 1 - level) + 1;
-        form.push(0xd0)?;
-        form.extend_from_slice(&size.to_be_bytes())?;
-        form.extend_from_slice(&[0, 0, 0, 1])?;
+/// 100,000 lists of one item in each other, round an empty list: each of nine bytes and what it holds.
+fn lists(alloc: Global) -> Result<Vec<u8>, Error> {
+    let mut bytes = Vec::new(alloc);
+    let mut size: u32 = 899996;
+    for _ in 0..100000 {
+        bytes.push(0xd0)?;
+        bytes.extend_from_slice(&size.to_be_bytes())?;
+        bytes.extend_from_slice(&[0, 0, 0, 1])?;
+        size = size.saturating_sub(9);
     }
-    form.push(0x45)?;
-    let value = RawValue::from_bytes(alloc, form.as_slice())?;
-    assert_eq!(rt; value.as_bytes().len(), 900_001);
+    bytes.push(0x45)?;
+    Ok(bytes)
+}
+
+#[test]
+fn lists_in_each_other(rt: HostRuntime) -> Result<(), Error> {
+    let alloc = rt.alloc();
+    let bytes = lists(alloc)?;
+    let value: RawValue = from_slice(alloc, &bytes)?;
+    assert_eq!(rt; value.as_bytes().len(), 900001);
+    assert!(rt; value.as_bytes() == bytes.as_slice());
+    assert!(rt; to_vec(alloc, &value)? == bytes);
     Ok(())
 }

@@ -1,10 +1,130 @@
-//! Values that are read one behind the other, from slices and from readers that give their bytes in two pieces.
-use crate::{
-    Array, Deserialize, Deserializer, Error, IoReader, OrderedMap, Read, SliceReader, from_reader,
-};
+//! Readers: their calls, what they fetch, and an inner reader that refuses in mid-stream.
+ghost use Rattle.std.specs.Prelude.{[], Some};
+
+use crate::{Array, Error, IoReader, OrderedMap, Read, SliceReader, from_reader};
 use std::alloc::Global;
+use std::io;
 use std::io::{ErrorKind, Read as StdRead};
 use std::process::Abort;
+
+const END: Error = Error::Io(ErrorKind::UnexpectedEof);
+
+/// A reader of no bytes that fails.
+#[derive(Drop)]
+struct Failing {
+    kind: ErrorKind,
+}
+
+impl io::Read for Failing {
+    ghost remaining = { λ _. Some [] };
+
+    fn read(&mut self, _buf: &mut [u8]) -> io::Result<usize> {
+        Err(io::Error::from(self.kind))
+    }
+}
+
+/// Looks at the first of the bytes 1 to 9, which stay unread.
+fn looks_ahead<R: Read>(rt: &impl Abort, reader: &mut R) -> Result<(), Error> {
+    assert_eq!(rt; reader.peek(), Ok(1));
+    assert_eq!(rt; reader.bytes_consumed(), 0);
+    let mut ahead = [0; 3];
+    reader.peek_bytes(&mut ahead)?;
+    assert_eq!(rt; ahead, [1, 2, 3]);
+    Ok(())
+}
+
+/// Takes the bytes 1 to 4.
+fn reads_four<R: Read>(rt: &impl Abort, reader: &mut R) -> Result<(), Error> {
+    assert_eq!(rt; reader.next(), Ok(1));
+    let mut two = [0; 2];
+    reader.read_exact(&mut two)?;
+    assert_eq!(rt; two, [2, 3]);
+    assert_eq!(rt; reader.read_const_bytes::<1>(), Ok([4]));
+    Ok(())
+}
+
+/// Takes the bytes 5 to 8, of which the first two go behind a 0.
+fn reads_into_vecs<R: Read>(
+    rt: &impl Abort,
+    alloc: Global,
+    reader: &mut R,
+    bytes: &mut Vec<u8>,
+) -> Result<(), Error> {
+    reader.append_bytes(2, bytes)?;
+    assert_eq!(rt; bytes.as_slice(), [0, 5, 6].as_slice());
+    assert_eq!(rt; reader.read_bytes(alloc, 1)?.as_slice(), [7].as_slice());
+    let hinted = reader.forward_read_bytes_with_hint(alloc, 1)?;
+    assert_eq!(rt; hinted.as_slice(), [8].as_slice());
+    Ok(())
+}
+
+/// Has the byte 9 left, where two are wanted.
+fn has_one_left<R: Read>(rt: &impl Abort, reader: &mut R, bytes: &mut Vec<u8>) {
+    assert_eq!(rt; reader.bytes_consumed(), 8);
+    assert_eq!(rt; reader.append_bytes(2, bytes), Err(END));
+    assert_eq!(rt; bytes.as_slice(), [0, 5, 6].as_slice());
+    assert_eq!(rt; reader.next(), Err(END));
+    assert_eq!(rt; reader.bytes_consumed(), 8);
+}
+
+/// Takes the bytes 1 to 9 by each call, and meets the end.
+fn reads_nine<R: Read + Drop>(rt: &impl Abort, alloc: Global, mut reader: R) -> Result<(), Error> {
+    looks_ahead(rt, &mut reader)?;
+    reads_four(rt, &mut reader)?;
+    let mut bytes = vec![in alloc; 0]?;
+    reads_into_vecs(rt, alloc, &mut reader, &mut bytes)?;
+    has_one_left(rt, &mut reader, &mut bytes);
+    Ok(())
+}
+
+#[test]
+fn every_call(rt: HostRuntime) -> Result<(), Error> {
+    let bytes: &[u8] = &[1, 2, 3, 4, 5, 6, 7, 8, 9];
+    reads_nine(&rt, rt.alloc(), SliceReader::new(bytes))?;
+    reads_nine(&rt, rt.alloc(), IoReader::new(rt.alloc(), bytes))?;
+    for at in 0..=9 {
+        let (front, behind) = bytes.split_at(at);
+        reads_nine(
+            &rt,
+            rt.alloc(),
+            IoReader::new(rt.alloc(), front.chain(behind)),
+        )?;
+    }
+    Ok(())
+}
+
+/// What is fetched and not taken, and what the inner reader still has.
+#[test]
+fn fetched_bytes(rt: HostRuntime) -> Result<(), Error> {
+    let bytes: &[u8] = &[1, 2, 3, 4];
+    let mut reader = IoReader::new(rt.alloc(), bytes);
+    assert_eq!(rt; reader.pop_first(), None);
+    reader.fill_buffer(3)?;
+    assert_eq!(rt; reader.pop_first(), Some(1));
+    assert_eq!(rt; reader.next(), Ok(2));
+    assert_eq!(rt; reader.into_inner(), [4].as_slice());
+    let mut reader = IoReader::new(rt.alloc(), bytes);
+    assert_eq!(rt; reader.peek(), Ok(1));
+    let taken = reader.read_bytes(rt.alloc(), 2)?;
+    assert_eq!(rt; taken.as_slice(), [1, 2].as_slice());
+    assert_eq!(rt; reader.into_inner(), [3, 4].as_slice());
+    Ok(())
+}
+
+/// An inner reader of one byte that fails so behind it is told by this error, and then there is nothing left.
+fn tells(rt: &impl Abort, alloc: Global, kind: ErrorKind, told: ErrorKind) {
+    let bytes: &[u8] = &[1];
+    let mut reader = IoReader::new(alloc, bytes.chain(Failing { kind }));
+    assert_eq!(rt; reader.next(), Ok(1));
+    assert_eq!(rt; reader.next(), Err(Error::Io(told)));
+    assert_eq!(rt; reader.next(), Err(END));
+}
+
+#[test]
+fn errors_of_the_inner_reader(rt: HostRuntime) {
+    tells(&rt, rt.alloc(), ErrorKind::TimedOut, ErrorKind::TimedOut);
+    tells(&rt, rt.alloc(), ErrorKind::UnexpectedEof, ErrorKind::Other);
+}
 
 /// A uint, a string, a list, an array, a map and a null, and a byte that is no constructor.
 const VALUES: &[u8] =
@@ -38,44 +158,6 @@ fn one_behind_the_other(rt: HostRuntime) -> Result<(), Error> {
     for at in 0..=VALUES.len() {
         let (front, behind) = VALUES.split_at(at);
         reads_all(&rt, alloc, IoReader::new(alloc, front.chain(behind)))?;
-    }
-    Ok(())
-}
-
-/// The input ends within a value, whichever piece it ends in; then the reader has failed.
-#[test]
-fn ends_within_a_value(rt: HostRuntime) -> Result<(), Error> {
-    let alloc = rt.alloc();
-    let end = Error::Io(ErrorKind::UnexpectedEof);
-    let (text, _) = b"\xa1\x04am".split_at(4);
-    for at in 0..=text.len() {
-        let (front, behind) = text.split_at(at);
-        let mut de = Deserializer::new(IoReader::new(alloc, front.chain(behind)));
-        assert_eq!(rt; String::deserialize(alloc, &mut de).err(), Some(end));
-        assert_eq!(rt; <()>::deserialize(alloc, &mut de), Err(end));
-    }
-    Ok(())
-}
-
-/// A value that is refused is the last one, though others stand behind it.
-#[test]
-fn has_failed_after_a_refusal(rt: HostRuntime) -> Result<(), Error> {
-    let alloc = rt.alloc();
-    let end = Error::Io(ErrorKind::UnexpectedEof);
-    let cases: [(&[u8], Error); 5] = [
-        (&[0x41, 0x43, 0x43], Error::InvalidFormatCode),
-        (&[0xff, 0x43, 0x43], Error::InvalidFormatCode),
-        (&[0xc0, 0, 0, 0x43, 0x43], Error::InvalidFormatCode),
-        (&[0x40, 0x43], Error::InvalidFormatCode),
-        (&[0x70, 0, 0, 0], end),
-    ];
-    for (bytes, error) in cases {
-        let mut de = Deserializer::new(IoReader::new(alloc, bytes));
-        assert_eq!(rt; u32::deserialize(alloc, &mut de), Err(error));
-        assert_eq!(rt; u32::deserialize(alloc, &mut de), Err(end));
-        let mut de = Deserializer::new(SliceReader::new(bytes));
-        assert_eq!(rt; u32::deserialize(alloc, &mut de), Err(error));
-        assert_eq!(rt; u32::deserialize(alloc, &mut de), Err(end));
     }
     Ok(())
 }
