@@ -1,4 +1,7 @@
 //! Values that are read as a type and written anew.
+ghost use Rattle.std.specs.Prelude.{◌≡◌, IfOk};
+ghost use Rattle.amqp_trace_lines.specs.Reread.{IsReread};
+
 use crate::refusal::Refusal;
 use amqp_trace_text::text_of;
 use serde_amqp_de::{RoundTrip, from_reader};
@@ -17,7 +20,9 @@ pub struct Rewritten {
 }
 
 /// Reads a value of the type from the front of the bytes, and says what it is written as.
-pub fn reread<T: RoundTrip + Drop>(alloc: Global, bytes: &[u8]) -> Result<Rewritten, Error> {
+pub fn reread<T: RoundTrip + Drop>(alloc: Global, bytes: &[u8]) -> Result<Rewritten, Error>
+    ensures { IfOk result (λ r. IsReread T.take bytes.now r.text.items r.left) }
+{
     let (value, rest) = from_reader::<T, SliceReader>(alloc, SliceReader::new(bytes))?;
     let left = rest.left().len();
     let text = to_vec(alloc, &value)?;

@@ -1,8 +1,3 @@
-ghost use Rattle.std.specs.Prelude.{◌≡◌};
-ghost use Rattle.amqp_trace_lines.specs.declared.refusal.Refusal.TheVariants.{Memory, Codec as CodecRefusal, Frame as FrameRefusal};
-ghost use Rattle.serde_amqp_item.specs.declared.error.Error.TheVariants as codec;
-ghost use Rattle.amqp_session_frames.specs.declared.error.Error.TheVariants as frames;
-
 use amqp_session_frames::Error as FrameError;
 use serde_amqp_item::Error;
 use std::alloc::{AllocError, Global};

@@ -54,7 +54,7 @@ pub(crate) fn stream_lines(
     push_header(&mut lines, header)?;
     let mut rest = frames;
     for _ in 0..frames.len() {
-        let offset = bytes.len() - rest.len();
+        let offset = bytes.len().saturating_sub(rest.len());
         match next_of(rest) {
             Next::End => break,
             Next::Frame(frame, behind) => {
