@@ -29,7 +29,16 @@ fn read_line(alloc: Global, given: &str) -> Result<String, Refusal> {
         "divide" => divide(alloc, asked),
         "read" => read(alloc, asked),
         "write" => write(alloc, asked),
+        "as" | "array" | "beginnings" | "constructors" | "parts" => typed(alloc, given),
         _ => of_bytes(alloc, word, asked),
+    }
+}
+
+/// The answer to a line about one of the codec's types.
+fn typed(alloc: Global, given: &str) -> Result<String, Refusal> {
+    match serde_amqp_lines::answer(alloc, given)? {
+        Some(text) => Ok(text),
+        None => Err(Refusal::Unreadable),
     }
 }
 
