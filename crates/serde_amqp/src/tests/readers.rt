@@ -93,22 +93,23 @@ fn every_call(rt: HostRuntime) -> Result<(), Error> {
     Ok(())
 }
 
-/// What is fetched and not taken, and what the inner reader still has.
 #[test]
 fn fetched_bytes(rt: HostRuntime) -> Result<(), Error> {
     let bytes: &[u8] = &[1, 2, 3, 4];
     let mut reader = IoReader::new(rt.alloc(), bytes);
-    assert_eq!(rt; reader.pop_first(), None);
     reader.fill_buffer(3)?;
     assert_eq!(rt; reader.pop_first(), Some(1));
-    assert_eq!(rt; reader.next(), Ok(2));
     assert_eq!(rt; reader.into_inner(), [4].as_slice());
+    Ok(())
+}
+
+#[test]
+fn no_byte_is_read_too_early(rt: HostRuntime) {
+    let bytes: &[u8] = &[1, 2, 3, 4];
     let mut reader = IoReader::new(rt.alloc(), bytes);
     assert_eq!(rt; reader.peek(), Ok(1));
-    let taken = reader.read_bytes(rt.alloc(), 2)?;
-    assert_eq!(rt; taken.as_slice(), [1, 2].as_slice());
+    assert_eq!(rt; reader.read_const_bytes::<2>(), Ok([1, 2]));
     assert_eq!(rt; reader.into_inner(), [3, 4].as_slice());
-    Ok(())
 }
 
 /// An inner reader of one byte that fails so behind it is told by this error, and then there is nothing left.
