@@ -1,1 +1,2 @@
 pub mod Rereading
+pub mod Seeing

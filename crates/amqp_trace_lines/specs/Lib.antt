@@ -1,1 +1,2 @@
 pub mod Reread
+pub mod Seen

@@ -1,4 +1,9 @@
 //! What a frame says.
+ghost use Rattle.std.specs.Prelude.{◌≡◌, IfOk, IfErr, Some};
+ghost use Rattle.serde_amqp_item.specs.Canon.{canon};
+ghost use Rattle.amqp_session_frames.specs.Text.{FrameText, NotRead, performative_of, performative_text};
+ghost use Rattle.amqp_trace_lines.specs.Seen.{IsSeen, NotSeen, NotWritten, Shows, payload_length};
+
 use crate::refusal::Refusal;
 use amqp_session_frames::{Error as FrameError, Frame, FrameBody, FrameDecoder};
 use amqp_trace_text::text_of;
@@ -18,20 +23,33 @@ pub struct SeenFrame {
     pub payload: Option<usize>,
 }
 
-/// The frame that these bytes are, with their size field.
-pub fn seen_frame(alloc: Global, bytes: &[u8]) -> Result<SeenFrame, FrameError> {
+/// The frame that these bytes are, with their size field (part 2, 2.3).
+///
+/// Errors: those of a decoder, exactly as it answers them; `TooLarge` for a frame whose performative can't be written;
+/// `Memory` where there is no memory.
+#[tactic(auto, using(crate::proofs::Seeing::seeing))]
+pub fn seen_frame(alloc: Global, bytes: &[u8]) -> Result<SeenFrame, FrameError>
+    ensures seen { IfOk result (λ s. IsSeen bytes.now s) }
+    ensures refused { IfErr result (λ e. NotSeen bytes.now e) }
+{
     let frame = decoded(alloc, bytes)?;
     shown(alloc, &frame)
 }
 
 /// The frame that these bytes are.
-pub(crate) fn decoded(alloc: Global, bytes: &[u8]) -> Result<Frame, FrameError> {
+pub(crate) fn decoded(alloc: Global, bytes: &[u8]) -> Result<Frame, FrameError>
+    ensures frame { IfOk result (λ f. FrameText bytes.now f) }
+    ensures refused { IfErr result (λ e. NotRead bytes.now e) }
+{
     let shared = Bytes::copy_from_slice(alloc, bytes)?;
     FrameDecoder::new().decode(alloc, shared)
 }
 
 /// What is shown of the frame.
-fn shown(alloc: Global, frame: &Frame) -> Result<SeenFrame, FrameError> {
+fn shown(alloc: Global, frame: &Frame) -> Result<SeenFrame, FrameError>
+    ensures shown { IfOk result (λ s. Shows frame.now s) }
+    ensures refused { IfErr result (λ e. NotWritten (performative_text (performative_of frame.now.body)) e) }
+{
     let performative = performative_text(alloc, frame.body())?;
     Ok(SeenFrame {
         channel: frame.channel(),
@@ -41,7 +59,10 @@ fn shown(alloc: Global, frame: &Frame) -> Result<SeenFrame, FrameError> {
 }
 
 /// What the body's performative is written as.
-fn performative_text(alloc: Global, body: &FrameBody) -> Result<Vec<u8>, FrameError> {
+fn performative_text(alloc: Global, body: &FrameBody) -> Result<Vec<u8>, FrameError>
+    ensures text { IfOk result (λ b. performative_text (performative_of body.now) ≡ Some b.items) }
+    ensures refused { IfErr result (λ e. NotWritten (performative_text (performative_of body.now)) e) }
+{
     match body {
         FrameBody::Empty => Ok(Vec::new(alloc)),
         FrameBody::Open(open) => text(alloc, open),
@@ -57,7 +78,10 @@ fn performative_text(alloc: Global, body: &FrameBody) -> Result<Vec<u8>, FrameEr
 }
 
 /// What the value is written as.
-fn text<T: Serialize>(alloc: Global, value: &T) -> Result<Vec<u8>, FrameError> {
+fn text<T: Serialize>(alloc: Global, value: &T) -> Result<Vec<u8>, FrameError>
+    ensures text { IfOk result (λ b. canon (T.item value.now) ≡ Some b.items) }
+    ensures refused { IfErr result (λ e. NotWritten (canon (T.item value.now)) e) }
+{
     match to_vec(alloc, value) {
         Ok(bytes) => Ok(bytes),
         Err(Error::Memory) => Err(FrameError::Memory),
@@ -66,7 +90,9 @@ fn text<T: Serialize>(alloc: Global, value: &T) -> Result<Vec<u8>, FrameError> {
 }
 
 /// How many bytes a transfer carries.
-fn payload_length(body: &FrameBody) -> Option<usize> {
+fn payload_length(body: &FrameBody) -> Option<usize>
+    ensures { result ≡ payload_length body.now }
+{
     match body {
         FrameBody::Transfer { payload, .. } => Some(payload.len()),
         _ => None,
