@@ -41,8 +41,10 @@ pub(crate) fn decoded(alloc: Global, bytes: &[u8]) -> Result<Frame, FrameError>
     ensures frame { IfOk result (λ f. FrameText bytes.now f) }
     ensures refused { IfErr result (λ e. NotRead bytes.now e) }
 {
-    let shared = Bytes::copy_from_slice(alloc, bytes)?;
-    FrameDecoder::new().decode(alloc, shared)
+    match Bytes::copy_from_slice(alloc, bytes) {
+        Ok(shared) => FrameDecoder::new().decode(alloc, shared),
+        Err(_) => Err(FrameError::Memory),
+    }
 }
 
 /// What is shown of the frame.
