@@ -38,9 +38,6 @@ edits:
 
 # Counts the instructions that the codec, the frames of a session, sessions and the endpoint take, by valgrind.
 bench:
-	@crates/serde_amqp_bench/measure
-	@crates/amqp_session_bench/measure
-	@crates/amqp_session_core_bench/measure
 	@crates/amqp_bench/measure
 
 # Proves and builds the program, and runs the script once for each of its requests for memory, with that request refused.

@@ -1,19 +1,67 @@
-//! Does one kind of work a number of times, so that the instructions that it takes can be counted.
+//! Does one kind of work a number of times for each line of standard input, so that the instructions that it takes can be
+//! counted.
 //!
-//! A line of standard input has the work: `frames`, how many blocks of 8,192 Empty frames are fed, and the bytes of each
-//! piece; or `open_close`, and how many connections are opened and closed. What was found is printed.
+//! A line has the part, and then what its `Work` says:
+//!
+//! - `codec`: `encode`, `count` or `decode`, the value, its size, and how many times it is done. The bytes of all the
+//!   values together are printed.
+//! - `frames`: `decode` or `both`, the kind of the frame, the bytes of its payload, the most bytes of a written piece, and
+//!   how many times it is done. The bytes of all the frames together are printed.
+//! - `session`: the work and its numbers. How many frames left and how many dispositions go back is printed.
+//! - `endpoint`: `frames`, how many blocks of 8,192 Empty frames are fed, and the bytes of each piece; or `open_close`, and
+//!   how many connections are opened and closed. What was found is printed.
 #![tactic(auto)]
 
-mod work;
+mod codec;
+mod endpoint;
+mod frames;
+mod sessions;
 
 use anyhow::{Context, Result};
-use work::Work;
+use std::alloc::Global;
 
 fn main(rt: HostRuntime) -> Result<()> {
     let mut line = String::new(rt.alloc());
-    rt.read_line(&mut line)?;
-    let work = Work::parse(line.trim()).context("no work is named so")?;
-    let found = work.run(rt.alloc())?;
-    println!(rt; "{found}")?;
+    while rt.read_line(&mut line)? > 0 {
+        let found = found(rt.alloc(), line.trim())?;
+        println!(rt; "{found}")?;
+        line.clear();
+    }
     Ok(())
+}
+
+/// Does the work of a line, and says what was found.
+fn found(alloc: Global, line: &str) -> Result<String> {
+    let (part, work) = line.split_once(' ').context("no work is named so")?;
+    match part {
+        "codec" => codec_found(alloc, work),
+        "frames" => frames_found(alloc, work),
+        "session" => session_found(alloc, work),
+        "endpoint" => endpoint_found(alloc, work),
+        _ => None.context("no part is named so"),
+    }
+}
+
+fn codec_found(alloc: Global, work: &str) -> Result<String> {
+    let work = codec::Work::parse(work).context("no work is named so")?;
+    let bytes = work.run(alloc)?;
+    Ok(format!(in alloc; "{bytes} bytes")?)
+}
+
+fn frames_found(alloc: Global, work: &str) -> Result<String> {
+    let work = frames::Work::parse(work).context("no work is named so")?;
+    let bytes = work.run(alloc)?;
+    Ok(format!(in alloc; "{bytes} bytes")?)
+}
+
+fn session_found(alloc: Global, work: &str) -> Result<String> {
+    let work = sessions::Work::parse(work).context("no work is named so")?;
+    let counts = work.run(alloc)?;
+    Ok(format!(in alloc; "{} frames, {} echoes", counts.frames, counts.echoes)?)
+}
+
+fn endpoint_found(alloc: Global, work: &str) -> Result<String> {
+    let work = endpoint::Work::parse(work).context("no work is named so")?;
+    let found = work.run(alloc)?;
+    Ok(format!(in alloc; "{found}")?)
 }

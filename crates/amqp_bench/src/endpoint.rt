@@ -1,3 +1,4 @@
+//! An endpoint that is fed Empty frames, or opens and closes connections.
 ghost use Rattle.std.specs.Prelude.{◌<◌};
 
 use amqp_endpoint::{Endpoint, EndpointError, Event, Fed, Settings, Text};
