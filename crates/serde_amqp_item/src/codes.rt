@@ -1,3 +1,4 @@
+//! The constructors of AMQP's types, and their categories (part 1, 1.2 and 1.6).
 ghost use Rattle.std.specs.Prelude.{◌≡◌, Option, Some, None, ok_or};
 ghost use Rattle.serde_amqp_item.specs.Wire.{code_of, byte_of, row_at, category_of};
 ghost use Rattle.serde_amqp_item.specs.declared.error.Error.TheVariants.{InvalidFormatCode};

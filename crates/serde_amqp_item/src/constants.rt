@@ -1,3 +1,4 @@
+//! The names of encodings, and the bounds that the standard leaves open.
 /// The name of the encoding of a described value of a basic type.
 pub const DESCRIBED_BASIC: &str = "DESCRIBED_BASIC";
 /// The name of the encoding of a described list (part 1, section 1.4).

@@ -1,3 +1,4 @@
+//! Why a value is not written or not read.
 ghost use Rattle.std.specs.Prelude.{◌≡◌};
 ghost use Rattle.serde_amqp_item.specs.declared.error.Error.TheVariants.{Memory};
 

@@ -1,3 +1,4 @@
+//! Floating point numbers as their bits (part 1, 1.6.11 and 1.6.12).
 ghost use Rattle.std.specs.Prelude.{◌≡◌};
 
 /// A binary floating point number of 32 bits, as the bits of its IEEE 754 encoding (part 1, section 1.6.11).

@@ -1,3 +1,4 @@
+//! Laws of wire forms (part 1, 1.2).
 // Laws of the wire forms and of the canonical texts. The functions do nothing: their contracts are the laws.
 ghost use Rattle.std.specs.Prelude.{◌≡◌, ◌<◌, ℕ, List, ◌∷◌, Option, Some, None, ◌++◌, length};
 ghost use Rattle.serde_amqp_item.specs.Item.{Item, raw};

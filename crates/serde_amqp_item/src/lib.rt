@@ -1,3 +1,4 @@
+//! AMQP's values as items, their wire forms and their canonical text (part 1).
 // The items of AMQP's type system (part 1), their wire forms and their canonical texts.
 #![tactic(auto)]
 

@@ -1,5 +1,5 @@
 -- Bytes and number fields that were taken.
-use Rattle.std.proofs.Common.{◌≡◌, ◌≢◌, ℕ, ◌+◌, ◌<◌, ◌≤◌, ◌^◌, List, [], ◌∷◌, ◌++◌, length, take, drop, take-append-drop, length-take-le, length-drop, take_all, ◌-◌, Bool, true, false, Some, is_some, sym, ◌∙◌, ap, refl, arith, append_assoc, length-append}
+use Rattle.std.proofs.Common.{◌≡◌, ◌≢◌, ℕ, ◌+◌, ◌-◌, ◌<◌, ◌≤◌, ◌^◌, List, [], ◌∷◌, ◌++◌, length, take, drop, take-append-drop, length-take-le, length-drop, take_all, ◌-◌, Bool, true, false, Some, is_some, sym, ◌∙◌, ap, refl, arith, append_assoc, length-append}
 use Rattle.std.specs.Prelude.{None, if◌then◌else◌}
 use Rattle.std.specs.Int.{w32, to_be_bytes}
 use Rattle.std.specs.Str.{is_utf8}
@@ -13,8 +13,8 @@ use Rattle.serde_amqp_read.specs.Reads.{with_more}
 use Rattle.serde_amqp_read.specs.Pending.{Place, Moves, Taken, TookField, TookContent, NoContent, is_read}
 
 -- what stands in a buffer and is left, before and behind
-pub taken_bytes : (old new : Place) (count : ℕ) → new.taken ++ new.rest ≡ old.taken ++ old.rest → length new.taken ≡ length old.taken + count → new.consumed ≡ with_more old.consumed count → Taken count old new
-taken_bytes old new count e l c =
+pub taken_bytes : (old new : Place) (count : ℕ) → new.taken ++ new.rest ≡ old.taken ++ old.rest → length new.taken ≡ length old.taken + count → new.consumed ≡ with_more old.consumed count → new.ending ≡ old.ending → new.ahead ≤ old.ahead - count → Taken count old new
+taken_bytes old new count e l c q f =
     let at = length old.taken in
     let front = drop at new.taken in
     let parts : take at new.taken ++ front ≡ new.taken = take-append-drop at new.taken in
@@ -25,7 +25,7 @@ taken_bytes old new count e l c =
     let long : length front ≡ count = omega (arith, ap length joined, length-append old.taken front, l) in
     record {
       front = front;
-      moves = record { split = sym same.1; joined = joined; counted = omega (arith, c, long) };
+      moves = record { split = sym same.1; joined = joined; counted = omega (arith, c, long); ending = q; ahead = omega (arith, f, long) };
       long = long;
     }
 

@@ -24,10 +24,12 @@ moves_then a b c x y m n = record {
   split = m.split ∙ (ap (λ (s : List ℕ). x ++ s) n.split ∙ sym (append_assoc x y c.rest));
   joined = n.joined ∙ (ap (λ (s : List ℕ). s ++ y) m.joined ∙ append_assoc a.taken x y);
   counted = omega (arith, m.counted, n.counted, length-append x y);
+  ending = n.ending ∙ m.ending;
+  ahead = omega (arith, m.ahead, n.ahead, length-append x y);
 }
 
 pub stays : (a : Place) → Moves a a []
-stays a = record { split = refl; joined = sym (append-nil a.taken); counted = refl }
+stays a = record { split = refl; joined = sym (append-nil a.taken); counted = refl; ending = refl; ahead = omega arith }
 
 pub none_held : (at : ℕ) (xs : Items) (content : List ℕ) → Held closed at xs content → content ≡ []
 none_held at no_items content h = h.0

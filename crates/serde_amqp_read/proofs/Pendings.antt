@@ -1,13 +1,14 @@
 -- What is still to be taken, step by step.
 use Rattle.std.proofs.Common.{◌≡◌, ◌≢◌, ℕ, ◌+◌, ◌-◌, ◌<◌, List, [], ◌∷◌, ◌++◌, length, reverse, Option, Some, None, sym, ◌∙◌, ap, subst, refl, arith, length-append, append_assoc, append-nil}
 use Rattle.std.proofs.lemmas.List.{append_cancel_left, append_cancel_right, reverse-append}
+use Rattle.serde_amqp_item.specs.declared.error.Error.{Error}
 use Rattle.serde_amqp_item.specs.Item.{Items, no_items, more_items}
 use Rattle.serde_amqp_item.specs.Wire.{Leads, IsStrict}
 use Rattle.serde_amqp_item.proofs.Forms.{append_same}
 use Rattle.serde_amqp_read.specs.Reads.{NoStrict}
 use Rattle.serde_amqp_read.specs.Pending.{Place, Moves, Ends, Held, Pending, Enters, NoForm, NeedsBytes, Finishes, Unfinished, plain_width, TookStrict}
 use Rattle.serde_amqp_read.specs.declared.measure.Frame.{Frame}
-use Rattle.serde_amqp_read.proofs.Opened.{frame, moves_then}
+use Rattle.serde_amqp_read.proofs.Opened.{frame, moves_then, stays}
 use Rattle.serde_amqp_read.proofs.Plain.{held_in, held_long, needs_bytes}
 
 leads_along : (k : Option ℕ) (f a more : List ℕ) (c : ℕ) → Leads k f c a → Leads k (f ++ more) c (a ++ more)
@@ -184,8 +185,10 @@ knows_all first now stack k e m =
 pub moved_on : (first now new : Place) (front : List ℕ) → Moves first now now.taken → Moves now new front → Moves first new new.taken
 moved_on first now new front m n = subst (λ (s : List ℕ). Moves first new s) (sym n.joined) (moves_then first now new now.taken front m n)
 
-pub moved_first : (rest : List ℕ) (consumed : ℕ) (items : List ℕ) → items ≡ [] → Moves (record { rest = rest; taken = []; consumed = consumed }) (record { rest = rest; taken = items; consumed = consumed }) items
-moved_first rest consumed items e = subst (λ (t : List ℕ). Moves (record { rest = rest; taken = []; consumed = consumed }) (record { rest = rest; taken = t; consumed = consumed }) t) (sym e) (record { split = refl; joined = refl; counted = refl })
+pub moved_first : (rest : List ℕ) (consumed : ℕ) (ending : Error) (ahead : ℕ) (items : List ℕ) → items ≡ [] → Moves (record { rest = rest; taken = []; consumed = consumed; ending = ending; ahead = ahead }) (record { rest = rest; taken = items; consumed = consumed; ending = ending; ahead = ahead }) items
+moved_first rest consumed ending ahead items e =
+    let first : Place = record { rest = rest; taken = []; consumed = consumed; ending = ending; ahead = ahead } in
+    subst (λ (t : List ℕ). Moves first (record { rest = rest; taken = t; consumed = consumed; ending = ending; ahead = ahead }) t) (sym e) (stays first)
 
 pub shrunk : (now new : Place) (front : List ℕ) → Moves now new front → length now.rest ≡ length front + length new.rest
 shrunk now new front m = ap length m.split ∙ length-append front new.rest

@@ -1,9 +1,10 @@
 -- What is still to be taken of strict forms that hold one another (part 1, section 1.2).
-use Rattle.std.specs.Prelude.{◌≡◌, ◌≢◌, ℕ, ◌+◌, ◌*◌, ◌%◌, ◌<◌, ◌==◌, Bool, true, false, is_some, List, [], ◌∷◌, ◌++◌, length, Option, Some, None, if◌then◌else◌}
+use Rattle.std.specs.Prelude.{◌≡◌, ◌≢◌, ℕ, ◌+◌, ◌-◌, ◌*◌, ◌%◌, ◌<◌, ◌≤◌, ◌==◌, Bool, true, false, is_some, List, [], ◌∷◌, ◌++◌, length, Option, Some, None, if◌then◌else◌}
 use Rattle.serde_amqp_item.specs.declared.codes.EncodingCodes.{EncodingCodes}
 use Rattle.serde_amqp_item.specs.declared.codes.EncodingCodes.TheVariants.{DescribedType, Null, Boolean, Char}
 use Rattle.serde_amqp_item.specs.declared.codes.Category.{Category}
 use Rattle.serde_amqp_item.specs.declared.codes.Category.TheVariants.{Fixed}
+use Rattle.serde_amqp_item.specs.declared.error.Error.{Error}
 use Rattle.serde_amqp_item.specs.Item.{Item, Items, item_count}
 use Rattle.serde_amqp_item.specs.Wire.{Row, fixed, variable, empty_list, map_of, described_by, Width, field, room, Form, Forms, Leads, AnyCount, NoRaw, IsStrict, own, code_of, row_at, row_of, category_of}
 use Rattle.serde_amqp_read.specs.Reads.{with_more}
@@ -14,15 +15,27 @@ pub record Place : Type 0 where
   pub rest : List ℕ
   pub taken : List ℕ
   pub consumed : ℕ
+  -- what the end of the reader is called
+  pub ending : Error
+  -- how many bytes were fetched and not yet taken
+  pub ahead : ℕ
 
-abbrev pub place_of : {R : Type 0} → (R → List ℕ) → (R → ℕ) → R → List ℕ → Place
-place_of rest consumed reader taken = record { rest = rest reader; taken = taken; consumed = consumed reader }
+abbrev pub place_of : {R : Type 0} → (R → List ℕ) → (R → ℕ) → (R → Error) → (R → ℕ) → R → List ℕ → Place
+place_of rest consumed ending ahead reader taken = record {
+  rest = rest reader;
+  taken = taken;
+  consumed = consumed reader;
+  ending = ending reader;
+  ahead = ahead reader;
+}
 
 -- these bytes were taken
 pub record Moves (old new : Place) (front : List ℕ) : Type 0 where
   pub split : old.rest ≡ front ++ new.rest
   pub joined : new.taken ≡ old.taken ++ front
   pub counted : with_more new.consumed 0 ≡ with_more old.consumed (length front)
+  pub ending : new.ending ≡ old.ending
+  pub ahead : new.ahead ≤ old.ahead - length front
 
 -- as many bytes are then taken in all
 abbrev pub Ends : Option ℕ → ℕ → Type 0

@@ -1,5 +1,6 @@
 -- What a source of bytes says (nothing of AMQP): what comes next, and what a refusal tells of the bytes.
 use Rattle.std.specs.Prelude.{◌≡◌, ℕ, ◌+◌, ◌-◌, ◌^◌, min, List, ◌∷◌, ◌++◌, Bool, true, false, Result, Ok, Err}
+use Rattle.std_io.specs.declared.io.kind.ErrorKind.TheVariants.{UnexpectedEof}
 use Rattle.serde_amqp_item.specs.Wire.{IsStrict}
 use Rattle.serde_amqp_item.specs.declared.error.Error.{Error}
 use Rattle.serde_amqp_item.specs.declared.error.Error.TheVariants.{Io, Memory}
@@ -28,6 +29,25 @@ Refusal faulty e P = P
 abbrev pub Unless : {X : Type 0} → (Error → Bool) → Result X Error → Type 0 → Type 0
 Unless faulty (Ok x) P = Unit {0}
 Unless faulty (Err e) P = Refusal faulty e P
+
+-- what an error of a call is: want of memory, or what the end of the reader is called
+abbrev pub Named : Error → Error → Type 0
+Named ending Memory = Unit {0}
+Named ending e = e ≡ ending
+
+-- an end of the input and a fault of the reader are what the end of the reader is called
+abbrev pub NamedIfIo : Error → Error → Type 0
+NamedIfIo ending (Io kind) = Io kind ≡ ending
+NamedIfIo ending e = Unit {0}
+
+-- the bytes end
+abbrev pub just_ends : Error
+just_ends = Io UnexpectedEof
+
+-- what the end of the reader is called behind a call: one that has failed just ends
+abbrev pub ending_behind : {X : Type 0} → Result X Error → Error → Error
+ending_behind (Ok x) ending = ending
+ending_behind (Err e) ending = just_ends
 
 -- a reader that has no faults of its own
 abbrev pub faultless : Error → Bool

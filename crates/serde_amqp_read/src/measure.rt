@@ -1,10 +1,10 @@
 //! Strict forms of any size, taken by a loop.
-ghost use Rattle.std.specs.Prelude.{◌≡◌, ◌≢◌, ◌<◌, ◌+◌, ◌∷◌, ◌++◌, [], ℕ, List, length, IfOk, OnOk, Option, Some, None, true, false, if◌then◌else◌, nat_lt, ◌==◌, is_some};
+ghost use Rattle.std.specs.Prelude.{◌≡◌, ◌≢◌, ◌<◌, ◌+◌, ◌∷◌, ◌++◌, [], ℕ, List, length, IfOk, IfErr, OnOk, Option, Some, None, true, false, if◌then◌else◌, nat_lt, ◌==◌, is_some};
 ghost use Rattle.std.specs.Int.{w32, from_be_bytes, to_be_bytes};
 ghost use Rattle.std.specs.Str.{is_utf8};
 ghost use Rattle.serde_amqp_item.specs.Wire.{Width, field_width, row_at, category_of, code_of, boolean_at, char_of};
 ghost use Rattle.serde_amqp_item.specs.declared.codes.Category.TheVariants.{Fixed, Variable, Compound, Array};
-ghost use Rattle.serde_amqp_read.specs.Reads.{Unless, NoStrict};
+ghost use Rattle.serde_amqp_read.specs.Reads.{Unless, NamedIfIo, NoStrict};
 ghost use Rattle.serde_amqp_read.specs.Pending.{place_of, Moves, TookField, TookContent, NoContent, is_read, is_element, Bare, admits, Taken, Opens, NoRow, Headed, Enters, NoForm, plain_at, plain_width, Finishes, Unfinished, NeedsBytes, TookStrict};
 
 use crate::reader::Read;
@@ -24,8 +24,9 @@ pub struct Frame {
 
 /// Takes a strict form.
 pub(crate) fn take_form<R: Read>(reader: &mut R, alloc: Global) -> Result<Vec<u8>, Error>
-    ensures ok { IfOk result (λ v. TookStrict (place_of R.rest R.consumed reader.old []) (place_of R.rest R.consumed reader.new v.items)) }
+    ensures ok { IfOk result (λ v. TookStrict (place_of R.rest R.consumed R.ending R.ahead reader.old []) (place_of R.rest R.consumed R.ending R.ahead reader.new v.items)) }
     ensures refused { Unless R.faulty result (NoStrict (R.rest reader.old)) }
+    ensures named { IfErr result (NamedIfIo (R.ending reader.old)) }
 {
     let mut bytes = Vec::new(alloc);
     let mut stack = Vec::new(alloc);
@@ -75,8 +76,9 @@ fn take_plain<R: Read>(
     frame: Frame,
     width: usize,
 ) -> Result<(), Error>
-    ensures ok { OnOk result (Finishes frame width (place_of R.rest R.consumed reader.old bytes.old.items) (place_of R.rest R.consumed reader.new bytes.new.items)) }
-    ensures refused { Unless R.faulty result (Unfinished frame width (place_of R.rest R.consumed reader.old bytes.old.items)) }
+    ensures ok { OnOk result (Finishes frame width (place_of R.rest R.consumed R.ending R.ahead reader.old bytes.old.items) (place_of R.rest R.consumed R.ending R.ahead reader.new bytes.new.items)) }
+    ensures refused { Unless R.faulty result (Unfinished frame width (place_of R.rest R.consumed R.ending R.ahead reader.old bytes.old.items)) }
+    ensures named { IfErr result (NamedIfIo (R.ending reader.old)) }
 {
     let Some(count) = frame.left.checked_mul(width) else {
         return Err(Error::Memory);
@@ -96,8 +98,9 @@ fn enter<R: Read>(
     inherited: Option<u8>,
 ) -> Result<Frame, Error>
     requires { NeedsBytes inherited }
-    ensures ok { IfOk result (λ f. Enters inherited (place_of R.rest R.consumed reader.old bytes.old.items) (place_of R.rest R.consumed reader.new bytes.new.items) f) }
+    ensures ok { IfOk result (λ f. Enters inherited (place_of R.rest R.consumed R.ending R.ahead reader.old bytes.old.items) (place_of R.rest R.consumed R.ending R.ahead reader.new bytes.new.items) f) }
     ensures refused { Unless R.faulty result (NoForm inherited (R.rest reader.old)) }
+    ensures named { IfErr result (NamedIfIo (R.ending reader.old)) }
 {
     let code = take_code(reader, bytes, inherited)?;
     open(reader, bytes, code)
@@ -110,8 +113,9 @@ fn take_code<R: Read>(
     bytes: &mut Vec<u8>,
     inherited: Option<u8>,
 ) -> Result<EncodingCodes, Error>
-    ensures ok { IfOk result (λ code. Headed inherited (place_of R.rest R.consumed reader.old bytes.old.items) (place_of R.rest R.consumed reader.new bytes.new.items) code) }
+    ensures ok { IfOk result (λ code. Headed inherited (place_of R.rest R.consumed R.ending R.ahead reader.old bytes.old.items) (place_of R.rest R.consumed R.ending R.ahead reader.new bytes.new.items) code) }
     ensures refused { Unless R.faulty result (NoForm inherited (R.rest reader.old)) }
+    ensures named { IfErr result (NamedIfIo (R.ending reader.old)) }
 {
     let byte = match inherited {
         Some(byte) => byte,
@@ -126,8 +130,9 @@ fn take_code<R: Read>(
 /// Takes what stands behind a constructor, but for the forms that it holds.
 #[tactic(auto, using(crate::proofs::Opened::opening))]
 fn open<R: Read>(reader: &mut R, bytes: &mut Vec<u8>, code: EncodingCodes) -> Result<Frame, Error>
-    ensures ok { IfOk result (λ f. Opens (row_at (Some code)) (place_of R.rest R.consumed reader.old bytes.old.items) (place_of R.rest R.consumed reader.new bytes.new.items) f) }
+    ensures ok { IfOk result (λ f. Opens (row_at (Some code)) (place_of R.rest R.consumed R.ending R.ahead reader.old bytes.old.items) (place_of R.rest R.consumed R.ending R.ahead reader.new bytes.new.items) f) }
     ensures refused { Unless R.faulty result (NoRow (row_at (Some code)) (R.rest reader.old)) }
+    ensures named { IfErr result (NamedIfIo (R.ending reader.old)) }
 {
     match Category::try_from(code) {
         Err(_) => Ok(Frame {
@@ -165,8 +170,9 @@ fn open_items<R: Read>(
     width: usize,
 ) -> Result<Frame, Error>
     requires { category_of (row_at (Some code)) ≡ Some (Compound width) }
-    ensures ok { IfOk result (λ f. Opens (row_at (Some code)) (place_of R.rest R.consumed reader.old bytes.old.items) (place_of R.rest R.consumed reader.new bytes.new.items) f) }
+    ensures ok { IfOk result (λ f. Opens (row_at (Some code)) (place_of R.rest R.consumed R.ending R.ahead reader.old bytes.old.items) (place_of R.rest R.consumed R.ending R.ahead reader.new bytes.new.items) f) }
     ensures refused { Unless R.faulty result (NoRow (row_at (Some code)) (R.rest reader.old)) }
+    ensures named { IfErr result (NamedIfIo (R.ending reader.old)) }
 {
     let size = take_number(reader, bytes, width)?;
     let Some(end) = bytes.len().checked_add(size) else {
@@ -191,8 +197,9 @@ fn open_array<R: Read>(
     width: usize,
 ) -> Result<Frame, Error>
     requires { category_of (row_at (Some code)) ≡ Some (Array width) }
-    ensures ok { IfOk result (λ f. Opens (row_at (Some code)) (place_of R.rest R.consumed reader.old bytes.old.items) (place_of R.rest R.consumed reader.new bytes.new.items) f) }
+    ensures ok { IfOk result (λ f. Opens (row_at (Some code)) (place_of R.rest R.consumed R.ending R.ahead reader.old bytes.old.items) (place_of R.rest R.consumed R.ending R.ahead reader.new bytes.new.items) f) }
     ensures refused { Unless R.faulty result (NoRow (row_at (Some code)) (R.rest reader.old)) }
+    ensures named { IfErr result (NamedIfIo (R.ending reader.old)) }
 {
     let size = take_number(reader, bytes, width)?;
     let Some(end) = bytes.len().checked_add(size) else {
@@ -301,8 +308,9 @@ fn take_content<R: Read>(
     count: usize,
 ) -> Result<(), Error>
     requires { (n : ℕ) → category_of (row_at (Some code)) ≡ Some (Fixed n) → count ≡ n }
-    ensures ok { OnOk result (TookContent (row_at (Some code)) count (place_of R.rest R.consumed reader.old bytes.old.items) (place_of R.rest R.consumed reader.new bytes.new.items)) }
+    ensures ok { OnOk result (TookContent (row_at (Some code)) count (place_of R.rest R.consumed R.ending R.ahead reader.old bytes.old.items) (place_of R.rest R.consumed R.ending R.ahead reader.new bytes.new.items)) }
     ensures refused { Unless R.faulty result (NoContent (row_at (Some code)) count (R.rest reader.old)) }
+    ensures named { IfErr result (NamedIfIo (R.ending reader.old)) }
 {
     let start = bytes.len();
     take_bytes(reader, bytes, count)?;
@@ -318,8 +326,10 @@ fn take_content<R: Read>(
 /// Takes a number field of one or of four bytes.
 #[tactic(auto, using(crate::proofs::Numbers::numbering))]
 fn take_number<R: Read>(reader: &mut R, bytes: &mut Vec<u8>, width: usize) -> Result<usize, Error>
-    ensures ok { IfOk result (λ n. (w : Width) → field_width w ≡ width → TookField w (place_of R.rest R.consumed reader.old bytes.old.items) (place_of R.rest R.consumed reader.new bytes.new.items) n) }
+    ensures ok { IfOk result (λ n. (w : Width) → field_width w ≡ width → TookField w (place_of R.rest R.consumed R.ending R.ahead reader.old bytes.old.items) (place_of R.rest R.consumed R.ending R.ahead reader.new bytes.new.items) n) }
     ensures refused { Unless R.faulty result ((w : Width) → field_width w ≡ width → length (R.rest reader.old) < field_width w) }
+    ensures lasting { OnOk result (R.ending reader.new ≡ R.ending reader.old) }
+    ensures named { IfErr result (NamedIfIo (R.ending reader.old)) }
 {
     if width == 1 {
         let byte = take_byte(reader, bytes)?;
@@ -331,8 +341,9 @@ fn take_number<R: Read>(reader: &mut R, bytes: &mut Vec<u8>, width: usize) -> Re
 
 /// Takes a number of four bytes.
 fn take_u32<R: Read>(reader: &mut R, bytes: &mut Vec<u8>) -> Result<u32, Error>
-    ensures ok { IfOk result (λ n. Moves (place_of R.rest R.consumed reader.old bytes.old.items) (place_of R.rest R.consumed reader.new bytes.new.items) (to_be_bytes w32 n)) }
+    ensures ok { IfOk result (λ n. Moves (place_of R.rest R.consumed R.ending R.ahead reader.old bytes.old.items) (place_of R.rest R.consumed R.ending R.ahead reader.new bytes.new.items) (to_be_bytes w32 n)) }
     ensures end { Unless R.faulty result (length (R.rest reader.old) < 4) }
+    ensures named { IfErr result (NamedIfIo (R.ending reader.old)) }
 {
     let number = reader.read_const_bytes::<4>()?;
     bytes.extend_from_slice(&number)?;
@@ -341,8 +352,9 @@ fn take_u32<R: Read>(reader: &mut R, bytes: &mut Vec<u8>) -> Result<u32, Error>
 
 /// Takes the next byte.
 fn take_byte<R: Read>(reader: &mut R, bytes: &mut Vec<u8>) -> Result<u8, Error>
-    ensures ok { IfOk result (λ b. Moves (place_of R.rest R.consumed reader.old bytes.old.items) (place_of R.rest R.consumed reader.new bytes.new.items) (b ∷ [])) }
+    ensures ok { IfOk result (λ b. Moves (place_of R.rest R.consumed R.ending R.ahead reader.old bytes.old.items) (place_of R.rest R.consumed R.ending R.ahead reader.new bytes.new.items) (b ∷ [])) }
     ensures end { Unless R.faulty result (R.rest reader.old ≡ []) }
+    ensures named { IfErr result (NamedIfIo (R.ending reader.old)) }
 {
     let byte = reader.next()?;
     bytes.push(byte)?;
@@ -352,8 +364,9 @@ fn take_byte<R: Read>(reader: &mut R, bytes: &mut Vec<u8>) -> Result<u8, Error>
 /// Takes so many bytes.
 #[tactic(auto, using(crate::proofs::Numbers::numbering))]
 fn take_bytes<R: Read>(reader: &mut R, bytes: &mut Vec<u8>, count: usize) -> Result<(), Error>
-    ensures ok { OnOk result (Taken count (place_of R.rest R.consumed reader.old bytes.old.items) (place_of R.rest R.consumed reader.new bytes.new.items)) }
+    ensures ok { OnOk result (Taken count (place_of R.rest R.consumed R.ending R.ahead reader.old bytes.old.items) (place_of R.rest R.consumed R.ending R.ahead reader.new bytes.new.items)) }
     ensures end { Unless R.faulty result (length (R.rest reader.old) < count) }
+    ensures named { IfErr result (NamedIfIo (R.ending reader.old)) }
 {
     reader.append_bytes(count, bytes)?;
     Ok(())

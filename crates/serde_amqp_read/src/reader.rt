@@ -1,8 +1,9 @@
 //! What is read from.
-ghost use Rattle.std.specs.Prelude.{◌≡◌, ◌<◌, ◌+◌, ◌∷◌, ◌++◌, [], ℕ, Bool, List, length, IfOk, IfErr, OnOk, OnErr, string_bytes, false};
+ghost use Rattle.std.specs.Prelude.{◌≡◌, ◌<◌, ◌≤◌, ◌+◌, ◌-◌, ◌∷◌, ◌++◌, [], ℕ, max, Bool, List, length, IfOk, IfErr, OnOk, OnErr, string_bytes, false};
 ghost use Rattle.std.specs.Str.{is_utf8};
 ghost use Rattle.serde_amqp_item.specs.declared.error.Error.{Error};
-ghost use Rattle.serde_amqp_read.specs.Reads.{Begins, Leads, Unless, faultless, counted, with_more, StrictBytes, NoStrict};
+ghost use Rattle.serde_amqp_item.specs.declared.error.Error.TheVariants.{InvalidUtf8Encoding};
+ghost use Rattle.serde_amqp_read.specs.Reads.{Begins, Leads, Named, NamedIfIo, Unless, ending_behind, faultless, counted, just_ends, with_more, StrictBytes, NoStrict};
 
 use crate::measure::take_form;
 use crate::private::Sealed;
@@ -19,8 +20,18 @@ pub trait Read: Sealed {
     /// The errors that are the reader's own, and say nothing of its bytes.
     ghost faulty: { Error → Bool };
 
+    /// No error is: the sources of this crate are known to their end.
+    ghost known: { (e : Error) → faulty e ≡ false };
+
     /// How many bytes were taken.
     ghost consumed: { Self → ℕ };
+
+    /// What is answered where more bytes are wanted than are left: `Io`, with the kind that an inner reader
+    /// answers behind its bytes, or with `UnexpectedEof` where the bytes just end.
+    ghost ending: { Self → Error };
+
+    /// How many bytes were fetched from an inner reader and not yet taken.
+    ghost ahead: { Self → ℕ };
 
     /// How many bytes were taken by calls that answered Ok, or 2^64 - 1 where they are more.
     fn bytes_consumed(&self) -> usize
@@ -34,7 +45,10 @@ pub trait Read: Sealed {
         ensures same { OnOk result (rest self.new ≡ rest self.old) }
         ensures end { Unless faulty result (rest self.old ≡ []) }
         ensures failed { OnErr result (rest self.new ≡ []) }
-        ensures uncounted { consumed self.new ≡ consumed self.old };
+        ensures uncounted { consumed self.new ≡ consumed self.old }
+        ensures named { IfErr result (Named (ending self.old)) }
+        ensures lasting { ending self.new ≡ ending_behind result (ending self.old) }
+        ensures ahead { ahead self.new ≤ max 1 (ahead self.old) };
 
     /// The next bytes, as many as the buffer has, which stay unread.
     ///
@@ -45,7 +59,10 @@ pub trait Read: Sealed {
         ensures len { length buffer.new ≡ length buffer.old }
         ensures end { Unless faulty result (length (rest self.old) < length buffer.old) }
         ensures failed { OnErr result (rest self.new ≡ []) }
-        ensures uncounted { consumed self.new ≡ consumed self.old };
+        ensures uncounted { consumed self.new ≡ consumed self.old }
+        ensures named { IfErr result (Named (ending self.old)) }
+        ensures lasting { ending self.new ≡ ending_behind result (ending self.old) }
+        ensures ahead { ahead self.new ≤ max (length buffer.old) (ahead self.old) };
 
     /// Takes the next byte.
     ///
@@ -54,7 +71,10 @@ pub trait Read: Sealed {
         ensures ok { IfOk result (λ b. rest self.old ≡ b ∷ rest self.new) }
         ensures end { Unless faulty result (rest self.old ≡ []) }
         ensures failed { OnErr result (rest self.new ≡ []) }
-        ensures counted { consumed self.new ≡ counted result 1 (consumed self.old) };
+        ensures counted { consumed self.new ≡ counted result 1 (consumed self.old) }
+        ensures named { IfErr result (λ e. e ≡ ending self.old) }
+        ensures lasting { ending self.new ≡ ending_behind result (ending self.old) }
+        ensures ahead { ahead self.new ≤ ahead self.old - 1 };
 
     /// Takes as many bytes as the buffer has.
     ///
@@ -64,7 +84,10 @@ pub trait Read: Sealed {
         ensures len { length buffer.new ≡ length buffer.old }
         ensures end { Unless faulty result (length (rest self.old) < length buffer.old) }
         ensures failed { OnErr result (rest self.new ≡ []) }
-        ensures counted { consumed self.new ≡ counted result (length buffer.old) (consumed self.old) };
+        ensures counted { consumed self.new ≡ counted result (length buffer.old) (consumed self.old) }
+        ensures named { IfErr result (λ e. e ≡ ending self.old) }
+        ensures lasting { ending self.new ≡ ending_behind result (ending self.old) }
+        ensures ahead { ahead self.new ≤ ahead self.old - length buffer.old };
 
     /// Takes so many bytes and puts them behind those that stand in `bytes`, which after an error are
     /// as before. No more memory is taken than for the bytes that are there.
@@ -76,12 +99,17 @@ pub trait Read: Sealed {
         ensures kept { OnErr result (bytes.new.items ≡ bytes.old.items) }
         ensures end { Unless faulty result (length (rest self.old) < count) }
         ensures failed { OnErr result (rest self.new ≡ []) }
-        ensures counted { consumed self.new ≡ counted result count (consumed self.old) };
+        ensures counted { consumed self.new ≡ counted result count (consumed self.old) }
+        ensures named { IfErr result (Named (ending self.old)) }
+        ensures lasting { ending self.new ≡ ending_behind result (ending self.old) }
+        ensures ahead { ahead self.new ≤ ahead self.old - count };
 
     /// From here on the reader has failed: nothing is left.
     fn fail(&mut self)
         ensures failed { rest self.new ≡ [] }
-        ensures uncounted { consumed self.new ≡ consumed self.old };
+        ensures uncounted { consumed self.new ≡ consumed self.old }
+        ensures lasting { ending self.new ≡ just_ends }
+        ensures ahead { ahead self.new ≤ ahead self.old };
 
     /// Takes `N` bytes.
     ///
@@ -92,6 +120,9 @@ pub trait Read: Sealed {
         ensures end { Unless faulty result (length (rest self.old) < N) }
         ensures failed { OnErr result (rest self.new ≡ []) }
         ensures counted { consumed self.new ≡ counted result N (consumed self.old) }
+        ensures named { IfErr result (λ e. e ≡ ending self.old) }
+        ensures lasting { ending self.new ≡ ending_behind result (ending self.old) }
+        ensures ahead { ahead self.new ≤ ahead self.old - N }
     {
         let mut bytes = [0; N];
         self.read_exact(&mut bytes)?;
@@ -107,6 +138,9 @@ pub trait Read: Sealed {
         ensures end { Unless faulty result (length (rest self.old) < count) }
         ensures failed { OnErr result (rest self.new ≡ []) }
         ensures counted { consumed self.new ≡ counted result count (consumed self.old) }
+        ensures named { IfErr result (Named (ending self.old)) }
+        ensures lasting { ending self.new ≡ ending_behind result (ending self.old) }
+        ensures ahead { ahead self.new ≤ ahead self.old - count }
     {
         let mut bytes = Vec::new(alloc);
         self.append_bytes(count, &mut bytes)?;
@@ -126,6 +160,9 @@ pub trait Read: Sealed {
         ensures end { Unless faulty result (length (rest self.old) < count) }
         ensures failed { OnErr result (rest self.new ≡ []) }
         ensures counted { consumed self.new ≡ counted result count (consumed self.old) }
+        ensures named { IfErr result (Named (ending self.old)) }
+        ensures lasting { ending self.new ≡ ending_behind result (ending self.old) }
+        ensures ahead { ahead self.new ≤ ahead self.old - count }
     {
         self.read_bytes(alloc, count)
     }
@@ -140,6 +177,9 @@ pub trait Read: Sealed {
         ensures refused { Unless faulty result ((front more : List ℕ) → rest self.old ≡ front ++ more → length front ≡ count → is_utf8 front ≡ false) }
         ensures failed { OnErr result (rest self.new ≡ []) }
         ensures counted { OnOk result (consumed self.new ≡ with_more (consumed self.old) count) }
+        ensures named { IfErr result (NamedIfIo (ending self.old)) }
+        ensures lasting { ending self.new ≡ ending_behind result (ending self.old) }
+        ensures ahead { ahead self.new ≤ ahead self.old - count }
     {
         let bytes = self.read_bytes(alloc, count)?;
         let text = text_of(bytes);
@@ -164,6 +204,9 @@ pub trait Read: Sealed {
         ensures refused { Unless faulty result (NoStrict (rest self.old)) }
         ensures failed { OnErr result (rest self.new ≡ []) }
         ensures counted { IfOk result (λ v. with_more (consumed self.new) 0 ≡ with_more (consumed self.old) (length v.items)) }
+        ensures named { IfErr result (NamedIfIo (ending self.old)) }
+        ensures lasting { ending self.new ≡ ending_behind result (ending self.old) }
+        ensures ahead { IfOk result (λ v. ahead self.new ≤ ahead self.old - length v.items) }
     {
         let form = take_form(self, alloc);
         if form.is_err() {
@@ -178,6 +221,7 @@ pub trait Read: Sealed {
 fn text_of(bytes: Vec<u8>) -> Result<String, Error>
     ensures ok { IfOk result (λ s. string_bytes s ≡ bytes.items) }
     ensures refused { Unless faultless result (is_utf8 bytes.items ≡ false) }
+    ensures named { IfErr result (λ e. e ≡ InvalidUtf8Encoding) }
 {
     match String::from_utf8(bytes) {
         Ok(text) => Ok(text),

@@ -1,7 +1,7 @@
 //! Slices as sources.
-ghost use Rattle.std.specs.Prelude.{◌≡◌, ◌<◌, ◌≤◌, ◌-◌, ◌++◌, [], length, IfOk, IfErr, OnErr};
+ghost use Rattle.std.specs.Prelude.{◌≡◌, ◌<◌, ◌≤◌, ◌-◌, ◌++◌, [], length, refl, IfOk, IfErr, OnErr};
 ghost use Rattle.serde_amqp_item.specs.declared.error.Error.TheVariants.{Io};
-ghost use Rattle.serde_amqp_read.specs.Reads.{Source, faultless, counted};
+ghost use Rattle.serde_amqp_read.specs.Reads.{Source, faultless, counted, just_ends};
 
 use crate::private::Sealed;
 use crate::reader::Read;
@@ -71,7 +71,13 @@ impl<'a> Read for SliceReader<'a> {
 
     ghost faulty = { faultless };
 
+    ghost known = { λ _. refl };
+
     ghost consumed = { λ s. s.consumed };
+
+    ghost ending = { λ _. just_ends };
+
+    ghost ahead = { λ _. 0 };
 
     fn bytes_consumed(&self) -> usize {
         self.total - self.slice.len()

@@ -10,5 +10,5 @@ returns-in-None-code_of-clause-refused g c =
     let e : None ≡ code_of c.match-inherited.byte = search rules in
     elim c.match-inherited.branch [
       | in-Some w ↦ search (rules, entering)
-      | in-None+in_ok-byte-in-None w ↦ rw w.in-None.is (no_code (place_of g.R.Read.rest g.R.Read.consumed c.args.reader.now c.args.bytes.now.items) (place_of g.R.Read.rest g.R.Read.consumed w.take_byte.new.reader w.take_byte.new.bytes.items) w.in_ok-byte-in-None.byte w.in_ok-byte-in-None.ensures.ok (e ∙ ap code_of w.byte-is))
+      | in-None+in_ok-byte-in-None w ↦ rw w.in-None.is (no_code (place_of g.R.Read.rest g.R.Read.consumed g.R.Read.ending g.R.Read.ahead c.args.reader.now c.args.bytes.now.items) (place_of g.R.Read.rest g.R.Read.consumed g.R.Read.ending g.R.Read.ahead w.take_byte.new.reader w.take_byte.new.bytes.items) w.in_ok-byte-in-None.byte w.in_ok-byte-in-None.ensures.ok (e ∙ ap code_of w.byte-is))
     ]

@@ -1,4 +1,4 @@
-use Rattle.std.proofs.Common.{◌≡◌, ◌+◌, ◌++◌, length}
+use Rattle.std.proofs.Common.{◌≡◌, ◌+◌, ◌-◌, ◌++◌, length}
 use Rattle.serde_amqp_read.specs.Fetching.{left_of}
 use Rattle.serde_amqp_read.specs.Reads.{Leads}
 use Rattle.serde_amqp_read.proofs.fetching.IoReader.take_onto.Given as goal
@@ -10,6 +10,8 @@ invariant-loop-missing g l = record {
   long : length l.bytes.items + l.missing ≡ length l.initial.bytes.items + l.count;
   kept : Leads l.initial.bytes.items l.bytes.items;
   uncounted : l.self.consumed ≡ l.initial.self.consumed;
+  same : (l.self.failed ≡ l.initial.self.failed) × (l.self.fault ≡ l.initial.self.fault);
+  ahead : length l.self.fetched ≡ length l.initial.self.fetched - (l.count - l.missing);
   piece : length l.piece ≡ 256;
 }
 
