@@ -140,7 +140,7 @@ bare_array k old mid last j total count h r t c =
     record { there = bare_there k old mid last j h s; back = bare_back k old mid last j h s }
 
 -- a size or a count that no array has
-abbrev IsBad : Width → ℕ → ℕ → Type 0
+abbrev pub IsBad : Width → ℕ → ℕ → Type 0
 IsBad w total count = (total < length (field w 0)) ⊎ ((65536 < count) ⊎ ((total ≡ length (field w 0)) × ((w ≢ one_byte) ⊎ (count ≢ 0))))
 
 bad_bare : (w : Width) (mid last : At) (total count : ℕ) → ReadCount w mid last total count → IsBad w total count → (xs : Items) (a more : List ℕ) → IsBareArray w xs a → mid.rest ≡ a ++ more → ⊥
@@ -166,7 +166,7 @@ bad_array w k old mid last total count h bad = record {
       absurd (elim p.2 [ inl q ↦ bad_bare w mid last total count h.read bad p.0 a more q e | inr q ↦ bad_elements w mid last total count h.read bad p.0 a more q e ]));
 }
 
-four_or_less : (total count : ℕ) → total < 5 → IsBad four_bytes total count
+pub four_or_less : (total count : ℕ) → total < 5 → IsBad four_bytes total count
 four_or_less zero count l = inl (omega arith)
 four_or_less (suc zero) count l = inl (omega arith)
 four_or_less (suc (suc zero)) count l = inl (omega arith)
@@ -232,7 +232,7 @@ only_array : TakesOnly array_taken array_kind
 only_array (array xs) p = absurd (p refl)
 only_array x p = refl
 
-not_array : (code : EncodingCodes) → code ≢ Array8 → code ≢ Array32 → kind_at code ≢ array_kind
+pub not_array : (code : EncodingCodes) → code ≢ Array8 → code ≢ Array32 → kind_at code ≢ array_kind
 not_array Array8 p q = absurd (p refl)
 not_array Array32 p q = absurd (q refl)
 not_array code p q = λ e. cc

@@ -1,7 +1,7 @@
 -- The scalars of fixed widths beside booleans and unsigned numbers.
 use Rattle.std.proofs.Common.{◌≡◌, ◌≢◌, ℕ, ◌<◌, ◌^◌, List, [], ◌∷◌, length, Bool, true, false, cond, Option, Some, None, refl, arith, ap, ◌∙◌}
 use Rattle.std.specs.Char.{IsScalar}
-use Rattle.std.specs.Int.{w8, w16, w32, w64, to_be_bytes, cast_signed}
+use Rattle.std.specs.Int.{w8, w16, w32, w64, to_be_bytes, from_be_bytes, cast_signed}
 use Rattle.std.proofs.lemmas.Nat.{from_be_bytes-to_be_bytes_2, from_be_bytes-to_be_bytes_4, from_be_bytes-to_be_bytes_8}
 use Rattle.serde_amqp_item.specs.declared.codes.EncodingCodes.{EncodingCodes}
 use Rattle.serde_amqp_item.specs.declared.codes.EncodingCodes.TheVariants.{UByte, Byte, Short, Int, SmallInt, Long, SmallLong, Float, Double, Decimal32, Decimal64, Decimal128, Char, Timestamp, Uuid}
@@ -17,7 +17,7 @@ only_ubyte (scalar (ubyte x)) p = absurd (p refl)
 only_ubyte (scalar s) p = refl
 only_ubyte x p = refl
 
-not_ubyte : (code : EncodingCodes) → code ≢ UByte → kind_at code ≢ ubyte_kind
+pub not_ubyte : (code : EncodingCodes) → code ≢ UByte → kind_at code ≢ ubyte_kind
 not_ubyte UByte p = absurd (p refl)
 not_ubyte code p = λ e. cc
 
@@ -37,7 +37,7 @@ only_byte (scalar (byte x)) p = absurd (p refl)
 only_byte (scalar s) p = refl
 only_byte x p = refl
 
-not_byte : (code : EncodingCodes) → code ≢ Byte → kind_at code ≢ byte_kind
+pub not_byte : (code : EncodingCodes) → code ≢ Byte → kind_at code ≢ byte_kind
 not_byte Byte p = absurd (p refl)
 not_byte code p = λ e. cc
 
@@ -57,7 +57,7 @@ only_short (scalar (short x)) p = absurd (p refl)
 only_short (scalar s) p = refl
 only_short x p = refl
 
-not_short : (code : EncodingCodes) → code ≢ Short → kind_at code ≢ short_kind
+pub not_short : (code : EncodingCodes) → code ≢ Short → kind_at code ≢ short_kind
 not_short Short p = absurd (p refl)
 not_short code p = λ e. cc
 
@@ -77,7 +77,7 @@ only_int (scalar (int x)) p = absurd (p refl)
 only_int (scalar s) p = refl
 only_int x p = refl
 
-not_int : (code : EncodingCodes) → code ≢ Int → code ≢ SmallInt → kind_at code ≢ int_kind
+pub not_int : (code : EncodingCodes) → code ≢ Int → code ≢ SmallInt → kind_at code ≢ int_kind
 not_int Int p q = absurd (p refl)
 not_int SmallInt p q = absurd (q refl)
 not_int code p q = λ e. cc
@@ -104,7 +104,7 @@ only_long (scalar (long x)) p = absurd (p refl)
 only_long (scalar s) p = refl
 only_long x p = refl
 
-not_long : (code : EncodingCodes) → code ≢ Long → code ≢ SmallLong → kind_at code ≢ long_kind
+pub not_long : (code : EncodingCodes) → code ≢ Long → code ≢ SmallLong → kind_at code ≢ long_kind
 not_long Long p q = absurd (p refl)
 not_long SmallLong p q = absurd (q refl)
 not_long code p q = λ e. cc
@@ -131,7 +131,7 @@ only_float (scalar (float x)) p = absurd (p refl)
 only_float (scalar s) p = refl
 only_float x p = refl
 
-not_float : (code : EncodingCodes) → code ≢ Float → kind_at code ≢ float_kind
+pub not_float : (code : EncodingCodes) → code ≢ Float → kind_at code ≢ float_kind
 not_float Float p = absurd (p refl)
 not_float code p = λ e. cc
 
@@ -151,7 +151,7 @@ only_double (scalar (double x)) p = absurd (p refl)
 only_double (scalar s) p = refl
 only_double x p = refl
 
-not_double : (code : EncodingCodes) → code ≢ Double → kind_at code ≢ double_kind
+pub not_double : (code : EncodingCodes) → code ≢ Double → kind_at code ≢ double_kind
 not_double Double p = absurd (p refl)
 not_double code p = λ e. cc
 
@@ -171,7 +171,7 @@ only_decimal32 (scalar (decimal32 x)) p = absurd (p refl)
 only_decimal32 (scalar s) p = refl
 only_decimal32 x p = refl
 
-not_decimal32 : (code : EncodingCodes) → code ≢ Decimal32 → kind_at code ≢ decimal32_kind
+pub not_decimal32 : (code : EncodingCodes) → code ≢ Decimal32 → kind_at code ≢ decimal32_kind
 not_decimal32 Decimal32 p = absurd (p refl)
 not_decimal32 code p = λ e. cc
 
@@ -191,7 +191,7 @@ only_decimal64 (scalar (decimal64 x)) p = absurd (p refl)
 only_decimal64 (scalar s) p = refl
 only_decimal64 x p = refl
 
-not_decimal64 : (code : EncodingCodes) → code ≢ Decimal64 → kind_at code ≢ decimal64_kind
+pub not_decimal64 : (code : EncodingCodes) → code ≢ Decimal64 → kind_at code ≢ decimal64_kind
 not_decimal64 Decimal64 p = absurd (p refl)
 not_decimal64 code p = λ e. cc
 
@@ -211,7 +211,7 @@ only_decimal128 (scalar (decimal128 x)) p = absurd (p refl)
 only_decimal128 (scalar s) p = refl
 only_decimal128 x p = refl
 
-not_decimal128 : (code : EncodingCodes) → code ≢ Decimal128 → kind_at code ≢ decimal128_kind
+pub not_decimal128 : (code : EncodingCodes) → code ≢ Decimal128 → kind_at code ≢ decimal128_kind
 not_decimal128 Decimal128 p = absurd (p refl)
 not_decimal128 code p = λ e. cc
 
@@ -231,7 +231,7 @@ only_char (scalar (char x)) p = absurd (p refl)
 only_char (scalar s) p = refl
 only_char x p = refl
 
-not_char : (code : EncodingCodes) → code ≢ Char → kind_at code ≢ char_kind
+pub not_char : (code : EncodingCodes) → code ≢ Char → kind_at code ≢ char_kind
 not_char Char p = absurd (p refl)
 not_char code p = λ e. cc
 
@@ -245,8 +245,11 @@ not_scalar : (n : ℕ) → (is_scalar_value n ≡ true → ⊥) → (b : Bool) �
 not_scalar n never true e = absurd (never e)
 not_scalar n never false e = e
 
+pub no_character : (n : ℕ) → n < 2 ^ 32 → (IsScalar n → ⊥) → char_of (from_be_bytes w32 (to_be_bytes w32 n)) ≡ None
+no_character n l never = ap char_of (from_be_bytes-to_be_bytes_4 n l) ∙ ap (λ (b : Bool). cond b (Some (char n)) None) (not_scalar n never (is_scalar_value n) refl)
+
 pub no_char : (k : Option ℕ) (old mid new : At) (n : ℕ) → Head k old mid Char → Moves mid new (to_be_bytes w32 n) → n < 2 ^ 32 → (IsScalar n → ⊥) → Refuses char_taken k old
-no_char k old mid new n h m l never = meaningless_refuses char_taken k old mid new Char 4 _ (to_be_bytes w32 n) (λ t. refl) h refl m refl (ap char_of (from_be_bytes-to_be_bytes_4 n l) ∙ ap (λ (b : Bool). cond b (Some (char n)) None) (not_scalar n never (is_scalar_value n) refl))
+no_char k old mid new n h m l never = meaningless_refuses char_taken k old mid new Char 4 _ (to_be_bytes w32 n) (λ t. refl) h refl m refl (no_character n l never)
 
 pub short_char : (k : Option ℕ) (old mid : At) → Head k old mid Char → length mid.rest < 4 → Refuses char_taken k old
 short_char k old mid h z = short_refuses char_taken k old mid Char 4 _ (λ t. refl) h refl z
@@ -258,7 +261,7 @@ only_timestamp (scalar (timestamp x)) p = absurd (p refl)
 only_timestamp (scalar s) p = refl
 only_timestamp x p = refl
 
-not_timestamp : (code : EncodingCodes) → code ≢ Timestamp → kind_at code ≢ timestamp_kind
+pub not_timestamp : (code : EncodingCodes) → code ≢ Timestamp → kind_at code ≢ timestamp_kind
 not_timestamp Timestamp p = absurd (p refl)
 not_timestamp code p = λ e. cc
 
@@ -278,7 +281,7 @@ only_uuid (scalar (uuid x)) p = absurd (p refl)
 only_uuid (scalar s) p = refl
 only_uuid x p = refl
 
-not_uuid : (code : EncodingCodes) → code ≢ Uuid → kind_at code ≢ uuid_kind
+pub not_uuid : (code : EncodingCodes) → code ≢ Uuid → kind_at code ≢ uuid_kind
 not_uuid Uuid p = absurd (p refl)
 not_uuid code p = λ e. cc
 

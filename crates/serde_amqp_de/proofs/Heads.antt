@@ -105,6 +105,10 @@ refusal_weaker faulty InvalidUtf8Encoding P Q f h = f h
 refusal_weaker faulty SequenceLengthMismatch P Q f h = f h
 refusal_weaker faulty InvalidLength P Q f h = f h
 
+-- what is said of an error, said of an equal one
+pub refusal_as : (faulty : Error → Bool) (e f : Error) (P : Type 0) → e ≡ f → Refusal faulty f P → Refusal faulty e P
+refusal_as faulty e f P is h = rw is h
+
 -- what the exit of a `?` refuses
 pub carried : {X : Type 0} (faulty : Error → Bool) (r : Result X Error) (e : Error) (P Q : Type 0) → IsErrAnd r (λ f. f ≡ e) → (P → Q) → Refusal faulty e P → Unless faulty r Q
 carried faulty r e P Q is f h =
@@ -172,7 +176,7 @@ pub only_described : TakesOnly described_taken described_kind
 only_described (described d v) p = absurd (p refl)
 only_described x p = refl
 
-not_described : (code : EncodingCodes) → code ≢ DescribedType → kind_at code ≢ described_kind
+pub not_described : (code : EncodingCodes) → code ≢ DescribedType → kind_at code ≢ described_kind
 not_described DescribedType p = absurd (p refl)
 not_described code p = λ e. cc
 

@@ -1,11 +1,11 @@
 -- What is read as the bytes of a kept value.
-use Rattle.std.proofs.Common.{◌≡◌, ◌≢◌, ℕ, ◌+◌, List, [], ◌∷◌, ◌++◌, length, Option, Some, None, Bool, true, false, sym, ◌∙◌, ap, subst, refl}
+use Rattle.std.proofs.Common.{◌≡◌, ℕ, ◌+◌, List, ◌++◌, length, Option, Some, None, true, false, ◌∙◌, ap, refl}
 use Rattle.std.specs.Prelude.{is_some}
-use Rattle.serde_amqp_item.specs.Item.{Item, scalar, raw, list, map, array, described}
-use Rattle.serde_amqp_item.specs.Wire.{Wire, IsStrict}
+use Rattle.serde_amqp_item.specs.Item.{Item, scalar, raw}
+use Rattle.serde_amqp_item.specs.Wire.{Wire}
 use Rattle.serde_amqp_read.specs.Reads.{StrictBytes, NoStrict}
-use Rattle.serde_amqp_de.specs.Reads.{At, Moves, Reads, Refuses}
-use Rattle.serde_amqp_de.specs.Kept.{raw_taken, raw_is_its_bytes}
+use Rattle.serde_amqp_de.specs.Reads.{At, Reads, Refuses}
+use Rattle.serde_amqp_de.specs.Kept.{raw_taken}
 
 pub kept_reads : (k : Option ℕ) (old new : At) (v : List ℕ) → is_some k ≡ false → StrictBytes v → old.rest ≡ v ++ new.rest → new.pos ≡ old.pos + length v → Reads k old new (raw v)
 kept_reads None old new v n b s p = record {

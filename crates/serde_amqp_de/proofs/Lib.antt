@@ -1,4 +1,5 @@
 pub mod Heads
+pub mod Naming
 pub mod Scalars
 pub mod Fixed
 pub mod Sized

@@ -145,7 +145,7 @@ only_list : TakesOnly list_taken list_kind
 only_list (list xs) p = absurd (p refl)
 only_list x p = refl
 
-not_list : (code : EncodingCodes) → code ≢ List0 → code ≢ List8 → code ≢ List32 → kind_at code ≢ list_kind
+pub not_list : (code : EncodingCodes) → code ≢ List0 → code ≢ List8 → code ≢ List32 → kind_at code ≢ list_kind
 not_list List0 p q r = absurd (p refl)
 not_list List8 p q r = absurd (q refl)
 not_list List32 p q r = absurd (r refl)

@@ -119,7 +119,7 @@ only_map : TakesOnly map_taken map_kind
 only_map (map ps) p = absurd (p refl)
 only_map x p = refl
 
-not_map : (code : EncodingCodes) → code ≢ Map8 → code ≢ Map32 → kind_at code ≢ map_kind
+pub not_map : (code : EncodingCodes) → code ≢ Map8 → code ≢ Map32 → kind_at code ≢ map_kind
 not_map Map8 p q = absurd (p refl)
 not_map Map32 p q = absurd (q refl)
 not_map code p q = λ e. cc

@@ -1,11 +1,11 @@
 -- An item that holds others, while they are read.
-use Rattle.std.proofs.Common.{◌≡◌, ◌≢◌, ℕ, ◌+◌, ◌*◌, ◌/◌, ◌≤◌, ◌%◌, List, [], ◌∷◌, ◌++◌, length, Option, Some, None, Bool, true, false, sym, ◌∙◌, ap, subst, refl, arith, length-append, append_assoc, append-nil, ◌⊎◌, inl, inr}
+use Rattle.std.proofs.Common.{◌≡◌, ◌≢◌, ℕ, ◌+◌, ◌*◌, ◌/◌, ◌%◌, List, [], ◌∷◌, ◌++◌, length, Option, Some, None, Bool, true, false, sym, ◌∙◌, ap, subst, refl, arith, length-append, append_assoc, append-nil, ◌⊎◌, inl, inr}
 use Rattle.serde_amqp_item.specs.declared.codes.EncodingCodes.TheVariants.{DescribedType}
 use Rattle.std.specs.Prelude.{Result, Ok, Err, OnOk, OnErr, ◌==◌}
 use Rattle.serde_amqp_item.specs.declared.error.Error.{Error}
 use Rattle.serde_amqp_read.specs.Reads.{Refusal, Unless}
 use Rattle.serde_amqp_item.specs.Item.{Item, Items, scalar, raw, list, array, map, described, no_items, more_items, items_of, item_count, Pairs, no_pairs, more_pairs, pairs_of, pair_count}
-use Rattle.serde_amqp_item.specs.Wire.{Wire, Leads, Form, Forms, described_by, row_at, IsCapped, IsStrict}
+use Rattle.serde_amqp_item.specs.Wire.{Wire, Leads, Form, Forms, described_by, IsCapped, IsStrict}
 use Rattle.serde_amqp_item.specs.Kind.{kind_of, raw_kind}
 use Rattle.serde_amqp_item.proofs.Forms.{all_same}
 use Rattle.serde_amqp_item.proofs.PairRows.{pair_items}
@@ -15,7 +15,7 @@ use Rattle.serde_amqp_de.specs.Reads.{At, Moves, Head, Reads, Refuses, Took, Ope
 use Rattle.serde_amqp_de.specs.Maps.{pairs_in, map_in, map_taken, RefusesPairs}
 use Rattle.serde_amqp_de.specs.Takes.{list_taken}
 use Rattle.serde_amqp_de.specs.Apart.{leads_split}
-use Rattle.serde_amqp_de.specs.Open.{Shape, a_list, an_array, a_map, a_described_value, whole, described_in, MayHave, counted_taken, variant_taken, in_turn, Fills, EndsAt, AtEnd, Begun, Contains, HasRead, ReadsOn, TookNext, TookEntry, IsNot}
+use Rattle.serde_amqp_de.specs.Open.{Shape, a_list, an_array, a_map, a_described_value, whole, described_in, MayHave, counted_taken, variant_taken, in_turn, Fills, EndsAt, AtEnd, Begun, HasRead, TookNext, TookEntry, IsNot}
 use Rattle.serde_amqp_de.proofs.Heads.{moves_then, stays, head_form, behind_head, refusal_weaker}
 use Rattle.serde_amqp_de.proofs.Lists.{unkept}
 use Rattle.serde_amqp_de.proofs.Maps.{twice_half, in_turn as turned}

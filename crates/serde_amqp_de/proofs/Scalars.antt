@@ -1,5 +1,5 @@
 -- Scalars of fixed widths.
-use Rattle.std.proofs.Common.{◌≡◌, ◌≢◌, ℕ, zero, suc, ◌<◌, ◌≤◌, ◌^◌, [], ◌∷◌, length, true, false, Option, Some, refl, arith, ap}
+use Rattle.std.proofs.Common.{◌≡◌, ◌≢◌, ℕ, zero, suc, ◌<◌, ◌≤◌, ◌^◌, [], ◌∷◌, length, true, false, Option, Some, None, refl, arith, ap}
 use Rattle.std.specs.Prelude.{◌==◌}
 use Rattle.std.proofs.lemmas.Bool.Decides.{nat_tests}
 use Rattle.std.specs.Int.{w16, w32, w64, to_be_bytes}
@@ -35,7 +35,7 @@ only_boolean (scalar (boolean b)) p = absurd (p refl)
 only_boolean (scalar s) p = refl
 only_boolean x p = refl
 
-not_boolean : (code : EncodingCodes) → code ≢ BooleanTrue → code ≢ BooleanFalse → code ≢ Boolean → kind_at code ≢ boolean_kind
+pub not_boolean : (code : EncodingCodes) → code ≢ BooleanTrue → code ≢ BooleanFalse → code ≢ Boolean → kind_at code ≢ boolean_kind
 not_boolean BooleanTrue p q r = absurd (p refl)
 not_boolean BooleanFalse p q r = absurd (q refl)
 not_boolean Boolean p q r = absurd (r refl)
@@ -61,8 +61,11 @@ not_equal a b n = grind (arith, nat_tests)
 pub boolean_read : (k : Option ℕ) (old mid new : At) (b : ℕ) → Head k old mid Boolean → Moves mid new (b ∷ []) → b ≤ 1 → Reads k old new (scalar (boolean (b == 1)))
 boolean_read k old mid new b h m l = fixed_read k old mid new Boolean (b ∷ []) 1 boolean_at (boolean (b == 1)) h refl m refl (boolean_of b l)
 
+pub no_truth : (b : ℕ) → 1 < b → boolean_at (b ∷ []) ≡ None
+no_truth b l = rw (not_equal b 0 (omega (arith, l)), not_equal b 1 l) refl
+
 pub no_boolean : (k : Option ℕ) (old mid new : At) (b : ℕ) → Head k old mid Boolean → Moves mid new (b ∷ []) → 1 < b → Refuses boolean_taken k old
-no_boolean k old mid new b h m l = meaningless_refuses boolean_taken k old mid new Boolean 1 boolean_at (b ∷ []) (λ t. refl) h refl m refl (rw (not_equal b 0 (omega (arith, l)), not_equal b 1 l) refl)
+no_boolean k old mid new b h m l = meaningless_refuses boolean_taken k old mid new Boolean 1 boolean_at (b ∷ []) (λ t. refl) h refl m refl (no_truth b l)
 
 pub short_boolean : (k : Option ℕ) (old mid : At) → Head k old mid Boolean → mid.rest ≡ [] → Refuses boolean_taken k old
 short_boolean k old mid h z = short_refuses boolean_taken k old mid Boolean 1 _ (λ t. refl) h refl (omega (arith, ap length z))
@@ -74,7 +77,7 @@ only_ushort (scalar (ushort n)) p = absurd (p refl)
 only_ushort (scalar s) p = refl
 only_ushort x p = refl
 
-not_ushort : (code : EncodingCodes) → code ≢ UShort → kind_at code ≢ ushort_kind
+pub not_ushort : (code : EncodingCodes) → code ≢ UShort → kind_at code ≢ ushort_kind
 not_ushort UShort p = absurd (p refl)
 not_ushort code p = λ e. cc
 
@@ -94,7 +97,7 @@ only_uint (scalar (uint n)) p = absurd (p refl)
 only_uint (scalar s) p = refl
 only_uint x p = refl
 
-not_uint : (code : EncodingCodes) → code ≢ UInt0 → code ≢ SmallUInt → code ≢ UInt → kind_at code ≢ uint_kind
+pub not_uint : (code : EncodingCodes) → code ≢ UInt0 → code ≢ SmallUInt → code ≢ UInt → kind_at code ≢ uint_kind
 not_uint UInt0 p q r = absurd (p refl)
 not_uint SmallUInt p q r = absurd (q refl)
 not_uint UInt p q r = absurd (r refl)
@@ -125,7 +128,7 @@ only_ulong (scalar (ulong n)) p = absurd (p refl)
 only_ulong (scalar s) p = refl
 only_ulong x p = refl
 
-not_ulong : (code : EncodingCodes) → code ≢ ULong0 → code ≢ SmallULong → code ≢ ULong → kind_at code ≢ ulong_kind
+pub not_ulong : (code : EncodingCodes) → code ≢ ULong0 → code ≢ SmallULong → code ≢ ULong → kind_at code ≢ ulong_kind
 not_ulong ULong0 p q r = absurd (p refl)
 not_ulong SmallULong p q r = absurd (q refl)
 not_ulong ULong p q r = absurd (r refl)

@@ -96,7 +96,7 @@ only_string (scalar (string bs)) p = absurd (p refl)
 only_string (scalar s) p = refl
 only_string x p = refl
 
-not_string : (code : EncodingCodes) → code ≢ Str8 → code ≢ Str32 → kind_at code ≢ string_kind
+pub not_string : (code : EncodingCodes) → code ≢ Str8 → code ≢ Str32 → kind_at code ≢ string_kind
 not_string Str8 p q = absurd (p refl)
 not_string Str32 p q = absurd (q refl)
 not_string code p q = λ e. cc
@@ -123,7 +123,7 @@ only_symbol (scalar (symbol bs)) p = absurd (p refl)
 only_symbol (scalar s) p = refl
 only_symbol x p = refl
 
-not_symbol : (code : EncodingCodes) → code ≢ Sym8 → code ≢ Sym32 → kind_at code ≢ symbol_kind
+pub not_symbol : (code : EncodingCodes) → code ≢ Sym8 → code ≢ Sym32 → kind_at code ≢ symbol_kind
 not_symbol Sym8 p q = absurd (p refl)
 not_symbol Sym32 p q = absurd (q refl)
 not_symbol code p q = λ e. cc
@@ -157,7 +157,7 @@ only_binary (scalar (binary bs)) p = absurd (p refl)
 only_binary (scalar s) p = refl
 only_binary x p = refl
 
-not_binary : (code : EncodingCodes) → code ≢ Vbin8 → code ≢ Vbin32 → kind_at code ≢ binary_kind
+pub not_binary : (code : EncodingCodes) → code ≢ Vbin8 → code ≢ Vbin32 → kind_at code ≢ binary_kind
 not_binary Vbin8 p q = absurd (p refl)
 not_binary Vbin32 p q = absurd (q refl)
 not_binary code p q = λ e. cc

@@ -1,5 +1,5 @@
 -- Lists of exactly the parts of a tuple.
-use Rattle.std.proofs.Common.{◌≡◌, ◌≢◌, ℕ, ◌-◌, List, [], ◌∷◌, length, Option, Some, None, sym, ◌∙◌, ap, subst, refl, arith}
+use Rattle.std.proofs.Common.{◌≡◌, ◌≢◌, ℕ, List, [], ◌∷◌, length, Option, Some, None, sym, ◌∙◌, ap, subst, refl, arith}
 use Rattle.serde_amqp_item.specs.Item.{Item, Items, no_items, more_items, item_count, list, items_of}
 use Rattle.serde_amqp_item.specs.Canon.{◌>>=◌}
 use Rattle.serde_amqp_de.specs.Reads.{At, Refuses, Took, Opens, TookAll, RefusesAll, TookSized, RefusesSized}

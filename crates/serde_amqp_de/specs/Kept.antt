@@ -1,5 +1,5 @@
 -- Which items are taken by a type that keeps bytes (part 1, section 1.2).
-use Rattle.std.proofs.Common.{◌≡◌, ℕ, List, [], ◌∷◌, Option, Some, None, sym, ◌∙◌, ap, refl}
+use Rattle.std.proofs.Common.{◌≡◌, ℕ, List, Option, Some, None, sym, ◌∙◌, ap}
 use Rattle.serde_amqp_item.specs.Item.{Item, scalar, raw}
 use Rattle.serde_amqp_item.specs.Wire.{Wire}
 use Rattle.serde_amqp_de.specs.Decides.{Decided}

@@ -1,4 +1,5 @@
 pub mod Reads
+pub mod Names
 pub mod Takes
 pub mod Apart
 pub mod Seen

@@ -1,6 +1,8 @@
 -- An item that holds others, while they are read (part 1, sections 1.2 and 1.6.22 to 1.6.24).
 use Rattle.std.specs.Prelude.{◌≡◌, ◌≢◌, ℕ, ◌+◌, ◌%◌, List, [], ◌∷◌, ◌++◌, length, Option, Some, None, ◌==◌, if◌then◌else◌}
-use Rattle.serde_amqp_item.specs.Item.{Item, scalar, null, list, array, map, described, Items, no_items, more_items, items_of, item_count, no_pairs, more_pairs}
+use Rattle.serde_amqp_item.specs.declared.error.Error.{Error}
+use Rattle.serde_amqp_item.specs.declared.error.Error.TheVariants.{SequenceLengthMismatch, InvalidLength}
+use Rattle.serde_amqp_item.specs.Item.{Item, scalar, null, list, array, map, described, Items, more_items, items_of, item_count, no_pairs, more_pairs}
 use Rattle.serde_amqp_item.specs.Wire.{Wire, Forms, IsCapped, IsStrict}
 use Rattle.serde_amqp_item.specs.Kind.{kind_of, raw_kind}
 use Rattle.serde_amqp_de.specs.Reads.{At, Moves, Reads, Took, at_of}
@@ -62,6 +64,12 @@ EndsAt (Some size) pos end = end ≡ Some (pos + size)
 abbrev pub AtEnd : Option ℕ → ℕ → Type 0
 AtEnd None pos = Unit {0}
 AtEnd (Some end) pos = end ≡ pos
+
+-- what an end names: items that were not read, or a size that isn't theirs
+abbrev pub NamesEnd : ℕ → Option ℕ → ℕ → Error → Type 0
+NamesEnd left end pos SequenceLengthMismatch = left ≢ 0
+NamesEnd left end pos InvalidLength = AtEnd end pos → ⊥
+NamesEnd left end pos e = ⊥
 
 -- the item holds so many items, in as many bytes as its size says
 abbrev pub Contains : Shape → Option ℕ → Item → ℕ → Option ℕ → List ℕ → List ℕ → Type 0

@@ -1,9 +1,7 @@
 -- What a reader has read: forms of items, one behind the other (part 1, sections 1.2 and 1.6).
-use Rattle.std.specs.Prelude.{◌≡◌, ◌≢◌, ℕ, ◌+◌, ◌<◌, List, [], ◌∷◌, ◌++◌, length, Bool, true, false, Option, Some, None, Result, Ok, Err}
+use Rattle.std.specs.Prelude.{◌≡◌, ◌≢◌, ℕ, ◌+◌, ◌<◌, List, [], ◌∷◌, ◌++◌, length, true, false, Option, Some, None}
 use Rattle.std.specs.Str.{is_utf8}
 use Rattle.serde_amqp_item.specs.declared.codes.EncodingCodes.{EncodingCodes}
-use Rattle.serde_amqp_item.specs.declared.error.Error.{Error}
-use Rattle.serde_amqp_item.specs.declared.error.Error.TheVariants.{Io, Memory}
 use Rattle.serde_amqp_item.specs.Item.{Item, Items, item_count}
 use Rattle.serde_amqp_item.specs.Wire.{Wire, Leads, Width, field, room, IsSized, IsElementCode, code_of, Forms, IsCapped, IsStrict}
 use Rattle.serde_amqp_item.specs.Kind.{kind_of, raw_kind}

@@ -1,12 +1,12 @@
 //! Lists, arrays and maps that are read item by item, and described values.
-ghost use Rattle.std.specs.Prelude.{◌≡◌, ◌≢◌, ◌⊎◌, ◌%◌, ◌∷◌, [], ℕ, List, IfOk, OnOk, OnErr, MatchOption, Option, Some, None};
+ghost use Rattle.std.specs.Prelude.{◌≡◌, ◌≢◌, ◌⊎◌, ◌%◌, ◌∷◌, [], ℕ, List, IfOk, IfErr, OnOk, OnErr, MatchOption, Option, Some, None};
 ghost use Rattle.std.specs.Borrow.{RestsIfErr, sem};
 ghost use Rattle.serde_amqp_item.specs.Item.{Item, items_of, pairs_of, scalar, uint, list, array, map, described};
 ghost use Rattle.serde_amqp_read.specs.Reads.{Unless};
 ghost use Rattle.serde_amqp_de.specs.Reads.{At, Reads, Refuses, HasFailed, at_of};
 ghost use Rattle.serde_amqp_de.specs.Takes.{uint_taken, list_taken, array_taken, described_taken};
 ghost use Rattle.serde_amqp_de.specs.Maps.{map_taken, RefusesPairs};
-ghost use Rattle.serde_amqp_de.specs.Open.{a_list, an_array, a_map, a_described_value, counted_taken, variant_taken, in_turn, HasRead, TookNext, TookEntry, IsNot};
+ghost use Rattle.serde_amqp_de.specs.Open.{a_list, an_array, a_map, a_described_value, counted_taken, variant_taken, in_turn, HasRead, TookNext, TookEntry, IsNot, NamesEnd};
 ghost use Rattle.serde_amqp_de.specs.contracts.deserializer.Deserializer.{the_row};
 
 use crate::content::Content;
@@ -98,6 +98,7 @@ impl<'a, R: Read> ListAccess<'a, R> {
         ensures ok { OnOk result ((j k : Option ℕ) (old : At) (xs : List Item) → HasRead R.rest a_list j k old xs self.entry.content → Reads k old (at_of R.rest self.exit.0.0.now) (list (items_of xs)) × (self.exit.0.0.now.element ≡ k)) }
         ensures refused { OnErr result ((j k : Option ℕ) (old : At) (xs : List Item) → HasRead R.rest a_list j k old xs self.entry.content → IsNot k old (list (items_of xs))) }
         ensures failed { OnErr result (HasFailed R.rest self.exit.0.0.now) }
+        ensures named { IfErr result (λ e. NamesEnd self.entry.content.left self.entry.content.end self.entry.content.de.now.pos e) }
     {
         let outer = self.content.outer;
         let left = self.content.left;
@@ -157,6 +158,7 @@ impl<'a, R: Read> ArrayAccess<'a, R> {
         ensures ok { OnOk result ((j k : Option ℕ) (old : At) (xs : List Item) → HasRead R.rest an_array j k old xs self.entry.content → Reads k old (at_of R.rest self.exit.0.0.now) (array (items_of xs)) × (self.exit.0.0.now.element ≡ k)) }
         ensures refused { OnErr result ((j k : Option ℕ) (old : At) (xs : List Item) → HasRead R.rest an_array j k old xs self.entry.content → IsNot k old (array (items_of xs))) }
         ensures failed { OnErr result (HasFailed R.rest self.exit.0.0.now) }
+        ensures named { IfErr result (λ e. NamesEnd self.entry.content.left self.entry.content.end self.entry.content.de.now.pos e) }
     {
         let outer = self.content.outer;
         let left = self.content.left;
@@ -265,6 +267,7 @@ impl<'a, R: Read> MapAccess<'a, R> {
         ensures ok { OnOk result ((j k : Option ℕ) (old : At) (ps : List (Item × Item)) → HasRead R.rest a_map j k old (in_turn ps) self.entry.content → Reads k old (at_of R.rest self.exit.0.0.now) (map (pairs_of ps)) × (self.exit.0.0.now.element ≡ k)) }
         ensures refused { OnErr result ((j k : Option ℕ) (old : At) (ps : List (Item × Item)) → HasRead R.rest a_map j k old (in_turn ps) self.entry.content → IsNot k old (map (pairs_of ps))) }
         ensures failed { OnErr result (HasFailed R.rest self.exit.0.0.now) }
+        ensures named { IfErr result (λ e. NamesEnd self.entry.content.left self.entry.content.end self.entry.content.de.now.pos e) }
     {
         let outer = self.content.outer;
         let left = self.content.left;
@@ -358,6 +361,7 @@ impl<'a, R: Read> VariantAccess<'a, R> {
         ensures ok { OnOk result ((j k : Option ℕ) (old : At) (x y : Item) → HasRead R.rest a_map j k old (x ∷ y ∷ []) self.entry.content → Reads k old (at_of R.rest self.exit.0.0.now) (map (pairs_of ((x, y) ∷ []))) × (self.exit.0.0.now.element ≡ k)) }
         ensures refused { OnErr result ((j k : Option ℕ) (old : At) (x y : Item) → HasRead R.rest a_map j k old (x ∷ y ∷ []) self.entry.content → IsNot k old (map (pairs_of ((x, y) ∷ [])))) }
         ensures failed { OnErr result (HasFailed R.rest self.exit.0.0.now) }
+        ensures named { IfErr result (λ e. NamesEnd self.entry.content.left self.entry.content.end self.entry.content.de.now.pos e) }
     {
         let outer = self.content.outer;
         let left = self.content.left;
@@ -449,6 +453,7 @@ impl<'a, R: Read> DescribedAccess<'a, R> {
         ensures ok { OnOk result ((j k : Option ℕ) (old : At) (d v : Item) → HasRead R.rest a_described_value j k old (d ∷ v ∷ []) self.entry.content → Reads k old (at_of R.rest self.exit.0.0.now) (described d v) × (self.exit.0.0.now.element ≡ k)) }
         ensures refused { OnErr result ((j k : Option ℕ) (old : At) (d v : Item) → HasRead R.rest a_described_value j k old (d ∷ v ∷ []) self.entry.content → IsNot k old (described d v)) }
         ensures failed { OnErr result (HasFailed R.rest self.exit.0.0.now) }
+        ensures named { IfErr result (λ e. NamesEnd self.entry.content.left self.entry.content.end self.entry.content.de.now.pos e) }
     {
         let outer = self.content.outer;
         let left = self.content.left;

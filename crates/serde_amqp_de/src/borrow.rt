@@ -1,13 +1,15 @@
 //! Values that are lent from the slice that they are read from.
-ghost use Rattle.std.specs.Prelude.{◌≡◌, ◌≢◌, ◌<◌, ◌∷◌, ◌++◌, [], ℕ, List, length, IfOk, IfErr, OnOk, Option, Some, None, true, false};
+ghost use Rattle.std.specs.Prelude.{◌≡◌, ◌≢◌, ◌<◌, ◌∷◌, ◌++◌, [], ℕ, List, length, IfOk, IfErr, OnOk, OnErr, Option, Some, None, true, false};
 ghost use Rattle.std.specs.Int.{w32, to_be_bytes};
 ghost use Rattle.std.specs.Str.{is_utf8};
 ghost use Rattle.serde_amqp_item.specs.declared.error.Error.TheVariants.{InvalidUtf8Encoding, Memory};
 ghost use Rattle.serde_amqp_item.specs.Item.{Item, scalar, binary, string, symbol};
 ghost use Rattle.serde_amqp_item.specs.Wire.{Wire, one_byte, four_bytes};
+ghost use Rattle.serde_amqp_item.specs.Kind.{Kind, binary_kind, string_kind, symbol_kind};
 ghost use Rattle.serde_amqp_read.specs.Reads.{Unless, faultless};
 ghost use Rattle.serde_amqp_de.specs.Reads.{Moves, Head, NoHead, ReadSized, NoSized, ReadText, NoText, Reads, Refuses, Took};
-ghost use Rattle.serde_amqp_de.specs.Lent.{slice_at, NoWant};
+ghost use Rattle.serde_amqp_de.specs.Lent.{slice_at, NoWant, SliceFailed};
+ghost use Rattle.serde_amqp_de.specs.Names.{Names, NamesText, Named};
 ghost use Rattle.serde_amqp_de.specs.Takes.{binary_taken, string_taken, symbol_taken};
 
 use crate::deserializer::Deserializer;
@@ -65,13 +67,17 @@ impl<'de> Deserializer<SliceReader<'de>> {
     fn lend(&mut self, count: usize) -> Result<&'de [u8], Error>
         ensures ok { IfOk result (λ s. Moves (slice_at self.old) (slice_at self.new) s.now) }
         ensures len { IfOk result (λ s. length s.now ≡ count) }
-        ensures element { self.new.element ≡ self.old.element }
+        ensures element { OnOk result (self.new.element ≡ self.old.element) }
         ensures end { Unless faultless result (length self.old.reader.rest < count) }
         ensures plain { IfErr result (λ e. NoWant (slice_at self.old) e) }
+        ensures failed { OnErr result (SliceFailed self.new) }
     {
-        let front = self.reader.get_byte_slice(count)?;
+        let front = match self.reader.get_byte_slice(count) {
+            Ok(front) => front,
+            Err(e) => return Err(self.refuse(e)),
+        };
         let Some(pos) = self.pos.checked_add(count) else {
-            return Err(Error::Memory);
+            return Err(self.refuse(Error::Memory));
         };
         self.pos = pos;
         Ok(front)
@@ -81,9 +87,10 @@ impl<'de> Deserializer<SliceReader<'de>> {
     fn lend_array<const N: usize>(&mut self) -> Result<[u8; N], Error>
         ensures ok { IfOk result (λ bs. Moves (slice_at self.old) (slice_at self.new) bs) }
         ensures len { IfOk result (λ bs. length bs ≡ N) }
-        ensures element { self.new.element ≡ self.old.element }
+        ensures element { OnOk result (self.new.element ≡ self.old.element) }
         ensures end { Unless faultless result (length self.old.reader.rest < N) }
         ensures plain { IfErr result (λ e. NoWant (slice_at self.old) e) }
+        ensures failed { OnErr result (SliceFailed self.new) }
     {
         let front = self.lend(N)?;
         let mut bytes = [0; N];
@@ -94,9 +101,10 @@ impl<'de> Deserializer<SliceReader<'de>> {
     /// The next byte.
     fn lend_byte(&mut self) -> Result<u8, Error>
         ensures ok { IfOk result (λ b. Moves (slice_at self.old) (slice_at self.new) (b ∷ [])) }
-        ensures element { self.new.element ≡ self.old.element }
+        ensures element { OnOk result (self.new.element ≡ self.old.element) }
         ensures end { Unless faultless result (self.old.reader.rest ≡ []) }
         ensures plain { IfErr result (λ e. NoWant (slice_at self.old) e) }
+        ensures failed { OnErr result (SliceFailed self.new) }
     {
         let [byte] = self.lend_array::<1>()?;
         Ok(byte)
@@ -105,9 +113,10 @@ impl<'de> Deserializer<SliceReader<'de>> {
     /// The next number of four bytes.
     fn lend_u32(&mut self) -> Result<u32, Error>
         ensures ok { IfOk result (λ n. Moves (slice_at self.old) (slice_at self.new) (to_be_bytes w32 n)) }
-        ensures element { self.new.element ≡ self.old.element }
+        ensures element { OnOk result (self.new.element ≡ self.old.element) }
         ensures end { Unless faultless result (length self.old.reader.rest < 4) }
         ensures plain { IfErr result (λ e. NoWant (slice_at self.old) e) }
+        ensures failed { OnErr result (SliceFailed self.new) }
     {
         let bytes = self.lend_array::<4>()?;
         Ok(u32::from_be_bytes(bytes))
@@ -117,9 +126,11 @@ impl<'de> Deserializer<SliceReader<'de>> {
     #[tactic(auto, using(crate::proofs::Lending::lending))]
     fn lend_code(&mut self) -> Result<EncodingCodes, Error>
         ensures ok { IfOk result (λ code. Head self.old.element (slice_at self.old) (slice_at self.new) code) }
-        ensures element { self.new.element ≡ self.old.element }
+        ensures element { OnOk result (self.new.element ≡ self.old.element) }
         ensures refused { Unless faultless result (NoHead self.old.element self.old.reader.rest) }
         ensures plain { IfErr result (λ e. NoWant (slice_at self.old) e) }
+        ensures failed { OnErr result (SliceFailed self.new) }
+        ensures named { (t : Kind) → Named faultless result (Names t self.old.element self.old.reader.rest) }
     {
         let byte = match self.element {
             Some(c) => c,
@@ -127,7 +138,7 @@ impl<'de> Deserializer<SliceReader<'de>> {
         };
         match code_of(byte) {
             Some(code) => Ok(code),
-            None => Err(Error::InvalidFormatCode),
+            None => Err(self.refuse(Error::InvalidFormatCode)),
         }
     }
 
@@ -135,9 +146,10 @@ impl<'de> Deserializer<SliceReader<'de>> {
     #[tactic(auto, using(crate::proofs::Lending::lending, crate::proofs::Sized::sizing))]
     fn lend8(&mut self) -> Result<&'de [u8], Error>
         ensures ok { IfOk result (λ s. ReadSized one_byte (slice_at self.old) (slice_at self.new) s.now) }
-        ensures element { self.new.element ≡ self.old.element }
+        ensures element { OnOk result (self.new.element ≡ self.old.element) }
         ensures refused { Unless faultless result (NoSized one_byte self.old.reader.rest) }
         ensures plain { IfErr result (λ e. NoWant (slice_at self.old) e) }
+        ensures failed { OnErr result (SliceFailed self.new) }
     {
         let size = self.lend_byte()?;
         self.lend(size as usize)
@@ -147,9 +159,10 @@ impl<'de> Deserializer<SliceReader<'de>> {
     #[tactic(auto, using(crate::proofs::Lending::lending, crate::proofs::Sized::sizing))]
     fn lend32(&mut self) -> Result<&'de [u8], Error>
         ensures ok { IfOk result (λ s. ReadSized four_bytes (slice_at self.old) (slice_at self.new) s.now) }
-        ensures element { self.new.element ≡ self.old.element }
+        ensures element { OnOk result (self.new.element ≡ self.old.element) }
         ensures refused { Unless faultless result (NoSized four_bytes self.old.reader.rest) }
         ensures plain { IfErr result (λ e. NoWant (slice_at self.old) e) }
+        ensures failed { OnErr result (SliceFailed self.new) }
     {
         let size = self.lend_u32()?;
         self.lend(size as usize)
@@ -158,18 +171,21 @@ impl<'de> Deserializer<SliceReader<'de>> {
     /// Reads a binary, and lends its bytes (part 1, section 1.6.19).
     ///
     /// Errors: `Io` where the input ends; `InvalidFormatCode` for any other type. `Memory` only where no
-    /// 64 bits can count the bytes that were read and those that are left.
+    /// 64 bits can count the bytes that were read and those that are left. After an error the reader has
+    /// failed.
     #[tactic(auto, using(crate::proofs::Lending::lending, crate::proofs::Heads::refusing, crate::proofs::Sized::binaries))]
     pub fn borrow_bytes(&mut self) -> Result<&'de [u8], Error>
         ensures ok { IfOk result (λ s. Reads self.old.element (slice_at self.old) (slice_at self.new) (scalar (binary s.now))) }
-        ensures element { self.new.element ≡ self.old.element }
+        ensures element { OnOk result (self.new.element ≡ self.old.element) }
         ensures refused { Unless faultless result (Refuses binary_taken self.old.element (slice_at self.old)) }
         ensures plain { IfErr result (λ e. NoWant (slice_at self.old) e) }
+        ensures failed { OnErr result (SliceFailed self.new) }
+        ensures named { Named faultless result (Names binary_kind self.old.element self.old.reader.rest) }
     {
         match self.lend_code()? {
             EncodingCodes::Vbin8 => Ok(self.lend8()?),
             EncodingCodes::Vbin32 => Ok(self.lend32()?),
-            _ => Err(Error::InvalidFormatCode),
+            _ => Err(self.refuse(Error::InvalidFormatCode)),
         }
     }
 
@@ -177,42 +193,54 @@ impl<'de> Deserializer<SliceReader<'de>> {
     #[tactic(auto, using(crate::proofs::Lending::lending, crate::proofs::Sized::texts))]
     fn lend_text8(&mut self) -> Result<&'de str, Error>
         ensures ok { IfOk result (λ s. ReadText one_byte (slice_at self.old) (slice_at self.new) s.now) }
-        ensures element { self.new.element ≡ self.old.element }
+        ensures element { OnOk result (self.new.element ≡ self.old.element) }
         ensures refused { Unless faultless result (NoText one_byte self.old.reader.rest) }
         ensures plain { IfErr result (λ e. NoWant (slice_at self.old) e) }
+        ensures failed { OnErr result (SliceFailed self.new) }
+        ensures named { Named faultless result (NamesText one_byte self.old.reader.rest) }
     {
         let bytes = self.lend8()?;
-        text_in(bytes)
+        match text_in(bytes) {
+            Ok(text) => Ok(text),
+            Err(e) => Err(self.refuse(e)),
+        }
     }
 
     /// Reads a size of four bytes, and lends a text of so many bytes.
     #[tactic(auto, using(crate::proofs::Lending::lending, crate::proofs::Sized::texts))]
     fn lend_text32(&mut self) -> Result<&'de str, Error>
         ensures ok { IfOk result (λ s. ReadText four_bytes (slice_at self.old) (slice_at self.new) s.now) }
-        ensures element { self.new.element ≡ self.old.element }
+        ensures element { OnOk result (self.new.element ≡ self.old.element) }
         ensures refused { Unless faultless result (NoText four_bytes self.old.reader.rest) }
         ensures plain { IfErr result (λ e. NoWant (slice_at self.old) e) }
+        ensures failed { OnErr result (SliceFailed self.new) }
+        ensures named { Named faultless result (NamesText four_bytes self.old.reader.rest) }
     {
         let bytes = self.lend32()?;
-        text_in(bytes)
+        match text_in(bytes) {
+            Ok(text) => Ok(text),
+            Err(e) => Err(self.refuse(e)),
+        }
     }
 
     /// Reads a string, and lends its text (part 1, section 1.6.20).
     ///
     /// Errors: `Io` where the input ends; `InvalidFormatCode` for any other type; `InvalidUtf8Encoding`
     /// for bytes that are not UTF-8. `Memory` only where no 64 bits can count the bytes that were read and
-    /// those that are left.
+    /// those that are left. After an error the reader has failed.
     #[tactic(auto, using(crate::proofs::Lending::lending, crate::proofs::Heads::refusing, crate::proofs::Sized::strings))]
     pub fn borrow_str(&mut self) -> Result<&'de str, Error>
         ensures ok { IfOk result (λ s. Reads self.old.element (slice_at self.old) (slice_at self.new) (scalar (string s.now))) }
-        ensures element { self.new.element ≡ self.old.element }
+        ensures element { OnOk result (self.new.element ≡ self.old.element) }
         ensures refused { Unless faultless result (Refuses string_taken self.old.element (slice_at self.old)) }
         ensures plain { IfErr result (λ e. NoWant (slice_at self.old) e) }
+        ensures failed { OnErr result (SliceFailed self.new) }
+        ensures named { Named faultless result (Names string_kind self.old.element self.old.reader.rest) }
     {
         match self.lend_code()? {
             EncodingCodes::Str8 => Ok(self.lend_text8()?),
             EncodingCodes::Str32 => Ok(self.lend_text32()?),
-            _ => Err(Error::InvalidFormatCode),
+            _ => Err(self.refuse(Error::InvalidFormatCode)),
         }
     }
 
@@ -220,18 +248,20 @@ impl<'de> Deserializer<SliceReader<'de>> {
     ///
     /// Errors: `Io` where the input ends; `InvalidFormatCode` for any other type; `InvalidUtf8Encoding`
     /// for bytes that are not UTF-8. `Memory` only where no 64 bits can count the bytes that were read and
-    /// those that are left.
+    /// those that are left. After an error the reader has failed.
     #[tactic(auto, using(crate::proofs::Lending::lending, crate::proofs::Heads::refusing, crate::proofs::Sized::symbols))]
     pub fn borrow_symbol(&mut self) -> Result<&'de str, Error>
         ensures ok { IfOk result (λ s. Reads self.old.element (slice_at self.old) (slice_at self.new) (scalar (symbol s.now))) }
-        ensures element { self.new.element ≡ self.old.element }
+        ensures element { OnOk result (self.new.element ≡ self.old.element) }
         ensures refused { Unless faultless result (Refuses symbol_taken self.old.element (slice_at self.old)) }
         ensures plain { IfErr result (λ e. NoWant (slice_at self.old) e) }
+        ensures failed { OnErr result (SliceFailed self.new) }
+        ensures named { Named faultless result (Names symbol_kind self.old.element self.old.reader.rest) }
     {
         match self.lend_code()? {
             EncodingCodes::Sym8 => Ok(self.lend_text8()?),
             EncodingCodes::Sym32 => Ok(self.lend_text32()?),
-            _ => Err(Error::InvalidFormatCode),
+            _ => Err(self.refuse(Error::InvalidFormatCode)),
         }
     }
 }

@@ -1,9 +1,9 @@
 //! What the accesses share.
-ghost use Rattle.std.specs.Prelude.{◌≡◌, ◌≢◌, ◌⊎◌, ◌+◌, ◌∷◌, [], ℕ, List, Bool, true, false, Result, Ok, IfOk, OnOk, OnErr, MatchOption, Option, Some, None};
+ghost use Rattle.std.specs.Prelude.{◌≡◌, ◌≢◌, ◌⊎◌, ◌+◌, ◌∷◌, [], ℕ, List, Bool, true, false, Result, Ok, IfOk, IfErr, OnOk, OnErr, MatchOption, Option, Some, None};
 ghost use Rattle.serde_amqp_item.specs.Item.{Item};
 ghost use Rattle.serde_amqp_read.specs.Reads.{Unless};
 ghost use Rattle.serde_amqp_de.specs.Reads.{At, Refuses, HasFailed, at_of};
-ghost use Rattle.serde_amqp_de.specs.Open.{AtEnd, TookNext};
+ghost use Rattle.serde_amqp_de.specs.Open.{AtEnd, TookNext, NamesEnd};
 
 use crate::deserialize::Deserialize;
 use crate::deserializer::Deserializer;
@@ -111,6 +111,7 @@ impl<R: Read> Deserializer<R> {
         ensures ok { OnOk result ((left ≡ 0) × AtEnd end self.old.pos × (at_of R.rest self.new ≡ at_of R.rest self.old) × (self.new.element ≡ outer)) }
         ensures refused { OnErr result ((left ≢ 0) ⊎ ((left ≡ 0) × (AtEnd end self.old.pos → ⊥))) }
         ensures failed { OnErr result (HasFailed R.rest self.new) }
+        ensures named { IfErr result (λ e. NamesEnd left end self.old.pos e) }
     {
         if left != 0 {
             self.fail();

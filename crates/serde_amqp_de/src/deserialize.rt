@@ -212,13 +212,14 @@ impl<T: Deserialize> Deserialize for Option<T> {
 impl<R: Read> Deserializer<R> {
     /// Reads null as none, and any other item as a value (part 1, section 1.4).
     ///
-    /// Errors: as for the value's `read`.
+    /// Errors: as for the value's `read`. After an error the reader has failed.
     pub fn deserialize_option<T: Deserialize>(&mut self, alloc: Global) -> Result<Option<T>, Error>
         ensures ok { IfOk result (λ o. Took (option_taken T.take) self.old.element (at_of R.rest self.old) (at_of R.rest self.new) (option_item T.item o)) }
         ensures element { OnOk result (self.new.element ≡ self.old.element) }
         ensures refused { Unless R.faulty result (Refuses (option_taken T.take) self.old.element (at_of R.rest self.old)) }
+        ensures failed { OnErr result (HasFailed R.rest self.new) }
     {
-        <Option<T> as Deserialize>::read(alloc, self)
+        <Option<T> as Deserialize>::deserialize(alloc, self)
     }
 }
 
@@ -321,16 +322,17 @@ pub fn from_slice<T: Deserialize>(alloc: Global, bytes: &[u8]) -> Result<T, Erro
 }
 
 /// Reads a value from the front of what is left of a reader, and gives the reader back: what stands
-/// behind that front is left in it.
+/// behind that front is left in it. What `from_slice` says of its bytes this says of what is left of the
+/// reader.
 ///
-/// Errors: `Memory`; a fault of the reader itself; any other exactly where no front of what is left is a
-/// wire form of an item that the type takes.
+/// Errors: `Memory`; any other exactly where no front of what is left is a wire form of an item that the
+/// type takes. What is left ends where an inner reader fails.
 pub fn from_reader<T: Deserialize, R: Read + Drop>(
     alloc: Global,
     reader: R,
 ) -> Result<(T, R), Error>
     ensures ok { IfOk result (λ p. (x : Item) × (front : List ℕ) × Wire x None front × (R.rest reader ≡ front ++ R.rest p.1) × (T.take x ≡ Some (T.item p.0))) }
-    ensures refused { Unless R.faulty result ((x : Item) (front more : List ℕ) → Wire x None front → R.rest reader ≡ front ++ more → T.take x ≡ None) }
+    ensures refused { Unless faultless result ((x : Item) (front more : List ℕ) → Wire x None front → R.rest reader ≡ front ++ more → T.take x ≡ None) }
 {
     let mut de = Deserializer::new(reader);
     let value = T::deserialize(alloc, &mut de)?;

@@ -26,5 +26,5 @@ pub use laws::{one_value, written_is_read, written_is_read_equal};
 pub use map::read_map;
 pub use record::{ReadFields, read_descriptor, read_record};
 pub use sequence::{read_array, read_list, read_multiple};
-pub use serde_amqp_read::{IoReader, Read, SliceReader};
+pub use serde_amqp_read::{InMemory, IoReader, Read, SliceReader};
 pub use sorted::SortedKey;

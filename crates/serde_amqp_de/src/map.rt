@@ -1,8 +1,10 @@
 //! Maps.
-ghost use Rattle.std.specs.Prelude.{◌≡◌, ◌%◌, List, IfOk, OnOk, Option, Some, None};
+ghost use Rattle.std.specs.Prelude.{◌≡◌, ◌%◌, List, IfOk, OnOk, OnErr, Option, Some, None};
 ghost use Rattle.serde_amqp_item.specs.Item.{Item};
+ghost use Rattle.serde_amqp_item.specs.Kind.{map_kind};
 ghost use Rattle.serde_amqp_read.specs.Reads.{Unless};
-ghost use Rattle.serde_amqp_de.specs.Reads.{At, Opens, Took, Refuses, at_of};
+ghost use Rattle.serde_amqp_de.specs.Reads.{At, Opens, Took, Refuses, HasFailed, at_of};
+ghost use Rattle.serde_amqp_de.specs.Names.{Names, Named};
 ghost use Rattle.serde_amqp_de.specs.Maps.{map_in, map_taken, pairs_taken, pair_items, map_item, TookPairs, RefusesPairs, TookSizedPairs, RefusesSizedPairs};
 
 use crate::deserialize::Deserialize;
@@ -16,22 +18,25 @@ impl<R: Read> Deserializer<R> {
     /// bytes (part 1, section 1.6.23). The keys and values follow in turn.
     ///
     /// Errors: `Io` where the input ends; `InvalidFormatCode` for any other type; `InvalidLength` for
-    /// a size that is too small, for a key without a value, and for more than 32,768 pairs.
+    /// a size that is too small, for a key without a value, and for more than 32,768 pairs. After an error
+    /// the reader has failed.
     #[tactic(auto, using(crate::proofs::Heads::refusing, crate::proofs::Maps::maps))]
     pub fn map_head(&mut self) -> Result<(usize, usize), Error>
         ensures ok { IfOk result (λ h. Opens map_in None self.old.element (at_of R.rest self.old) (at_of R.rest self.new) h.0 h.1) }
         ensures even { IfOk result (λ h. h.0 % 2 ≡ 0) }
-        ensures element { self.new.element ≡ self.old.element }
+        ensures element { OnOk result (self.new.element ≡ self.old.element) }
         ensures refused { Unless R.faulty result (Refuses map_taken self.old.element (at_of R.rest self.old)) }
+        ensures failed { OnErr result (HasFailed R.rest self.new) }
+        ensures named { Named R.faulty result (Names map_kind self.old.element (R.rest self.old.reader)) }
     {
         match self.code()? {
             EncodingCodes::Map8 => {
                 let (size, count) = self.count8()?;
                 if size < 1 {
-                    return Err(Error::InvalidLength);
+                    return Err(self.refuse(Error::InvalidLength));
                 }
                 if count % 2 != 0 {
-                    return Err(Error::InvalidLength);
+                    return Err(self.refuse(Error::InvalidLength));
                 }
                 Ok((count as usize, size as usize - 1))
             }
@@ -39,17 +44,17 @@ impl<R: Read> Deserializer<R> {
                 let (size, count) = self.count32()?;
                 let count = count as usize;
                 if size < 4 {
-                    return Err(Error::InvalidLength);
+                    return Err(self.refuse(Error::InvalidLength));
                 }
                 if count > MAX_ARRAY_COUNT {
-                    return Err(Error::InvalidLength);
+                    return Err(self.refuse(Error::InvalidLength));
                 }
                 if count % 2 != 0 {
-                    return Err(Error::InvalidLength);
+                    return Err(self.refuse(Error::InvalidLength));
                 }
                 Ok((count, size as usize - 4))
             }
-            _ => Err(Error::InvalidFormatCode),
+            _ => Err(self.refuse(Error::InvalidFormatCode)),
         }
     }
 }

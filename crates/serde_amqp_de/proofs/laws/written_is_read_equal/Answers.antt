@@ -1,4 +1,4 @@
-use Rattle.std.proofs.Common.{◌≡◌, List, ℕ, Option, None, sym, ◌∙◌, subst}
+use Rattle.std.proofs.Common.{List, ℕ, None, sym, subst}
 use Rattle.serde_amqp_item.specs.Item.{Item}
 use Rattle.serde_amqp_item.specs.Wire.{Wire}
 use Rattle.serde_amqp_item.proofs.Forms.{wire_same}

@@ -1,4 +1,4 @@
-use Rattle.std.proofs.Common.{ℕ, Option, None, refl, sym, ap, subst}
+use Rattle.std.proofs.Common.{ℕ, Option, refl, sym, ap, subst}
 use Rattle.serde_amqp_item.specs.Item.{array}
 use Rattle.serde_amqp_de.specs.Reads.{Opens, at_of}
 use Rattle.serde_amqp_de.specs.Open.{an_array}

@@ -1,6 +1,5 @@
-use Rattle.std.proofs.Common.{ℕ, Option, None, refl, sym, ap, subst}
-use Rattle.serde_amqp_item.specs.Item.{array}
-use Rattle.serde_amqp_de.specs.Reads.{Opens, at_of}
+use Rattle.std.proofs.Common.{None, refl}
+use Rattle.serde_amqp_de.specs.Reads.{at_of}
 use Rattle.serde_amqp_de.specs.Open.{a_list}
 use Rattle.serde_amqp_de.proofs.Opened.{begun_list, opened, other_length}
 use Rattle.serde_amqp_de.proofs.deserializer.Deserializer.deserialize_tuple.Goals as goal

@@ -1,0 +1,11 @@
+use Rattle.std.proofs.Common.{inl}
+use Rattle.serde_amqp_item.specs.Wire.{four_bytes}
+use Rattle.serde_amqp_de.specs.Names.{NamesText}
+use Rattle.serde_amqp_de.proofs.Naming.{named_carried, names_text}
+use Rattle.serde_amqp_de.proofs.deserializer.Deserializer.text32.Goals as goal
+
+pub returns-in_err-bytes-clause-named : goal.returns-in_err-bytes-clause-named
+returns-in_err-bytes-clause-named g c = named_carried g.R.Read.faulty _ _ _ (NamesText four_bytes (g.R.Read.rest c.args.self.now.reader)) c.from_residual.ensures.1 (λ n. inl n) c.in_err-bytes.ensures.refused
+
+pub returns-in-Err-clause-named : goal.returns-in-Err-clause-named
+returns-in-Err-clause-named g c = names_text g.R.Read.faulty four_bytes _ _ _ _ _ c.refuse.ensures.same c.in-Err.ensures.named c.in-Err.ensures.refused c.in_ok-bytes.ensures.ok
