@@ -6,9 +6,9 @@
 #![tactic(auto)]
 
 pub use serde_amqp_de::{
-    ArrayAccess, BorrowDeserialize, DescribedAccess, Deserialize, Deserializer, Faithful, IoReader,
-    ListAccess, MapAccess, NeverNull, Read, ReadFields, RoundTrip, SliceReader, SortedKey,
-    VariantAccess, borrow_from_slice, from_reader, from_slice, one_value, read_array,
+    ArrayAccess, BorrowDeserialize, DescribedAccess, Deserialize, Deserializer, Faithful, InMemory,
+    IoReader, ListAccess, MapAccess, NeverNull, Read, ReadFields, RoundTrip, SliceReader,
+    SortedKey, VariantAccess, borrow_from_slice, from_reader, from_slice, one_value, read_array,
     read_descriptor, read_list, read_map, read_multiple, read_record, written_is_read,
     written_is_read_equal,
 };

@@ -1,3 +1,4 @@
+//! Questions about a type, answered for any type.
 use crate::question::{Question, Verb};
 use crate::runs::hex_of;
 use crate::shown::Shown;
@@ -58,7 +59,8 @@ fn read_from_reader<T: Serialize + Deserialize + Shown + Drop>(
 ) -> Result<(String, usize), AllocError> {
     match from_reader::<T, IoReader<&[u8]>>(alloc, IoReader::new(alloc, bytes)) {
         Ok((value, reader)) => {
-            let left = reader.into_inner().len();
+            let (behind, fetched) = reader.into_parts();
+            let left = fetched.len().saturating_add(behind.len());
             Ok((shown_and_written(alloc, &value)?, left))
         }
         Err(error) => Ok((refused(alloc, error)?, 0)),

@@ -1,3 +1,4 @@
+//! What is asked of a type.
 use hex::FromHexError;
 use std::alloc::{AllocError, Global};
 

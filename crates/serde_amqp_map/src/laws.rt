@@ -1,3 +1,4 @@
+//! Laws of items that are keys.
 // Laws of maps. The functions do nothing: their contracts are the laws.
 ghost use Rattle.std.specs.Prelude.{◌≡◌, ◌<◌, ℕ, List, Option, Some, slice_get, false};
 ghost use Rattle.std.specs.Bool.{Decides};

@@ -1,3 +1,4 @@
+//! Maps that keep the order of their pairs (part 1, 1.6.23).
 ghost use Rattle.std.specs.Prelude.{◌≡◌, ◌==◌, [], length, IsOk, IfOk};
 ghost use Rattle.std.specs.Borrow.{sem};
 ghost use Rattle.serde_amqp_map.specs.Lends.{lends_inner};

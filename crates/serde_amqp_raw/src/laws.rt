@@ -1,3 +1,4 @@
+//! What holds of each raw value.
 // Laws of kept values. The functions do nothing: their contracts are the laws.
 ghost use Rattle.serde_amqp_item.specs.Item.{raw};
 ghost use Rattle.serde_amqp_item.specs.Wire.{IsStrict};

@@ -1,3 +1,4 @@
+//! Values of any type, kept as the bytes of one strict form (part 1, 1.2).
 // Values that are kept as the bytes of their wire forms.
 #![tactic(auto)]
 

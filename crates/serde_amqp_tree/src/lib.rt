@@ -1,3 +1,4 @@
+//! Values of any type as trees: read, shown and written anew by loops, at any depth (part 1).
 // Values of any type, taken apart by loops, and their canonical texts.
 #![tactic(auto)]
 

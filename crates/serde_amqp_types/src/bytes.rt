@@ -1,3 +1,4 @@
+//! Binary data (part 1, 1.6.19).
 ghost use Rattle.std.specs.Cmp.{partial_equiv_from_equiv};
 ghost use Rattle.std.specs.Cmp.Lexicographic.{slice_cmp, nat_list_cmp_total, texts_ties, texts_po, same_text};
 ghost use Rattle.std.specs.Hash as fed;

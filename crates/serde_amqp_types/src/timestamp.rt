@@ -1,3 +1,4 @@
+//! Points in time (part 1, 1.6.17).
 ghost use Rattle.std.specs.Prelude.{◌≡◌, Some, refl};
 ghost use Rattle.serde_amqp_item.specs.Item.{scalar, timestamp};
 ghost use Rattle.serde_amqp_de.specs.Takes.{timestamp_taken};

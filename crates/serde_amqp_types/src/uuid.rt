@@ -1,3 +1,4 @@
+//! Universally unique identifiers (part 1, 1.6.18).
 ghost use Rattle.std.specs.Prelude.{◌≡◌, ◌≢◌, ⊤, length, MatchResult, Some, refl};
 ghost use Rattle.serde_amqp_item.specs.Item.{scalar, uuid};
 ghost use Rattle.serde_amqp_item.specs.declared.error.Error.TheVariants.{InvalidLength};

@@ -1,25 +1,51 @@
 //! Readers: their calls, what they fetch, and an inner reader that refuses in mid-stream.
-ghost use Rattle.std.specs.Prelude.{[], Some};
+ghost use Rattle.std.specs.Prelude.{◌++◌, refl, Some};
 
-use crate::{Error, IoReader, OrderedMap, Read, SliceReader, from_reader};
+use crate::{Error, InMemory, IoReader, OrderedMap, Read, SliceReader, from_reader};
 use std::alloc::Global;
 use std::io;
-use std::io::{ErrorKind, Read as StdRead};
+use std::io::ErrorKind;
 use std::process::Abort;
 
 const END: Error = Error::Io(ErrorKind::UnexpectedEof);
 
-/// A reader of no bytes that fails.
+/// A reader that gives its bytes in two parts, and behind them fails or ends.
 #[derive(Drop)]
-struct Failing {
-    kind: ErrorKind,
+struct Parts<'a> {
+    front: &'a [u8],
+    behind: &'a [u8],
+    fault: Option<ErrorKind>,
 }
 
-impl io::Read for Failing {
-    ghost remaining = { λ _. Some [] };
+impl io::Read for Parts<'_> {
+    ghost remaining = { λ p. Some (p.front.now ++ p.behind.now) };
 
-    fn read(&mut self, _buf: &mut [u8]) -> io::Result<usize> {
-        Err(io::Error::from(self.kind))
+    fn read(&mut self, buffer: &mut [u8]) -> io::Result<usize> {
+        self.give(buffer)
+    }
+}
+
+impl InMemory for Parts<'_> {
+    ghost bytes = { λ p. p.front.now ++ p.behind.now };
+
+    ghost fault = { λ p. p.fault };
+
+    ghost remains = { λ _. refl };
+
+    fn give(&mut self, buffer: &mut [u8]) -> io::Result<usize> {
+        if !self.front.is_empty() {
+            return self.front.give(buffer);
+        }
+        if buffer.is_empty() {
+            return Ok(0);
+        }
+        if !self.behind.is_empty() {
+            return self.behind.give(buffer);
+        }
+        match self.fault {
+            Some(kind) => Err(io::Error::from(kind)),
+            None => Ok(0),
+        }
     }
 }
 
@@ -29,7 +55,9 @@ fn fetched_bytes(rt: HostRuntime) -> Result<(), Error> {
     let mut reader = IoReader::new(rt.alloc(), bytes);
     reader.fill_buffer(3)?;
     assert_eq!(rt; reader.pop_first(), Some(1));
-    assert_eq!(rt; reader.into_inner(), [4].as_slice());
+    let (behind, fetched) = reader.into_parts();
+    assert_eq!(rt; fetched.len(), 2);
+    assert_eq!(rt; behind, [4].as_slice());
     Ok(())
 }
 
@@ -39,13 +67,20 @@ fn no_byte_is_read_too_early(rt: HostRuntime) {
     let mut reader = IoReader::new(rt.alloc(), bytes);
     assert_eq!(rt; reader.peek(), Ok(1));
     assert_eq!(rt; reader.read_const_bytes::<2>(), Ok([1, 2]));
-    assert_eq!(rt; reader.into_inner(), [3, 4].as_slice());
+    match reader.into_inner() {
+        Ok(behind) => assert_eq!(rt; behind, [3, 4].as_slice()),
+        Err(_) => assert!(rt; false),
+    }
 }
 
 /// An inner reader of one byte that fails so behind it is told by this error, and then there is nothing left.
 fn tells(rt: &impl Abort, alloc: Global, kind: ErrorKind, told: ErrorKind) {
-    let bytes: &[u8] = &[1];
-    let mut reader = IoReader::new(alloc, bytes.chain(Failing { kind }));
+    let inner = Parts {
+        front: &[1],
+        behind: &[],
+        fault: Some(kind),
+    };
+    let mut reader = IoReader::new(alloc, inner);
     assert_eq!(rt; reader.next(), Ok(1));
     assert_eq!(rt; reader.next(), Err(Error::Io(told)));
     assert_eq!(rt; reader.next(), Err(END));
@@ -81,7 +116,12 @@ fn one_behind_the_other(rt: HostRuntime) -> Result<(), Error> {
     reads_all(&rt, alloc, IoReader::new(alloc, VALUES))?;
     for at in 0..=VALUES.len() {
         let (front, behind) = VALUES.split_at(at);
-        reads_all(&rt, alloc, IoReader::new(alloc, front.chain(behind)))?;
+        let inner = Parts {
+            front,
+            behind,
+            fault: None,
+        };
+        reads_all(&rt, alloc, IoReader::new(alloc, inner))?;
     }
     Ok(())
 }

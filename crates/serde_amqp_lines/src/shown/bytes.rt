@@ -1,3 +1,4 @@
+//! The text of types that are bytes.
 use crate::runs::{hex_of, quoted};
 use crate::shown::Shown;
 use serde_amqp::{

@@ -1,3 +1,4 @@
+//! The text of lists, arrays and described values.
 use crate::runs::{Runs, bracketed};
 use crate::shown::Shown;
 use serde_amqp::{Array, Described, Descriptor, Multiple};

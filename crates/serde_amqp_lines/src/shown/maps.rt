@@ -1,3 +1,4 @@
+//! The text of maps.
 use crate::runs::{Runs, bracketed};
 use crate::shown::Shown;
 use serde_amqp::OrderedMap;

@@ -1,3 +1,4 @@
+//! The text of numbers.
 use crate::shown::Shown;
 use serde_amqp::{BoolOr, Double, Float, Timestamp, UByteOr, UIntOr, UShortOr};
 use std::alloc::{AllocError, Global};

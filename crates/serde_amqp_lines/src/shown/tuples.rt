@@ -1,3 +1,4 @@
+//! The text of tuples.
 use crate::runs::{Runs, bracketed};
 use crate::shown::Shown;
 use std::alloc::{AllocError, Global};

@@ -1,3 +1,4 @@
+//! Arrays of compound values, by name.
 use crate::asked::typed;
 use crate::question::Question;
 use crate::types::maps;

@@ -1,3 +1,4 @@
+//! Types with a size, by name.
 use crate::asked::typed;
 use crate::question::Question;
 use crate::types::optional;

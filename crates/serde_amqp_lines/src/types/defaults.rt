@@ -1,3 +1,4 @@
+//! Fields with a default, by name.
 use crate::asked::typed;
 use crate::question::Question;
 use crate::types::lent;

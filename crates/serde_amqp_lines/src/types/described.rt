@@ -1,3 +1,4 @@
+//! Described values, by name.
 use crate::asked::typed;
 use crate::question::Question;
 use crate::types::defaults;

@@ -1,3 +1,4 @@
+//! Types of fixed width other than numbers, by name.
 use crate::asked::typed;
 use crate::question::Question;
 use crate::types::bytes;

@@ -1,3 +1,4 @@
+//! Types whose values are lent, by name.
 use crate::asked::lent;
 use crate::question::Question;
 use serde_amqp::{BinaryRef, SymbolRef};

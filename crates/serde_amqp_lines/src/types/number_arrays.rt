@@ -1,3 +1,4 @@
+//! Arrays of numbers, by name.
 use crate::asked::typed;
 use crate::question::Question;
 use crate::types::arrays;

@@ -1,3 +1,4 @@
+//! Numbers, by name.
 use crate::asked::typed;
 use crate::question::Question;
 use crate::types::fixed;

@@ -1,3 +1,4 @@
+//! Values that may be null, by name.
 use crate::asked::typed;
 use crate::question::Question;
 use crate::types::lists;

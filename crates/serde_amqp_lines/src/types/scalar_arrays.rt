@@ -1,3 +1,4 @@
+//! Arrays of scalars other than numbers, by name.
 use crate::asked::typed;
 use crate::question::Question;
 use crate::types::number_arrays;

@@ -1,3 +1,4 @@
+//! Lists of scalars, by name.
 use crate::asked::typed;
 use crate::question::Question;
 use crate::types::scalar_arrays;

@@ -1,3 +1,4 @@
+//! Maps in the order of their keys, by name.
 use crate::asked::typed;
 use crate::question::Question;
 use crate::types::tuples;

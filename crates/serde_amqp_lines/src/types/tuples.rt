@@ -1,3 +1,4 @@
+//! Tuples, by name.
 use crate::asked::typed;
 use crate::question::Question;
 use crate::types::described;
