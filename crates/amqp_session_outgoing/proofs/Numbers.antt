@@ -5,7 +5,7 @@ use Rattle.std.proofs.Math.Nat.{mod-add-mod}
 use Rattle.amqp_session_unsettled.specs.Range.{ahead}
 use Rattle.amqp_session_outgoing.specs.Frames.{is_first}
 use Rattle.amqp_session_outgoing.specs.State.{State, Leaves, Sends, with_batch, with_window}
-use Rattle.amqp_session_outgoing.specs.History.{Step, Steps, History, TakesWindow, Accepts, Refuses, Follows, Reserves, Settles, Forgets, Fails}
+use Rattle.amqp_session_outgoing.specs.History.{Step, Steps, History, TakesWindow, SetsWindow, Accepts, Refuses, Follows, Reserves, Settles, SettlesRange, Forgets, Fails}
 use Rattle.amqp_session_outgoing.specs.Told.{left_in, transfers_out, base_in, width_in, EachInWindow, InLatestWindow, IsNumber, behind_number, IsNumbered}
 use Rattle.amqp_session_outgoing.specs.declared.frames.Sent.{Sent}
 
@@ -50,6 +50,7 @@ module _ {T F : Type 0} where
   step-window (TakesWindow base width left) old new x =
       let k : KeepsWindow (with_window old base width) left new = leaves-window left (with_window old base width) new x.0 in
       record { base = k.base; width = k.width; each = k.each }
+  step-window (SetsWindow base width) old new x = record { base = ap (λ (s : State T F). s.window_base) x; width = ap (λ (s : State T F). s.window_width) x; each = tt }
   step-window (Accepts handle [] left) old new x = record {
     base = ap (λ (s : State T F). s.window_base) x.1;
     width = ap (λ (s : State T F). s.window_width) x.1;
@@ -62,6 +63,7 @@ module _ {T F : Type 0} where
   step-window (Follows handle frame left) old new x = record { base = ap (λ (s : State T F). s.window_base) x.1; width = ap (λ (s : State T F). s.window_width) x.1; each = tt }
   step-window (Reserves count) old new x = record { base = ap (λ (s : State T F). s.window_base) x; width = ap (λ (s : State T F). s.window_width) x; each = tt }
   step-window (Settles number) old new x = record { base = ap (λ (s : State T F). s.window_base) x; width = ap (λ (s : State T F). s.window_width) x; each = tt }
+  step-window (SettlesRange range) old new x = record { base = ap (λ (s : State T F). s.window_base) x; width = ap (λ (s : State T F). s.window_width) x; each = tt }
   step-window (Forgets handle) old new x = record { base = ap (λ (s : State T F). s.window_base) x.1; width = ap (λ (s : State T F). s.window_width) x.1; each = tt }
   step-window Fails old new x = record { base = ap (λ (s : State T F). s.window_base) x; width = ap (λ (s : State T F). s.window_width) x; each = tt }
 
@@ -102,6 +104,8 @@ module _ {T F : Type 0} where
   step-numbered : (step : Step T F) (old new : State T F) (n d : ℕ) (more : List (Sent T F)) → StandsAt old n d → Steps old step new
       → ((m e : ℕ) → StandsAt new m e → IsNumbered m e more) → IsNumbered n d (left_in step ++ more)
   step-numbered (TakesWindow base width left) old new n d more at x rest = leaves-numbered left (with_window old base width) new n d more (record { next = at.next; delivery = at.delivery }) x.0 rest
+  step-numbered (SetsWindow base width) old new n d more at x rest =
+      rest n d (same-at old new n d (ap (λ (s : State T F). s.next_outgoing_id) x) (ap (λ (s : State T F). s.next_delivery_number) x) at)
   step-numbered (Accepts handle [] left) old new n d more at x rest =
       subst (λ (ls : List (Sent T F)). IsNumbered n d (ls ++ more)) (sym x.0) (rest n d (subst (λ (s : State T F). StandsAt s n d) (sym x.1) at))
   step-numbered (Accepts handle (u ∷ us) left) old new n d more at x rest = leaves-numbered left (with_batch old handle.0 (u ∷ us)) new n d more (record { next = at.next; delivery = at.delivery }) x.2 rest
@@ -110,6 +114,8 @@ module _ {T F : Type 0} where
       rest n d (same-at old new n d (ap (λ (s : State T F). s.next_outgoing_id) x.1) (ap (λ (s : State T F). s.next_delivery_number) x.1) at)
   step-numbered (Reserves count) old new n d more at x rest = rest n d (same-at old new n d (ap (λ (s : State T F). s.next_outgoing_id) x) (ap (λ (s : State T F). s.next_delivery_number) x) at)
   step-numbered (Settles number) old new n d more at x rest = rest n d (same-at old new n d (ap (λ (s : State T F). s.next_outgoing_id) x) (ap (λ (s : State T F). s.next_delivery_number) x) at)
+  step-numbered (SettlesRange range) old new n d more at x rest =
+      rest n d (same-at old new n d (ap (λ (s : State T F). s.next_outgoing_id) x) (ap (λ (s : State T F). s.next_delivery_number) x) at)
   step-numbered (Forgets handle) old new n d more at x rest =
       rest n d (same-at old new n d (ap (λ (s : State T F). s.next_outgoing_id) x.1) (ap (λ (s : State T F). s.next_delivery_number) x.1) at)
   step-numbered Fails old new n d more at x rest = rest n d (subst (λ (s : State T F). StandsAt s n d) (sym x) at)

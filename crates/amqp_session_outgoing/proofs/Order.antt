@@ -7,7 +7,7 @@ use Rattle.std.proofs.lemmas.Grind.{common_steps}
 use Rattle.amqp_session_outgoing.specs.Frames.{LinkFrame, Transferred, Other, others, frames_of, frames_sent, is_first}
 use Rattle.amqp_session_outgoing.specs.Queues.{Queues, TakesTurn, TakesTurnOf, rejoined, joined, followed, trailed, units_of, waiting_of}
 use Rattle.amqp_session_outgoing.specs.State.{State, Leaves, Sends, with_window, with_batch}
-use Rattle.amqp_session_outgoing.specs.History.{Step, Steps, History, TakesWindow, Accepts, Refuses, Follows, Reserves, Settles, Forgets, Fails}
+use Rattle.amqp_session_outgoing.specs.History.{Step, Steps, History, TakesWindow, SetsWindow, Accepts, Refuses, Follows, Reserves, Settles, SettlesRange, Forgets, Fails}
 use Rattle.amqp_session_outgoing.specs.Told.{frames_by, out_in, out_of, accepted_in, accepted_of}
 use Rattle.amqp_session_outgoing.specs.declared.frames.Outbound.{Outbound}
 use Rattle.amqp_session_outgoing.specs.declared.frames.Sent.{Sent}
@@ -248,6 +248,7 @@ module _ {T F : Type 0} where
     distinct = leaves-distinct left (with_window old base width) new d x.0;
     order = leaves-frames h left (with_window old base width) new d x.0 ∙ sym (append-nil (waiting_of h old.queues));
   }
+  step-order h (SetsWindow base width) old new d x = still h old new (SetsWindow base width) d (ap (λ (s : State T F). s.queues) x) refl refl
   step-order h (Accepts handle [] left) old new d x =
       still h old new (Accepts handle [] left) d (ap (λ (s : State T F). s.queues) x.1) (ap (λ (ls : List (Sent T F)). frames_by h ls) x.0) (frames_nil (handle.0 == h))
   step-order h (Accepts handle (u ∷ us) left) old new d x =
@@ -284,6 +285,7 @@ module _ {T F : Type 0} where
       ]
   step-order h (Reserves count) old new d x = still h old new (Reserves count) d (ap (λ (s : State T F). s.queues) x) refl refl
   step-order h (Settles number) old new d x = still h old new (Settles number) d (ap (λ (s : State T F). s.queues) x) refl refl
+  step-order h (SettlesRange range) old new d x = still h old new (SettlesRange range) d (ap (λ (s : State T F). s.queues) x) refl refl
   step-order h (Forgets handle) old new d x = still h old new (Forgets handle) d (ap (λ (s : State T F). s.queues) x.1) refl refl
   step-order h Fails old new d x = still h old new Fails d (ap (λ (s : State T F). s.queues) x) refl refl
 
@@ -299,3 +301,27 @@ module _ {T F : Type 0} where
       let o : InOrder h start step run.0 = step-order h step start run.0 d run.1 in
       chained (out_in h step) (out_of h steps) (waiting_of h end.queues) (waiting_of h (run.0).queues) (accepted_of h steps) (waiting_of h start.queues) (accepted_in h step)
       (history-order h steps run.0 end o.distinct run.2) o.order
+
+  -- histories keep links apart
+  pub history-distinct : (steps : List (Step T F)) (start end : State T F) → Distinct start.queues → History start steps end → Distinct end.queues
+  history-distinct [] start end d run = subst (λ (s : State T F). Distinct s.queues) (sym run) d
+  history-distinct (step ∷ steps) start end d run = history-distinct steps run.0 end (step-order 0 step start run.0 d run.1).distinct run.2
+
+  no-frames : (us : List (Outbound T F)) → frames_of us ≡ [] → us ≡ []
+  no-frames [] e = refl
+  no-frames (u ∷ us) e = absurd cc
+
+  left-empty : (xs ys : List (LinkFrame T F)) → xs ++ ys ≡ [] → (xs ≡ []) × (ys ≡ [])
+  left-empty [] ys e = (refl, e)
+  left-empty (x ∷ xs) ys e = absurd cc
+
+  -- a link of which nothing waits and nothing is accepted sends nothing
+  pub silent : (h : ℕ) (steps : List (Step T F)) (start end : State T F) → Distinct start.queues → History start steps end
+      → units_of h start.queues ≡ [] → accepted_of h steps ≡ [] → (out_of h steps ≡ []) × (units_of h end.queues ≡ [])
+  silent h steps start end d run none nothing =
+      let all : out_of h steps ++ waiting_of h end.queues ≡ [] =
+      history-order h steps start end d run
+      ∙ ap (λ (us : List (Outbound T F)). frames_of us ++ accepted_of h steps) none
+      ∙ nothing in
+      let both : (out_of h steps ≡ []) × (waiting_of h end.queues ≡ []) = left-empty (out_of h steps) (waiting_of h end.queues) all in
+      (both.0, no-frames (units_of h end.queues) both.1)

@@ -4,7 +4,7 @@ use Rattle.std.specs.Prelude.{◌==◌, if◌then◌else◌}
 use Rattle.std.proofs.lemmas.Grind.{common_steps}
 use Rattle.amqp_session_outgoing.specs.Queues.{Queues, TakesTurn, TakesTurnOf, rejoined, joined, followed, trailed, units_of}
 use Rattle.amqp_session_outgoing.specs.State.{State, Leaves, with_batch, with_window}
-use Rattle.amqp_session_outgoing.specs.History.{Step, Steps, History, TakesWindow, Accepts, Refuses, Follows, Reserves, Settles, Forgets, Fails}
+use Rattle.amqp_session_outgoing.specs.History.{Step, Steps, History, TakesWindow, SetsWindow, Accepts, Refuses, Follows, Reserves, Settles, SettlesRange, Forgets, Fails}
 use Rattle.amqp_session_outgoing.specs.Turns.{Event, In, Behind, Out, outs, events_in, events_of, accepted_count, turns_of, Waits, WaitsThroughout, Successive}
 use Rattle.amqp_session_outgoing.specs.declared.frames.Outbound.{Outbound}
 use Rattle.amqp_session_outgoing.specs.declared.frames.Sent.{Sent}
@@ -183,6 +183,7 @@ module _ {T F : Type 0} where
 
   step-moves : (step : Step T F) (old mid : State T F) (events : List (Event T F)) (new : Queues T F) → Steps old step mid → Moves mid.queues events new → Moves old.queues (events_in step ++ events) new
   step-moves (TakesWindow base width left) old mid events new x m = leaves-moves left (with_window old base width) mid events new x.0 m
+  step-moves (SetsWindow base width) old mid events new x m = subst (λ (qs : Queues T F). Moves qs events new) (ap (λ (s : State T F). s.queues) x) m
   step-moves (Accepts handle [] left) old mid events new x m = subst (λ (s : State T F). Moves s.queues events new) x.1 m
   step-moves (Accepts handle (u ∷ us) left) old mid events new x m = leaves-moves left (with_batch old handle.0 (u ∷ us)) mid events new x.2 m
   step-moves (Refuses batch error) old mid events new x m = subst (λ (s : State T F). Moves s.queues events new) x.1 m
@@ -190,6 +191,7 @@ module _ {T F : Type 0} where
   step-moves (Follows handle frame (Some left)) old mid events new x m = subst (λ (qs : Queues T F). Moves qs events new) x.0.2 m
   step-moves (Reserves count) old mid events new x m = subst (λ (qs : Queues T F). Moves qs events new) (ap (λ (s : State T F). s.queues) x) m
   step-moves (Settles number) old mid events new x m = subst (λ (qs : Queues T F). Moves qs events new) (ap (λ (s : State T F). s.queues) x) m
+  step-moves (SettlesRange range) old mid events new x m = subst (λ (qs : Queues T F). Moves qs events new) (ap (λ (s : State T F). s.queues) x) m
   step-moves (Forgets handle) old mid events new x m = subst (λ (qs : Queues T F). Moves qs events new) (ap (λ (s : State T F). s.queues) x.1) m
   step-moves Fails old mid events new x m = subst (λ (s : State T F). Moves s.queues events new) x m
 
@@ -323,19 +325,20 @@ module _ {T F : Type 0} where
       ]
 
   pub exactly_one : (x y : ℕ) (events before between : List (Event T F)) (end : Queues T F) → Moves [] events end → (pair : Successive x events before between)
-      → x ≢ y → WaitsThroughout y pair.past between → turns_of y between ≡ 1
+      → x ≢ y → WaitsThroughout y (before ++ Out pair.one ∷ []) between → turns_of y between ≡ 1
   exactly_one x y events before between end m pair n w =
-      let whole : Moves [] (before ++ (Out pair.one ∷ (between ++ (Out pair.two ∷ pair.later)))) end = subst (λ (es : List (Event T F)). Moves [] es end) pair.splits m in
-      let h : Halfway [] before (Out pair.one ∷ (between ++ (Out pair.two ∷ pair.later))) end = split before _ [] end whole in
+      let whole : Moves [] (before ++ (Out pair.one ∷ (between ++ (Out pair.next ∷ pair.later)))) end = subst (λ (es : List (Event T F)). Moves [] es end) pair.splits m in
+      let h : Halfway [] before (Out pair.one ∷ (between ++ (Out pair.next ∷ pair.later))) end = split before _ [] end whole in
       let d : Distinct h.mid = moves-distinct before [] h.mid tt h.one in
       let q : Queues T F = h.two.0 in
-      let past : Moves [] pair.past q = subst (λ (es : List (Event T F)). Moves [] es q) (sym pair.past_is) (joins before (Out pair.one ∷ []) [] h.mid q h.one (q, h.two.1, refl)) in
+      let since : List (Event T F) = before ++ Out pair.one ∷ [] in
+      let past : Moves [] since q = joins before (Out pair.one ∷ []) [] h.mid q h.one (q, h.two.1, refl) in
       let dq : Distinct q = turn-distinct h.mid (pair.one.handle).0 h.two.1.0 q d h.two.1.1 in
-      let sx : Stands x q = waits-stands x pair.past q past (now x pair.past between pair.waits) in
-      let sy : Stands y q = waits-stands y pair.past q past (now y pair.past between w) in
+      let sx : Stands x q = waits-stands x since q past (now x since between pair.waits) in
+      let sy : Stands y q = waits-stands y since q past (now y since between w) in
       let first : Ahead y x q = turn-last x y h.mid (pair.one.handle).0 h.two.1.0 q d h.two.1.1 pair.one_is n sx sy in
-      let k : Halfway q between (Out pair.two ∷ pair.later) end = split between (Out pair.two ∷ pair.later) q end h.two.2 in
-      elim (before_it x y between pair.past q k.mid past dq k.one pair.none w first) [
+      let k : Halfway q between (Out pair.next ∷ pair.later) end = split between (Out pair.next ∷ pair.later) q end h.two.2 in
+      elim (before_it x y between since q k.mid past dq k.one pair.no_other w first) [
         | inl u ↦ u.0
-        | inr u ↦ absurd (turn-first x y k.mid (pair.two.handle).0 k.two.1.0 k.two.0 (moves-distinct between q k.mid dq k.one) k.two.1.1 pair.two_is n u.1)
+        | inr u ↦ absurd (turn-first x y k.mid (pair.next.handle).0 k.two.1.0 k.two.0 (moves-distinct between q k.mid dq k.one) k.two.1.1 pair.next_is n u.1)
       ]

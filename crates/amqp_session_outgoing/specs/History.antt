@@ -2,7 +2,9 @@
 use Rattle.std.specs.Prelude.{◌≡◌, ℕ, ◌+◌, ◌%◌, ◌^◌, ◌<◌, List, [], ◌∷◌, ◌++◌, Option, None, max}
 use Rattle.std.specs.FinMap as map
 use Rattle.amqp_session_types.specs.declared.handles.OutputHandle.{OutputHandle}
+use Rattle.amqp_session_unsettled.specs.Outside.{outside}
 use Rattle.amqp_session_unsettled.specs.Table.{unless_of}
+use Rattle.amqp_session_unsettled.specs.declared.range.DeliveryRange.{DeliveryRange}
 use Rattle.amqp_session_outgoing.specs.Frames.{firsts_of, HaveTags}
 use Rattle.amqp_session_outgoing.specs.Queues.{firsts_in, FollowsIn}
 use Rattle.amqp_session_outgoing.specs.State.{State, Leaves, IsHeld, with_window, with_batch}
@@ -23,6 +25,8 @@ HasFreeNumbers s batch = (i : ℕ) → i < firsts_of batch → IsFree s (firsts_
 pub data Step (T F : Type 0) : Type 0 where
   -- the peer's window is taken: its first number, and how many
   TakesWindow : (base width : ℕ) (left : List (Sent T F)) → Step T F
+  -- the peer's window is set: its first number, and how many. Nothing leaves
+  SetsWindow : (base width : ℕ) → Step T F
   -- a batch of a link is accepted
   Accepts : (handle : OutputHandle) (batch : List (Outbound T F)) (left : List (Sent T F)) → Step T F
   -- a batch is refused
@@ -33,6 +37,8 @@ pub data Step (T F : Type 0) : Type 0 where
   Reserves : (count : ℕ) → Step T F
   -- a delivery is settled
   Settles : (number : ℕ) → Step T F
+  -- the deliveries that a disposition names are settled
+  SettlesRange : (range : DeliveryRange) → Step T F
   -- a handle is given back
   Forgets : (handle : OutputHandle) → Step T F
   -- there was no memory
@@ -54,11 +60,13 @@ module _ {T F : Type 0} where
   -- the states around a call
   abbrev pub Steps : State T F → Step T F → State T F → Type 0
   Steps old (TakesWindow base width left) new = Leaves (with_window old base width) left new × IsHeld new
+  Steps old (SetsWindow base width) new = new ≡ with_window old base width
   Steps old (Accepts handle batch left) new = AcceptsBatch old handle batch left new
   Steps old (Refuses batch error) new = RefusesBatch old batch error × (new ≡ old)
   Steps old (Follows handle frame left) new = FollowsIn handle.0 frame left old.queues new.queues × (new ≡ record old { queues = new.queues })
   Steps old (Reserves count) new = new ≡ record old { room = max old.room count }
   Steps old (Settles number) new = new ≡ record old { unsettled = map.remove old.unsettled number }
+  Steps old (SettlesRange range) new = new ≡ record old { unsettled = outside range old.unsettled }
   Steps old (Forgets handle) new =
       ((number : ℕ) → map.get new.unsettled number ≡ unless_of handle.0 (map.get old.unsettled number)) × (new ≡ record old { unsettled = new.unsettled })
   Steps old Fails new = new ≡ old

@@ -1,10 +1,10 @@
 -- What a history of calls says by what went in and out: the words in which laws on histories are said.
-use Rattle.std.specs.Prelude.{◌≡◌, ℕ, ◌+◌, ◌%◌, ◌^◌, ◌<◌, ◌==◌, List, [], ◌∷◌, ◌++◌, Option, Some, None, if◌then◌else◌}
+use Rattle.std.specs.Prelude.{◌≡◌, ℕ, ◌+◌, ◌%◌, ◌^◌, ◌<◌, ◌==◌, List, [], ◌∷◌, ◌++◌, Bool, true, false, Option, Some, None, if◌then◌else◌}
 use Rattle.std.specs.FinMap as map
 use Rattle.amqp_session_unsettled.specs.Range.{ahead}
 use Rattle.amqp_session_outgoing.specs.Frames.{LinkFrame, Other, frames_of, frames_sent}
-use Rattle.amqp_session_outgoing.specs.State.{State, Leaves, with_window, with_batch}
-use Rattle.amqp_session_outgoing.specs.History.{Step, TakesWindow, Accepts, Refuses, Follows, Reserves, Settles, Forgets, Fails, Steps, History}
+use Rattle.amqp_session_outgoing.specs.State.{State, Leaves, Sends, with_window, with_batch}
+use Rattle.amqp_session_outgoing.specs.History.{Step, TakesWindow, SetsWindow, Accepts, Refuses, Follows, Reserves, Settles, SettlesRange, Forgets, Fails}
 use Rattle.amqp_session_outgoing.specs.declared.frames.Sent.{Sent}
 
 -- a delivery's number, where a transfer carries one
@@ -20,11 +20,13 @@ module _ {T F : Type 0} where
   -- the transfers that left in a call
   abbrev pub left_in : Step T F → List (Sent T F)
   left_in (TakesWindow base width left) = left
+  left_in (SetsWindow base width) = []
   left_in (Accepts handle batch left) = left
   left_in (Refuses batch error) = []
   left_in (Follows handle frame left) = []
   left_in (Reserves count) = []
   left_in (Settles number) = []
+  left_in (SettlesRange range) = []
   left_in (Forgets handle) = []
   left_in Fails = []
 
@@ -46,11 +48,13 @@ module _ {T F : Type 0} where
   -- the frames of a link that left in a call
   abbrev pub out_in : ℕ → Step T F → List (LinkFrame T F)
   out_in link (TakesWindow base width left) = frames_by link left
+  out_in link (SetsWindow base width) = []
   out_in link (Accepts handle batch left) = frames_by link left
   out_in link (Refuses batch error) = []
   out_in link (Follows handle frame left) = alone link handle.0 left
   out_in link (Reserves count) = []
   out_in link (Settles number) = []
+  out_in link (SettlesRange range) = []
   out_in link (Forgets handle) = []
   out_in link Fails = []
 
@@ -62,11 +66,13 @@ module _ {T F : Type 0} where
   -- the frames of a link that were accepted in a call
   abbrev pub accepted_in : ℕ → Step T F → List (LinkFrame T F)
   accepted_in link (TakesWindow base width left) = []
+  accepted_in link (SetsWindow base width) = []
   accepted_in link (Accepts handle batch left) = if handle.0 == link then frames_of batch else []
   accepted_in link (Refuses batch error) = []
   accepted_in link (Follows handle frame left) = if handle.0 == link then Other frame ∷ [] else []
   accepted_in link (Reserves count) = []
   accepted_in link (Settles number) = []
+  accepted_in link (SettlesRange range) = []
   accepted_in link (Forgets handle) = []
   accepted_in link Fails = []
 
@@ -78,21 +84,25 @@ module _ {T F : Type 0} where
   -- the window of a call: a new one, or the one before
   abbrev pub base_in : ℕ → Step T F → ℕ
   base_in base (TakesWindow new_base new_width left) = new_base
+  base_in base (SetsWindow new_base new_width) = new_base
   base_in base (Accepts handle batch left) = base
   base_in base (Refuses batch error) = base
   base_in base (Follows handle frame left) = base
   base_in base (Reserves count) = base
   base_in base (Settles number) = base
+  base_in base (SettlesRange range) = base
   base_in base (Forgets handle) = base
   base_in base Fails = base
 
   abbrev pub width_in : ℕ → Step T F → ℕ
   width_in width (TakesWindow new_base new_width left) = new_width
+  width_in width (SetsWindow new_base new_width) = new_width
   width_in width (Accepts handle batch left) = width
   width_in width (Refuses batch error) = width
   width_in width (Follows handle frame left) = width
   width_in width (Reserves count) = width
   width_in width (Settles number) = width
+  width_in width (SettlesRange range) = width
   width_in width (Forgets handle) = width
   width_in width Fails = width
 
@@ -104,6 +114,28 @@ module _ {T F : Type 0} where
   abbrev pub latest_width : ℕ → List (Step T F) → ℕ
   latest_width width [] = width
   latest_width width (step ∷ steps) = latest_width (width_in width step) steps
+
+  -- whether a window was set, and no call has let leave what lies in it yet
+  abbrev pub lags_in : Bool → Step T F → Bool
+  lags_in lags (TakesWindow base width left) = false
+  lags_in lags (SetsWindow base width) = true
+  lags_in lags (Accepts handle [] left) = lags
+  lags_in lags (Accepts handle (u ∷ us) left) = false
+  lags_in lags (Refuses batch error) = lags
+  lags_in lags (Follows handle frame left) = lags
+  lags_in lags (Reserves count) = lags
+  lags_in lags (Settles number) = lags
+  lags_in lags (SettlesRange range) = lags
+  lags_in lags (Forgets handle) = lags
+  lags_in lags Fails = lags
+
+  abbrev pub lags_after : Bool → List (Step T F) → Bool
+  lags_after lags [] = lags
+  lags_after lags (step ∷ steps) = lags_after (lags_in lags step) steps
+
+  -- what lies in the latest window has left
+  abbrev pub HasCaughtUp : List (Step T F) → Type 0
+  HasCaughtUp steps = lags_after false steps ≡ false
 
   -- each lies in a window
   abbrev pub EachInWindow : ℕ → ℕ → List (Sent T F) → Type 0
@@ -127,22 +159,24 @@ module _ {T F : Type 0} where
   GivesFree s None = Unit {0}
   GivesFree s (Some number) = map.get s.unsettled number ≡ None
 
-  abbrev pub EachFree : (old : State T F) (left : List (Sent T F)) (new : State T F) → Leaves old left new → Type 0
-  EachFree old [] new run = Unit {0}
-  EachFree old (s ∷ left) new run = GivesFree old s.delivery × EachFree run.0 left new run.2
+  -- the session in a call, before any transfer leaves
+  abbrev pub opened : State T F → Step T F → State T F
+  opened s (TakesWindow base width left) = with_window s base width
+  opened s (SetsWindow base width) = with_window s base width
+  opened s (Accepts handle batch left) = with_batch s handle.0 batch
+  opened s (Refuses batch error) = s
+  opened s (Follows handle frame left) = s
+  opened s (Reserves count) = s
+  opened s (Settles number) = s
+  opened s (SettlesRange range) = s
+  opened s (Forgets handle) = s
+  opened s Fails = s
 
-  -- in each call, and in all calls
-  abbrev pub EachFreeIn : (step : Step T F) (old new : State T F) → Steps old step new → Type 0
-  EachFreeIn (TakesWindow base width left) old new x = EachFree (with_window old base width) left new x.0
-  EachFreeIn (Accepts handle [] left) old new x = Unit {0}
-  EachFreeIn (Accepts handle (u ∷ us) left) old new x = EachFree (with_batch old handle.0 (u ∷ us)) left new x.2
-  EachFreeIn (Refuses batch error) old new x = Unit {0}
-  EachFreeIn (Follows handle frame left) old new x = Unit {0}
-  EachFreeIn (Reserves count) old new x = Unit {0}
-  EachFreeIn (Settles number) old new x = Unit {0}
-  EachFreeIn (Forgets handle) old new x = Unit {0}
-  EachFreeIn Fails old new x = Unit {0}
-
-  abbrev pub AllFree : (steps : List (Step T F)) (start end : State T F) → History start steps end → Type 0
-  AllFree [] start end run = Unit {0}
-  AllFree (step ∷ steps) start end run = EachFreeIn step start run.0 run.1 × AllFree steps run.0 end run.2
+  -- a transfer leaves in a call, behind others that left in it before, and this is the session right before it leaves
+  pub record LeavesIn (old : State T F) (step : Step T F) (sent : Sent T F) (here : State T F) : Type 0 where
+    pub earlier : List (Sent T F)
+    pub later : List (Sent T F)
+    pub among : left_in step ≡ earlier ++ sent ∷ later
+    pub run : Leaves (opened old step) earlier here
+    pub next : State T F
+    pub sends : Sends here sent next

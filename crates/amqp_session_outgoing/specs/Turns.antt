@@ -1,6 +1,6 @@
 -- What happens in a session, one thing after another, and how links take turns.
 use Rattle.std.specs.Prelude.{◌≡◌, ℕ, ◌+◌, ◌<◌, ◌==◌, List, [], ◌∷◌, ◌++◌, length, Some, None, if◌then◌else◌}
-use Rattle.amqp_session_outgoing.specs.History.{Step, TakesWindow, Accepts, Refuses, Follows, Reserves, Settles, Forgets, Fails}
+use Rattle.amqp_session_outgoing.specs.History.{Step, TakesWindow, SetsWindow, Accepts, Refuses, Follows, Reserves, Settles, SettlesRange, Forgets, Fails}
 use Rattle.amqp_session_outgoing.specs.declared.frames.Outbound.{Outbound}
 use Rattle.amqp_session_outgoing.specs.declared.frames.Sent.{Sent}
 
@@ -17,6 +17,7 @@ module _ {T F : Type 0} where
 
   abbrev pub events_in : Step T F → List (Event T F)
   events_in (TakesWindow base width left) = outs left
+  events_in (SetsWindow base width) = []
   events_in (Accepts handle [] left) = []
   events_in (Accepts handle (u ∷ us) left) = In handle.0 (u ∷ us) ∷ outs left
   events_in (Refuses batch error) = []
@@ -24,6 +25,7 @@ module _ {T F : Type 0} where
   events_in (Follows handle frame (Some left)) = []
   events_in (Reserves count) = []
   events_in (Settles number) = []
+  events_in (SettlesRange range) = []
   events_in (Forgets handle) = []
   events_in Fails = []
 
@@ -54,15 +56,14 @@ module _ {T F : Type 0} where
   WaitsThroughout link past [] = Waits link past
   WaitsThroughout link past (e ∷ events) = Waits link past × WaitsThroughout link (past ++ e ∷ []) events
 
-  -- two successive transfers of a link, between which it waits
+  -- after these events one transfer of the link leaves, and after those between them the next. The link waits from the
+  -- one to the other
   pub record Successive (link : ℕ) (events before between : List (Event T F)) : Type 0 where
     pub one : Sent T F
-    pub two : Sent T F
+    pub next : Sent T F
     pub later : List (Event T F)
-    pub splits : events ≡ before ++ (Out one ∷ (between ++ (Out two ∷ later)))
+    pub splits : events ≡ before ++ (Out one ∷ (between ++ (Out next ∷ later)))
     pub one_is : (one.handle).0 ≡ link
-    pub two_is : (two.handle).0 ≡ link
-    pub none : turns_of link between ≡ 0
-    pub past : List (Event T F)
-    pub past_is : past ≡ before ++ Out one ∷ []
-    pub waits : WaitsThroughout link past between
+    pub next_is : (next.handle).0 ≡ link
+    pub no_other : turns_of link between ≡ 0
+    pub waits : WaitsThroughout link (before ++ Out one ∷ []) between

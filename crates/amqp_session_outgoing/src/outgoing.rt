@@ -3,9 +3,9 @@ ghost use Rattle.amqp_session_outgoing.specs.Frames.{is_first, firsts_of, frames
 ghost use Rattle.amqp_session_outgoing.specs.Queues.{held_in, firsts_in, frames_in, units_of, room_behind, turn_of};
 ghost use Rattle.amqp_session_unsettled.specs.Touched.{Touches};
 ghost use Rattle.std.specs.FinMap as map;
-ghost use Rattle.amqp_session_outgoing.specs.State.{State, InWindow, Sends, Leaving, IsHeld, base_of, registered, window_left, with_alone, with_batch};
+ghost use Rattle.amqp_session_outgoing.specs.State.{State, InWindow, Sends, Leaving, IsHeld, base_of, registered, window_left, with_alone, with_batch, with_window};
 ghost use Rattle.amqp_session_unsettled.specs.Range.{ahead};
-ghost use Rattle.amqp_session_outgoing.specs.History.{Steps, Takes, TakesWindow, Accepts, Refuses, Follows, Reserves, Settles, Forgets, Fails, HasFreeNumbers, IsFree, RefusesBatch, fresh};
+ghost use Rattle.amqp_session_outgoing.specs.History.{Steps, Takes, TakesWindow, Accepts, Refuses, Follows, Reserves, Settles, SettlesRange, Forgets, Fails, HasFreeNumbers, IsFree, RefusesBatch, fresh};
 
 use crate::error::TransferError;
 use crate::frames::{Outbound, Part, Sent};
@@ -168,6 +168,16 @@ impl<T: Drop, F: Drop> Outgoing<T, F> {
         Ok(())
     }
 
+    /// Sets the window as a Flow tells it (part 2, 2.5.6 and 2.7.4), as `on_incoming_flow` does, and nothing else: what
+    /// waits leaves no sooner than with the next window that is taken, or with the next batch that is accepted. It takes
+    /// no memory.
+    pub fn set_window(&mut self, next_incoming_id: Option<u32>, incoming_window: u32)
+        ensures { self.new ≡ with_window self.old (base_of self.old next_incoming_id) incoming_window }
+    {
+        self.window_base = next_incoming_id.unwrap_or(self.initial_outgoing_id);
+        self.window_width = incoming_window;
+    }
+
     /// Whether a batch of transfers is accepted now, and how many transfers that begin a delivery wait once it is: those
     /// that waited, and those of the batch. It takes no memory and changes nothing.
     ///
@@ -318,6 +328,14 @@ impl<T: Drop, F: Drop> Outgoing<T, F> {
         ensures { Steps self.old (Settles number) self.new }
     {
         self.unsettled.settle(number);
+    }
+
+    /// Settles the deliveries that left and that a disposition names (part 2, 2.6.12 and 2.7.6). It takes no memory, and
+    /// time by the range or by the deliveries that there are, whichever are fewer.
+    pub fn settle_range(&mut self, range: DeliveryRange)
+        ensures { Steps self.old (SettlesRange range) self.new }
+    {
+        self.unsettled.settle_range(range);
     }
 
     /// Forgets the unsettled deliveries of a link, whose handle is given back (part 2, 2.6.2).

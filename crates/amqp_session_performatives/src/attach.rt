@@ -1,3 +1,4 @@
+//! The attach performative (part 2, 2.7.3).
 ghost use Rattle.std.specs.Prelude.{◌≡◌, IfOk, OnOk, None, refl};
 ghost use Rattle.serde_amqp_read.specs.Reads.{Unless};
 ghost use Rattle.serde_amqp_de.specs.Reads.{at_of};

@@ -1,3 +1,4 @@
+//! The begin performative (part 2, 2.7.2).
 ghost use Rattle.std.specs.Prelude.{◌≡◌, refl};
 ghost use Rattle.amqp_session_performatives.specs.Begin.{begin_item, begin_taken};
 ghost use Rattle.amqp_session_performatives.specs.BeginLaws.{begin_decided, begin_again, begin_same};

@@ -1,3 +1,4 @@
+//! The close performative (part 2, 2.7.9).
 ghost use Rattle.std.specs.Prelude.{◌≡◌, refl};
 ghost use Rattle.amqp_session_performatives.specs.Close.{close_item, close_taken};
 ghost use Rattle.amqp_session_performatives.specs.CloseLaws.{close_decided, close_again, close_same};

@@ -1,3 +1,4 @@
+//! The detach performative (part 2, 2.7.7).
 ghost use Rattle.std.specs.Prelude.{◌≡◌, refl};
 ghost use Rattle.amqp_session_performatives.specs.Detach.{detach_item, detach_taken};
 ghost use Rattle.amqp_session_performatives.specs.DetachLaws.{detach_decided, detach_again, detach_same};

@@ -1,3 +1,4 @@
+//! The disposition performative (part 2, 2.7.6).
 ghost use Rattle.std.specs.Prelude.{◌≡◌, refl};
 ghost use Rattle.amqp_session_performatives.specs.Disposition.{disposition_item, disposition_taken};
 ghost use Rattle.amqp_session_performatives.specs.DispositionLaws.{disposition_decided, disposition_again, disposition_same};

@@ -1,3 +1,4 @@
+//! The end performative (part 2, 2.7.8).
 ghost use Rattle.std.specs.Prelude.{◌≡◌, refl};
 ghost use Rattle.amqp_session_performatives.specs.End.{end_item, end_taken};
 ghost use Rattle.amqp_session_performatives.specs.EndLaws.{end_decided, end_again, end_same};

@@ -1,3 +1,4 @@
+//! The flow performative (part 2, 2.7.4).
 ghost use Rattle.std.specs.Prelude.{◌≡◌, refl};
 ghost use Rattle.amqp_session_performatives.specs.Flow.{flow_item, flow_taken};
 ghost use Rattle.amqp_session_performatives.specs.FlowLaws.{flow_decided, flow_again, flow_same};

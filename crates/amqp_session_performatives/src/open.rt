@@ -1,3 +1,4 @@
+//! The open performative (part 2, 2.7.1).
 ghost use Rattle.std.specs.Prelude.{◌≡◌, IfOk, refl};
 ghost use Rattle.amqp_session_performatives.specs.Open.{open_item, open_taken};
 ghost use Rattle.amqp_session_performatives.specs.OpenLaws.{open_decided, open_again, open_same};
