@@ -1,5 +1,5 @@
 -- Batches of transfers as their session accepts them.
-use Rattle.std.proofs.Common.{◌≡◌, ◌⊎◌, inl, inr, [], ◌∷◌, length, refl, ap, arith}
+use Rattle.std.proofs.Common.{◌≡◌, ◌⊎◌, inl, inr, ℕ, IsSome, [], ◌∷◌, length, refl, ap, arith}
 use Rattle.std.proofs.lemmas.List.Elements.{All-head, All-tail}
 use Rattle.amqp_session_types.specs.declared.handles.OutputHandle.{OutputHandle}
 use Rattle.amqp_session_outgoing.specs.Frames.{frames_count}
@@ -16,7 +16,7 @@ use Rattle.amqp_session_core.specs.Batch.{Transfers, AreWhole, IsWhole}
 use Rattle.amqp_session_core.specs.Flowing.{Sending}
 use Rattle.amqp_session_core.specs.Frames.{Left}
 use Rattle.amqp_session_core.specs.Refusals.{RefusesTransfers, refusal}
-use Rattle.amqp_session_core.specs.State.{State}
+use Rattle.amqp_session_core.specs.State.{State, link_at}
 use Rattle.amqp_session_core.proofs.Replying.{leaves-room}
 
 -- nothing stands behind a transfer of a batch
@@ -36,7 +36,8 @@ room-used handle [] left old new step = inr step.1
 room-used handle (u ∷ us) left old new step = inl (leaves-room left (with_batch old handle.0 (u ∷ us)) new step.2)
 
 -- why a session refuses a batch
-pub refuses : {R : Type 0} (s : State R) (batch : Transfers) (error : TransferError) → sending_history.RefusesBatch s.outgoing batch error → RefusesTransfers s batch (refusal error)
-refuses s batch refused.IllegalState why = why
-refuses s batch refused.NumberInUse why = why
-refuses s batch refused.Memory why = why
+pub refuses : {R : Type 0} (s : State R) (handle : ℕ) (batch : Transfers) (error : TransferError) → IsSome (link_at s handle)
+    → sending_history.RefusesBatch s.outgoing batch error → RefusesTransfers s handle batch (refusal error)
+refuses s handle batch refused.IllegalState live why = (live, why)
+refuses s handle batch refused.NumberInUse live why = (live, why)
+refuses s handle batch refused.Memory live why = (live, why)

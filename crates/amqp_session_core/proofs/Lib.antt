@@ -2,9 +2,11 @@ pub mod Tables
 pub mod Taking
 pub mod Handing
 pub mod Owning
+pub mod Keeping
 pub mod Parting
 pub mod Window
 pub mod SendingSide
+pub mod Bare
 pub mod Freeing
 pub mod Telling
 pub mod Replying
@@ -15,3 +17,4 @@ pub mod Running
 pub mod Settling
 pub mod Walking
 pub mod Batches
+pub mod Linking

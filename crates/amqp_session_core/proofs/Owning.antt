@@ -7,20 +7,15 @@ use Rattle.std.specs.Prelude.{Option, Some, None, Result, Ok, Err, slice_index_o
 use Rattle.amqp_session_types.specs.declared.handles.Handle.{Handle}
 use Rattle.amqp_session_types.specs.declared.modes.Role.{Role}
 use Rattle.amqp_session_types.specs.declared.modes.Role.TheVariants.{Sender, Receiver}
-use Rattle.amqp_session_states.specs.declared.delivery_state.DeliveryState.{DeliveryState}
-use Rattle.amqp_session_performatives.specs.declared.attach.Attach.{Attach}
-use Rattle.amqp_session_performatives.specs.declared.detach.Detach.{Detach}
 use Rattle.amqp_session_performatives.specs.declared.disposition.Disposition.{Disposition}
 use Rattle.amqp_session_performatives.specs.declared.flow.Flow.{Flow}
-use Rattle.amqp_session_performatives.specs.declared.transfer.Transfer.{Transfer}
 use Rattle.amqp_session_performatives.specs.declared.link_flow.LinkFlow.{LinkFlow}
 use Rattle.amqp_session_unsettled.specs.Table.{Table}
 use Rattle.amqp_session_core.specs.declared.relay.RelayError.{RelayError}
-use Rattle.amqp_session_core.specs.declared.relay.TransferAnswer.{TransferAnswer}
 use Rattle.amqp_session_core.specs.Echoes.{Reach, ReachesAt, Walks, opposite}
-use Rattle.amqp_session_core.specs.Relay.{LinkStep, LinkSteps, LinkHistory, Attaches, Flows, Transfers, Disposes, Detaches, Changes as ChangesIt}
+use Rattle.amqp_session_core.specs.Relay.{Relations, LinkStep, LinkSteps, LinkHistory, Attaches, Flows, Transfers, Disposes, Detaches, SendsBatch, SendsFrame, Changes as ChangesIt}
 use Rattle.amqp_session_core.specs.State.{State, StepsAt, link_at}
-use Rattle.amqp_session_core.specs.Steps.{Step, Stays, SendsBegin, TakesBegin, SendsEnd, TakesEnd, TakesAttach, TakesFlow, TakesTransfer, TakesDisposition, TakesDetach, SendsBehind, SendsTransfers, SendsDisposition, TellsFlow, Allocates, Deallocates, Reserves, Changes, Steps, FlowAt, SendsDispositionStep, with_table, told_to_link}
+use Rattle.amqp_session_core.specs.Steps.{Step, Stays, SendsBegin, TakesBegin, SendsEnd, TakesEnd, TakesAttach, TakesFlow, SetsWindow, TakesTransfer, TakesDisposition, TakesDetach, SendsBehind, SendsTransfers, SendsDisposition, TellsFlow, Allocates, Deallocates, Reserves, Changes, Steps, FlowAt, SendsDispositionStep, with_table, told_to_link}
 use Rattle.amqp_session_core.specs.Tables.{RouteTable}
 use Rattle.amqp_session_core.specs.History.{History, at_link, flow_told, told_to, reached_by, own_in, own_of, frees, is_freed}
 
@@ -34,28 +29,23 @@ neither : (b c : Bool) → (if b then true else c) ≡ false → (b ≡ false) �
 neither true c e = absurd cc
 neither false c e = (refl, e)
 
-module _ {R A T D : Type 0}
-    (attach_gives : R → Attach → Result A RelayError → R → Type 0)
-    (flow_gives : R → LinkFlow → Result (Option LinkFlow) RelayError → R → Type 0)
-    (transfer_gives : R → Transfer → List ℕ → Result (TransferAnswer T) RelayError → R → Type 0)
-    (disposition_gives : R → List ℕ → Role → Bool → Option DeliveryState → Bool → R → Type 0)
-    (detach_gives : R → Detach → Result D RelayError → R → Type 0) where
-  abbrev Takes : R → LinkStep A T D → R → Type 0
-  Takes = LinkSteps attach_gives flow_gives transfer_gives disposition_gives detach_gives
+module _ {R A T D : Type 0} (gives : Relations R A T D) where
+  abbrev Takes : R → LinkStep R A T D → R → Type 0
+  Takes = LinkSteps gives
 
-  abbrev Runs : R → List (LinkStep A T D) → R → Type 0
-  Runs = LinkHistory attach_gives flow_gives transfer_gives disposition_gives detach_gives
+  abbrev Runs : R → List (LinkStep R A T D) → R → Type 0
+  Runs = LinkHistory gives
 
   abbrev Does : State R → Step R A T D → State R → Type 0
-  Does = Steps attach_gives flow_gives transfer_gives disposition_gives detach_gives
+  Does = Steps gives
 
   -- a history of one link among the others
-  pub record Own (link : ℕ) (old : R) (steps : List (LinkStep A T D)) (links : List (Option R)) : Type 0 where
+  pub record Own (link : ℕ) (old : R) (steps : List (LinkStep R A T D)) (links : List (Option R)) : Type 0 where
     pub new : R
     pub stands : slice_index_or links link None ≡ Some new
     pub run : Runs old steps new
 
-  runs-on : (steps more : List (LinkStep A T D)) (start mid end : R) → Runs start steps mid → Runs mid more end → Runs start (steps ++ more) end
+  runs-on : (steps more : List (LinkStep R A T D)) (start mid end : R) → Runs start steps mid → Runs mid more end → Runs start (steps ++ more) end
   runs-on [] more start mid end run then_run = subst (λ (x : R). Runs x more end) run then_run
   runs-on (step ∷ steps) more start mid end run then_run = (run.0, run.1, runs-on steps more run.0 mid end run.2 then_run)
 
@@ -64,7 +54,7 @@ module _ {R A T D : Type 0}
   spared link r old new same has = record { new = r; stands = ap (λ (ls : List (Option R)). slice_index_or ls link None) same ∙ has; run = refl }
 
   -- a link at some handle takes a step: this one, or another
-  set-at : (link handle : ℕ) (r x : R) (step : LinkStep A T D) (old new : List (Option R)) → new ≡ slice_set old handle (Some x) → (handle ≡ link → Takes r step x)
+  set-at : (link handle : ℕ) (r x : R) (step : LinkStep R A T D) (old new : List (Option R)) → new ≡ slice_set old handle (Some x) → (handle ≡ link → Takes r step x)
       → slice_index_or old link None ≡ Some r → Own link r (at_link link handle (step ∷ [])) new
   set-at link handle r x step old new becomes takes has =
       elim (eqb_tells handle link) [
@@ -87,7 +77,7 @@ module _ {R A T D : Type 0}
             })
       ]
 
-  own-at : (link handle : ℕ) (r : R) (step : LinkStep A T D) (old new : List (Option R)) → StepsAt (λ before after. Takes before step after) old handle new
+  own-at : (link handle : ℕ) (r : R) (step : LinkStep R A T D) (old new : List (Option R)) → StepsAt (λ before after. Takes before step after) old handle new
       → slice_index_or old link None ≡ Some r → Own link r (at_link link handle (step ∷ [])) new
   own-at link handle r step old new at has =
       set-at link handle r at.after step old new at.others
@@ -97,17 +87,26 @@ module _ {R A T D : Type 0}
       subst (λ (x : R). Takes x step at.after) here at.stepped)
       has
 
+  -- the link stays as it is, and this is in its history
+  at-rest : (link handle : ℕ) (r : R) (step : LinkStep R A T D) (links : List (Option R))
+      → ((x : R) → x ≡ r → Takes r step x) → Own link r [] links → Own link r (at_link link handle (step ∷ [])) links
+  at-rest link handle r step links stays own = by (handle == link)
+    where
+      by : (b : Bool) → Own link r (if b then step ∷ [] else []) links
+      by true = record { new = own.new; stands = own.stands; run = (own.new, stays own.new own.run, refl) }
+      by false = own
+
   own-flow : (link : ℕ) (r : R) (old : List (Option R)) (routes : RouteTable) (flow : Flow) (named : Option Handle) (told : Option (ℕ × Result (Option LinkFlow) RelayError)) (new : List (Option R))
-      → flow.handle ≡ named → FlowAt attach_gives flow_gives transfer_gives disposition_gives detach_gives old routes flow named told new
+      → flow.handle ≡ named → FlowAt gives old routes flow named told new
       → slice_index_or old link None ≡ Some r → Own link r (told_to link flow told) new
   own-flow link r old routes flow None None new is at has = spared link r old new at has
   own-flow link r old routes flow None (Some told) new is at has = absurd at
-  own-flow link r old routes flow (Some handle) None new is at has = spared link r old new at.1 has
+  own-flow link r old routes flow (Some handle) None new is at has = absurd at
   own-flow link r old routes flow (Some handle) (Some (h, said)) new is at has =
       subst (λ (named : Option Handle). Own link r (at_link link h (flow_told flow named said)) new) (sym is) (own-at link h r (Flows (told_to_link flow handle) said) old new at.1 has)
 
   own-reach : (link : ℕ) (r : R) (d : Disposition) (x : Reach) (here : Option R) (old new : List (Option R))
-      → ReachesAt disposition_gives d old here x new → slice_index_or old link None ≡ Some r
+      → ReachesAt gives.disposes d old here x new → slice_index_or old link None ≡ Some r
       → Own link r (if x.live then at_link link x.handle (Disposes x.tag d.role d.settled d.state x.echo ∷ []) else []) new
   own-reach link r d x None old new at has =
       subst (λ (b : Bool). Own link r (if b then at_link link x.handle (Disposes x.tag d.role d.settled d.state x.echo ∷ []) else []) new) (sym at.0) (spared link r old new at.2 has)
@@ -116,7 +115,7 @@ module _ {R A T D : Type 0}
       (own-at link x.handle r (Disposes x.tag d.role d.settled d.state x.echo) old new at.1 has)
 
   own-walk : (link : ℕ) (r : R) (d : Disposition) (table : Table) (numbers : List ℕ) (old : List (Option R)) (walk : List Reach) (new : List (Option R))
-      → Walks disposition_gives d table numbers old walk new → slice_index_or old link None ≡ Some r → Own link r (reached_by link d walk) new
+      → Walks gives.disposes d table numbers old walk new → slice_index_or old link None ≡ Some r → Own link r (reached_by link d walk) new
   own-walk link r d table [] old [] new w has = spared link r old new w has
   own-walk link r d table [] old (x ∷ walk) new w has = absurd w
   own-walk link r d table (n ∷ ns) old [] new w has = absurd w
@@ -149,37 +148,47 @@ module _ {R A T D : Type 0}
   table-kept Receiver table s = refl
 
   own-sent : (link : ℕ) (r : R) (settled : Bool) (old : State R) (d : Disposition) (numbers : List ℕ) (new : State R)
-      → SendsDispositionStep attach_gives flow_gives transfer_gives disposition_gives detach_gives settled old d numbers new → link_at old link ≡ Some r → Own link r [] new.links
+      → SendsDispositionStep gives settled old d numbers new → link_at old link ≡ Some r → Own link r [] new.links
   own-sent link r false old d numbers new s has = still link r old new old s.1 refl has
   own-sent link r true old d numbers new s has = still link r old new _ s.1 (table-kept (opposite d.role) _ old) has
 
   own-step : (link : ℕ) (r : R) (step : Step R A T D) (old new : State R) → Does old step new → frees link step ≡ false → link_at old link ≡ Some r → Own link r (own_in link step) new.links
   own-step link r Stays old new s f has = still link r old new old s refl has
-  own-step link r (SendsBegin frame) old new s f has = still link r old new _ s.1 refl has
+  own-step link r (SendsBegin frame) old new s f has = still link r old new _ s.2 refl has
   own-step link r (TakesBegin channel begin base left frames) old new s f has = still link r old new _ s.5 refl has
-  own-step link r (SendsEnd frame) old new s f has = still link r old new _ s.1 refl has
+  own-step link r (SendsEnd error frame) old new s f has = still link r old new _ s.2 refl has
   own-step link r TakesEnd old new s f has = still link r old new _ s.1 refl has
   own-step link r (TakesAttach handle attach (Ok told)) old new s f has = own-at link handle r (Attaches attach (Ok told)) old.links new.links s.1 has
   own-step link r (TakesAttach handle attach (Err e)) old new s f has = own-at link handle r (Attaches attach (Err e)) old.links new.links s.1 has
   own-step link r (TakesFlow flow told reply base left frames) old new s f has = own-flow link r old.links old.routes flow flow.handle told new.links refl s.link has
+  own-step link r (SetsWindow flow base) old new s f has = still link r old new _ s.2 refl has
   own-step link r (TakesTransfer handle transfer payload (Ok told) flow) old new s f has = own-at link handle r (Transfers transfer payload (Ok told)) old.links new.links s.1 has
   own-step link r (TakesTransfer handle transfer payload (Err e) flow) old new s f has = own-at link handle r (Transfers transfer payload (Err e)) old.links new.links s.1 has
   own-step link r (TakesDisposition d walk echoes) old new s f has = own-walk link r d _ s.numbers old.links walk new.links s.walked has
   own-step link r (TakesDetach handle detach (Ok told)) old new s f has = own-at link handle r (Detaches detach (Ok told)) old.links new.links s.1 has
   own-step link r (TakesDetach handle detach (Err e)) old new s f has = own-at link handle r (Detaches detach (Err e)) old.links new.links s.1 has
-  own-step link r (SendsBehind handle frame left answer) old new s f has = still link r old new _ s.2 refl has
-  own-step link r (SendsTransfers handle batch left frames) old new s f has = still link r old new _ s.2 refl has
-  own-step link r (SendsDisposition d numbers) old new s f has = own-sent link r d.settled old d numbers new s has
+  own-step link r (SendsBehind handle frame left answer) old new s f has =
+      at-rest link handle.0 r (SendsFrame frame) new.links (λ x same. same) (still link r old new _ s.2 refl has)
+  own-step link r (SendsTransfers handle batch left frames) old new s f has =
+      at-rest link handle.0 r (SendsBatch batch) new.links (λ x same. same) (still link r old new _ s.2 refl has)
+  own-step link r (SendsDisposition d numbers) old new s f has =
+      let own = own-sent link r d.settled old d numbers new s has in
+      record { new = own.new; stands = own.stands; run = (own.new, own.run, refl) }
   own-step link r (TellsFlow frame) old new s f has = still link r old new _ s.1 refl has
   own-step link r (Allocates handle x None) old new s f has = allotted link handle r x old new s.1 s.3 has
   own-step link r (Allocates handle x (Some input)) old new s f has = allotted link handle r x old new s.2 s.4 has
   own-step link r (Deallocates handle) old new s f has = kept link handle r old new s.0 f has
   own-step link r (Reserves count) old new s f has = still link r old new _ s.1 refl has
-  own-step link r (Changes handle x) old new s f has =
-      set-at link handle r x ChangesIt old.links new.links (ap (λ (x : State R). x.links) s.1) (λ e. tt) has
+  own-step link r (Changes handle before after) old new s f has =
+      set-at link handle r after (ChangesIt before after) old.links new.links (ap (λ (x : State R). x.links) s.1)
+      (λ e.
+      let same : Some r ≡ Some before = sym has ∙ ap (link_at old) (sym e) ∙ s.0 in
+      let here : r ≡ before = cc in
+      (here, refl))
+      has
 
   pub own-history : (link : ℕ) (r : R) (steps : List (Step R A T D)) (start end : State R)
-      → History attach_gives flow_gives transfer_gives disposition_gives detach_gives start steps end → is_freed link steps ≡ false → link_at start link ≡ Some r
+      → History gives start steps end → is_freed link steps ≡ false → link_at start link ≡ Some r
       → Own link r (own_of link steps) end.links
   own-history link r [] start end run f has = still link r start end start run refl has
   own-history link r (step ∷ steps) start end run f has =

@@ -1,28 +1,16 @@
 -- A history taken apart between two calls.
 use Rattle.std.proofs.Common.{◌≡◌, ℕ, List, [], ◌∷◌, ◌++◌, Bool, true, false, refl, sym, ◌∙◌, ap, IsTrue}
 use Rattle.std.proofs.lemmas.Bool.{eq-eqb}
-use Rattle.std.specs.Prelude.{if◌then◌else◌, Option, Some, None, Result}
-use Rattle.amqp_session_types.specs.declared.modes.Role.{Role}
-use Rattle.amqp_session_states.specs.declared.delivery_state.DeliveryState.{DeliveryState}
-use Rattle.amqp_session_performatives.specs.declared.attach.Attach.{Attach}
-use Rattle.amqp_session_performatives.specs.declared.detach.Detach.{Detach}
-use Rattle.amqp_session_performatives.specs.declared.transfer.Transfer.{Transfer}
-use Rattle.amqp_session_performatives.specs.declared.link_flow.LinkFlow.{LinkFlow}
-use Rattle.amqp_session_core.specs.declared.relay.RelayError.{RelayError}
-use Rattle.amqp_session_core.specs.declared.relay.TransferAnswer.{TransferAnswer}
+use Rattle.std.specs.Prelude.{if◌then◌else◌, Option, Some, None}
+use Rattle.amqp_session_core.specs.Relay.{Relations}
 use Rattle.amqp_session_core.specs.State.{State, link_at}
 use Rattle.amqp_session_core.specs.Steps.{Step, Steps, Allocates}
 use Rattle.amqp_session_core.specs.History.{History, is_freed}
 use Rattle.amqp_session_core.proofs.Owning.{own-history}
 
-module _ {R A T D : Type 0}
-    (attach_gives : R → Attach → Result A RelayError → R → Type 0)
-    (flow_gives : R → LinkFlow → Result (Option LinkFlow) RelayError → R → Type 0)
-    (transfer_gives : R → Transfer → List ℕ → Result (TransferAnswer T) RelayError → R → Type 0)
-    (disposition_gives : R → List ℕ → Role → Bool → Option DeliveryState → Bool → R → Type 0)
-    (detach_gives : R → Detach → Result D RelayError → R → Type 0) where
+module _ {R A T D : Type 0} (gives : Relations R A T D) where
   abbrev Runs : State R → List (Step R A T D) → State R → Type 0
-  Runs = History attach_gives flow_gives transfer_gives disposition_gives detach_gives
+  Runs = History gives
 
   -- the state between the two parts
   pub record Parted (start : State R) (steps later : List (Step R A T D)) (end : State R) : Type 0 where
@@ -37,13 +25,13 @@ module _ {R A T D : Type 0}
       record { mid = rest.mid; before = (run.0, run.1, rest.before); behind = rest.behind }
 
   -- a link has its handle from then on
-  given : (handle : ℕ) (x : R) (input : Option ℕ) (old new : State R) → Steps attach_gives flow_gives transfer_gives disposition_gives detach_gives old (Allocates handle x input) new
+  given : (handle : ℕ) (x : R) (input : Option ℕ) (old new : State R) → Steps gives old (Allocates handle x input) new
       → link_at new handle ≡ Some x
   given handle x None old new s = s.3 handle ∙ ap (λ (b : Bool). if b then Some x else link_at old handle) (eq-eqb handle handle refl)
   given handle x (Some input) old new s = s.4 handle ∙ ap (λ (b : Bool). if b then Some x else link_at old handle) (eq-eqb handle handle refl)
 
   -- and none had it before
-  vacant : (handle : ℕ) (x : R) (input : Option ℕ) (old new : State R) → Steps attach_gives flow_gives transfer_gives disposition_gives detach_gives old (Allocates handle x input) new
+  vacant : (handle : ℕ) (x : R) (input : Option ℕ) (old new : State R) → Steps gives old (Allocates handle x input) new
       → link_at old handle ≡ None
   vacant handle x None old new s = s.1
   vacant handle x (Some input) old new s = s.2
@@ -56,6 +44,6 @@ module _ {R A T D : Type 0}
       by true e = refl
       by false e =
           let parts = parted between (Allocates handle two other ∷ later) run.0 end run.2 in
-          let lives = own-history attach_gives flow_gives transfer_gives disposition_gives detach_gives handle one between run.0 parts.mid parts.before e (given handle one input start run.0 run.1) in
+          let lives = own-history gives handle one between run.0 parts.mid parts.before e (given handle one input start run.0 run.1) in
           let none = vacant handle two other parts.mid parts.behind.0 parts.behind.1 in
           absurd (let clash : Some lives.new ≡ None = sym lives.stands ∙ none in cc)

@@ -5,13 +5,8 @@ use Rattle.std.specs.FinMap as map
 use Rattle.serde_amqp_item.specs.Canon.{◌>>=◌}
 use Rattle.amqp_session_types.specs.declared.handles.Handle.{Handle}
 use Rattle.amqp_session_types.specs.declared.handles.OutputHandle.{OutputHandle}
-use Rattle.amqp_session_types.specs.declared.modes.Role.{Role}
 use Rattle.amqp_session_types.specs.declared.refusals.SessionError.{SessionError}
-use Rattle.amqp_session_states.specs.declared.delivery_state.DeliveryState.{DeliveryState}
-use Rattle.amqp_session_performatives.specs.declared.attach.Attach.{Attach}
-use Rattle.amqp_session_performatives.specs.declared.detach.Detach.{Detach}
 use Rattle.amqp_session_performatives.specs.declared.flow.Flow.{Flow}
-use Rattle.amqp_session_performatives.specs.declared.transfer.Transfer.{Transfer}
 use Rattle.amqp_session_performatives.specs.LinkFlow.{link_flow}
 use Rattle.amqp_session_performatives.specs.declared.link_flow.LinkFlow.{LinkFlow}
 use Rattle.amqp_session_performatives.specs.declared.session_frame.SessionFrame.{SessionFrame}
@@ -25,12 +20,11 @@ use Rattle.amqp_session_core.specs.declared.batch.BehindFrame.TheVariants as beh
 use Rattle.amqp_session_core.specs.declared.fields.SessionFields.{SessionFields}
 use Rattle.amqp_session_core.specs.declared.flows.Answer.{Answer}
 use Rattle.amqp_session_core.specs.declared.flows.Answer.TheVariants as answer
-use Rattle.amqp_session_core.specs.declared.relay.RelayError.{RelayError}
-use Rattle.amqp_session_core.specs.declared.relay.TransferAnswer.{TransferAnswer}
 use Rattle.amqp_session_core.specs.Frames.{Left, behind_frame, has_flow}
-use Rattle.amqp_session_core.specs.Flowing.{Sending, LinkFlowed, FlowedAt, IsAnswer, Replied, IsReplyOf}
+use Rattle.amqp_session_core.specs.Flowing.{Sending, FlowsTo, LinkFlowed, FlowedAt, IsAnswer, Replied, IsReplyOf}
+use Rattle.amqp_session_core.specs.Relay.{Relations}
 use Rattle.amqp_session_core.specs.State.{live_in}
-use Rattle.amqp_session_core.specs.Steps.{OfLink, FlowAt, told_to_link}
+use Rattle.amqp_session_core.specs.Steps.{OfLink, told_to_link}
 use Rattle.amqp_session_core.specs.Tables.{RouteTable}
 
 -- the room that was made stays where transfers leave
@@ -84,35 +78,30 @@ module _ (fields : SessionFields) (old new : Sending) (out out_new : List Sessio
         flows_is = refl;
       }
 
-module _ {R A T D : Type 0}
-    (attach_gives : R → Attach → Result A RelayError → R → Type 0)
-    (flow_gives : R → LinkFlow → Result (Option LinkFlow) RelayError → R → Type 0)
-    (transfer_gives : R → Transfer → List ℕ → Result (TransferAnswer T) RelayError → R → Type 0)
-    (disposition_gives : R → List ℕ → Role → Bool → Option DeliveryState → Bool → R → Type 0)
-    (detach_gives : R → Detach → Result D RelayError → R → Type 0)
+module _ {R A T D : Type 0} (gives : Relations R A T D)
     (out : Sending) (routes : RouteTable) (old new : List (Option R)) (result : Result Answer SessionError) where
-  at-found : (flow : Flow) (handle : Handle) (found : Option ℕ) → flow.handle ≡ Some handle → live_in old (map.get routes handle.0) ≡ found → FlowedAt flow_gives out (told_to_link flow handle) found old result new
-      → LinkFlowed attach_gives flow_gives transfer_gives disposition_gives detach_gives out routes flow old result new
+  at-found : (flow : Flow) (handle : Handle) (found : Option ℕ) → flow.handle ≡ Some handle → live_in old (map.get routes handle.0) ≡ found → FlowedAt gives.flows out (told_to_link flow handle) found old result new
+      → LinkFlowed gives out routes flow old result new
   at-found flow handle None has is at =
       record {
         told = None;
-        link = subst (λ h. FlowAt attach_gives flow_gives transfer_gives disposition_gives detach_gives old routes flow h None new) (sym has) (is, at.1);
+        link = subst (λ h. FlowsTo gives old routes flow h None new) (sym has) (is, at.1);
         answered = subst (λ h. IsAnswer out flow h None result) (sym has) at.0;
       }
   at-found flow handle (Some h) has is at =
       record {
         told = Some (h, at.0);
-        link = subst (λ x. FlowAt attach_gives flow_gives transfer_gives disposition_gives detach_gives old routes flow x (Some (h, at.0)) new) (sym has) (is, at.1);
+        link = subst (λ x. FlowsTo gives old routes flow x (Some (h, at.0)) new) (sym has) (is, at.1);
         answered = subst (λ x. IsAnswer out flow x (Some (h, at.0)) result) (sym has) at.2;
       }
 
   -- a Flow that has a handle
-  pub link-flowed : (flow : Flow) (told : LinkFlow) → link_flow flow ≡ Some told → FlowedAt flow_gives out told (live_in old (map.get routes (told.handle).0)) old result new
-      → LinkFlowed attach_gives flow_gives transfer_gives disposition_gives detach_gives out routes flow old result new
+  pub link-flowed : (flow : Flow) (told : LinkFlow) → link_flow flow ≡ Some told → FlowedAt gives.flows out told (live_in old (map.get routes (told.handle).0)) old result new
+      → LinkFlowed gives out routes flow old result new
   link-flowed flow told is at = by flow.handle refl is
     where
-      by : (h : Option Handle) → flow.handle ≡ h → (h >>= λ x. Some (told_to_link flow x)) ≡ Some told → LinkFlowed attach_gives flow_gives transfer_gives disposition_gives detach_gives out routes flow old result new
+      by : (h : Option Handle) → flow.handle ≡ h → (h >>= λ x. Some (told_to_link flow x)) ≡ Some told → LinkFlowed gives out routes flow old result new
       by None e same = absurd cc
       by (Some x) e same =
           let t : told_to_link flow x ≡ told = cc in
-          at-found flow x (live_in old (map.get routes x.0)) e refl (subst (λ (f : LinkFlow). FlowedAt flow_gives out f (live_in old (map.get routes (f.handle).0)) old result new) (sym t) at)
+          at-found flow x (live_in old (map.get routes x.0)) e refl (subst (λ (f : LinkFlow). FlowedAt gives.flows out f (live_in old (map.get routes (f.handle).0)) old result new) (sym t) at)

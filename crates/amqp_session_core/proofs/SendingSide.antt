@@ -1,23 +1,17 @@
 -- The sending side's own history.
 use Rattle.std.proofs.Common.{◌≡◌, ℕ, List, [], ◌∷◌, ◌++◌, Bool, true, false, refl, sym, ◌∙◌, ap, subst}
-use Rattle.std.specs.Prelude.{Option, Some, None, Result, Ok, Err}
+use Rattle.std.specs.Prelude.{Some, None, Ok, Err}
 use Rattle.amqp_session_types.specs.declared.modes.Role.{Role}
 use Rattle.amqp_session_types.specs.declared.modes.Role.TheVariants.{Sender, Receiver}
-use Rattle.amqp_session_states.specs.declared.delivery_state.DeliveryState.{DeliveryState}
-use Rattle.amqp_session_performatives.specs.declared.attach.Attach.{Attach}
-use Rattle.amqp_session_performatives.specs.declared.detach.Detach.{Detach}
-use Rattle.amqp_session_performatives.specs.declared.transfer.Transfer.{Transfer}
-use Rattle.amqp_session_performatives.specs.declared.link_flow.LinkFlow.{LinkFlow}
-use Rattle.amqp_session_core.specs.declared.relay.RelayError.{RelayError}
-use Rattle.amqp_session_core.specs.declared.relay.TransferAnswer.{TransferAnswer}
 use Rattle.amqp_session_performatives.specs.declared.disposition.Disposition.{Disposition}
 use Rattle.amqp_session_outgoing.specs.State as sending_state
 use Rattle.amqp_session_outgoing.specs.History as sending
 use Rattle.amqp_session_core.specs.declared.batch.TransferFrame.{TransferFrame}
 use Rattle.amqp_session_core.specs.declared.batch.BehindFrame.{BehindFrame}
 use Rattle.amqp_session_core.specs.Echoes.{opposite, without}
+use Rattle.amqp_session_core.specs.Relay.{Relations}
 use Rattle.amqp_session_core.specs.State.{State}
-use Rattle.amqp_session_core.specs.Steps.{Step, Steps, Reply, NoReply, OfSession, OfLink, Replies, SendsDispositionStep, table_of, with_table, Stays, SendsBegin, TakesBegin, SendsEnd, TakesEnd, TakesAttach, TakesFlow, TakesTransfer, TakesDisposition, TakesDetach, SendsBehind, SendsTransfers, SendsDisposition, TellsFlow, Allocates, Deallocates, Reserves, Changes}
+use Rattle.amqp_session_core.specs.Steps.{Step, Steps, Reply, NoReply, OfSession, OfLink, Replies, SendsDispositionStep, table_of, with_table, Stays, SendsBegin, TakesBegin, SendsEnd, TakesEnd, TakesAttach, TakesFlow, SetsWindow, TakesTransfer, TakesDisposition, TakesDetach, SendsBehind, SendsTransfers, SendsDisposition, TellsFlow, Allocates, Deallocates, Reserves, Changes}
 use Rattle.amqp_session_core.specs.History.{History, settles, settles_as, own_settles_as, reply_steps, sending_in, sending_of}
 
 abbrev Side : Type 0
@@ -40,14 +34,9 @@ replied NoReply old new is = is
 replied OfSession old new is = is
 replied (OfLink handle flow left) old new step = (new, step, refl)
 
-module _ {R A T D : Type 0}
-    (attach_gives : R → Attach → Result A RelayError → R → Type 0)
-    (flow_gives : R → LinkFlow → Result (Option LinkFlow) RelayError → R → Type 0)
-    (transfer_gives : R → Transfer → List ℕ → Result (TransferAnswer T) RelayError → R → Type 0)
-    (disposition_gives : R → List ℕ → Role → Bool → Option DeliveryState → Bool → R → Type 0)
-    (detach_gives : R → Detach → Result D RelayError → R → Type 0) where
+module _ {R A T D : Type 0} (gives : Relations R A T D) where
   abbrev Does : State R → Step R A T D → State R → Type 0
-  Does = Steps attach_gives flow_gives transfer_gives disposition_gives detach_gives
+  Does = Steps gives
 
   same : (old new s : State R) → new ≡ s → s.outgoing ≡ old.outgoing → new.outgoing ≡ old.outgoing
   same old new s is e = ap (λ (x : State R). x.outgoing) is ∙ e
@@ -69,22 +58,23 @@ module _ {R A T D : Type 0}
   none-settled Receiver = refl
 
   sent : (settles : Bool) (old : State R) (d : Disposition) (numbers : List ℕ) (new : State R)
-      → SendsDispositionStep attach_gives flow_gives transfer_gives disposition_gives detach_gives settles old d numbers new
+      → SendsDispositionStep gives settles old d numbers new
       → sending.History old.outgoing (own_settles_as d.role numbers) new.outgoing
   sent false old d numbers new s =
       subst (λ (steps : List Sending). sending.History old.outgoing steps new.outgoing) (sym (ap (own_settles_as d.role) s.0 ∙ none-settled d.role)) (same old new old s.1 refl)
   sent true old d numbers new s = own-settled-as d.role old new numbers s.1
 
-  step-sends : (step : Step R A T D) (old new : State R) → Does old step new → sending.History old.outgoing (sending_in step) new.outgoing
+  pub step-sends : (step : Step R A T D) (old new : State R) → Does old step new → sending.History old.outgoing (sending_in step) new.outgoing
   step-sends Stays old new s = same old new old s refl
-  step-sends (SendsBegin frame) old new s = same old new _ s.1 refl
+  step-sends (SendsBegin frame) old new s = same old new _ s.2 refl
   step-sends (TakesBegin channel begin base left frames) old new s = (new.outgoing, s.2, refl)
-  step-sends (SendsEnd frame) old new s = same old new _ s.1 refl
+  step-sends (SendsEnd error frame) old new s = same old new _ s.2 refl
   step-sends TakesEnd old new s = same old new _ s.1 refl
   step-sends (TakesAttach handle attach (Ok told)) old new s = same old new _ s.2 refl
   step-sends (TakesAttach handle attach (Err e)) old new s = same old new _ s.2 refl
   step-sends (TakesFlow flow told reply base left frames) old new s =
       sends-on (reply_steps reply) (sending.TakesWindow base flow.incoming_window left ∷ []) old.outgoing s.mid new.outgoing (replied reply old.outgoing s.mid s.replied) (new.outgoing, s.window, refl)
+  step-sends (SetsWindow flow base) old new s = (new.outgoing, ap (λ (x : State R). x.outgoing) s.2, refl)
   step-sends (TakesTransfer handle transfer payload (Ok told) flow) old new s = same old new _ s.3 refl
   step-sends (TakesTransfer handle transfer payload (Err e) flow) old new s = same old new _ s.3 refl
   step-sends (TakesDisposition d walk echoes) old new s = settled-as d.role old new (record old { links = new.links }) _ refl s.becomes
@@ -98,9 +88,9 @@ module _ {R A T D : Type 0}
   step-sends (Allocates handle x (Some input)) old new s = same old new _ s.5 refl
   step-sends (Deallocates handle) old new s = (new.outgoing, s.2, refl)
   step-sends (Reserves count) old new s = (new.outgoing, s.0, refl)
-  step-sends (Changes handle x) old new s = same old new _ s.1 refl
+  step-sends (Changes handle before after) old new s = same old new _ s.1 refl
 
-  pub history-sends : (steps : List (Step R A T D)) (start end : State R) → History attach_gives flow_gives transfer_gives disposition_gives detach_gives start steps end
+  pub history-sends : (steps : List (Step R A T D)) (start end : State R) → History gives start steps end
       → sending.History start.outgoing (sending_of steps) end.outgoing
   history-sends [] start end run = ap (λ (x : State R). x.outgoing) run
   history-sends (step ∷ steps) start end run =

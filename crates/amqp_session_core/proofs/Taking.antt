@@ -2,19 +2,15 @@
 use Rattle.std.proofs.Common.{◌≡◌, ℕ, Bool, true, false, List, Option, Some, None, Result, Ok, Err, IsSome, is_some, refl, sym, ◌∙◌, ap, subst, slice_index_or, if◌then◌else◌}
 use Rattle.std.specs.FinMap as map
 use Rattle.amqp_session_types.specs.declared.handles.OutputHandle.{OutputHandle}
-use Rattle.amqp_session_types.specs.declared.modes.Role.{Role}
 use Rattle.amqp_session_types.specs.declared.refusals.SessionError.{SessionError}
 use Rattle.amqp_session_types.specs.declared.refusals.SessionError.TheVariants as session
-use Rattle.amqp_session_states.specs.declared.delivery_state.DeliveryState.{DeliveryState}
-use Rattle.amqp_session_performatives.specs.declared.attach.Attach.{Attach}
-use Rattle.amqp_session_performatives.specs.declared.detach.Detach.{Detach}
 use Rattle.amqp_session_performatives.specs.declared.transfer.Transfer.{Transfer}
-use Rattle.amqp_session_performatives.specs.declared.link_flow.LinkFlow.{LinkFlow}
 use Rattle.amqp_session_performatives.specs.declared.session_frame.SessionFrame.{SessionFrame}
 use Rattle.amqp_session_core.specs.declared.relay.RelayError.{RelayError}
 use Rattle.amqp_session_core.specs.declared.relay.RelayError.TheVariants as relay
 use Rattle.amqp_session_core.specs.declared.relay.TransferAnswer.{TransferAnswer}
 use Rattle.amqp_session_core.specs.Incoming.{AnswersAt, LinkAnswers, TransferAt}
+use Rattle.amqp_session_core.specs.Relay.{Relations}
 use Rattle.amqp_session_core.specs.State.{State, StepsAt, live_in}
 use Rattle.amqp_session_core.specs.Steps.{Counts, registers}
 use Rattle.amqp_session_core.specs.Told as told
@@ -46,25 +42,20 @@ module _ {R T : Type 0} (gives : R → Transfer → List ℕ → Result (Transfe
   answered-at None there answers = absurd cc
   answered-at (Some link) there answers = answers
 
-module _ {R A T D : Type 0}
-    (attach_gives : R → Attach → Result A RelayError → R → Type 0)
-    (flow_gives : R → LinkFlow → Result (Option LinkFlow) RelayError → R → Type 0)
-    (transfer_gives : R → Transfer → List ℕ → Result (TransferAnswer T) RelayError → R → Type 0)
-    (disposition_gives : R → List ℕ → Role → Bool → Option DeliveryState → Bool → R → Type 0)
-    (detach_gives : R → Detach → Result D RelayError → R → Type 0) where
+module _ {R A T D : Type 0} (gives : Relations R A T D) where
   pub transfer-taken : (s n : State R) (transfer : Transfer) (payload : List ℕ) (place : Result OutputHandle SessionError) (handle : OutputHandle) (answer : TransferAnswer T) (flow : Option SessionFrame)
-      → TransferAt transfer_gives s.links place transfer payload (Ok (handle, answer)) n.links
+      → TransferAt gives.transfers s.links place transfer payload (Ok (handle, answer)) n.links
       → (place ≡ Ok handle → live_in s.links (map.get s.routes (transfer.handle).0) ≡ Some handle.0)
       → Counts s flow n.fields n.taken
       → n ≡ record s { fields = n.fields; taken = n.taken; links = n.links; received = registers s.received handle.0 answer.registration }
-      → told.TransferAnswered attach_gives flow_gives transfer_gives disposition_gives detach_gives s transfer payload (Ok (record { told = answer.told; flow = flow })) n
+      → told.TransferAnswered gives s transfer payload (Ok (record { told = answer.told; flow = flow })) n
   transfer-taken s n transfer payload place handle answer flow at reaches counts becomes =
-      let went = reached-at transfer_gives transfer payload s.links n.links handle answer place at in
+      let went = reached-at gives.transfers transfer payload s.links n.links handle answer place at in
       let found : live_in s.links (map.get s.routes (transfer.handle).0) ≡ Some handle.0 = reaches went.0 in
       let there : IsSome (slice_index_or s.links handle.0 None) = there-at s.links (map.get s.routes (transfer.handle).0) handle.0 found in
-      subst (λ o. told.TransferAt attach_gives flow_gives transfer_gives disposition_gives detach_gives s transfer payload o (Ok (record { told = answer.told; flow = flow })) n) (sym found)
+      subst (λ o. told.TransferAt gives s transfer payload o (Ok (record { told = answer.told; flow = flow })) n) (sym found)
       (record {
         answer = answer;
         told = refl;
-        stepped = (found, answered-at transfer_gives transfer payload s.links n.links handle answer (slice_index_or s.links handle.0 None) there went.1, counts, becomes);
+        stepped = (found, answered-at gives.transfers transfer payload s.links n.links handle answer (slice_index_or s.links handle.0 None) there went.1, counts, becomes);
       })

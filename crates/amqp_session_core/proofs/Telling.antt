@@ -1,16 +1,9 @@
 -- Each Flow that leaves tells what was taken.
 use Rattle.std.proofs.Common.{◌≡◌, ℕ, List, [], ◌∷◌, ◌++◌, Bool, true, false, refl, sym, ◌∙◌, ap, subst, if◌then◌else◌}
 use Rattle.std.specs.Prelude.{option_to_list, nat_le, ◌+◌, ◌*◌}
-use Rattle.std.specs.Prelude.{Option, Some, None, Result, Ok, Err}
+use Rattle.std.specs.Prelude.{Option, Some, None, Ok, Err}
 use Rattle.amqp_session_types.specs.declared.modes.Role.{Role}
 use Rattle.amqp_session_types.specs.declared.modes.Role.TheVariants.{Sender, Receiver}
-use Rattle.amqp_session_states.specs.declared.delivery_state.DeliveryState.{DeliveryState}
-use Rattle.amqp_session_performatives.specs.declared.attach.Attach.{Attach}
-use Rattle.amqp_session_performatives.specs.declared.detach.Detach.{Detach}
-use Rattle.amqp_session_performatives.specs.declared.transfer.Transfer.{Transfer}
-use Rattle.amqp_session_performatives.specs.declared.link_flow.LinkFlow.{LinkFlow}
-use Rattle.amqp_session_core.specs.declared.relay.RelayError.{RelayError}
-use Rattle.amqp_session_core.specs.declared.relay.TransferAnswer.{TransferAnswer}
 use Rattle.amqp_session_performatives.specs.declared.disposition.Disposition.{Disposition}
 use Rattle.amqp_session_performatives.specs.declared.session_frame.SessionFrame.{SessionFrame}
 use Rattle.amqp_session_unsettled.specs.Table.{Table}
@@ -19,8 +12,9 @@ use Rattle.amqp_session_core.specs.declared.batch.BehindFrame.{BehindFrame}
 use Rattle.amqp_session_core.specs.declared.batch.BehindFrame.TheVariants as behind
 use Rattle.amqp_session_core.specs.Echoes.{opposite}
 use Rattle.amqp_session_core.specs.Frames.{Left, session_flow, behind_frame, frames_behind, frames_sent, frames_left}
+use Rattle.amqp_session_core.specs.Relay.{Relations}
 use Rattle.amqp_session_core.specs.State.{State}
-use Rattle.amqp_session_core.specs.Steps.{Step, Steps, Counts, Reply, NoReply, OfSession, OfLink, SendsDispositionStep, with_table, next_behind, reply_frames, at_once, Stays, SendsBegin, TakesBegin, SendsEnd, TakesEnd, TakesAttach, TakesFlow, TakesTransfer, TakesDisposition, TakesDetach, SendsBehind, SendsTransfers, SendsDisposition, TellsFlow, Allocates, Deallocates, Reserves, Changes}
+use Rattle.amqp_session_core.specs.Steps.{Step, Steps, Counts, Reply, NoReply, OfSession, OfLink, SendsDispositionStep, with_table, next_behind, reply_frames, at_once, Stays, SendsBegin, TakesBegin, SendsEnd, TakesEnd, TakesAttach, TakesFlow, SetsWindow, TakesTransfer, TakesDisposition, TakesDetach, SendsBehind, SendsTransfers, SendsDisposition, TellsFlow, Allocates, Deallocates, Reserves, Changes}
 use Rattle.amqp_session_core.specs.History.{History, AllTellNext, EachTellsNext, frames_in, next_in}
 
 -- so do frames and more behind them
@@ -59,14 +53,9 @@ module _ (f : SessionFields) where
   told-if true number = ((refl, refl), tt)
   told-if false number = tt
 
-module _ {R A T D : Type 0}
-    (attach_gives : R → Attach → Result A RelayError → R → Type 0)
-    (flow_gives : R → LinkFlow → Result (Option LinkFlow) RelayError → R → Type 0)
-    (transfer_gives : R → Transfer → List ℕ → Result (TransferAnswer T) RelayError → R → Type 0)
-    (disposition_gives : R → List ℕ → Role → Bool → Option DeliveryState → Bool → R → Type 0)
-    (detach_gives : R → Detach → Result D RelayError → R → Type 0) where
+module _ {R A T D : Type 0} (gives : Relations R A T D) where
   abbrev Does : State R → Step R A T D → State R → Type 0
-  Does = Steps attach_gives flow_gives transfer_gives disposition_gives detach_gives
+  Does = Steps gives
 
   -- the session knows the number and the window behind a call, and the call's Flows tell them
   pub record Tells (next : Option ℕ) (window : ℕ) (frames : List SessionFrame) (new : State R) : Type 0 where
@@ -92,7 +81,7 @@ module _ {R A T D : Type 0}
     tabled Sender table s is same = still _ [] is same tt
     tabled Receiver table s is same = still _ [] is same tt
 
-    sent-tells : (settled : Bool) (d : Disposition) (numbers : List ℕ) → SendsDispositionStep attach_gives flow_gives transfer_gives disposition_gives detach_gives settled old d numbers new
+    sent-tells : (settled : Bool) (d : Disposition) (numbers : List ℕ) → SendsDispositionStep gives settled old d numbers new
         → Tells next window [] new
     sent-tells false d numbers s = still old [] s.1 refl tt
     sent-tells true d numbers s = tabled (opposite d.role) _ old s.1 refl
@@ -106,11 +95,11 @@ module _ {R A T D : Type 0}
 
     step-tells : (step : Step R A T D) → Does old step new → Tells (next_in next step) window (frames_in step) new
     step-tells Stays s = still old [] s refl tt
-    step-tells (SendsBegin frame) s = still _ [] s.1 refl tt
+    step-tells (SendsBegin frame) s = still _ [] s.2 refl tt
     step-tells (TakesBegin channel begin base left frames) s =
         by-fields _ window new.fields frames new refl (ap (λ (x : State R). (x.fields).next_incoming_id) s.5) (ap (λ (x : State R). (x.fields).incoming_window) s.5 ∙ width)
         (subst (Tell new.fields) (sym s.3) (left-tell new.fields left))
-    step-tells (SendsEnd frame) s = still _ [] s.1 refl tt
+    step-tells (SendsEnd error frame) s = still _ [] s.2 refl tt
     step-tells TakesEnd s = still _ [] s.1 refl tt
     step-tells (TakesAttach handle attach (Ok told)) s = still _ [] s.2 refl tt
     step-tells (TakesAttach handle attach (Err e)) s = still _ [] s.2 refl tt
@@ -118,6 +107,9 @@ module _ {R A T D : Type 0}
         by-fields _ window new.fields frames new refl (ap (λ (x : State R). (x.fields).next_incoming_id) s.becomes) (ap (λ (x : State R). (x.fields).incoming_window) s.becomes ∙ width)
         (subst (Tell new.fields) (sym s.frames_are)
         (all-tell _ _ _ (frames_left new.fields left) (reply-tells new.fields (old.outgoing).next_outgoing_id reply) (left-tell new.fields left)))
+    step-tells (SetsWindow flow base) s =
+        by-fields _ window new.fields [] new refl (ap (λ (x : State R). (x.fields).next_incoming_id) s.2)
+        (ap (λ (x : State R). (x.fields).incoming_window) s.2 ∙ width) tt
     step-tells (TakesTransfer handle transfer payload (Ok told) flow) s = counts-tells flow s.2
     step-tells (TakesTransfer handle transfer payload (Err e) flow) s = subst (λ (o : Option SessionFrame). Tells next window (option_to_list o) new) (sym s.2) (still _ [] s.3 refl tt)
     step-tells (TakesDisposition d walk echoes) s = tabled d.role _ (record old { links = new.links }) s.becomes refl
@@ -132,11 +124,11 @@ module _ {R A T D : Type 0}
     step-tells (Allocates handle x (Some input)) s = still _ [] s.5 refl tt
     step-tells (Deallocates handle) s = still _ [] s.4 refl tt
     step-tells (Reserves count) s = still _ [] s.1 refl tt
-    step-tells (Changes handle x) s = still _ [] s.1 refl tt
+    step-tells (Changes handle before after) s = still _ [] s.1 refl tt
 
   pub history-tells : (next : Option ℕ) (window : ℕ) (steps : List (Step R A T D)) (start end : State R)
       → (start.fields).next_incoming_id ≡ next → (start.fields).incoming_window ≡ window
-      → History attach_gives flow_gives transfer_gives disposition_gives detach_gives start steps end → EachTellsNext next window steps
+      → History gives start steps end → EachTellsNext next window steps
   history-tells next window [] start end number width run = tt
   history-tells next window (step ∷ steps) start end number width run =
       let told = step-tells next window start run.0 number width step run.1 in

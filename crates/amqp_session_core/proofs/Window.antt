@@ -2,34 +2,23 @@
 use Rattle.std.proofs.Common.{◌≡◌, ℕ, List, [], ◌∷◌, Bool, true, false, refl, sym, ◌∙◌, ap, subst, arith, ◌<◌, ◌*◌, ◌+◌, if◌then◌else◌, nat_le}
 use Rattle.std.specs.Prelude.{option_to_list}
 use Rattle.std.proofs.lemmas.Bool.{leb-false}
-use Rattle.std.specs.Prelude.{Option, Some, None, Result, Ok, Err}
+use Rattle.std.specs.Prelude.{Option, Some, None, Ok, Err}
 use Rattle.amqp_session_types.specs.declared.modes.Role.{Role}
 use Rattle.amqp_session_types.specs.declared.modes.Role.TheVariants.{Sender, Receiver}
-use Rattle.amqp_session_states.specs.declared.delivery_state.DeliveryState.{DeliveryState}
-use Rattle.amqp_session_performatives.specs.declared.attach.Attach.{Attach}
-use Rattle.amqp_session_performatives.specs.declared.detach.Detach.{Detach}
-use Rattle.amqp_session_performatives.specs.declared.transfer.Transfer.{Transfer}
-use Rattle.amqp_session_performatives.specs.declared.link_flow.LinkFlow.{LinkFlow}
-use Rattle.amqp_session_core.specs.declared.relay.RelayError.{RelayError}
-use Rattle.amqp_session_core.specs.declared.relay.TransferAnswer.{TransferAnswer}
 use Rattle.amqp_session_performatives.specs.declared.session_frame.SessionFrame.{SessionFrame}
 use Rattle.amqp_session_performatives.specs.declared.disposition.Disposition.{Disposition}
 use Rattle.amqp_session_unsettled.specs.Table.{Table}
 use Rattle.amqp_session_core.specs.declared.fields.SessionFields.{SessionFields}
 use Rattle.amqp_session_core.specs.Echoes.{opposite}
 use Rattle.amqp_session_core.specs.Frames.{has_flow, session_flow}
+use Rattle.amqp_session_core.specs.Relay.{Relations}
 use Rattle.amqp_session_core.specs.State.{State}
-use Rattle.amqp_session_core.specs.Steps.{Step, Steps, Counts, SendsDispositionStep, with_table, taken_behind, Stays, SendsBegin, TakesBegin, SendsEnd, TakesEnd, TakesAttach, TakesFlow, TakesTransfer, TakesDisposition, TakesDetach, SendsBehind, SendsTransfers, SendsDisposition, TellsFlow, Allocates, Deallocates, Reserves, Changes}
+use Rattle.amqp_session_core.specs.Steps.{Step, Steps, Counts, SendsDispositionStep, with_table, taken_behind, Stays, SendsBegin, TakesBegin, SendsEnd, TakesEnd, TakesAttach, TakesFlow, SetsWindow, TakesTransfer, TakesDisposition, TakesDetach, SendsBehind, SendsTransfers, SendsDisposition, TellsFlow, Allocates, Deallocates, Reserves, Changes}
 use Rattle.amqp_session_core.specs.History.{History, frames_in, taken_in, taken_since}
 
-module _ {R A T D : Type 0}
-    (attach_gives : R → Attach → Result A RelayError → R → Type 0)
-    (flow_gives : R → LinkFlow → Result (Option LinkFlow) RelayError → R → Type 0)
-    (transfer_gives : R → Transfer → List ℕ → Result (TransferAnswer T) RelayError → R → Type 0)
-    (disposition_gives : R → List ℕ → Role → Bool → Option DeliveryState → Bool → R → Type 0)
-    (detach_gives : R → Detach → Result D RelayError → R → Type 0) where
+module _ {R A T D : Type 0} (gives : Relations R A T D) where
   abbrev Does : State R → Step R A T D → State R → Type 0
-  Does = Steps attach_gives flow_gives transfer_gives disposition_gives detach_gives
+  Does = Steps gives
 
   -- what a call leaves of the own window
   pub record Used (old : State R) (frames : List SessionFrame) (more : ℕ) (new : State R) : Type 0 where
@@ -77,19 +66,20 @@ module _ {R A T D : Type 0}
   tabled Receiver old new table s is same count = unused old new _ [] is (ap (λ (f : SessionFields). f.incoming_window) same) count
 
   sent-used : (settled : Bool) (old : State R) (d : Disposition) (numbers : List ℕ) (new : State R)
-      → SendsDispositionStep attach_gives flow_gives transfer_gives disposition_gives detach_gives settled old d numbers new → Used old [] 0 new
+      → SendsDispositionStep gives settled old d numbers new → Used old [] 0 new
   sent-used false old d numbers new s = unused old new old [] s.1 refl refl
   sent-used true old d numbers new s = tabled (opposite d.role) old new _ old s.1 refl refl
 
   step-used : (step : Step R A T D) (old new : State R) → Does old step new → Used old (frames_in step) (taken_in step) new
   step-used Stays old new s = unused old new old [] s refl refl
-  step-used (SendsBegin frame) old new s = unused old new _ [] s.1 refl refl
+  step-used (SendsBegin frame) old new s = unused old new _ [] s.2 refl refl
   step-used (TakesBegin channel begin base left frames) old new s = unused old new _ frames s.5 refl s.4
-  step-used (SendsEnd frame) old new s = unused old new _ [] s.1 refl refl
+  step-used (SendsEnd error frame) old new s = unused old new _ [] s.2 refl refl
   step-used TakesEnd old new s = unused old new _ [] s.1 refl refl
   step-used (TakesAttach handle attach (Ok told)) old new s = unused old new _ [] s.2 refl refl
   step-used (TakesAttach handle attach (Err e)) old new s = unused old new _ [] s.2 refl refl
   step-used (TakesFlow flow told reply base left frames) old new s = unused old new _ frames s.becomes refl refl
+  step-used (SetsWindow flow base) old new s = unused old new _ [] s.2 refl refl
   step-used (TakesTransfer handle transfer payload (Ok told) flow) old new s = counted old new flow s.2
   step-used (TakesTransfer handle transfer payload (Err e) flow) old new s = subst (λ (o : Option SessionFrame). Used old (option_to_list o) 0 new) (sym s.2) (unused old new _ [] s.3 refl refl)
   step-used (TakesDisposition d walk echoes) old new s = tabled d.role old new _ (record old { links = new.links }) s.becomes refl refl
@@ -103,10 +93,10 @@ module _ {R A T D : Type 0}
   step-used (Allocates handle x (Some input)) old new s = unused old new _ [] s.5 refl refl
   step-used (Deallocates handle) old new s = unused old new _ [] s.4 refl refl
   step-used (Reserves count) old new s = unused old new _ [] s.1 refl refl
-  step-used (Changes handle x) old new s = unused old new _ [] s.1 refl refl
+  step-used (Changes handle before after) old new s = unused old new _ [] s.1 refl refl
 
   -- the count is kept, and stays below half of the window
-  pub history-used : (steps : List (Step R A T D)) (start end : State R) → History attach_gives flow_gives transfer_gives disposition_gives detach_gives start steps end
+  pub history-used : (steps : List (Step R A T D)) (start end : State R) → History gives start steps end
       → 2 * start.taken < (start.fields).incoming_window → 2 * taken_since start.taken steps < (start.fields).incoming_window
   history-used [] start end run some = some
   history-used (step ∷ steps) start end run some =

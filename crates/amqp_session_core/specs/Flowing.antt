@@ -1,14 +1,9 @@
 -- How a session takes a Flow, part by part.
 use Rattle.std.specs.Prelude.{◌≡◌, ◌≢◌, ℕ, ◌++◌, Bool, List, Option, Some, None, Result, Ok, Err, IsOk, ◌≤◌, ⊤, if◌then◌else◌}
+use Rattle.std.specs.FinMap as map
 use Rattle.amqp_session_types.specs.declared.handles.Handle.{Handle}
 use Rattle.amqp_session_types.specs.declared.refusals.SessionError.{SessionError}
 use Rattle.amqp_session_types.specs.declared.refusals.SessionError.TheVariants as session
-use Rattle.amqp_session_types.specs.declared.modes.Role.{Role}
-use Rattle.amqp_session_states.specs.declared.delivery_state.DeliveryState.{DeliveryState}
-use Rattle.amqp_session_performatives.specs.declared.attach.Attach.{Attach}
-use Rattle.amqp_session_performatives.specs.declared.detach.Detach.{Detach}
-use Rattle.amqp_session_performatives.specs.declared.transfer.Transfer.{Transfer}
-use Rattle.amqp_session_core.specs.declared.relay.TransferAnswer.{TransferAnswer}
 use Rattle.amqp_session_performatives.specs.declared.flow.Flow.{Flow}
 use Rattle.amqp_session_performatives.specs.declared.link_flow.LinkFlow.{LinkFlow}
 use Rattle.amqp_session_performatives.specs.declared.session_frame.SessionFrame.{SessionFrame}
@@ -22,11 +17,11 @@ use Rattle.amqp_session_core.specs.declared.flows.Answer.{Answer}
 use Rattle.amqp_session_core.specs.declared.flows.Answer.TheVariants as answer
 use Rattle.amqp_session_core.specs.declared.relay.RelayError.{RelayError}
 use Rattle.amqp_session_core.specs.declared.relay.RelayError.TheVariants as relay
-use Rattle.amqp_session_core.specs.Relay.{session_error}
+use Rattle.amqp_session_core.specs.Relay.{Relations, session_error}
 use Rattle.amqp_session_core.specs.Frames.{Left, frames_left, has_flow}
 use Rattle.amqp_session_core.specs.Steps.{Reply, NoReply, OfSession, OfLink, Replies, reply_frames, FlowAt}
 use Rattle.amqp_session_core.specs.Tables.{RouteTable}
-use Rattle.amqp_session_core.specs.State.{StepsAt}
+use Rattle.amqp_session_core.specs.State.{StepsAt, live_in}
 
 abbrev pub Sending : Type 0
 Sending = sending.State TransferFrame BehindFrame
@@ -46,16 +41,16 @@ IsAnswer out flow None told result = result ≡ Ok (if flow.echo then answer.OfS
 IsAnswer out flow (Some handle) None result = result ≡ Err session.UnattachedHandle
 IsAnswer out flow (Some handle) (Some (h, said)) result = AnswersFlow out h said result
 
-module _ {R A T D : Type 0}
-    (attach_gives : R → Attach → Result A RelayError → R → Type 0)
-    (flow_gives : R → LinkFlow → Result (Option LinkFlow) RelayError → R → Type 0)
-    (transfer_gives : R → Transfer → List ℕ → Result (TransferAnswer T) RelayError → R → Type 0)
-    (disposition_gives : R → List ℕ → Role → Bool → Option DeliveryState → Bool → R → Type 0)
-    (detach_gives : R → Detach → Result D RelayError → R → Type 0) where
+module _ {R A T D : Type 0} (gives : Relations R A T D) where
+  -- which link takes a Flow, if one is reached, and what it tells
+  abbrev pub FlowsTo : List (Option R) → RouteTable → Flow → Option Handle → Told → List (Option R) → Type 0
+  FlowsTo old routes flow (Some handle) None new = (live_in old (map.get routes handle.0) ≡ None) × (new ≡ old)
+  FlowsTo old routes flow handle told new = FlowAt gives old routes flow handle told new
+
   -- a link took a Flow, and this is the answer
   pub record LinkFlowed (out : Sending) (routes : RouteTable) (flow : Flow) (old : List (Option R)) (result : Result Answer SessionError) (new : List (Option R)) : Type 0 where
     pub told : Told
-    pub link : FlowAt attach_gives flow_gives transfer_gives disposition_gives detach_gives old routes flow flow.handle told new
+    pub link : FlowsTo old routes flow flow.handle told new
     pub answered : IsAnswer out flow flow.handle told result
 
 -- a link took a Flow at the handle that it reaches, and this is the answer

@@ -3,12 +3,8 @@ use Rattle.std.specs.Prelude.{◌≡◌, ℕ, ◌+◌, ◌==◌, List, [], ◌�
 use Rattle.amqp_session_types.specs.declared.handles.Handle.{Handle}
 use Rattle.amqp_session_types.specs.declared.modes.Role.{Role}
 use Rattle.amqp_session_types.specs.declared.modes.Role.TheVariants.{Sender, Receiver}
-use Rattle.amqp_session_states.specs.declared.delivery_state.DeliveryState.{DeliveryState}
-use Rattle.amqp_session_performatives.specs.declared.attach.Attach.{Attach}
-use Rattle.amqp_session_performatives.specs.declared.detach.Detach.{Detach}
 use Rattle.amqp_session_performatives.specs.declared.disposition.Disposition.{Disposition}
 use Rattle.amqp_session_performatives.specs.declared.flow.Flow.{Flow}
-use Rattle.amqp_session_performatives.specs.declared.transfer.Transfer.{Transfer}
 use Rattle.amqp_session_performatives.specs.declared.link_flow.LinkFlow.{LinkFlow}
 use Rattle.amqp_session_performatives.specs.declared.session_frame.SessionFrame.{SessionFrame}
 use Rattle.amqp_session_performatives.specs.declared.session_frame.SessionFrameBody.{SessionFrameBody}
@@ -18,12 +14,11 @@ use Rattle.amqp_session_core.specs.declared.batch.TransferFrame.{TransferFrame}
 use Rattle.amqp_session_core.specs.declared.batch.BehindFrame.{BehindFrame}
 use Rattle.amqp_session_core.specs.declared.batch.BehindFrame.TheVariants as behind
 use Rattle.amqp_session_core.specs.declared.relay.RelayError.{RelayError}
-use Rattle.amqp_session_core.specs.declared.relay.TransferAnswer.{TransferAnswer}
 use Rattle.amqp_session_core.specs.Echoes.{Reach, settled_by}
 use Rattle.amqp_session_core.specs.Frames.{has_flow}
-use Rattle.amqp_session_core.specs.Relay.{LinkStep, Attaches, Flows, Transfers, Disposes, Detaches, Changes as ChangesIt}
+use Rattle.amqp_session_core.specs.Relay.{Relations, LinkStep, Attaches, Flows, Transfers, Disposes, Detaches, SendsBatch, SendsFrame, SendsDisposition as SendsItsDisposition, Changes as ChangesIt}
 use Rattle.amqp_session_core.specs.State.{State}
-use Rattle.amqp_session_core.specs.Steps.{Step, Stays, SendsBegin, TakesBegin, SendsEnd, TakesEnd, TakesAttach, TakesFlow, TakesTransfer, TakesDisposition, TakesDetach, SendsBehind, SendsTransfers, SendsDisposition, TellsFlow, Allocates, Deallocates, Reserves, Changes, Steps, Reply, NoReply, OfSession, OfLink, told_to_link, next_behind}
+use Rattle.amqp_session_core.specs.Steps.{Step, Stays, SendsBegin, TakesBegin, SendsEnd, TakesEnd, TakesAttach, TakesFlow, SetsWindow, TakesTransfer, TakesDisposition, TakesDetach, SendsBehind, SendsTransfers, SendsDisposition, TellsFlow, Allocates, Deallocates, Reserves, Changes, Steps, Reply, NoReply, OfSession, OfLink, told_to_link, next_behind}
 
 abbrev Sending : Type 0
 Sending = sending.Step TransferFrame BehindFrame
@@ -56,21 +51,21 @@ abbrev pub AllTellNext : Option ℕ → ℕ → List SessionFrame → Type 0
 AllTellNext next window [] = Unit {0}
 AllTellNext next window (frame ∷ frames) = TellsNext next window frame.body × AllTellNext next window frames
 
-module _ {A T D : Type 0} where
+module _ {R A T D : Type 0} where
   -- a Flow for a link
-  abbrev pub flow_told : Flow → Option Handle → Result (Option LinkFlow) RelayError → List (LinkStep A T D)
+  abbrev pub flow_told : Flow → Option Handle → Result (Option LinkFlow) RelayError → List (LinkStep R A T D)
   flow_told flow None told = []
   flow_told flow (Some handle) told = Flows (told_to_link flow handle) told ∷ []
 
-  abbrev pub at_link : ℕ → ℕ → List (LinkStep A T D) → List (LinkStep A T D)
+  abbrev pub at_link : ℕ → ℕ → List (LinkStep R A T D) → List (LinkStep R A T D)
   at_link link handle steps = if handle == link then steps else []
 
-  abbrev pub told_to : ℕ → Flow → Option (ℕ × Result (Option LinkFlow) RelayError) → List (LinkStep A T D)
+  abbrev pub told_to : ℕ → Flow → Option (ℕ × Result (Option LinkFlow) RelayError) → List (LinkStep R A T D)
   told_to link flow None = []
   told_to link flow (Some told) = at_link link told.0 (flow_told flow flow.handle told.1)
 
   -- the deliveries of a link that a disposition reached
-  abbrev pub reached_by : ℕ → Disposition → List Reach → List (LinkStep A T D)
+  abbrev pub reached_by : ℕ → Disposition → List Reach → List (LinkStep R A T D)
   reached_by link d [] = []
   reached_by link d (r ∷ walk) = (if r.live then at_link link r.handle (Disposes r.tag d.role d.settled d.state r.echo ∷ []) else []) ++ reached_by link d walk
 
@@ -80,10 +75,11 @@ module _ {R A T D : Type 0} where
   sending_in Stays = []
   sending_in (SendsBegin frame) = []
   sending_in (TakesBegin channel begin base left frames) = sending.TakesWindow base begin.incoming_window left ∷ []
-  sending_in (SendsEnd frame) = []
+  sending_in (SendsEnd error frame) = []
   sending_in TakesEnd = []
   sending_in (TakesAttach handle attach told) = []
   sending_in (TakesFlow flow told reply base left frames) = reply_steps reply ++ sending.TakesWindow base flow.incoming_window left ∷ []
+  sending_in (SetsWindow flow base) = sending.SetsWindow base flow.incoming_window ∷ []
   sending_in (TakesTransfer handle transfer payload told flow) = []
   sending_in (TakesDisposition d walk echoes) = settles_as d.role (settled_by d.settled walk)
   sending_in (TakesDetach handle detach told) = []
@@ -94,36 +90,47 @@ module _ {R A T D : Type 0} where
   sending_in (Allocates handle link input) = []
   sending_in (Deallocates handle) = sending.Forgets (record { 0 = handle }) ∷ []
   sending_in (Reserves count) = sending.Reserves count ∷ []
-  sending_in (Changes handle link) = []
+  sending_in (Changes handle before after) = []
 
   abbrev pub sending_of : List (Step R A T D) → List Sending
   sending_of [] = []
   sending_of (step ∷ steps) = sending_in step ++ sending_of steps
 
-  -- what a call does to the link with an own handle
-  abbrev pub own_in : ℕ → Step R A T D → List (LinkStep A T D)
+  -- what a call does to the link with an own handle, and what is sent for it
+  abbrev pub own_in : ℕ → Step R A T D → List (LinkStep R A T D)
   own_in link Stays = []
   own_in link (SendsBegin frame) = []
   own_in link (TakesBegin channel begin base left frames) = []
-  own_in link (SendsEnd frame) = []
+  own_in link (SendsEnd error frame) = []
   own_in link TakesEnd = []
   own_in link (TakesAttach handle attach told) = at_link link handle (Attaches attach told ∷ [])
   own_in link (TakesFlow flow told reply base left frames) = told_to link flow told
+  own_in link (SetsWindow flow base) = []
   own_in link (TakesTransfer handle transfer payload told flow) = at_link link handle (Transfers transfer payload told ∷ [])
   own_in link (TakesDisposition d walk echoes) = reached_by link d walk
   own_in link (TakesDetach handle detach told) = at_link link handle (Detaches detach told ∷ [])
-  own_in link (SendsBehind handle frame left answer) = []
-  own_in link (SendsTransfers handle batch left frames) = []
-  own_in link (SendsDisposition d numbers) = []
+  own_in link (SendsBehind handle frame left answer) = at_link link handle.0 (SendsFrame frame ∷ [])
+  own_in link (SendsTransfers handle batch left frames) = at_link link handle.0 (SendsBatch batch ∷ [])
+  own_in link (SendsDisposition d numbers) = SendsItsDisposition d ∷ []
   own_in link (TellsFlow frame) = []
   own_in link (Allocates handle new input) = []
   own_in link (Deallocates handle) = []
   own_in link (Reserves count) = []
-  own_in link (Changes handle new) = at_link link handle (ChangesIt ∷ [])
+  own_in link (Changes handle before after) = at_link link handle (ChangesIt before after ∷ [])
 
-  abbrev pub own_of : ℕ → List (Step R A T D) → List (LinkStep A T D)
+  abbrev pub own_of : ℕ → List (Step R A T D) → List (LinkStep R A T D)
   own_of link [] = []
   own_of link (step ∷ steps) = own_in link step ++ own_of link steps
+
+  -- where a link's owner changes it, the change keeps a relation
+  abbrev pub CallKeeps : (R → R → Type 0) → Step R A T D → Type 0
+  CallKeeps keeps (Changes handle before after) = keeps before after
+  CallKeeps keeps step = Unit {0}
+
+  -- each change of a link by its owner does
+  abbrev pub OwnersKeep : (R → R → Type 0) → List (Step R A T D) → Type 0
+  OwnersKeep keeps [] = Unit {0}
+  OwnersKeep keeps (step ∷ steps) = CallKeeps keeps step × OwnersKeep keeps steps
 
   -- the own handle is taken back
   abbrev pub frees : ℕ → Step R A T D → Bool
@@ -158,6 +165,7 @@ module _ {R A T D : Type 0} where
   abbrev pub next_in : Option ℕ → Step R A T D → Option ℕ
   next_in next (TakesBegin channel begin base left frames) = Some begin.next_outgoing_id
   next_in next (TakesFlow flow told reply base left frames) = Some flow.next_outgoing_id
+  next_in next (SetsWindow flow base) = Some flow.next_outgoing_id
   next_in next (TakesTransfer handle transfer payload (Ok told) flow) = next_behind next
   next_in next step = next
 
@@ -166,13 +174,8 @@ module _ {R A T D : Type 0} where
   EachTellsNext next window [] = Unit {0}
   EachTellsNext next window (step ∷ steps) = AllTellNext (next_in next step) window (frames_in step) × EachTellsNext (next_in next step) window steps
 
-module _ {R A T D : Type 0}
-    (attach_gives : R → Attach → Result A RelayError → R → Type 0)
-    (flow_gives : R → LinkFlow → Result (Option LinkFlow) RelayError → R → Type 0)
-    (transfer_gives : R → Transfer → List ℕ → Result (TransferAnswer T) RelayError → R → Type 0)
-    (disposition_gives : R → List ℕ → Role → Bool → Option DeliveryState → Bool → R → Type 0)
-    (detach_gives : R → Detach → Result D RelayError → R → Type 0) where
+module _ {R A T D : Type 0} (gives : Relations R A T D) where
   -- the states around a list of calls
   abbrev pub History : State R → List (Step R A T D) → State R → Type 0
   History start [] end = end ≡ start
-  History start (step ∷ steps) end = (mid : State R) × Steps attach_gives flow_gives transfer_gives disposition_gives detach_gives start step mid × History mid steps end
+  History start (step ∷ steps) end = (mid : State R) × Steps gives start step mid × History mid steps end

@@ -13,4 +13,5 @@ pub mod Flowing
 pub mod Refusals
 pub mod Told
 pub mod History
+pub mod Vacant
 pub mod Lends

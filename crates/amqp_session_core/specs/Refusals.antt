@@ -11,7 +11,7 @@ use Rattle.amqp_session_outgoing.specs.declared.error.TransferError.TheVariants 
 use Rattle.amqp_session_core.specs.Batch.{Transfers}
 use Rattle.amqp_session_core.specs.declared.state.SessionState.{SessionState}
 use Rattle.amqp_session_core.specs.Tables.{RouteTable}
-use Rattle.amqp_session_core.specs.State.{State}
+use Rattle.amqp_session_core.specs.State.{State, link_at}
 
 -- a handle is offered that is above the peer's handle-max (part 2, 2.7.2), or there is no memory
 abbrev pub RefusesHandle : ℕ → ℕ → SessionError → Type 0
@@ -32,7 +32,7 @@ RefusesLink s None e = RefusesHandle s.handle_max s.offered e
 RefusesLink s (Some input) e = RefusesInput s.routes input s.handle_max s.offered e
 
 -- no link has the handle, or there is no memory
-abbrev pub RefusesReach : Option ℕ → SessionError → Type 0
+abbrev pub RefusesReach : {X : Type 0} → Option X → SessionError → Type 0
 RefusesReach found UnattachedHandle = found ≡ None
 RefusesReach found Memory = IsSome found
 RefusesReach found e = ⊥
@@ -49,9 +49,15 @@ refusal sending.IllegalState = IllegalState
 refusal sending.NumberInUse = NumberInUse
 refusal sending.Memory = Memory
 
--- why a batch is refused: a delivery without a tag, then a number that is in use, then want of memory (part 2, 2.7.5 and 2.8.6)
-abbrev pub RefusesTransfers : {R : Type 0} → State R → Transfers → SessionError → Type 0
-RefusesTransfers s batch IllegalState = RefusesBatch s.outgoing batch sending.IllegalState
-RefusesTransfers s batch NumberInUse = RefusesBatch s.outgoing batch sending.NumberInUse
-RefusesTransfers s batch Memory = RefusesBatch s.outgoing batch sending.Memory
-RefusesTransfers s batch e = ⊥
+-- why a batch of a link that lives is refused: a delivery without a tag, then a number that is in use, then want of memory
+-- (part 2, 2.7.5 and 2.8.6)
+abbrev pub RefusesLive : {R : Type 0} → State R → Transfers → SessionError → Type 0
+RefusesLive s batch IllegalState = RefusesBatch s.outgoing batch sending.IllegalState
+RefusesLive s batch NumberInUse = RefusesBatch s.outgoing batch sending.NumberInUse
+RefusesLive s batch Memory = RefusesBatch s.outgoing batch sending.Memory
+RefusesLive s batch e = ⊥
+
+-- why a batch is refused: no link has the handle, or else as above
+abbrev pub RefusesTransfers : {R : Type 0} → State R → ℕ → Transfers → SessionError → Type 0
+RefusesTransfers s handle batch UnattachedHandle = link_at s handle ≡ None
+RefusesTransfers s handle batch e = IsSome (link_at s handle) × RefusesLive s batch e

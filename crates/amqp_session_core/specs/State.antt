@@ -1,9 +1,10 @@
 -- What a contract sees of a session.
-use Rattle.std.specs.Prelude.{◌≡◌, ℕ, ◌-◌, ◌^◌, List, [], Option, Some, None, is_some, if◌then◌else◌, slice_index_or, slice_set}
+use Rattle.std.specs.Prelude.{◌≡◌, ℕ, ◌-◌, ◌^◌, List, [], ◌∷◌, Bool, true, Option, Some, None, is_some, if◌then◌else◌, slice_index_or, slice_set}
 use Rattle.std.specs.FinMap as map
 use Rattle.std.specs.Ordering.{nat_cmp}
 use Rattle.amqp_session_types.specs.declared.channels.IncomingChannel.{IncomingChannel}
 use Rattle.amqp_session_types.specs.declared.channels.OutgoingChannel.{OutgoingChannel}
+use Rattle.amqp_session_types.specs.declared.handles.Handle.{Handle}
 use Rattle.amqp_session_unsettled.specs.declared.delivery.Delivery.{Delivery}
 use Rattle.amqp_session_outgoing.specs.State as sending
 use Rattle.amqp_session_outgoing.specs.History as sending_history
@@ -55,6 +56,12 @@ module _ {R : Type 0} where
   abbrev pub link_at : State R → ℕ → Option R
   link_at s handle = slice_index_or s.links handle None
 
+  -- the links, by rising own handle
+  abbrev pub links_in : List (Option R) → List R
+  links_in [] = []
+  links_in (None ∷ links) = links_in links
+  links_in (Some link ∷ links) = link ∷ links_in links
+
   abbrev pub live_in : List (Option R) → Option ℕ → Option ℕ
   live_in links None = None
   live_in links (Some handle) = if is_some (slice_index_or links handle None) then Some handle else None
@@ -62,6 +69,14 @@ module _ {R : Type 0} where
   -- the own handle of the link that the peer's frames with a handle reach (part 2, 2.6.2)
   abbrev pub reached : State R → ℕ → Option ℕ
   reached s handle = live_in s.links (map.get s.routes handle)
+
+  -- a frame that may have a handle has none, or that of a link
+  abbrev pub leads_in : List (Option R) → map.FinMap nat_cmp ℕ → Option Handle → Bool
+  leads_in links routes None = true
+  leads_in links routes (Some handle) = is_some (live_in links (map.get routes handle.0))
+
+  abbrev pub leads : State R → Option Handle → Bool
+  leads s handle = leads_in s.links s.routes handle
 
 -- the link with this own handle takes a step, and every other link stays
 pub record StepsAt {R : Type 0} (step : R → R → Type 0) (old : List (Option R)) (handle : ℕ) (new : List (Option R)) : Type 0 where

@@ -1,12 +1,12 @@
 -- What the calls of a session do. A call that is refused for want of memory leaves all as before.
-use Rattle.std.specs.Prelude.{◌≡◌, ◌⊎◌, ℕ, ◌+◌, ◌*◌, ◌%◌, ◌^◌, ◌≤◌, List, [], ◌∷◌, ◌++◌, Bool, true, false, Option, Some, None, IsSome, option_map, option_to_list, ◌==◌, if◌then◌else◌, Result, Ok, Err, slice_set, nat_le}
+use Rattle.std.specs.Prelude.{◌≡◌, ℕ, ◌+◌, ◌*◌, ◌%◌, ◌^◌, ◌-◌, ◌≤◌, List, [], ◌∷◌, ◌++◌, Bool, true, false, Option, Some, None, IsSome, option_map, option_to_list, ◌==◌, if◌then◌else◌, Result, Ok, Err, slice_set, nat_le}
 use Rattle.std.specs.FinMap as map
 use Rattle.amqp_session_types.specs.declared.channels.IncomingChannel.{IncomingChannel}
+use Rattle.amqp_session_types.specs.declared.error.Error.{Error}
 use Rattle.amqp_session_types.specs.declared.handles.Handle.{Handle}
 use Rattle.amqp_session_types.specs.declared.handles.OutputHandle.{OutputHandle}
 use Rattle.amqp_session_types.specs.declared.modes.Role.{Role}
 use Rattle.amqp_session_types.specs.declared.modes.Role.TheVariants.{Sender, Receiver}
-use Rattle.amqp_session_states.specs.declared.delivery_state.DeliveryState.{DeliveryState}
 use Rattle.amqp_session_performatives.specs.declared.attach.Attach.{Attach}
 use Rattle.amqp_session_performatives.specs.declared.begin.Begin.{Begin}
 use Rattle.amqp_session_performatives.specs.declared.detach.Detach.{Detach}
@@ -15,11 +15,13 @@ use Rattle.amqp_session_performatives.specs.declared.flow.Flow.{Flow}
 use Rattle.amqp_session_performatives.specs.declared.transfer.Transfer.{Transfer}
 use Rattle.amqp_session_performatives.specs.declared.link_flow.LinkFlow.{LinkFlow}
 use Rattle.amqp_session_performatives.specs.declared.session_frame.SessionFrame.{SessionFrame}
+use Rattle.amqp_session_performatives.specs.declared.session_frame.SessionFrameBody.TheVariants as body
 use Rattle.amqp_session_unsettled.specs.Range.{range_of}
 use Rattle.amqp_session_unsettled.specs.Touched.{Touches}
 use Rattle.amqp_session_unsettled.specs.Table.{Table, unless_of}
 use Rattle.amqp_session_outgoing.specs.State as sending
 use Rattle.amqp_session_outgoing.specs.History as sending_history
+use Rattle.amqp_session_outgoing.specs.Queues.{units_of}
 use Rattle.amqp_session_core.specs.declared.batch.TransferFrame.{TransferFrame}
 use Rattle.amqp_session_core.specs.declared.batch.BehindFrame.{BehindFrame}
 use Rattle.amqp_session_core.specs.declared.batch.BehindFrame.TheVariants as behind
@@ -29,11 +31,12 @@ use Rattle.amqp_session_core.specs.declared.relay.Registration.TheVariants.{Unch
 use Rattle.amqp_session_core.specs.declared.relay.RelayError.{RelayError}
 use Rattle.amqp_session_core.specs.declared.relay.TransferAnswer.{TransferAnswer}
 use Rattle.amqp_session_core.specs.Batch.{Transfers}
-use Rattle.amqp_session_core.specs.Frames.{Left, session_flow, behind_frame, frames_left, has_flow}
+use Rattle.amqp_session_core.specs.Frames.{Left, frame_of, session_flow, behind_frame, frames_left, has_flow}
 use Rattle.amqp_session_core.specs.Tables.{RouteTable, unless_to}
 use Rattle.amqp_session_core.specs.Table.{after_send_begin, after_incoming_begin, after_send_end, after_incoming_end}
 use Rattle.amqp_session_core.specs.Echoes.{Reach, Walks, settled_by, echoes_of, without, opposite}
-use Rattle.amqp_session_core.specs.State.{State, StepsAt, link_at, live_in, reached}
+use Rattle.amqp_session_core.specs.Relay.{Relations}
+use Rattle.amqp_session_core.specs.State.{State, StepsAt, link_at, live_in, reached, leads}
 
 -- the Flow that answers a Flow: none, the session's, or a link's, which leaves at once or waits
 pub data Reply : Type 0 where
@@ -47,12 +50,14 @@ pub data Step (R A T D : Type 0) : Type 0 where
   Stays : Step R A T D
   SendsBegin : (frame : SessionFrame) → Step R A T D
   TakesBegin : (channel : IncomingChannel) (begin : Begin) (base : ℕ) (left : Left) (frames : List SessionFrame) → Step R A T D
-  SendsEnd : (frame : SessionFrame) → Step R A T D
+  SendsEnd : (error : Option Error) (frame : SessionFrame) → Step R A T D
   TakesEnd : Step R A T D
   -- the link with this own handle takes an Attach
   TakesAttach : (handle : ℕ) (attach : Attach) (told : Result A RelayError) → Step R A T D
   -- a Flow is taken, by a link where one is told
   TakesFlow : (flow : Flow) (told : Option (ℕ × Result (Option LinkFlow) RelayError)) (reply : Reply) (base : ℕ) (left : Left) (frames : List SessionFrame) → Step R A T D
+  -- a Flow with the handle of no link: its window is set, and nothing leaves
+  SetsWindow : (flow : Flow) (base : ℕ) → Step R A T D
   -- the link with this own handle takes a transfer
   TakesTransfer : (handle : ℕ) (transfer : Transfer) (payload : List ℕ) (told : Result (TransferAnswer T) RelayError) (flow : Option SessionFrame) → Step R A T D
   TakesDisposition : (disposition : Disposition) (walk : List Reach) (echoes : List Disposition) → Step R A T D
@@ -71,7 +76,7 @@ pub data Step (R A T D : Type 0) : Type 0 where
   -- room is made for transfers
   Reserves : (count : ℕ) → Step R A T D
   -- the owner of a link changed it
-  Changes : (handle : ℕ) (link : R) → Step R A T D
+  Changes : (handle : ℕ) (before after : R) → Step R A T D
 
 -- a link's state that a Flow with this handle tells
 abbrev pub told_to_link : Flow → Handle → LinkFlow
@@ -105,7 +110,7 @@ Replies old (OfLink handle flow left) new = sending_history.Steps old (sending_h
 
 -- which reply a Flow gets: a link's own, and where no link is meant and an echo is wanted, the session's (part 2, 2.7.4)
 abbrev pub IsReply : Flow → Option (ℕ × Result (Option LinkFlow) RelayError) → Reply → Type 0
-IsReply flow None NoReply = (flow.echo ≡ false) ⊎ ((handle : Handle) × (flow.handle ≡ Some handle))
+IsReply flow None NoReply = flow.echo ≡ false
 IsReply flow None OfSession = (flow.handle ≡ None) × (flow.echo ≡ true)
 IsReply flow None (OfLink handle f left) = ⊥
 IsReply flow (Some (h, Ok None)) reply = reply ≡ NoReply
@@ -121,6 +126,20 @@ registers table handle (Unsettled number tag) = map.insert table number (record 
 registers table handle (Settled number) = map.remove table number
 
 module _ {R : Type 0} where
+  -- the own Begin: it names the peer's channel where the peer's came before (part 2, 2.7.2)
+  abbrev pub own_begin : State R → Begin
+  own_begin s =
+      record {
+        remote_channel = option_map (λ c. c.0) s.incoming_channel;
+        next_outgoing_id = (s.outgoing).next_outgoing_id;
+        incoming_window = (s.fields).incoming_window;
+        outgoing_window = 2048;
+        handle_max = 2 ^ 32 - 1;
+        offered_capabilities = [];
+        desired_capabilities = [];
+        properties = None;
+      }
+
   -- the state behind an accepted Begin of the peer, before anything leaves
   abbrev pub begun : State R → IncomingChannel → Begin → State R → State R
   begun old channel begin new =
@@ -149,28 +168,23 @@ module _ {R : Type 0} where
   with_table Receiver table s = record s { outgoing = record s.outgoing { unsettled = table } }
   with_table Sender table s = record s { received = table }
 
-module _ {R A T D : Type 0}
-    (attach_gives : R → Attach → Result A RelayError → R → Type 0)
-    (flow_gives : R → LinkFlow → Result (Option LinkFlow) RelayError → R → Type 0)
-    (transfer_gives : R → Transfer → List ℕ → Result (TransferAnswer T) RelayError → R → Type 0)
-    (disposition_gives : R → List ℕ → Role → Bool → Option DeliveryState → Bool → R → Type 0)
-    (detach_gives : R → Detach → Result D RelayError → R → Type 0) where
+module _ {R A T D : Type 0} (gives : Relations R A T D) where
   -- a link takes an Attach: from then on the peer's handle reaches it, if it wasn't refused
   abbrev pub AttachStep : State R → ℕ → Attach → Result A RelayError → State R → Type 0
   AttachStep old handle attach (Ok told) new =
-      (map.get old.routes (attach.handle).0 ≡ None) × StepsAt (λ before after. attach_gives before attach (Ok told) after) old.links handle new.links
+      (map.get old.routes (attach.handle).0 ≡ None) × StepsAt (λ before after. gives.attaches before attach (Ok told) after) old.links handle new.links
       × (new ≡ record old { links = new.links; routes = map.insert old.routes (attach.handle).0 handle })
   AttachStep old handle attach (Err e) new =
-      (map.get old.routes (attach.handle).0 ≡ None) × StepsAt (λ before after. attach_gives before attach (Err e) after) old.links handle new.links
+      (map.get old.routes (attach.handle).0 ≡ None) × StepsAt (λ before after. gives.attaches before attach (Err e) after) old.links handle new.links
       × (new ≡ record old { links = new.links })
 
   -- which link takes a Flow, and what it tells
   abbrev pub FlowAt : List (Option R) → RouteTable → Flow → Option Handle → Option (ℕ × Result (Option LinkFlow) RelayError) → List (Option R) → Type 0
   FlowAt old routes flow None None new = new ≡ old
   FlowAt old routes flow None (Some told) new = ⊥
-  FlowAt old routes flow (Some handle) None new = (live_in old (map.get routes handle.0) ≡ None) × (new ≡ old)
+  FlowAt old routes flow (Some handle) None new = ⊥
   FlowAt old routes flow (Some handle) (Some (h, told)) new =
-      (live_in old (map.get routes handle.0) ≡ Some h) × StepsAt (λ before after. flow_gives before (told_to_link flow handle) told after) old h new
+      (live_in old (map.get routes handle.0) ≡ Some h) × StepsAt (λ before after. gives.flows before (told_to_link flow handle) told after) old h new
 
   -- a Flow is taken: the number of the peer's next transfer, a link's step, the reply, and then the window
   pub record FlowStep (old : State R) (flow : Flow) (told : Option (ℕ × Result (Option LinkFlow) RelayError)) (reply : Reply) (base : ℕ) (left : Left) (frames : List SessionFrame) (new : State R) : Type 0 where
@@ -193,29 +207,29 @@ module _ {R A T D : Type 0}
   abbrev pub TransferStep : State R → ℕ → Transfer → List ℕ → Result (TransferAnswer T) RelayError → Option SessionFrame → State R → Type 0
   TransferStep old handle transfer payload (Ok told) flow new =
       (reached old (transfer.handle).0 ≡ Some handle)
-      × StepsAt (λ before after. transfer_gives before transfer payload (Ok told) after) old.links handle new.links
+      × StepsAt (λ before after. gives.transfers before transfer payload (Ok told) after) old.links handle new.links
       × Counts old flow new.fields new.taken
       × (new ≡ record old { fields = new.fields; taken = new.taken; links = new.links; received = registers old.received handle told.registration })
   TransferStep old handle transfer payload (Err e) flow new =
       (reached old (transfer.handle).0 ≡ Some handle)
-      × StepsAt (λ before after. transfer_gives before transfer payload (Err e) after) old.links handle new.links
+      × StepsAt (λ before after. gives.transfers before transfer payload (Err e) after) old.links handle new.links
       × (flow ≡ None) × (new ≡ record old { links = new.links })
 
   -- a disposition reaches the unsettled deliveries of its range, in order. Those that are settled are forgotten, and the runs of those that are echoed go back
   pub record DispositionStep (old : State R) (d : Disposition) (walk : List Reach) (echoes : List Disposition) (new : State R) : Type 0 where
     pub numbers : List ℕ
     pub touched : Touches (range_of d.first d.last) (table_of d.role old) numbers
-    pub walked : Walks disposition_gives d (table_of d.role old) numbers old.links walk new.links
+    pub walked : Walks gives.disposes d (table_of d.role old) numbers old.links walk new.links
     pub echoes_are : echoes ≡ echoes_of d walk
     pub becomes : new ≡ with_table d.role (without (table_of d.role old) (settled_by d.settled walk)) (record old { links = new.links })
 
   -- a link takes a Detach: the peer's handle reaches it no longer, if it wasn't refused
   abbrev pub DetachStep : State R → ℕ → Detach → Result D RelayError → State R → Type 0
   DetachStep old handle detach (Ok told) new =
-      (reached old (detach.handle).0 ≡ Some handle) × StepsAt (λ before after. detach_gives before detach (Ok told) after) old.links handle new.links
+      (reached old (detach.handle).0 ≡ Some handle) × StepsAt (λ before after. gives.detaches before detach (Ok told) after) old.links handle new.links
       × (new ≡ record old { links = new.links; routes = map.remove old.routes (detach.handle).0 })
   DetachStep old handle detach (Err e) new =
-      (reached old (detach.handle).0 ≡ Some handle) × StepsAt (λ before after. detach_gives before detach (Err e) after) old.links handle new.links
+      (reached old (detach.handle).0 ≡ Some handle) × StepsAt (λ before after. gives.detaches before detach (Err e) after) old.links handle new.links
       × (new ≡ record old { links = new.links })
 
   -- a Flow or a Detach of a link leaves at once, or waits behind the transfers that the link has waiting
@@ -225,6 +239,7 @@ module _ {R A T D : Type 0}
       × (answer ≡ at_once old.fields (old.outgoing).next_outgoing_id left)
       × (new ≡ record old { taken = new.taken; outgoing = new.outgoing })
       × (new.taken ≡ taken_behind (option_to_list answer) old.taken)
+      × IsSome (link_at old handle.0)
 
   -- a disposition of an own link is sent. The deliveries that it settles are forgotten
   abbrev pub SendsDispositionStep : Bool → State R → Disposition → List ℕ → State R → Type 0
@@ -247,16 +262,27 @@ module _ {R A T D : Type 0}
   abbrev pub Steps : State R → Step R A T D → State R → Type 0
   Steps old Stays new = new ≡ old
   Steps old (SendsBegin frame) new =
-      (after_send_begin old.local_state ≡ Some new.local_state) × (new ≡ record old { local_state = new.local_state })
+      (frame ≡ frame_of old.fields (body.Begin (own_begin old)))
+      × (after_send_begin old.local_state ≡ Some new.local_state)
+      × (new ≡ record old { local_state = new.local_state })
   Steps old (TakesBegin channel begin base left frames) new =
       (after_incoming_begin old.local_state ≡ Some new.local_state)
       × (base ≡ (old.outgoing).next_outgoing_id)
       × sending_history.Steps old.outgoing (sending_history.TakesWindow base begin.incoming_window left) new.outgoing
       × (frames ≡ frames_left new.fields left) × (new.taken ≡ taken_behind frames old.taken) × (new ≡ begun old channel begin new)
-  Steps old (SendsEnd frame) new = (after_send_end old.local_state ≡ Some new.local_state) × (new ≡ record old { local_state = new.local_state })
+  Steps old (SendsEnd error frame) new =
+      (frame ≡ frame_of old.fields (body.End (record { error = error })))
+      × (after_send_end old.local_state ≡ Some new.local_state)
+      × (new ≡ record old { local_state = new.local_state })
   Steps old TakesEnd new = (after_incoming_end old.local_state ≡ Some new.local_state) × (new ≡ record old { local_state = new.local_state })
   Steps old (TakesAttach handle attach told) new = AttachStep old handle attach told new
   Steps old (TakesFlow flow told reply base left frames) new = FlowStep old flow told reply base left frames new
+  Steps old (SetsWindow flow base) new =
+      (leads old flow.handle ≡ false) × (base ≡ sending.base_of old.outgoing flow.next_incoming_id)
+      × (new ≡ record old {
+        fields = record old.fields { next_incoming_id = Some flow.next_outgoing_id };
+        outgoing = sending.with_window old.outgoing base flow.incoming_window;
+      })
   Steps old (TakesTransfer handle transfer payload told flow) new = TransferStep old handle transfer payload told flow new
   Steps old (TakesDisposition d walk echoes) new = DispositionStep old d walk echoes new
   Steps old (TakesDetach handle detach told) new = DetachStep old handle detach told new
@@ -264,6 +290,7 @@ module _ {R A T D : Type 0}
   Steps old (SendsTransfers handle batch left frames) new =
       sending_history.Steps old.outgoing (sending_history.Accepts handle batch left) new.outgoing
       × (frames ≡ frames_left old.fields left) × (new ≡ record old { taken = taken_behind frames old.taken; outgoing = new.outgoing })
+      × IsSome (link_at old handle.0)
   Steps old (SendsDisposition d numbers) new = SendsDispositionStep d.settled old d numbers new
   Steps old (TellsFlow frame) new = (frame ≡ session_flow old.fields (old.outgoing).next_outgoing_id) × (new ≡ record old { taken = 0 })
   Steps old (Allocates handle link input) new = AllocateStep old handle link input new
@@ -273,6 +300,9 @@ module _ {R A T D : Type 0}
       × sending_history.Steps old.outgoing (sending_history.Forgets (record { 0 = handle })) new.outgoing
       × ((number : ℕ) → map.get new.received number ≡ unless_of handle (map.get old.received number))
       × (new ≡ record old { links = new.links; offered = new.offered; routes = new.routes; outgoing = new.outgoing; received = new.received })
+      × (units_of handle (old.outgoing).queues ≡ [])
   Steps old (Reserves count) new =
       sending_history.Steps old.outgoing (sending_history.Reserves count) new.outgoing × (new ≡ record old { outgoing = new.outgoing })
-  Steps old (Changes handle link) new = IsSome (link_at old handle) × (new ≡ record old { links = slice_set old.links handle (Some link) })
+  Steps old (Changes handle before after) new =
+      (link_at old handle ≡ Some before)
+      × (new ≡ record old { links = slice_set old.links handle (Some after) })

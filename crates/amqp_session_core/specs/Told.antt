@@ -1,11 +1,9 @@
 -- What the calls of a session tell, and what they do where they aren't refused for want of memory.
-use Rattle.std.specs.Prelude.{◌≡◌, ◌≢◌, ℕ, List, [], ◌++◌, Bool, Option, Some, None, Result, Ok, Err, IsSome, IsOk, option_map, ◌-◌, ◌^◌, ⊤}
+use Rattle.std.specs.Prelude.{◌≡◌, ◌≢◌, ℕ, List, ◌++◌, Option, Some, None, Result, Ok, Err, IsSome, IsOk, ◌<◌, length, ⊤}
 use Rattle.std.specs.FinMap as map
 use Rattle.amqp_session_types.specs.declared.handles.Handle.{Handle}
-use Rattle.amqp_session_types.specs.declared.modes.Role.{Role}
 use Rattle.amqp_session_types.specs.declared.refusals.SessionError.{SessionError}
-use Rattle.amqp_session_types.specs.declared.refusals.SessionError.TheVariants.{UnattachedHandle, RemoteAttachingLinkNameNotFound, HandleInUse, Memory}
-use Rattle.amqp_session_states.specs.declared.delivery_state.DeliveryState.{DeliveryState}
+use Rattle.amqp_session_types.specs.declared.refusals.SessionError.TheVariants.{UnattachedHandle, RemoteAttachingLinkNameNotFound, HandleInUse, IllegalState, Memory}
 use Rattle.amqp_session_types.specs.declared.channels.IncomingChannel.{IncomingChannel}
 use Rattle.amqp_session_types.specs.declared.handles.OutputHandle.{OutputHandle}
 use Rattle.amqp_session_performatives.specs.declared.attach.Attach.{Attach}
@@ -17,6 +15,7 @@ use Rattle.amqp_session_performatives.specs.declared.transfer.Transfer.{Transfer
 use Rattle.amqp_session_performatives.specs.declared.link_flow.LinkFlow.{LinkFlow}
 use Rattle.amqp_session_performatives.specs.declared.session_frame.SessionFrame.{SessionFrame}
 use Rattle.amqp_session_performatives.specs.declared.session_frame.SessionFrameBody.TheVariants as body
+use Rattle.amqp_session_outgoing.specs.Queues.{units_of}
 use Rattle.amqp_session_core.specs.declared.incoming.TransferTaken.{TransferTaken}
 use Rattle.amqp_session_core.specs.declared.relay.RelayError.{RelayError}
 use Rattle.amqp_session_core.specs.declared.relay.RelayError.TheVariants as relay
@@ -25,42 +24,20 @@ use Rattle.amqp_session_core.specs.declared.batch.BehindFrame.{BehindFrame}
 use Rattle.amqp_session_core.specs.Batch.{Transfers}
 use Rattle.amqp_session_core.specs.Echoes.{Reach}
 use Rattle.amqp_session_core.specs.Frames.{Left, frame_of}
-use Rattle.amqp_session_core.specs.Relay.{session_error}
+use Rattle.amqp_session_core.specs.Relay.{Relations, session_error}
 use Rattle.amqp_session_core.specs.State.{State, link_at, reached}
-use Rattle.amqp_session_core.specs.Steps.{Step, Steps, Reply, TakesBegin, TakesAttach, SendsBehind, SendsTransfers, TakesFlow, TakesTransfer, TakesDisposition, TakesDetach, SendsDisposition}
+use Rattle.amqp_session_core.specs.Steps.{Step, Steps, Reply, TakesBegin, TakesAttach, SendsBehind, SendsTransfers, TakesFlow, SetsWindow, TakesTransfer, TakesDisposition, TakesDetach, SendsDisposition, Deallocates}
 
--- the own Begin: it names the peer's channel where the peer's came before (part 2, 2.7.2)
-abbrev pub own_begin : {R : Type 0} → State R → Begin
-own_begin s =
-    record {
-      remote_channel = option_map (λ c. c.0) s.incoming_channel;
-      next_outgoing_id = (s.outgoing).next_outgoing_id;
-      incoming_window = (s.fields).incoming_window;
-      outgoing_window = 2048;
-      handle_max = 2 ^ 32 - 1;
-      offered_capabilities = [];
-      desired_capabilities = [];
-      properties = None;
-    }
-
-abbrev pub begin_frame : {R : Type 0} → State R → SessionFrame
-begin_frame s = frame_of s.fields (body.Begin (own_begin s))
-
--- which error a Flow is answered with: no link has the handle, or the link refuses it
+-- which error a Flow is answered with: what its link refuses it for
 abbrev pub flow_answer : Option Handle → Option (ℕ × Result (Option LinkFlow) RelayError) → Result ⊤ SessionError → Type 0
 flow_answer None told answer = IsOk answer
-flow_answer (Some handle) None answer = answer ≡ Err UnattachedHandle
+flow_answer (Some handle) None answer = ⊥
 flow_answer (Some handle) (Some (h, Ok flow)) answer = IsOk answer
 flow_answer (Some handle) (Some (h, Err e)) answer = (e ≢ relay.Memory) × (answer ≡ Err (session_error e))
 
-module _ {R A T D : Type 0}
-    (attach_gives : R → Attach → Result A RelayError → R → Type 0)
-    (flow_gives : R → LinkFlow → Result (Option LinkFlow) RelayError → R → Type 0)
-    (transfer_gives : R → Transfer → List ℕ → Result (TransferAnswer T) RelayError → R → Type 0)
-    (disposition_gives : R → List ℕ → Role → Bool → Option DeliveryState → Bool → R → Type 0)
-    (detach_gives : R → Detach → Result D RelayError → R → Type 0) where
+module _ {R A T D : Type 0} (gives : Relations R A T D) where
   abbrev Does : State R → Step R A T D → State R → Type 0
-  Does = Steps attach_gives flow_gives transfer_gives disposition_gives detach_gives
+  Does = Steps gives
 
   -- the link refused it: the session has the link's reason, which isn't want of memory
   pub record LinkRefuses {X : Type 0} (step : Result X RelayError → Step R A T D) (old : State R) (e : SessionError) (new : State R) : Type 0 where
@@ -84,6 +61,13 @@ module _ {R A T D : Type 0}
     pub frames : List SessionFrame
     pub added : out_new ≡ out ++ frames
     pub stepped : Does old (TakesBegin channel begin base left frames) new
+
+  -- a Flow with the handle of no link is refused: its window is set, and nothing was handed out
+  pub record FlowUnattached (old : State R) (out : List SessionFrame) (flow : Flow) (answer : Result ⊤ SessionError) (new : State R) (out_new : List SessionFrame) : Type 0 where
+    pub refused : answer ≡ Err UnattachedHandle
+    pub base : ℕ
+    pub stepped : Does old (SetsWindow flow base) new
+    pub same : out_new ≡ out
 
   -- a Flow was taken, and this was handed out
   pub record FlowTaken (old : State R) (out : List SessionFrame) (flow : Flow) (answer : Result ⊤ SessionError) (new : State R) (out_new : List SessionFrame) : Type 0 where
@@ -146,3 +130,11 @@ module _ {R A T D : Type 0}
     pub frames : List SessionFrame
     pub added : out_new ≡ out ++ frames
     pub stepped : Does old (SendsTransfers handle batch left frames) new
+
+  -- how an own handle is taken back: where no link has it, or something of its link waits, nothing changes
+  abbrev pub Deallocated : State R → ℕ → Result (Option R) SessionError → State R → Type 0
+  Deallocated old handle (Ok None) new = (link_at old handle ≡ None) × (new ≡ old)
+  Deallocated old handle (Ok (Some link)) new = (link_at old handle ≡ Some link) × Does old (Deallocates handle) new
+  Deallocated old handle (Err e) new =
+      (e ≡ IllegalState) × IsSome (link_at old handle) × (0 < length (units_of handle (old.outgoing).queues))
+      × (new ≡ old)

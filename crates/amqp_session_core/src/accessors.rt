@@ -1,3 +1,4 @@
+//! What a session tells of itself, and the links that it lends.
 ghost use Rattle.std.specs.Prelude.{◌≡◌, ℕ, IsTrue, ◌↔◌, ◌<◌, length, option_copied, option_map, IfOk};
 ghost use Rattle.std.specs.Option.{option_copied_mut};
 ghost use types.Logic.{sem};

@@ -1,10 +1,8 @@
 ghost use Rattle.std.specs.Prelude.{◌≡◌, None, IfOk, IfErr, OnOk, OnErr};
-ghost use Rattle.amqp_session_performatives.specs.declared.session_frame.SessionFrameBody.TheVariants as body;
-ghost use Rattle.amqp_session_core.specs.Frames.{frame_of};
 ghost use Rattle.amqp_session_core.specs.Refusals.{RefusesBegin};
-ghost use Rattle.amqp_session_core.specs.Steps.{Steps, SendsBegin, SendsEnd, TakesEnd};
+ghost use Rattle.amqp_session_core.specs.Steps.{Steps, SendsBegin, SendsEnd, TakesEnd, own_begin};
 ghost use Rattle.amqp_session_core.specs.Table.{after_send_begin, after_incoming_begin, after_send_end, after_incoming_end};
-ghost use Rattle.amqp_session_core.specs.Told.{BeginTaken, begin_frame, own_begin};
+ghost use Rattle.amqp_session_core.specs.Told.{BeginTaken};
 
 use crate::fields::OUTGOING_WINDOW;
 use crate::leaving::{make_room, take_begin};
@@ -21,7 +19,7 @@ impl<R: LinkRelay> Session<R> {
     /// names the peer's channel. It takes no memory. It is refused with `IllegalState` where the state allows none,
     /// and nothing changes then.
     pub fn send_begin(&mut self, alloc: Global) -> Result<SessionFrame, BeginError>
-        ensures ok { IfOk result (λ frame. (frame ≡ begin_frame self.old) × Steps R.attach_gives R.flow_gives R.transfer_gives R.disposition_gives R.detach_gives self.old (SendsBegin frame) self.new) }
+        ensures ok { IfOk result (λ frame. Steps R.gives self.old (SendsBegin frame) self.new) }
         ensures err { IfErr result (λ e. (e ≡ BeginError.IllegalState) × (after_send_begin self.old.local_state ≡ None)) }
         ensures kept { OnErr result (self.new ≡ self.old) }
     {
@@ -64,7 +62,7 @@ impl<R: LinkRelay> Session<R> {
         channel: IncomingChannel,
         begin: &Begin,
     ) -> Result<(), BeginError>
-        ensures ok { OnOk result (BeginTaken R.attach_gives R.flow_gives R.transfer_gives R.disposition_gives R.detach_gives self.old out.old.items channel begin.now self.new out.new.items) }
+        ensures ok { OnOk result (BeginTaken R.gives self.old out.old.items channel begin.now self.new out.new.items) }
         ensures err { IfErr result (λ e. RefusesBegin (after_incoming_begin self.old.local_state) e) }
         ensures kept { OnErr result ((self.new ≡ self.old) × (out.new.items ≡ out.old.items)) }
     {
@@ -89,7 +87,7 @@ impl<R: LinkRelay> Session<R> {
         &mut self,
         error: Option<definitions::Error>,
     ) -> Result<SessionFrame, SessionError>
-        ensures ok { IfOk result (λ frame. (frame ≡ frame_of self.old.fields (body.End (record { error = error }))) × Steps R.attach_gives R.flow_gives R.transfer_gives R.disposition_gives R.detach_gives self.old (SendsEnd frame) self.new) }
+        ensures ok { IfOk result (λ frame. Steps R.gives self.old (SendsEnd error frame) self.new) }
         ensures err { IfErr result (λ e. (e ≡ SessionError.IllegalState) × (after_send_end self.old.local_state ≡ None)) }
         ensures kept { OnErr result (self.new ≡ self.old) }
     {
@@ -103,7 +101,7 @@ impl<R: LinkRelay> Session<R> {
     /// Takes the peer's End, and moves the state on (part 2, 2.5.2). It is refused with `IllegalState` where the state
     /// allows none, and nothing changes then.
     pub fn on_incoming_end(&mut self) -> Result<(), SessionError>
-        ensures ok { OnOk result (Steps R.attach_gives R.flow_gives R.transfer_gives R.disposition_gives R.detach_gives self.old TakesEnd self.new) }
+        ensures ok { OnOk result (Steps R.gives self.old TakesEnd self.new) }
         ensures err { IfErr result (λ e. (e ≡ SessionError.IllegalState) × (after_incoming_end self.old.local_state ≡ None)) }
         ensures kept { OnErr result (self.new ≡ self.old) }
     {

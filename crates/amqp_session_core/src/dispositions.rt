@@ -1,7 +1,10 @@
-ghost use Rattle.std.specs.Prelude.{◌≡◌, ℕ, List, ◌≤◌, [], Some, true, false, ◌<◌, length, map, All, IfOk, IfErr, IfSome, OnOk, OnErr, vec_len, vec_capacity, option_copied};
+//! How a session takes dispositions and sends them (part 2, 2.7.6).
+ghost use Rattle.std.specs.Prelude.{◌≡◌, ℕ, List, ◌≤◌, [], ◌<◌, length, map, All, IfOk, IfErr, IfSome, vec_len, vec_capacity, option_copied};
 ghost use Rattle.amqp_session_core.specs.Echoes.{echo_of, opposite, runs_of, without};
-ghost use Rattle.amqp_session_core.specs.Disposing.{Walked, AreCopies, behind_runs, deliveries_of, ReachesOne};
-ghost use Rattle.amqp_session_core.specs.Steps.{Steps, SendsDisposition, table_of, with_table};
+ghost use Rattle.amqp_session_core.specs.Disposing.{AreTouched, IsOfLink, each_number, HasRoomFor, Walked, AreCopies, behind_runs, deliveries_of, settled_own, ReachesOne};
+ghost use Rattle.amqp_session_core.specs.Steps.{table_of, with_table};
+ghost use Rattle.amqp_session_unsettled.specs.Outside.{outside};
+ghost use Rattle.amqp_session_unsettled.specs.Range.{range_of};
 ghost use Rattle.amqp_session_unsettled.specs.Table.{IsUnsettled};
 ghost use Rattle.amqp_session_unsettled.specs.Touched.{Touches};
 ghost use Rattle.amqp_session_core.specs.Told.{DispositionTaken, DispositionSent};
@@ -12,34 +15,97 @@ use crate::session::Session;
 use amqp_session_outgoing::Outgoing;
 use amqp_session_performatives::{Disposition, SessionFrame, SessionFrameBody};
 use amqp_session_states::DeliveryState;
-use amqp_session_types::{Role, SessionError};
+use amqp_session_types::{OutputHandle, Role, SessionError};
 use amqp_session_unsettled::{Delivery, DeliveryRange, Unsettled};
 use slab::Slab;
 use std::alloc::{AllocError, Global};
 
+/// A delivery that a disposition touches (part 2, 2.7.6).
+#[derive(Debug, Clone, Copy, PartialEq, Eq)]
+pub struct Touched {
+    /// Its number.
+    pub number: u32,
+    /// The own handle of its link.
+    pub handle: OutputHandle,
+}
+
+/// The room that a disposition takes on its way to the links.
+#[derive(Debug, Drop)]
+pub struct DispositionRoom {
+    /// The numbers of the deliveries that it touches, each once, in order from the first of its range.
+    pub numbers: Vec<u32>,
+    /// Empty, with room for the numbers that are echoed.
+    pub echoed: Vec<u32>,
+    /// Empty, with room for the runs of these.
+    pub runs: Vec<(u32, u32)>,
+    /// The disposition's state, once for each delivery.
+    pub states: Vec<Option<DeliveryState>>,
+}
+
 impl<R: LinkRelay> Session<R> {
-    /// Takes a disposition (part 2, 2.7.6): each unsettled delivery of its range reaches its link, in order from the
-    /// first. Answers the dispositions that are to go back: one for each run of consecutive deliveries whose links want
-    /// it, settled and with the same state. Deliveries that the peer settled, or that are echoed, are forgotten.
-    ///
-    /// It takes time by the deliveries that there are, whatever the range. It is refused with `Memory` alone, and
-    /// nothing changes then: all memory is taken before the first link is reached.
-    pub fn on_incoming_disposition(
-        &mut self,
+    /// The deliveries that a disposition touches, each once, in order from the first of its range (part 2, 2.7.6). It
+    /// takes time by the range or by the deliveries that there are, whichever are fewer. It is refused with `Memory`
+    /// alone; nothing changes in any case.
+    pub fn touched(
+        &self,
         alloc: Global,
         disposition: &Disposition,
-    ) -> Result<Vec<Disposition>, SessionError>
-        ensures ok { IfOk result (λ echoes. DispositionTaken R.attach_gives R.flow_gives R.transfer_gives R.disposition_gives R.detach_gives self.old disposition.now echoes.items self.new) }
+    ) -> Result<Vec<Touched>, SessionError>
+        ensures ok { IfOk result
+            (λ touched.
+            AreTouched disposition.now (table_of disposition.now.role self.now)
+            touched.items) }
         ensures err { IfErr result (λ e. e ≡ SessionError.Memory) }
-        ensures kept { OnErr result (self.new ≡ self.old) }
     {
-        let range = DeliveryRange::new(disposition.first, disposition.last);
-        let numbers = self.touched(alloc, disposition.role, range)?;
-        let mut echoed = Vec::with_capacity(alloc, numbers.len())?;
-        let mut runs = Vec::with_capacity(alloc, numbers.len())?;
-        let mut echoes = Vec::with_capacity(alloc, numbers.len())?;
-        let mut states = copies(alloc, &disposition.state, numbers.len())?;
-        let mut answered = copies(alloc, &disposition.state, numbers.len())?;
+        let numbers = self.numbers(alloc, disposition)?;
+        let mut touched = Vec::with_capacity(alloc, numbers.len())?;
+        let deliveries = deliveries_of(disposition.role, &self.outgoing, &self.received);
+        tell_touched(deliveries, &numbers, &mut touched);
+        Ok(touched)
+    }
+
+    /// The room that a disposition takes: all memory for its way to the links. It serves as long as the deliveries stay
+    /// as they are. It is refused with `Memory` alone; nothing changes in any case.
+    pub fn reserve_disposition(
+        &self,
+        alloc: Global,
+        disposition: &Disposition,
+    ) -> Result<DispositionRoom, SessionError>
+        ensures ok { IfOk result
+            (λ room. HasRoomFor disposition.now (table_of disposition.now.role self.now) room) }
+        ensures err { IfErr result (λ e. e ≡ SessionError.Memory) }
+    {
+        let numbers = self.numbers(alloc, disposition)?;
+        let echoed = Vec::with_capacity(alloc, numbers.len())?;
+        let runs = Vec::with_capacity(alloc, numbers.len())?;
+        let states = copies(alloc, &disposition.state, numbers.len())?;
+        Ok(DispositionRoom {
+            numbers,
+            echoed,
+            runs,
+            states,
+        })
+    }
+
+    /// Takes a disposition for which there is room (part 2, 2.7.6): each unsettled delivery of its range reaches its link,
+    /// in order from the first. Answers the runs of consecutive deliveries whose links want an echo, each as its first
+    /// and its last number: for each a disposition is to go back (`echoes`). Deliveries that the peer settled, or that
+    /// are echoed, are forgotten. It takes no memory.
+    pub fn on_incoming_disposition(
+        &mut self,
+        disposition: &Disposition,
+        room: DispositionRoom,
+    ) -> Vec<(u32, u32)>
+        requires { HasRoomFor disposition.now (table_of disposition.now.role self.old) room }
+        ensures { DispositionTaken R.gives self.old disposition.now
+            (map (echo_of disposition.now) result.items) self.new }
+    {
+        let DispositionRoom {
+            numbers,
+            mut echoed,
+            mut runs,
+            mut states,
+        } = room;
         self.walk(disposition, &numbers, &mut states, &mut echoed);
         let settled = if disposition.settled {
             &numbers
@@ -48,55 +114,50 @@ impl<R: LinkRelay> Session<R> {
         };
         self.settle(disposition.role, settled);
         gather_runs(&echoed, &mut runs);
-        answer_runs(disposition, &runs, &mut answered, &mut echoes);
-        Ok(echoes)
+        runs
     }
 
-    /// Sends a disposition of an own link (part 2, 2.7.6). The deliveries that it settles are forgotten. It is refused
-    /// with `Memory` alone, and nothing changes then.
-    pub fn on_outgoing_disposition(
-        &mut self,
-        alloc: Global,
-        disposition: Disposition,
-    ) -> Result<SessionFrame, SessionError>
-        ensures ok { IfOk result (λ frame. DispositionSent R.attach_gives R.flow_gives R.transfer_gives R.disposition_gives R.detach_gives self.old disposition frame self.new) }
-        ensures err { IfErr result (λ e. e ≡ SessionError.Memory) }
-        ensures kept { OnErr result (self.new ≡ self.old) }
+    /// Sends a disposition of an own link (part 2, 2.7.6). The deliveries that it settles are forgotten. It takes no
+    /// memory, and time by the range or by the deliveries that there are, whichever are fewer: so several dispositions
+    /// are sent, all or none, by a caller that has them made before the first.
+    pub fn on_outgoing_disposition(&mut self, disposition: Disposition) -> SessionFrame
+        ensures { DispositionSent R.gives self.old disposition result self.new }
     {
-        match self.settle_own(alloc, &disposition) {
-            Ok(()) => Ok(
-                self.fields
-                    .frame(SessionFrameBody::Disposition(disposition)),
-            ),
-            Err(_) => Err(SessionError::Memory),
-        }
+        self.settle_own(&disposition);
+        self.fields
+            .frame(SessionFrameBody::Disposition(disposition))
     }
 
     /// The deliveries that an own disposition settles are forgotten.
-    fn settle_own(&mut self, alloc: Global, disposition: &Disposition) -> Result<(), AllocError>
-        ensures ok { OnOk result ((numbers : List ℕ) × Steps R.attach_gives R.flow_gives R.transfer_gives R.disposition_gives R.detach_gives self.old (SendsDisposition disposition.now numbers) self.new) }
-        ensures err { OnErr result (self.new ≡ self.old) }
+    fn settle_own(&mut self, disposition: &Disposition)
+        ensures { self.new ≡ settled_own disposition.now self.old }
     {
         if !disposition.settled {
-            return Ok(());
+            return;
         }
-        let role = opposite(disposition.role);
         let range = DeliveryRange::new(disposition.first, disposition.last);
-        let numbers = self.touched(alloc, role, range)?;
-        self.settle(role, &numbers);
-        Ok(())
+        self.settle_range(opposite(disposition.role), range);
     }
 
-    /// The unsettled deliveries of a range, where the peer has this role.
-    fn touched(
-        &self,
-        alloc: Global,
-        role: Role,
-        range: DeliveryRange,
-    ) -> Result<Vec<u32>, AllocError>
-        ensures { IfOk result (λ numbers. Touches range (table_of role self.now) numbers.items) }
+    /// The deliveries of a range are forgotten, where the peer has this role.
+    fn settle_range(&mut self, role: Role, range: DeliveryRange)
+        ensures { self.new ≡ with_table role (outside range (table_of role self.old)) self.old }
     {
         match role {
+            Role::Receiver => self.outgoing.settle_range(range),
+            Role::Sender => self.received.settle_range(range),
+        }
+    }
+
+    /// The numbers of the unsettled deliveries that a disposition of the peer names.
+    fn numbers(&self, alloc: Global, disposition: &Disposition) -> Result<Vec<u32>, AllocError>
+        ensures { IfOk result
+            (λ numbers.
+            Touches (range_of disposition.now.first disposition.now.last)
+            (table_of disposition.now.role self.now) numbers.items) }
+    {
+        let range = DeliveryRange::new(disposition.first, disposition.last);
+        match disposition.role {
             Role::Receiver => self.outgoing.touched(alloc, range),
             Role::Sender => self.received.touched(alloc, range),
         }
@@ -124,7 +185,8 @@ impl<R: LinkRelay> Session<R> {
         requires empty { echoed.old.items ≡ [] }
         requires room { length numbers.now ≤ vec_capacity echoed.old }
         requires there { All (λ n. IsUnsettled (table_of disposition.now.role self.old) n) numbers.now }
-        ensures walked { Walked R.disposition_gives disposition.now (table_of disposition.now.role self.old) numbers.now self.old.links echoed.new.items self.new.links }
+        ensures walked { Walked R.gives.disposes disposition.now (table_of disposition.now.role self.old)
+            numbers.now self.old.links echoed.new.items self.new.links }
         ensures rest { self.new ≡ record self.old { links = self.new.links } }
     {
         let deliveries = deliveries_of(disposition.role, &self.outgoing, &self.received);
@@ -191,7 +253,8 @@ fn walk<R: LinkRelay>(
     requires empty { echoed.old.items ≡ [] }
     requires room { length numbers.now ≤ vec_capacity echoed.old }
     requires there { All (λ n. IsUnsettled deliveries.now.table n) numbers.now }
-    ensures walked { Walked R.disposition_gives disposition.now deliveries.now.table numbers.now links.old.slots echoed.new.items links.new.slots }
+    ensures walked { Walked R.gives.disposes disposition.now deliveries.now.table numbers.now links.old.slots
+        echoed.new.items links.new.slots }
     ensures rest { links.new ≡ record links.old { slots = links.new.slots } }
 {
     for number in numbers {
@@ -209,7 +272,10 @@ fn reach_one<R: LinkRelay>(
     disposition: &Disposition,
     state: Option<DeliveryState>,
 ) -> bool
-    ensures step { IfSome (option_copied delivery.entry) (λ d. ReachesOne R.disposition_gives d disposition.now state links.old.slots result links.new.slots) }
+    ensures step { IfSome (option_copied delivery.entry)
+        (λ d.
+        ReachesOne R.gives.disposes d disposition.now state links.old.slots result
+        links.new.slots) }
     ensures rest { links.new ≡ record links.old { slots = links.new.slots } }
 {
     let Some(delivery) = delivery else {
@@ -228,7 +294,8 @@ fn reach_one<R: LinkRelay>(
 
 /// Deliveries that were sent are forgotten.
 fn settle_sent(outgoing: &mut Outgoing<TransferFrame, BehindFrame>, numbers: &[u32])
-    ensures { outgoing.new ≡ record outgoing.old { unsettled = without outgoing.old.unsettled numbers.now } }
+    ensures { outgoing.new
+        ≡ record outgoing.old { unsettled = without outgoing.old.unsettled numbers.now } }
 {
     for number in numbers {
         outgoing.settle(*number);
@@ -273,35 +340,56 @@ fn add_to_runs(number: u32, runs: &mut Vec<(u32, u32)>)
     runs.push_reserved((number, number));
 }
 
-/// The dispositions of these runs, each with a copy of the state.
-fn answer_runs(
+/// The dispositions that go back for these runs: settled, with the same state (part 2, 2.7.6). The state is copied once
+/// for each. It is refused where there is no memory; the runs are there still.
+pub fn echoes(
+    alloc: Global,
     disposition: &Disposition,
     runs: &[(u32, u32)],
-    states: &mut Vec<Option<DeliveryState>>,
-    echoes: &mut Vec<Disposition>,
-)
-    requires empty { echoes.old.items ≡ [] }
-    requires room { length runs.now ≤ vec_capacity echoes.old }
-    requires each { All (λ s. s ≡ disposition.now.state) states.old.items }
-    requires enough { length runs.now ≤ length states.old.items }
-    ensures { echoes.new.items ≡ map (echo_of disposition.now) runs.now }
+) -> Result<Vec<Disposition>, AllocError>
+    ensures { IfOk result (λ echoes. echoes.items ≡ map (echo_of disposition.now) runs.now) }
 {
+    let mut echoes = Vec::with_capacity(alloc, runs.len())?;
     for run in runs {
-        let state = states.pop().flatten();
-        echoes.push_reserved(echo(disposition.role, *run, state));
+        echoes.push_reserved(echo(disposition, *run)?);
     }
+    Ok(echoes)
 }
 
 /// A run goes back, settled.
-fn echo(role: Role, run: (u32, u32), state: Option<DeliveryState>) -> Disposition
-    ensures { result ≡ record { role = opposite role; first = run.0; last = Some run.1; settled = true; state = state; batchable = false } }
+fn echo(disposition: &Disposition, run: (u32, u32)) -> Result<Disposition, AllocError>
+    ensures { IfOk result (λ echo. echo ≡ echo_of disposition.now run) }
 {
-    Disposition {
-        role: opposite(role),
+    let state = disposition.state.clone()?;
+    Ok(Disposition {
+        role: opposite(disposition.role),
         first: run.0,
         last: Some(run.1),
         settled: true,
         state,
         batchable: false,
+    })
+}
+
+/// The deliveries of these numbers, each with the own handle of its link.
+fn tell_touched(deliveries: &Unsettled, numbers: &[u32], touched: &mut Vec<Touched>)
+    requires empty { touched.old.items ≡ [] }
+    requires room { length numbers.now ≤ vec_capacity touched.old }
+    requires there { All (λ n. IsUnsettled deliveries.now.table n) numbers.now }
+    ensures numbers { each_number touched.new.items ≡ numbers.now }
+    ensures handles { All (IsOfLink deliveries.now.table) touched.new.items }
+{
+    for number in numbers {
+        touched.push_reserved(touched_at(deliveries, *number));
     }
+}
+
+/// The delivery of this number, with the own handle of its link.
+fn touched_at(deliveries: &Unsettled, number: u32) -> Touched
+    requires { IsUnsettled deliveries.now.table number }
+    ensures number { result.number ≡ number }
+    ensures handle { IsOfLink deliveries.now.table result }
+{
+    let handle = deliveries.get(number).unwrap().handle;
+    Touched { number, handle }
 }

@@ -1,11 +1,11 @@
-ghost use Rattle.std.specs.Prelude.{◌≡◌, ◌≢◌, ◌+◌, ◌≤◌, ◌<◌, [], Err, Ok, OnOk, OnErr, IfErr, Result, Option, IsTrue};
+ghost use Rattle.std.specs.Prelude.{◌≡◌, ◌≢◌, ◌+◌, ◌≤◌, ◌<◌, [], Err, Ok, OnOk, OnErr, IfErr, Result, Option, IsTrue, true, false};
 ghost use Rattle.std.specs.VecDeque.{deque_len, deque_capacity};
 ghost use Rattle.amqp_session_outgoing.specs.Queues.{held_in, frames_in};
 ghost use Rattle.std.specs.FinMap as map;
 ghost use Rattle.amqp_session_core.specs.Incoming.{LinkAnswers};
-ghost use Rattle.amqp_session_core.specs.State.{live_in};
+ghost use Rattle.amqp_session_core.specs.State.{live_in, leads, leads_in};
 ghost use Rattle.amqp_session_core.specs.Flowing.{LinkFlowed, FlowedAt, Replied, HasPlace, SameRefusal};
-ghost use Rattle.amqp_session_core.specs.Told.{FlowTaken};
+ghost use Rattle.amqp_session_core.specs.Told.{FlowTaken, FlowUnattached};
 
 use crate::batch::{BehindFrame, TransferFrame};
 use crate::fields::SessionFields;
@@ -38,17 +38,27 @@ impl<R: LinkRelay> Session<R> {
     /// behind the transfers that the link has waiting. What waits and lies in the peer's window leaves then, links in
     /// turn.
     ///
-    /// It is refused with `UnattachedHandle` where no link has the handle (part 2, 2.8.17), and with what the link
-    /// refuses it for; its windows are taken then, too. With `Memory` nothing changes.
+    /// It is refused with `UnattachedHandle` where no link has the handle (part 2, 2.8.17): its windows are taken then,
+    /// and nothing leaves. It is refused with what the link refuses it for; all is done then, too. With `Memory` nothing
+    /// changes.
     pub fn on_incoming_flow(
         &mut self,
         alloc: Global,
         out: &mut VecDeque<SessionFrame>,
         flow: Flow,
     ) -> Result<(), SessionError>
-        ensures step { result ≢ Err SessionError.Memory → FlowTaken R.attach_gives R.flow_gives R.transfer_gives R.disposition_gives R.detach_gives self.old out.old.items flow result self.new out.new.items }
+        ensures unattached { leads self.old flow.handle ≡ false → FlowUnattached R.gives
+            self.old out.old.items flow result self.new out.new.items }
+        ensures step { leads self.old flow.handle ≡ true → result ≢ Err SessionError.Memory →
+            FlowTaken R.gives self.old out.old.items flow result self.new out.new.items }
         ensures memory { result ≡ Err SessionError.Memory → (self.new ≡ self.old) × (out.new.items ≡ out.old.items) }
     {
+        if !is_attached(&self.routes, &self.links, flow.handle) {
+            self.fields.next_incoming_id = Some(flow.next_outgoing_id);
+            self.outgoing
+                .set_window(flow.next_incoming_id, flow.incoming_window);
+            return Err(SessionError::UnattachedHandle);
+        }
         make_room(&self.outgoing, &mut self.sent, out, 1)?;
         let window = Window {
             base: flow.next_incoming_id,
@@ -69,6 +79,16 @@ impl<R: LinkRelay> Session<R> {
     }
 }
 
+/// Whether a frame that may have a handle of the peer's has none, or that of a link.
+fn is_attached<R>(routes: &Routes, links: &Slab<R>, handle: Option<Handle>) -> bool
+    ensures { result ≡ leads_in links.now.slots routes.now handle }
+{
+    match handle {
+        Some(handle) => reach(routes, links, handle.0).is_some(),
+        None => true,
+    }
+}
+
 /// The link that a Flow names takes it. Nothing changes where there is no memory.
 fn flow_to_link<R: LinkRelay>(
     alloc: Global,
@@ -77,7 +97,7 @@ fn flow_to_link<R: LinkRelay>(
     outgoing: &Outgoing<TransferFrame, BehindFrame>,
     flow: Flow,
 ) -> Result<Answer, SessionError>
-    ensures step { result ≢ Err SessionError.Memory → LinkFlowed R.attach_gives R.flow_gives R.transfer_gives R.disposition_gives R.detach_gives outgoing.now routes.now flow links.old.slots result links.new.slots }
+    ensures step { result ≢ Err SessionError.Memory → LinkFlowed R.gives outgoing.now routes.now flow links.old.slots result links.new.slots }
     ensures rest { links.new ≡ record links.old { slots = links.new.slots } }
     ensures memory { result ≡ Err SessionError.Memory → links.new ≡ links.old }
     ensures place { HasPlace outgoing.now result }
@@ -98,7 +118,7 @@ fn flow_at<R: LinkRelay>(
     outgoing: &Outgoing<TransferFrame, BehindFrame>,
     flow: LinkFlow,
 ) -> Result<Answer, SessionError>
-    ensures step { result ≢ Err SessionError.Memory → FlowedAt R.flow_gives outgoing.now flow (live_in links.old.slots (map.get routes.now (flow.handle).0)) links.old.slots result links.new.slots }
+    ensures step { result ≢ Err SessionError.Memory → FlowedAt R.gives.flows outgoing.now flow (live_in links.old.slots (map.get routes.now (flow.handle).0)) links.old.slots result links.new.slots }
     ensures rest { links.new ≡ record links.old { slots = links.new.slots } }
     ensures memory { result ≡ Err SessionError.Memory → links.new ≡ links.old }
     ensures place { HasPlace outgoing.now result }
@@ -121,7 +141,7 @@ fn step_flow<R: LinkRelay>(
     handle: OutputHandle,
     flow: LinkFlow,
 ) -> Result<Option<LinkFlow>, RelayError>
-    ensures step { LinkAnswers (λ before told after. R.flow_gives before flow told after) handle.0 links.old.slots result links.new.slots }
+    ensures step { LinkAnswers (λ before told after. R.gives.flows before flow told after) handle.0 links.old.slots result links.new.slots }
     ensures rest { links.new ≡ record links.old { slots = links.new.slots } }
 {
     match links.get_mut(handle.0 as usize) {

@@ -41,7 +41,7 @@ impl<R: LinkRelay> Session<R> {
         handle: OutputHandle,
         attach: &Attach,
     ) -> Result<R::Attached, SessionError>
-        ensures { AttachTaken R.attach_gives R.flow_gives R.transfer_gives R.disposition_gives R.detach_gives self.old handle.0 attach.now result self.new }
+        ensures { AttachTaken R.gives self.old handle.0 attach.now result self.new }
     {
         if self.routes.get(attach.handle.0).is_some() {
             return Err(SessionError::HandleInUse);
@@ -66,7 +66,7 @@ impl<R: LinkRelay> Session<R> {
         transfer: Transfer,
         payload: Bytes,
     ) -> Result<TransferTaken<R::Transferred>, SessionError>
-        ensures { TransferAnswered R.attach_gives R.flow_gives R.transfer_gives R.disposition_gives R.detach_gives self.old transfer payload result self.new }
+        ensures { TransferAnswered R.gives self.old transfer payload result self.new }
     {
         let place = room_for_transfer(
             &self.routes,
@@ -95,7 +95,7 @@ impl<R: LinkRelay> Session<R> {
         alloc: Global,
         detach: &Detach,
     ) -> Result<R::Detached, SessionError>
-        ensures { DetachTaken R.attach_gives R.flow_gives R.transfer_gives R.disposition_gives R.detach_gives self.old detach.now result self.new }
+        ensures { DetachTaken R.gives self.old detach.now result self.new }
     {
         let Some(handle) = reach(&self.routes, &self.links, detach.handle.0) else {
             return Err(SessionError::UnattachedHandle);
@@ -187,7 +187,7 @@ fn route_link<R: LinkRelay>(
 ) -> Result<R::Attached, RelayError>
     requires there { IsSome (slice_index_or links.old.slots handle.0 None) }
     requires vacant { map.get routes.old (attach.now.handle).0 ≡ None }
-    ensures step { LinkAnswers (λ before told after. R.attach_gives before attach.now told after) handle.0 links.old.slots result links.new.slots }
+    ensures step { LinkAnswers (λ before told after. R.gives.attaches before attach.now told after) handle.0 links.old.slots result links.new.slots }
     ensures rest { links.new ≡ record links.old { slots = links.new.slots } }
     ensures ok { OnOk result (routes.new ≡ map.insert routes.old (attach.now.handle).0 handle.0) }
     ensures err { OnErr result (routes.new ≡ routes.old) }
@@ -211,7 +211,7 @@ fn attach_link<R: LinkRelay>(
     handle: OutputHandle,
     attach: &Attach,
 ) -> Result<R::Attached, RelayError>
-    ensures step { LinkAnswers (λ before told after. R.attach_gives before attach.now told after) handle.0 links.old.slots result links.new.slots }
+    ensures step { LinkAnswers (λ before told after. R.gives.attaches before attach.now told after) handle.0 links.old.slots result links.new.slots }
     ensures rest { links.new ≡ record links.old { slots = links.new.slots } }
 {
     match links.get_mut(handle.0 as usize) {
@@ -228,7 +228,7 @@ fn transfer_to_link<R: LinkRelay>(
     transfer: Transfer,
     payload: Bytes,
 ) -> Result<(OutputHandle, TransferAnswer<R::Transferred>), SessionError>
-    ensures step { TransferAt R.transfer_gives links.old.slots place transfer payload result links.new.slots }
+    ensures step { TransferAt R.gives.transfers links.old.slots place transfer payload result links.new.slots }
     ensures rest { links.new ≡ record links.old { slots = links.new.slots } }
 {
     let handle = place?;
@@ -248,7 +248,7 @@ fn detach_link<R: LinkRelay>(
     handle: OutputHandle,
     detach: &Detach,
 ) -> Result<R::Detached, RelayError>
-    ensures step { LinkAnswers (λ before told after. R.detach_gives before detach.now told after) handle.0 links.old.slots result links.new.slots }
+    ensures step { LinkAnswers (λ before told after. R.gives.detaches before detach.now told after) handle.0 links.old.slots result links.new.slots }
     ensures rest { links.new ≡ record links.old { slots = links.new.slots } }
 {
     match links.get_mut(handle.0 as usize) {

@@ -1,6 +1,8 @@
+//! How links get own handles and give them back (part 2, 2.6.2).
 ghost use Rattle.std.specs.Prelude.{◌≡◌, ◌≢◌, ℕ, ◌<◌, ◌≤◌, ◌==◌, if◌then◌else◌, Some, None, option_map, IfOk, OnOk, IfErr, OnErr, IsSome};
-ghost use Rattle.amqp_session_core.specs.State.{link_at, live_in, reached};
-ghost use Rattle.amqp_session_core.specs.Steps.{Steps, Allocates, Deallocates, Changes};
+ghost use Rattle.amqp_session_core.specs.State.{live_in};
+ghost use Rattle.amqp_session_core.specs.Steps.{Steps, Allocates};
+ghost use Rattle.amqp_session_core.specs.Told.{Deallocated};
 ghost use Rattle.std.specs.FinMap as map;
 ghost use Rattle.slab.specs.Slab.{HasRoomFor};
 ghost use Rattle.amqp_session_core.specs.Refusals.{RefusesHandle, RefusesInput, RefusesLink};
@@ -27,8 +29,9 @@ impl<R: LinkRelay> Session<R> {
     /// It is refused, and nothing changes, with `HandleMaxReached` where the vacant handle that is offered is above the
     /// peer's handle-max (part 2, 2.7.2), and with `Memory` where there is none. The link comes back then.
     pub fn allocate_link(&mut self, link: R) -> Result<OutputHandle, Unallocated<R>>
-        ensures ok { IfOk result (λ handle. Steps R.attach_gives R.flow_gives R.transfer_gives R.disposition_gives R.detach_gives self.old (Allocates handle.0 link None) self.new) }
-        ensures err { IfErr result (λ refused. RefusesLink self.old None refused.error × (refused.link ≡ link)) }
+        ensures ok { IfOk result (λ handle. Steps R.gives self.old (Allocates handle.0 link None) self.new) }
+        ensures err { IfErr result
+            (λ refused. RefusesLink self.old None refused.error × (refused.link ≡ link)) }
         ensures kept { OnErr result (self.new ≡ self.old) }
     {
         match room_for_link(&mut self.links, self.handle_max) {
@@ -50,8 +53,13 @@ impl<R: LinkRelay> Session<R> {
         link: R,
         input_handle: InputHandle,
     ) -> Result<OutputHandle, Unallocated<R>>
-        ensures ok { IfOk result (λ handle. Steps R.attach_gives R.flow_gives R.transfer_gives R.disposition_gives R.detach_gives self.old (Allocates handle.0 link (Some input_handle.0)) self.new) }
-        ensures err { IfErr result (λ refused. RefusesLink self.old (Some input_handle.0) refused.error × (refused.link ≡ link)) }
+        ensures ok { IfOk result
+            (λ handle.
+            Steps R.gives self.old (Allocates handle.0 link (Some input_handle.0)) self.new) }
+        ensures err { IfErr result
+            (λ refused.
+            RefusesLink self.old (Some input_handle.0) refused.error
+            × (refused.link ≡ link)) }
         ensures kept { OnErr result (self.new ≡ self.old) }
     {
         let room = room_for_incoming_link(
@@ -70,24 +78,35 @@ impl<R: LinkRelay> Session<R> {
     }
 
     /// Takes an own handle back and answers the link that had it (part 2, 2.6.5): the peer's frames reach it no longer,
-    /// and its unsettled deliveries are forgotten. The handle is offered to the next link, so it is to be taken back
-    /// when both Detach have passed and nothing of the link waits. Where no link has it nothing changes.
-    pub fn deallocate_link(&mut self, handle: OutputHandle) -> Option<R>
-        ensures link { result ≡ link_at self.old handle.0 }
-        ensures gone { IsSome (link_at self.old handle.0) → Steps R.attach_gives R.flow_gives R.transfer_gives R.disposition_gives R.detach_gives self.old (Deallocates handle.0) self.new }
-        ensures unknown { link_at self.old handle.0 ≡ None → self.new ≡ self.old }
+    /// and its unsettled deliveries are forgotten. The handle is offered to the next link. Where no link has it the
+    /// answer is None, and nothing changes.
+    ///
+    /// It is refused with `IllegalState` alone, exactly where something of the link waits: the Detach hasn't left then,
+    /// and nothing changes.
+    pub fn deallocate_link(&mut self, handle: OutputHandle) -> Result<Option<R>, SessionError>
+        ensures { Deallocated R.gives self.old handle.0 result self.new }
     {
-        let link = self.links.try_remove(handle.0 as usize)?;
+        if !self.links.contains(handle.0 as usize) {
+            return Ok(None);
+        }
+        if self.outgoing.is_waiting(handle) {
+            return Err(SessionError::IllegalState);
+        }
+        let link = self.links.remove(handle.0 as usize);
         self.routes.forget(handle);
         self.outgoing.forget_link(handle);
         self.received.forget(handle);
-        Some(link)
+        Ok(Some(link))
     }
 }
 
 /// The offered handle, once there is room for a link with it.
 fn room_for_link<R>(links: &mut Slab<R>, handle_max: u32) -> Result<OutputHandle, SessionError>
-    ensures ok { IfOk result (λ handle. (handle.0 ≡ links.old.vacant_key) × (handle.0 ≤ handle_max) × HasRoomFor links.new 1) }
+    ensures ok { IfOk result
+        (λ handle.
+        (handle.0 ≡ links.old.vacant_key)
+        × (handle.0 ≤ handle_max)
+        × HasRoomFor links.new 1) }
     ensures err { IfErr result (λ error. RefusesHandle handle_max links.old.vacant_key error) }
     ensures rest { links.new ≡ record links.old { capacity = links.new.capacity } }
 {
@@ -106,8 +125,15 @@ fn room_for_incoming_link<R>(
     handle_max: u32,
     input_handle: InputHandle,
 ) -> Result<OutputHandle, SessionError>
-    ensures ok { IfOk result (λ handle. (map.get routes.old input_handle.0 ≡ None) × (handle.0 ≡ links.old.vacant_key) × (handle.0 ≤ handle_max) × HasRoomFor links.new 1 × (routes.new ≡ map.insert routes.old input_handle.0 handle.0)) }
-    ensures err { IfErr result (λ error. RefusesInput routes.old input_handle.0 handle_max links.old.vacant_key error) }
+    ensures ok { IfOk result
+        (λ handle.
+        (map.get routes.old input_handle.0 ≡ None)
+        × (handle.0 ≡ links.old.vacant_key)
+        × (handle.0 ≤ handle_max)
+        × HasRoomFor links.new 1
+        × (routes.new ≡ map.insert routes.old input_handle.0 handle.0)) }
+    ensures err { IfErr result
+        (λ error. RefusesInput routes.old input_handle.0 handle_max links.old.vacant_key error) }
     ensures kept { OnErr result (routes.new ≡ routes.old) }
     ensures rest { links.new ≡ record links.old { capacity = links.new.capacity } }
 {

@@ -63,20 +63,19 @@ pub struct TransferAnswer<A> {
     pub told: A,
 }
 
+/// Who owns links of a session and changes them between its calls, by what each of these changes keeps.
+pub trait LinkOwner<R> {
+    /// What a change keeps: the link before, and the link behind.
+    ghost keeps: { R → R → Type 0 };
+}
+
 /// A link as its session sees it (part 2, 2.6). Each call relates the link before, the frame, the answer and the link
-/// behind; a type that is a link says by its five relations what its calls do, and a session is proved for all of them.
+/// behind; a type that is a link says by its relations, `gives`, what its calls do, and a session is proved for all of
+/// them.
 ///
 /// A link that refuses for want of memory is as before.
 pub trait LinkRelay: Drop {
-    ghost use Rattle.std.specs.Prelude.{ℕ, List, Bool, Option, Result};
-    ghost use Rattle.amqp_session_types.specs.declared.modes.Role.{Role};
-    ghost use Rattle.amqp_session_states.specs.declared.delivery_state.DeliveryState.{DeliveryState};
-    ghost use Rattle.amqp_session_performatives.specs.declared.attach.Attach.{Attach};
-    ghost use Rattle.amqp_session_performatives.specs.declared.detach.Detach.{Detach};
-    ghost use Rattle.amqp_session_performatives.specs.declared.transfer.Transfer.{Transfer};
-    ghost use Rattle.amqp_session_performatives.specs.declared.link_flow.LinkFlow.{LinkFlow};
-    ghost use Rattle.amqp_session_core.specs.declared.relay.RelayError.{RelayError};
-    ghost use Rattle.amqp_session_core.specs.declared.relay.TransferAnswer.{TransferAnswer};
+    ghost use Rattle.amqp_session_core.specs.Relay.{Relations};
 
     /// What a link tells of an Attach.
     type Attached: Drop;
@@ -87,21 +86,8 @@ pub trait LinkRelay: Drop {
     /// What a link tells of a Detach.
     type Detached: Drop;
 
-    /// What an Attach does.
-    ghost attach_gives: { Self → Attach → Result Self.Attached RelayError → Self → Type 0 };
-
-    /// What a Flow does; the answer is the Flow that the link answers with, if any.
-    ghost flow_gives: { Self → LinkFlow → Result (Option LinkFlow) RelayError → Self → Type 0 };
-
-    /// What a transfer with its payload does.
-    ghost transfer_gives: { Self → Transfer → List ℕ → Result (TransferAnswer Self.Transferred) RelayError → Self → Type 0 };
-
-    /// What a disposition does to the delivery with this tag, by the role of the peer, whether the peer settled it, and
-    /// its state there; the answer is whether the link wants it echoed.
-    ghost disposition_gives: { Self → List ℕ → Role → Bool → Option DeliveryState → Bool → Self → Type 0 };
-
-    /// What a Detach does.
-    ghost detach_gives: { Self → Detach → Result Self.Detached RelayError → Self → Type 0 };
+    /// What its calls do: the link before, the frame, the answer, and the link behind.
+    ghost gives: { Relations Self Self.Attached Self.Transferred Self.Detached };
 
     /// Takes the peer's Attach (part 2, 2.7.3).
     fn on_incoming_attach(
@@ -109,7 +95,7 @@ pub trait LinkRelay: Drop {
         alloc: Global,
         attach: &Attach,
     ) -> Result<Self::Attached, RelayError>
-        ensures gives { attach_gives self.old attach.now result self.new }
+        ensures gives { gives.attaches self.old attach.now result self.new }
         ensures memory { result ≡ Err RelayError.Memory → self.new ≡ self.old };
 
     /// Takes a Flow (part 2, 2.7.4), and answers the one that is to be sent, if any.
@@ -118,7 +104,7 @@ pub trait LinkRelay: Drop {
         alloc: Global,
         flow: LinkFlow,
     ) -> Result<Option<LinkFlow>, RelayError>
-        ensures gives { flow_gives self.old flow result self.new }
+        ensures gives { gives.flows self.old flow result self.new }
         ensures memory { result ≡ Err RelayError.Memory → self.new ≡ self.old };
 
     /// Takes a transfer (part 2, 2.7.5).
@@ -128,7 +114,7 @@ pub trait LinkRelay: Drop {
         transfer: Transfer,
         payload: Bytes,
     ) -> Result<TransferAnswer<Self::Transferred>, RelayError>
-        ensures gives { transfer_gives self.old transfer payload result self.new }
+        ensures gives { gives.transfers self.old transfer payload result self.new }
         ensures memory { result ≡ Err RelayError.Memory → self.new ≡ self.old };
 
     /// Takes the disposition of one delivery (part 2, 2.7.6), and answers whether it is echoed. It takes no memory.
@@ -139,7 +125,7 @@ pub trait LinkRelay: Drop {
         settled: bool,
         state: Option<DeliveryState>,
     ) -> bool
-        ensures gives { disposition_gives self.old tag.now role settled state result self.new };
+        ensures gives { gives.disposes self.old tag.now role settled state result self.new };
 
     /// Takes a Detach (part 2, 2.7.7).
     fn on_incoming_detach(
@@ -147,6 +133,6 @@ pub trait LinkRelay: Drop {
         alloc: Global,
         detach: &Detach,
     ) -> Result<Self::Detached, RelayError>
-        ensures gives { detach_gives self.old detach.now result self.new }
+        ensures gives { gives.detaches self.old detach.now result self.new }
         ensures memory { result ≡ Err RelayError.Memory → self.new ≡ self.old };
 }

@@ -4,7 +4,8 @@ ghost use Rattle.amqp_session_performatives.specs.declared.session_frame.Session
 ghost use Rattle.amqp_session_outgoing.specs.Queues.{frames_in, room_behind};
 ghost use Rattle.amqp_session_core.specs.declared.batch.BehindFrame.TheVariants as behind;
 ghost use Rattle.amqp_session_core.specs.Frames.{frame_of};
-ghost use Rattle.amqp_session_core.specs.Refusals.{RefusesTransfers, refusal};
+ghost use Rattle.amqp_session_core.specs.Refusals.{RefusesReach, RefusesTransfers, refusal};
+ghost use Rattle.amqp_session_core.specs.State.{link_at};
 ghost use Rattle.amqp_session_core.specs.Steps.{Steps, Reserves, TellsFlow};
 ghost use Rattle.amqp_session_core.specs.Told.{BehindSent, TransfersSent};
 
@@ -38,29 +39,30 @@ impl<R: LinkRelay> Session<R> {
     }
 
     /// Sends a Flow of a link (part 2, 2.7.4). Where transfers of the link wait it goes behind them; else it is answered,
-    /// to be sent at once. The session's own state is written into it as it leaves. It is refused with `Memory` alone,
-    /// and nothing changes then.
+    /// to be sent at once. The session's own state is written into it as it leaves.
+    ///
+    /// It is refused with `UnattachedHandle` exactly where no link has the handle, and with `Memory`. Nothing changes
+    /// then.
     pub fn on_outgoing_flow(
         &mut self,
         handle: OutputHandle,
         flow: LinkFlow,
     ) -> Result<Option<SessionFrame>, SessionError>
-        ensures ok { IfOk result (λ answer. BehindSent R.attach_gives R.flow_gives R.transfer_gives R.disposition_gives R.detach_gives self.old handle (behind.Flow (record flow { handle = record { 0 = handle.0 } })) answer self.new) }
-        ensures err { IfErr result (λ e. e ≡ SessionError.Memory) }
+        ensures ok { IfOk result (λ answer. BehindSent R.gives self.old handle (behind.Flow (record flow { handle = record { 0 = handle.0 } })) answer self.new) }
+        ensures err { IfErr result (λ e. RefusesReach (link_at self.old handle.0) e) }
         ensures kept { OnErr result (self.new ≡ self.old) }
     {
         self.send_behind(handle, BehindFrame::Flow(own(handle, flow)))
     }
 
-    /// Sends a Detach of a link (part 2, 2.7.7), as `on_outgoing_flow` does. It is refused with `Memory` alone, and
-    /// nothing changes then.
+    /// Sends a Detach of a link (part 2, 2.7.7), and is refused, as `on_outgoing_flow` does.
     pub fn on_outgoing_detach(
         &mut self,
         handle: OutputHandle,
         detach: Detach,
     ) -> Result<Option<SessionFrame>, SessionError>
-        ensures ok { IfOk result (λ answer. BehindSent R.attach_gives R.flow_gives R.transfer_gives R.disposition_gives R.detach_gives self.old handle (behind.Detach (record detach { handle = record { 0 = handle.0 } })) answer self.new) }
-        ensures err { IfErr result (λ e. e ≡ SessionError.Memory) }
+        ensures ok { IfOk result (λ answer. BehindSent R.gives self.old handle (behind.Detach (record detach { handle = record { 0 = handle.0 } })) answer self.new) }
+        ensures err { IfErr result (λ e. RefusesReach (link_at self.old handle.0) e) }
         ensures kept { OnErr result (self.new ≡ self.old) }
     {
         let mut detach = detach;
@@ -84,15 +86,18 @@ impl<R: LinkRelay> Session<R> {
         }
     }
 
-    /// Sends a Detach of a link for which there is room (part 2, 2.7.7), as `on_outgoing_detach` does. It takes no memory.
+    /// Sends a Detach of a link for which there is room (part 2, 2.7.7), as `on_outgoing_detach` does. It takes no
+    /// memory. It is refused with `UnattachedHandle` alone, exactly where no link has the handle, and nothing changes then.
     pub fn on_outgoing_detach_in(
         &mut self,
         handle: OutputHandle,
         place: Place<BehindFrame>,
         detach: Detach,
-    ) -> Option<SessionFrame>
+    ) -> Result<Option<SessionFrame>, SessionError>
         requires { room_behind handle.0 (self.old.outgoing).queues ≤ place }
-        ensures { BehindSent R.attach_gives R.flow_gives R.transfer_gives R.disposition_gives R.detach_gives self.old handle (behind.Detach (record detach { handle = record { 0 = handle.0 } })) result self.new }
+        ensures ok { IfOk result (λ answer. BehindSent R.gives self.old handle (behind.Detach (record detach { handle = record { 0 = handle.0 } })) answer self.new) }
+        ensures err { IfErr result (λ e. (e ≡ SessionError.UnattachedHandle) × (link_at self.old handle.0 ≡ None)) }
+        ensures kept { OnErr result (self.new ≡ self.old) }
     {
         let mut detach = detach;
         detach.handle = Handle(handle.0);
@@ -100,14 +105,17 @@ impl<R: LinkRelay> Session<R> {
     }
 
     /// Sends a Flow of a link for which there is room (part 2, 2.7.4), as `on_outgoing_flow` does. It takes no memory.
+    /// It is refused with `UnattachedHandle` alone, exactly where no link has the handle, and nothing changes then.
     pub fn on_outgoing_flow_in(
         &mut self,
         handle: OutputHandle,
         place: Place<BehindFrame>,
         flow: LinkFlow,
-    ) -> Option<SessionFrame>
+    ) -> Result<Option<SessionFrame>, SessionError>
         requires { room_behind handle.0 (self.old.outgoing).queues ≤ place }
-        ensures { BehindSent R.attach_gives R.flow_gives R.transfer_gives R.disposition_gives R.detach_gives self.old handle (behind.Flow (record flow { handle = record { 0 = handle.0 } })) result self.new }
+        ensures ok { IfOk result (λ answer. BehindSent R.gives self.old handle (behind.Flow (record flow { handle = record { 0 = handle.0 } })) answer self.new) }
+        ensures err { IfErr result (λ e. (e ≡ SessionError.UnattachedHandle) × (link_at self.old handle.0 ≡ None)) }
+        ensures kept { OnErr result (self.new ≡ self.old) }
     {
         self.send_behind_in(handle, place, BehindFrame::Flow(own(handle, flow)))
     }
@@ -116,7 +124,8 @@ impl<R: LinkRelay> Session<R> {
     /// waiting, and what the peer's window allows is handed out, links in turn; the batch is empty then. A delivery gets
     /// its number as its first transfer leaves.
     ///
-    /// It is refused with `IllegalState` where a delivery begins without a tag, with `NumberInUse` where the number that
+    /// It is refused with `UnattachedHandle` exactly where no link has the handle, else
+    /// with `IllegalState` where a delivery begins without a tag, with `NumberInUse` where the number that
     /// a delivery would get is that of an unsettled one or of one that waits (part 2, 2.8.6), and with `Memory` where
     /// there is none and no room was made for it. Nothing changes then.
     pub fn on_outgoing_transfer(
@@ -126,12 +135,15 @@ impl<R: LinkRelay> Session<R> {
         handle: OutputHandle,
         batch: &mut Batch,
     ) -> Result<(), SessionError>
-        ensures ok { OnOk result (TransfersSent R.attach_gives R.flow_gives R.transfer_gives R.disposition_gives R.detach_gives self.old out.old.items handle batch.old self.new out.new.items) }
+        ensures ok { OnOk result (TransfersSent R.gives self.old out.old.items handle batch.old self.new out.new.items) }
         ensures emptied { OnOk result (batch.new ≡ []) }
-        ensures err { IfErr result (λ e. RefusesTransfers self.old batch.old e) }
+        ensures err { IfErr result (λ e. RefusesTransfers self.old handle.0 batch.old e) }
         ensures kept { OnErr result ((self.new ≡ self.old) × (out.new.items ≡ out.old.items) × (batch.new ≡ batch.old)) }
         ensures room { length batch.old ≤ (self.old.outgoing).room → deque_len out.old + (frames_in (self.old.outgoing).queues + length batch.old) ≤ deque_capacity out.old → result ≢ Err SessionError.Memory }
     {
+        if !self.links.contains(handle.0 as usize) {
+            return Err(SessionError::UnattachedHandle);
+        }
         let firsts = match self.outgoing.admits(&batch.transfers) {
             Ok(firsts) => firsts,
             Err(error) => return Err(refusal(error)),
@@ -153,7 +165,7 @@ impl<R: LinkRelay> Session<R> {
         out: &mut VecDeque<SessionFrame>,
         count: usize,
     ) -> Result<(), SessionError>
-        ensures ok { OnOk result (Steps R.attach_gives R.flow_gives R.transfer_gives R.disposition_gives R.detach_gives self.old (Reserves count) self.new) }
+        ensures ok { OnOk result (Steps R.gives self.old (Reserves count) self.new) }
         ensures room { OnOk result (deque_len out.new + (frames_in (self.new.outgoing).queues + count) ≤ deque_capacity out.new) }
         ensures err { IfErr result (λ e. e ≡ SessionError.Memory) }
         ensures kept { OnErr result (self.new ≡ self.old) }
@@ -167,7 +179,7 @@ impl<R: LinkRelay> Session<R> {
     /// A Flow of the session that is due: where half of the own window or more is used up since a Flow left (part 2,
     /// 2.5.6). There is none where the session has told each transfer by itself.
     pub fn maybe_outgoing_session_flow(&mut self) -> Option<SessionFrame>
-        ensures some { IfSome result (λ frame. ((self.old.fields).incoming_window ≤ 2 * self.old.taken) × Steps R.attach_gives R.flow_gives R.transfer_gives R.disposition_gives R.detach_gives self.old (TellsFlow frame) self.new) }
+        ensures some { IfSome result (λ frame. ((self.old.fields).incoming_window ≤ 2 * self.old.taken) × Steps R.gives self.old (TellsFlow frame) self.new) }
         ensures none { IfNone result ((2 * self.old.taken < (self.old.fields).incoming_window) × (self.new ≡ self.old)) }
     {
         if 2 * u64::from(self.taken) < u64::from(self.fields.incoming_window) {
@@ -184,10 +196,13 @@ impl<R: LinkRelay> Session<R> {
         handle: OutputHandle,
         frame: BehindFrame,
     ) -> Result<Option<SessionFrame>, SessionError>
-        ensures ok { IfOk result (λ answer. BehindSent R.attach_gives R.flow_gives R.transfer_gives R.disposition_gives R.detach_gives self.old handle (frame) answer self.new) }
-        ensures err { IfErr result (λ e. e ≡ SessionError.Memory) }
+        ensures ok { IfOk result (λ answer. BehindSent R.gives self.old handle (frame) answer self.new) }
+        ensures err { IfErr result (λ e. RefusesReach (link_at self.old handle.0) e) }
         ensures kept { OnErr result (self.new ≡ self.old) }
     {
+        if !self.links.contains(handle.0 as usize) {
+            return Err(SessionError::UnattachedHandle);
+        }
         let number = self.outgoing.next_outgoing_id();
         let Some(frame) = self.outgoing.on_outgoing_frame(handle, frame)? else {
             return Ok(None);
@@ -204,18 +219,23 @@ impl<R: LinkRelay> Session<R> {
         handle: OutputHandle,
         place: Place<BehindFrame>,
         frame: BehindFrame,
-    ) -> Option<SessionFrame>
+    ) -> Result<Option<SessionFrame>, SessionError>
         requires { room_behind handle.0 (self.old.outgoing).queues ≤ place }
-        ensures { BehindSent R.attach_gives R.flow_gives R.transfer_gives R.disposition_gives R.detach_gives self.old handle frame result self.new }
+        ensures ok { IfOk result (λ answer. BehindSent R.gives self.old handle frame answer self.new) }
+        ensures err { IfErr result (λ e. (e ≡ SessionError.UnattachedHandle) × (link_at self.old handle.0 ≡ None)) }
+        ensures kept { OnErr result (self.new ≡ self.old) }
     {
+        if !self.links.contains(handle.0 as usize) {
+            return Err(SessionError::UnattachedHandle);
+        }
         let number = self.outgoing.next_outgoing_id();
         let Some(frame) = self.outgoing.on_outgoing_frame_in(handle, place, frame) else {
-            return None;
+            return Ok(None);
         };
         if frame.is_flow() {
             self.taken = 0;
         }
-        Some(self.fields.behind_frame(number, frame))
+        Ok(Some(self.fields.behind_frame(number, frame)))
     }
 }
 

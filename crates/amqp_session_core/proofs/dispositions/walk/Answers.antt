@@ -18,7 +18,7 @@ loop-number-preserved g c =
     let each = copies-left d.state c.loop-number.states.items c.pop.new.self.items c.pop.result c.pop.ensures.items c.loop-number.invariant.each in
     let rest = rest-stays c.args.links.now c.loop-number.links c.reach_one.new.links c.loop-number.invariant.rest c.reach_one.ensures.rest in
     let next = λ (pushed : more ≡ echoed ++ one_if c.reach_one.result n).
-    walked-next g.R.LinkRelay.disposition_gives d (c.args.deliveries.now).table ns i (c.args.links.now).slots c.loop-number.links.slots c.reach_one.new.links.slots echoed more (option_copied c.get.result) c.flatten-state.result c.reach_one.result
+    walked-next g.R.LinkRelay.gives.disposes d (c.args.deliveries.now).table ns i (c.args.links.now).slots c.loop-number.links.slots c.reach_one.new.links.slots echoed more (option_copied c.get.result) c.flatten-state.result c.reach_one.result
     c.loop-number-test.true c.requires.there c.get.ensures state pushed c.loop-number.invariant.walked c.reach_one.ensures.step in
     elim c.if-reach_one.branch [
       | then-reach_one w ↦

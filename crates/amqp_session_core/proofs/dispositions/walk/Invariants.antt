@@ -4,7 +4,7 @@ use Rattle.amqp_session_core.proofs.dispositions.walk.Given as goal
 
 abbrev pub invariant-loop-number : goal.invariant-loop-number
 invariant-loop-number g l = record {
-  walked : Walked g.R.LinkRelay.disposition_gives l.disposition l.deliveries.table (take l.number-index l.numbers) l.fn.links.slots l.echoed.items l.links.slots;
+  walked : Walked g.R.LinkRelay.gives.disposes l.disposition l.deliveries.table (take l.number-index l.numbers) l.fn.links.slots l.echoed.items l.links.slots;
   rest : l.links ≡ record l.fn.links { slots = l.links.slots };
   each : All (λ s. s ≡ l.disposition.state) l.states.items;
   enough : vec_len l.states + l.number-index ≡ length l.numbers;

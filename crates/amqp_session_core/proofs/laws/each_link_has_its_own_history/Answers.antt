@@ -3,5 +3,5 @@ use Rattle.amqp_session_core.proofs.laws.each_link_has_its_own_history.Goals as 
 
 pub returns : goal.returns
 returns g c = λ start end steps run link old has f.
-    let own = own-history g.R.LinkRelay.attach_gives g.R.LinkRelay.flow_gives g.R.LinkRelay.transfer_gives g.R.LinkRelay.disposition_gives g.R.LinkRelay.detach_gives link old steps start end run f has in
+    let own = own-history g.R.LinkRelay.gives link old steps start end run f has in
     (own.new, own.stands, own.run)

@@ -5,4 +5,4 @@ use Rattle.amqp_session_core.proofs.Telling.{history-tells}
 use Rattle.amqp_session_core.proofs.laws.flows_tell_what_was_taken.Goals as goal
 
 pub returns : goal.returns
-returns g c = λ channel first window end steps run. history-tells g.R.LinkRelay.attach_gives g.R.LinkRelay.flow_gives g.R.LinkRelay.transfer_gives g.R.LinkRelay.disposition_gives g.R.LinkRelay.detach_gives None window steps (fresh channel first window) end refl refl run
+returns g c = λ channel first window end steps run. history-tells g.R.LinkRelay.gives None window steps (fresh channel first window) end refl refl run

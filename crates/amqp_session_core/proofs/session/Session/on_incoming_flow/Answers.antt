@@ -3,8 +3,8 @@ use Rattle.amqp_session_core.proofs.Answering.{flow-taken}
 use Rattle.amqp_session_core.proofs.session.Session.on_incoming_flow.Goals as goal
 
 pub returns-then-flowed-left-clause-step : goal.returns-then-flowed-left-clause-step
-returns-then-flowed-left-clause-step g c = λ other.
-    flow-taken g.R.LinkRelay.attach_gives g.R.LinkRelay.flow_gives g.R.LinkRelay.transfer_gives g.R.LinkRelay.disposition_gives g.R.LinkRelay.detach_gives c.args.self.now _ c.args.flow
+returns-then-flowed-left-clause-step g c = λ led other.
+    flow-taken g.R.LinkRelay.gives c.args.self.now _ c.args.flow
     c.args.out.now.items
     c.reply-flowed.new.out.items
     c.take_window-left.new.out.items
@@ -13,6 +13,7 @@ returns-then-flowed-left-clause-step g c = λ other.
     c.reply-flowed.new.outgoing
     c.reply-flowed.result.0
     c.take_window-left.result
+    led
     (search rules)
     (search rules)
     (search rules)
@@ -20,8 +21,8 @@ returns-then-flowed-left-clause-step g c = λ other.
     (search rules)
 
 pub returns-else-flowed-left-clause-step : goal.returns-else-flowed-left-clause-step
-returns-else-flowed-left-clause-step g c = λ other.
-    flow-taken g.R.LinkRelay.attach_gives g.R.LinkRelay.flow_gives g.R.LinkRelay.transfer_gives g.R.LinkRelay.disposition_gives g.R.LinkRelay.detach_gives c.args.self.now _ c.args.flow
+returns-else-flowed-left-clause-step g c = λ led other.
+    flow-taken g.R.LinkRelay.gives c.args.self.now _ c.args.flow
     c.args.out.now.items
     c.reply-flowed.new.out.items
     c.take_window-left.new.out.items
@@ -30,6 +31,7 @@ returns-else-flowed-left-clause-step g c = λ other.
     c.reply-flowed.new.outgoing
     c.reply-flowed.result.0
     c.take_window-left.result
+    led
     (search rules)
     (search rules)
     (search rules)

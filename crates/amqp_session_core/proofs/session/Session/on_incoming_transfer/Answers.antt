@@ -4,7 +4,7 @@ use Rattle.amqp_session_core.proofs.session.Session.on_incoming_transfer.Goals a
 
 pub returns : goal.returns
 returns g c =
-    transfer-taken g.R.LinkRelay.attach_gives g.R.LinkRelay.flow_gives g.R.LinkRelay.transfer_gives g.R.LinkRelay.disposition_gives g.R.LinkRelay.detach_gives _ _ c.args.transfer c.args.payload
+    transfer-taken g.R.LinkRelay.gives _ _ c.args.transfer c.args.payload
     c.room_for_transfer-place.result
     c.in_ok-handle.handle
     c.in_ok-handle.answer

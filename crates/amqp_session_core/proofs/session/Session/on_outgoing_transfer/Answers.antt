@@ -1,10 +1,10 @@
-use Rattle.std.proofs.Common.{inl, inr, rules, arith, ap, sym, subst, ◌∙◌, length}
+use Rattle.std.proofs.Common.{inl, inr, rules, arith, ap, sym, subst, ◌∙◌, length, IsSome}
 use Rattle.amqp_session_outgoing.specs.Frames.{sent_count}
 use Rattle.amqp_session_outgoing.specs.Queues.{held_in}
 use Rattle.amqp_session_outgoing.specs.History.{RefusesBatch}
 use Rattle.amqp_session_core.specs.Batch.{Transfers}
 use Rattle.amqp_session_core.specs.Flowing.{Sending}
-use Rattle.amqp_session_core.specs.State.{State}
+use Rattle.amqp_session_core.specs.State.{State, link_at}
 use Rattle.amqp_session_core.specs.Frames.{Left}
 use Rattle.amqp_session_core.specs.Refusals.{RefusesTransfers}
 use Rattle.amqp_session_core.proofs.Batches.{whole-count, room-used, refuses}
@@ -14,7 +14,9 @@ pub returns-in-Err-clause-err : goal.returns-in-Err-clause-err
 returns-in-Err-clause-err g c =
     let here = subst (λ (b : Transfers). RefusesBatch c.self.inside.outgoing b c.in-Err.error) c.batch.view_is c.in-Err.ensures.err in
     let there = subst (λ (o : Sending). RefusesBatch o c.args.batch.now c.in-Err.error) (ap (λ (s : State _). s.outgoing) c.self.view_is) here in
-    subst (λ e. RefusesTransfers c.args.self.now c.args.batch.now e) (sym c.refusal.ensures) (refuses c.args.self.now c.args.batch.now c.in-Err.error there)
+    let live : IsSome (link_at c.args.self.now (c.args.handle).0) = search rules in
+    subst (λ e. RefusesTransfers c.args.self.now (c.args.handle).0 c.args.batch.now e) (sym c.refusal.ensures)
+    (refuses c.args.self.now (c.args.handle).0 c.args.batch.now c.in-Err.error live there)
 
 pub hand_out-requires : goal.hand_out-requires
 hand_out-requires g c =
