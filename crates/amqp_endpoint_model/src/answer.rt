@@ -1,3 +1,4 @@
+//! What the calls of an endpoint answer.
 ghost use Rattle.std.specs.Prelude.{◌≡◌};
 
 use crate::error::EndpointError;

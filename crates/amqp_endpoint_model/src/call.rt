@@ -1,3 +1,4 @@
+//! The calls of an endpoint.
 use bytes::Bytes;
 
 /// A call of an endpoint.

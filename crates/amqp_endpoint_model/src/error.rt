@@ -1,3 +1,4 @@
+//! Why an endpoint refuses a call, or ends its connection.
 ghost use Rattle.std.specs.Prelude.{◌≡◌};
 ghost use Rattle.amqp_endpoint_model.specs.declared.error.EndpointError.TheVariants.{Memory};
 ghost use Rattle.amqp_endpoint_model.specs.Numbers.{number};

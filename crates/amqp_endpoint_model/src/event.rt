@@ -1,3 +1,4 @@
+//! What an endpoint tells of its peer.
 use amqp_session_types::definitions;
 use serde_amqp_types::Text;
 

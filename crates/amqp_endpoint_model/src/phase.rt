@@ -1,3 +1,4 @@
+//! Where an endpoint stands with its connection.
 /// Where an endpoint stands with its connection.
 #[derive(Debug, Clone, Copy, PartialEq, Eq, Drop)]
 pub enum Phase {

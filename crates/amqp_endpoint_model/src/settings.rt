@@ -1,3 +1,4 @@
+//! What an endpoint is made with.
 use serde_amqp_types::Text;
 
 /// What an endpoint is made with. It keeps this for life.

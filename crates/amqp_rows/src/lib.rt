@@ -68,7 +68,10 @@ pub fn run<R: Read, W: Write, F: Fn(&str) -> Result<String, AllocError>>(
 }
 
 fn read_all<R: Read>(alloc: Global, reader: &mut R) -> Result<Vec<u8>, RowsError>
-    ensures text { IfOk result (λ text. Consumes (R.remaining reader.old) (R.remaining reader.new) text.items × IsAtEnd (R.remaining reader.new)) }
+    ensures text { IfOk result
+        (λ text.
+        Consumes (R.remaining reader.old) (R.remaining reader.new) text.items
+        × IsAtEnd (R.remaining reader.new)) }
     ensures error { IfErr result (λ e. e ≢ WriteRefused) }
 {
     let mut text = Vec::new(alloc);
@@ -106,7 +109,10 @@ fn answer_all<F: Fn(&str) -> Result<String, AllocError>>(
     answer: &F,
 ) -> Result<Report, AllocError>
     requires { F.IsAlwaysCallable answer.now }
-    ensures { IfOk result (λ report. LinesDone (Answers F.Fn answer.now) 1 (lines_of text.now) nothing_told (tally_of report)) }
+    ensures { IfOk result
+        (λ report.
+        LinesDone (Answers F.Fn answer.now) 1 (lines_of text.now) nothing_told
+        (tally_of report)) }
 {
     let lines = lines_of(alloc, text)?;
     answer_lines(alloc, lines.as_slice(), answer)
@@ -124,7 +130,10 @@ fn answer_lines<F: Fn(&str) -> Result<String, AllocError>>(
     answer: &F,
 ) -> Result<Report, AllocError>
     requires { F.IsAlwaysCallable answer.now }
-    ensures { IfOk result (λ report. LinesDone (Answers F.Fn answer.now) 1 (map (λ l. l.now) lines.now) nothing_told (tally_of report)) }
+    ensures { IfOk result
+        (λ report.
+        LinesDone (Answers F.Fn answer.now) 1 (map (λ l. l.now) lines.now) nothing_told
+        (tally_of report)) }
 {
     let mut report = Report::new(alloc);
     for (index, line) in lines.iter().enumerate() {
@@ -141,8 +150,11 @@ fn answer_text<F: Fn(&str) -> Result<String, AllocError>>(
 ) -> Result<(), AllocError>
     requires callable { F.IsAlwaysCallable answer.now }
     requires room { report.now.held + report.now.differing < 2 ^ 64 - 1 }
-    ensures done { OnOk result (TextDone (Answers F.Fn answer.now) number text.now (tally_of report.old) (tally_of report.new)) }
-    ensures counted { OnOk result (report.new.held + report.new.differing ≤ report.old.held + report.old.differing + 1) }
+    ensures done { OnOk result
+        (TextDone (Answers F.Fn answer.now) number text.now (tally_of report.old)
+        (tally_of report.new)) }
+    ensures counted { OnOk result
+        (report.new.held + report.new.differing ≤ report.old.held + report.old.differing + 1) }
 {
     match str::from_utf8(text) {
         Ok(text) => answer_line(report, number, &parse(text), answer),
@@ -158,8 +170,11 @@ fn answer_line<F: Fn(&str) -> Result<String, AllocError>>(
 ) -> Result<(), AllocError>
     requires callable { F.IsAlwaysCallable answer.now }
     requires room { report.now.held + report.now.differing < 2 ^ 64 - 1 }
-    ensures done { OnOk result (LineDone (Answers F.Fn answer.now) number line.now (tally_of report.old) (tally_of report.new)) }
-    ensures counted { OnOk result (report.new.held + report.new.differing ≤ report.old.held + report.old.differing + 1) }
+    ensures done { OnOk result
+        (LineDone (Answers F.Fn answer.now) number line.now (tally_of report.old)
+        (tally_of report.new)) }
+    ensures counted { OnOk result
+        (report.new.held + report.new.differing ≤ report.old.held + report.old.differing + 1) }
 {
     match line {
         Line::Empty => Ok(()),

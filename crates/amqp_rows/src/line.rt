@@ -1,3 +1,4 @@
+//! Lines of a table.
 ghost use Rattle.amqp_rows.specs.Rows.{Says, is_left_out};
 ghost use Rattle.std.specs.Prelude.{◌≡◌};
 

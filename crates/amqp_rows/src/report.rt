@@ -1,3 +1,4 @@
+//! What is printed of a table.
 ghost use Rattle.std.specs.Prelude.{◌≡◌, ◌+◌, ◌++◌, ◌-◌, ◌<◌, ◌^◌, IfOk, OnOk, string_bytes};
 ghost use Rattle.amqp_rows.specs.Rows.{tally_of, nothing_told, printed, judged, all_text, status_of, closing_text, differing_text};
 
@@ -42,7 +43,9 @@ impl Report {
         answer: &str,
     ) -> Result<(), AllocError>
         requires { self.now.held + self.now.differing < 2 ^ 64 - 1 }
-        ensures { OnOk result (tally_of self.new ≡ judged number given.now wanted.now answer.now (tally_of self.old)) }
+        ensures { OnOk result
+            (tally_of self.new
+            ≡ judged number given.now wanted.now answer.now (tally_of self.old)) }
     {
         if answer == wanted {
             self.held += 1;
@@ -78,7 +81,8 @@ impl Report {
 }
 
 fn print_counts(output: &mut String, held: usize, differing: usize) -> Result<(), AllocError>
-    ensures { OnOk result (string_bytes output.new ≡ string_bytes output.old ++ closing_text held differing) }
+    ensures { OnOk result
+        (string_bytes output.new ≡ string_bytes output.old ++ closing_text held differing) }
 {
     if held == 0 && differing == 0 {
         return Ok(());

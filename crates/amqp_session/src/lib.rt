@@ -4,8 +4,9 @@
 
 pub use amqp_session_connection::{Connection, ConnectionState};
 pub use amqp_session_core::{
-    Batch, BehindFrame, LinkRelay, OUTGOING_WINDOW, Registration, RelayError, Session,
-    SessionFields, SessionState, TransferAnswer, TransferFrame, TransferTaken, Unallocated,
+    Batch, BehindFrame, DispositionRoom, LinkOwner, LinkRelay, Links, OUTGOING_WINDOW,
+    Registration, RelayError, Session, SessionFields, SessionState, Touched, TransferAnswer,
+    TransferFrame, TransferTaken, Unallocated, echoes,
 };
 pub use amqp_session_frames::{
     Error as FrameError, Frame, FrameBody, FrameDecoder, FrameEncoder, Piece, Pieces,

@@ -1,3 +1,4 @@
+//! Scripts of calls on the sending side of a session.
 use crate::script::Subject;
 use crate::text;
 use crate::text::List;
@@ -160,15 +161,22 @@ impl Sending {
         words: &[&str],
     ) -> Result<Option<String>, AllocError> {
         let mut batch = VecDeque::new(alloc);
-        for word in words {
-            if !push(&mut batch, alloc, word)? {
-                return Ok(None);
-            }
+        match push_all(&mut batch, alloc, words) {
+            Ok(true) => self.send_batch(alloc, OutputHandle(handle), &mut batch),
+            Ok(false) => Ok(None),
+            Err(refused) => Err(refused),
         }
-        let handle = OutputHandle(handle);
+    }
+
+    fn send_batch(
+        &mut self,
+        alloc: Global,
+        handle: OutputHandle,
+        batch: &mut VecDeque<Outbound<u32, u32>>,
+    ) -> Result<Option<String>, AllocError> {
         let answer = self
             .outgoing
-            .on_outgoing_transfer(alloc, &mut self.out, handle, &mut batch);
+            .on_outgoing_transfer(alloc, &mut self.out, handle, batch);
         Ok(Some(sent(alloc, answer, batch.len())?))
     }
 
@@ -278,6 +286,20 @@ fn transfer_of(word: &str) -> Option<(&str, u32)> {
     Some((part, number_of(transfer)?))
 }
 
+/// Puts the transfers that the words say last, and answers whether all could be read.
+fn push_all(
+    batch: &mut VecDeque<Outbound<u32, u32>>,
+    alloc: Global,
+    words: &[&str],
+) -> Result<bool, AllocError> {
+    for word in words {
+        if !push(batch, alloc, word)? {
+            return Ok(false);
+        }
+    }
+    Ok(true)
+}
+
 /// Puts the transfer that a word says last, and answers whether it could be read.
 fn push(
     batch: &mut VecDeque<Outbound<u32, u32>>,
@@ -354,10 +376,14 @@ fn link_of(outgoing: &Outgoing<u32, u32>, number: u32) -> Option<u32> {
 fn take_left(out: &mut Vec<Sent<u32, u32>>, alloc: Global) -> Result<String, AllocError> {
     let mut list = List::new(alloc);
     for sent in out.drain(..) {
-        list.begin_item()?;
-        write_sent(&mut list.text, sent)?;
+        list_sent(&mut list, sent)?;
     }
     list.into_text()
+}
+
+fn list_sent(list: &mut List, sent: Sent<u32, u32>) -> Result<(), AllocError> {
+    list.begin_item()?;
+    write_sent(&mut list.text, sent)
 }
 
 /// Appends a transfer's number, its link's handle, its delivery's number if it begins one, and itself.

@@ -103,15 +103,13 @@ impl LinkRelay for Plain {
 
     type Detached = u32;
 
-    ghost attach_gives = { λ _ _ _ _. Unit {0} };
-
-    ghost flow_gives = { λ _ _ _ _. Unit {0} };
-
-    ghost transfer_gives = { λ _ _ _ _ _. Unit {0} };
-
-    ghost disposition_gives = { λ _ _ _ _ _ _ _. Unit {0} };
-
-    ghost detach_gives = { λ _ _ _ _. Unit {0} };
+    ghost gives = { record {
+      attaches = λ _ _ _ _. Unit {0};
+      flows = λ _ _ _ _. Unit {0};
+      transfers = λ _ _ _ _ _. Unit {0};
+      disposes = λ _ _ _ _ _ _ _. Unit {0};
+      detaches = λ _ _ _ _. Unit {0};
+    } };
 
     fn on_incoming_attach(&mut self, _alloc: Global, _attach: &Attach) -> Result<u32, RelayError> {
         self.find_memory()?;

@@ -1,3 +1,4 @@
+//! Scripts: steps that are called one after the other on a subject.
 use crate::outgoing::Sending;
 use crate::session::Peer;
 use crate::text::BETWEEN_STEPS;

@@ -1,3 +1,4 @@
+//! The text of answers.
 use amqp_session::OutputHandle;
 use std::alloc::{AllocError, Global};
 

@@ -1,3 +1,4 @@
+//! Scripts of calls on a table of unsettled deliveries.
 use crate::script::Subject;
 use crate::text;
 use crate::words::{Words, number_of};

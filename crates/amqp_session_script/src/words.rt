@@ -1,3 +1,4 @@
+//! The words of a step.
 use std::alloc::{AllocError, Global};
 
 /// The words of a step, and how many of them were read.

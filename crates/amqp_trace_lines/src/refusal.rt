@@ -1,3 +1,4 @@
+//! Why a line has no other answer.
 use amqp_session_frames::Error as FrameError;
 use serde_amqp_item::Error;
 use std::alloc::{AllocError, Global};

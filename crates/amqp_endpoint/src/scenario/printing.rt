@@ -1,3 +1,4 @@
+//! What the steps of a script print.
 ghost use Rattle.std.specs.Prelude.{◌≡◌, ◌++◌, map, IfOk, OnOk, string_bytes};
 ghost use Rattle.amqp_endpoint_model.specs.Said.{told, said};
 ghost use Rattle.amqp_endpoint.specs.Printed.{printed, step_text, ok_text, bytes_text, hex_word, event_text, events_text, fault_text};

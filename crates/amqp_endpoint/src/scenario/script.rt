@@ -1,3 +1,4 @@
+//! A script as it is read: its settings and its steps.
 ghost use Rattle.std.specs.Prelude.{◌≡◌, map, IfOk};
 ghost use Rattle.amqp_endpoint.specs.Script.{parts_at, is_skipped, lines_from, default_settings, steps, behind_one, reading};
 ghost use Rattle.amqp_endpoint.specs.Parsed.{line_of, parsed};

@@ -1,3 +1,4 @@
+//! What one line of a script says.
 ghost use Rattle.std.specs.Prelude.{◌≡◌, ◌==◌, ◌^◌, length, map, IfOk};
 ghost use Rattle.amqp_endpoint.specs.Script.{number_under, bytes_of, call_of, settings_of, opening_said, call_said, feed_said, settings_said, words_said, statement, parts_at};
 ghost use Rattle.std.specs.List.{list_any};

@@ -1,3 +1,4 @@
+//! The calls on a session that a script can make.
 use amqp_session::Role;
 
 /// A transfer of a batch.

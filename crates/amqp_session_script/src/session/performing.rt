@@ -1,3 +1,4 @@
+//! Calls of a script, made on a session.
 use super::calls::{
     Call, Change, DispositionOf, FlowOf, Frame, LinkFrame, Part, Sending, TransferOf,
 };
@@ -8,8 +9,8 @@ use super::{Peer, frames};
 use crate::plain::Plain;
 use crate::text;
 use amqp_session::{
-    Batch, IncomingChannel, InputHandle, OutputHandle, Role, Session, SessionError, SessionFrame,
-    TransferTaken,
+    Batch, Disposition, IncomingChannel, InputHandle, OutputHandle, Role, Session, SessionError,
+    SessionFrame, TransferTaken, echoes,
 };
 use bytes::Bytes;
 use std::alloc::{AllocError, Global};
@@ -155,7 +156,7 @@ fn placed_flow(
     handle: OutputHandle,
 ) -> Result<Option<SessionFrame>, SessionError> {
     let place = session.place_behind(alloc, handle)?;
-    Ok(session.on_outgoing_flow_in(handle, place, frames::link_flow()))
+    session.on_outgoing_flow_in(handle, place, frames::link_flow())
 }
 
 /// The Detach that leaves at once where one of the link gets a place, if one leaves.
@@ -165,7 +166,7 @@ fn placed_detach(
     handle: OutputHandle,
 ) -> Result<Option<SessionFrame>, SessionError> {
     let place = session.place_behind(alloc, handle)?;
-    Ok(session.on_outgoing_detach_in(handle, place, frames::detach(99)))
+    session.on_outgoing_detach_in(handle, place, frames::detach(99))
 }
 
 fn send_disposition(
@@ -174,10 +175,10 @@ fn send_disposition(
     disposition: DispositionOf,
 ) -> Result<String, AllocError> {
     let detail = peer.detail;
-    let answer = peer
+    let frame = peer
         .session
-        .on_outgoing_disposition(alloc, frames::disposition(disposition));
-    told(alloc, answer, |frame| show_frame(alloc, frame, detail))
+        .on_outgoing_disposition(frames::disposition(disposition));
+    seen(frame, |frame| show_frame(alloc, frame, detail))
 }
 
 fn send_session_flow(peer: &mut Peer, alloc: Global) -> Result<String, AllocError> {
@@ -277,12 +278,26 @@ fn take_disposition(
     disposition: DispositionOf,
 ) -> Result<String, AllocError> {
     let disposition = frames::disposition(disposition);
-    let answer = peer.session.on_incoming_disposition(alloc, &disposition);
+    let answer = disposed(&mut peer.session, alloc, &disposition);
     told(
         alloc,
         answer,
         |echoes| show_echoes(alloc, echoes.as_slice()),
     )
+}
+
+/// The dispositions that go back.
+fn disposed(
+    session: &mut Session<Plain>,
+    alloc: Global,
+    disposition: &Disposition,
+) -> Result<Vec<Disposition>, SessionError> {
+    let room = session.reserve_disposition(alloc, disposition)?;
+    let runs = session.on_incoming_disposition(disposition, room);
+    match echoes(alloc, disposition, &runs) {
+        Ok(echoes) => Ok(echoes),
+        Err(_) => Err(SessionError::Memory),
+    }
 }
 
 fn take_detach(peer: &mut Peer, alloc: Global, handle: u32) -> Result<String, AllocError> {
@@ -326,10 +341,11 @@ fn handle_text(alloc: Global, handle: OutputHandle) -> Result<String, AllocError
 }
 
 fn unlink(peer: &mut Peer, alloc: Global, handle: OutputHandle) -> Result<String, AllocError> {
-    match peer.session.deallocate_link(handle) {
+    let answer = peer.session.deallocate_link(handle);
+    told(alloc, answer, |link| match link {
         Some(_) => text::ok(alloc),
         None => text::none(alloc),
-    }
+    })
 }
 
 /// The link finds memory from now on, or none.

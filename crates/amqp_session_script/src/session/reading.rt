@@ -1,3 +1,4 @@
+//! Calls of a script, read from its words.
 use super::calls::{
     Call, Change, DispositionOf, FlowOf, Frame, LinkFrame, Look, Part, Sending, TransferOf,
 };

@@ -1,3 +1,4 @@
+//! The words for what a session refuses.
 use crate::plain::Plain;
 use crate::text;
 use amqp_session::{BeginError, SessionError, Unallocated};

@@ -1,3 +1,4 @@
+//! What a script sees of a session.
 use super::Peer;
 use super::calls::Look;
 use super::shown::show_frames;

@@ -1,3 +1,4 @@
+//! The text of frames that leave.
 use crate::text::{self, List, write_fields, write_flags};
 use amqp_session::{
     Begin, DeliveryState, Detach, Disposition, Flow, Role, SessionFrame, SessionFrameBody, Transfer,
