@@ -1,5 +1,7 @@
 -- Sinks that grow.
 use Rattle.std.proofs.Common.{◌≡◌, ℕ, ◌+◌, List, [], ◌++◌, length, Option, Some, None, sym, ◌∙◌, ap, refl, arith, length-append, append_assoc, append-nil}
+use Rattle.serde_amqp_item.specs.Canon.{Place}
+use Rattle.serde_amqp_ser.specs.Puts.{State}
 use Rattle.serde_amqp_ser.specs.Written.{Written, capped, extended, longer, inside, Keeps}
 
 longer_twice : (o : Option (List ℕ)) (x y : List ℕ) → longer (longer o x) y ≡ longer o (x ++ y)
@@ -48,4 +50,8 @@ keeps_inside begins w now content e = record { more = content; kept = ap (λ (v 
 pub keeps_content : (begins : ℕ → ℕ) (w now after : Written) (content : List ℕ) → now ≡ extended (inside begins w) content → after ≡ now → Keeps w after
 keeps_content begins w now after content e f = keeps_as w now after (keeps_inside begins w now content e) f
 
-pub ruleset growing = (keeps_same, keeps_more, keeps_then, keeps_once, keeps_as, keeps_put, keeps_twice, keeps_inside, keeps_content, extended-extended)
+-- a state that is as before
+pub keeps_state : (a b : Written) (p q : Place) → record { written = b; place = q } ≡ record { written = a; place = p } → Keeps a b
+keeps_state a b p q e = keeps_same a b (ap (λ (s : State). s.written) e)
+
+pub ruleset growing = (keeps_state, keeps_same, keeps_more, keeps_then, keeps_once, keeps_as, keeps_put, keeps_twice, keeps_inside, keeps_content, extended-extended)

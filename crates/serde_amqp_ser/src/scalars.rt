@@ -1,5 +1,5 @@
 //! More values that hold no others.
-ghost use Rattle.std.specs.Prelude.{◌≡◌, Some, OnOk};
+ghost use Rattle.std.specs.Prelude.{◌≡◌, Some, OnOk, OnErr};
 ghost use Rattle.serde_amqp_item.specs.Item.{scalar, raw, null, ubyte, byte, short, int, long, float, double, decimal32, decimal64, decimal128, char, timestamp, uuid, binary};
 ghost use Rattle.serde_amqp_ser.specs.Written.{Keeps};
 ghost use Rattle.serde_amqp_ser.specs.Puts.{serialized, OnlyWhere, WantsMemory, state_of};
@@ -15,6 +15,7 @@ impl<W: Sink> Serializer<W> {
     #[tactic(auto, using(crate::proofs::Grown::growing))]
     pub fn serialize_u8(&mut self, value: u8) -> Result<(), Error>
         ensures ok { OnOk result (serialized (state_of W.written self.old) (scalar (ubyte value)) ≡ Some (state_of W.written self.new)) }
+        ensures err { OnErr result (state_of W.written self.new ≡ state_of W.written self.old) }
         ensures kept { Keeps (W.written self.old.writer) (W.written self.new.writer) }
         ensures refused { OnlyWhere result (serialized (state_of W.written self.old) (scalar (ubyte value))) }
         ensures memory { WantsMemory W.takes_memory result }
@@ -26,6 +27,7 @@ impl<W: Sink> Serializer<W> {
     #[tactic(auto, using(crate::proofs::Grown::growing))]
     pub fn serialize_i8(&mut self, value: i8) -> Result<(), Error>
         ensures ok { OnOk result (serialized (state_of W.written self.old) (scalar (byte value)) ≡ Some (state_of W.written self.new)) }
+        ensures err { OnErr result (state_of W.written self.new ≡ state_of W.written self.old) }
         ensures kept { Keeps (W.written self.old.writer) (W.written self.new.writer) }
         ensures refused { OnlyWhere result (serialized (state_of W.written self.old) (scalar (byte value))) }
         ensures memory { WantsMemory W.takes_memory result }
@@ -37,6 +39,7 @@ impl<W: Sink> Serializer<W> {
     #[tactic(auto, using(crate::proofs::Grown::growing))]
     pub fn serialize_i16(&mut self, value: i16) -> Result<(), Error>
         ensures ok { OnOk result (serialized (state_of W.written self.old) (scalar (short value)) ≡ Some (state_of W.written self.new)) }
+        ensures err { OnErr result (state_of W.written self.new ≡ state_of W.written self.old) }
         ensures kept { Keeps (W.written self.old.writer) (W.written self.new.writer) }
         ensures refused { OnlyWhere result (serialized (state_of W.written self.old) (scalar (short value))) }
         ensures memory { WantsMemory W.takes_memory result }
@@ -48,6 +51,7 @@ impl<W: Sink> Serializer<W> {
     #[tactic(auto, using(crate::proofs::Grown::growing))]
     pub fn serialize_i32(&mut self, value: i32) -> Result<(), Error>
         ensures ok { OnOk result (serialized (state_of W.written self.old) (scalar (int value)) ≡ Some (state_of W.written self.new)) }
+        ensures err { OnErr result (state_of W.written self.new ≡ state_of W.written self.old) }
         ensures kept { Keeps (W.written self.old.writer) (W.written self.new.writer) }
         ensures refused { OnlyWhere result (serialized (state_of W.written self.old) (scalar (int value))) }
         ensures memory { WantsMemory W.takes_memory result }
@@ -65,6 +69,7 @@ impl<W: Sink> Serializer<W> {
     #[tactic(auto, using(crate::proofs::Grown::growing))]
     pub fn serialize_i64(&mut self, value: i64) -> Result<(), Error>
         ensures ok { OnOk result (serialized (state_of W.written self.old) (scalar (long value)) ≡ Some (state_of W.written self.new)) }
+        ensures err { OnErr result (state_of W.written self.new ≡ state_of W.written self.old) }
         ensures kept { Keeps (W.written self.old.writer) (W.written self.new.writer) }
         ensures refused { OnlyWhere result (serialized (state_of W.written self.old) (scalar (long value))) }
         ensures memory { WantsMemory W.takes_memory result }
@@ -82,6 +87,7 @@ impl<W: Sink> Serializer<W> {
     #[tactic(auto, using(crate::proofs::Grown::growing))]
     pub fn serialize_f32(&mut self, value: Float) -> Result<(), Error>
         ensures ok { OnOk result (serialized (state_of W.written self.old) (scalar (float value.0)) ≡ Some (state_of W.written self.new)) }
+        ensures err { OnErr result (state_of W.written self.new ≡ state_of W.written self.old) }
         ensures kept { Keeps (W.written self.old.writer) (W.written self.new.writer) }
         ensures refused { OnlyWhere result (serialized (state_of W.written self.old) (scalar (float value.0))) }
         ensures memory { WantsMemory W.takes_memory result }
@@ -93,6 +99,7 @@ impl<W: Sink> Serializer<W> {
     #[tactic(auto, using(crate::proofs::Grown::growing))]
     pub fn serialize_f64(&mut self, value: Double) -> Result<(), Error>
         ensures ok { OnOk result (serialized (state_of W.written self.old) (scalar (double value.0)) ≡ Some (state_of W.written self.new)) }
+        ensures err { OnErr result (state_of W.written self.new ≡ state_of W.written self.old) }
         ensures kept { Keeps (W.written self.old.writer) (W.written self.new.writer) }
         ensures refused { OnlyWhere result (serialized (state_of W.written self.old) (scalar (double value.0))) }
         ensures memory { WantsMemory W.takes_memory result }
@@ -104,6 +111,7 @@ impl<W: Sink> Serializer<W> {
     #[tactic(auto, using(crate::proofs::Grown::growing))]
     pub fn serialize_char(&mut self, value: char) -> Result<(), Error>
         ensures ok { OnOk result (serialized (state_of W.written self.old) (scalar (char value)) ≡ Some (state_of W.written self.new)) }
+        ensures err { OnErr result (state_of W.written self.new ≡ state_of W.written self.old) }
         ensures kept { Keeps (W.written self.old.writer) (W.written self.new.writer) }
         ensures refused { OnlyWhere result (serialized (state_of W.written self.old) (scalar (char value))) }
         ensures memory { WantsMemory W.takes_memory result }
@@ -115,6 +123,7 @@ impl<W: Sink> Serializer<W> {
     #[tactic(auto, using(crate::proofs::Grown::growing))]
     pub fn serialize_timestamp(&mut self, milliseconds: i64) -> Result<(), Error>
         ensures ok { OnOk result (serialized (state_of W.written self.old) (scalar (timestamp milliseconds)) ≡ Some (state_of W.written self.new)) }
+        ensures err { OnErr result (state_of W.written self.new ≡ state_of W.written self.old) }
         ensures kept { Keeps (W.written self.old.writer) (W.written self.new.writer) }
         ensures refused { OnlyWhere result (serialized (state_of W.written self.old) (scalar (timestamp milliseconds))) }
         ensures memory { WantsMemory W.takes_memory result }
@@ -126,6 +135,7 @@ impl<W: Sink> Serializer<W> {
     #[tactic(auto, using(crate::proofs::Grown::growing))]
     pub fn serialize_uuid(&mut self, bytes: &[u8; 16]) -> Result<(), Error>
         ensures ok { OnOk result (serialized (state_of W.written self.old) (scalar (uuid bytes.now)) ≡ Some (state_of W.written self.new)) }
+        ensures err { OnErr result (state_of W.written self.new ≡ state_of W.written self.old) }
         ensures kept { Keeps (W.written self.old.writer) (W.written self.new.writer) }
         ensures refused { OnlyWhere result (serialized (state_of W.written self.old) (scalar (uuid bytes.now))) }
         ensures memory { WantsMemory W.takes_memory result }
@@ -137,6 +147,7 @@ impl<W: Sink> Serializer<W> {
     #[tactic(auto, using(crate::proofs::Grown::growing))]
     pub fn serialize_decimal32(&mut self, bytes: &[u8; 4]) -> Result<(), Error>
         ensures ok { OnOk result (serialized (state_of W.written self.old) (scalar (decimal32 bytes.now)) ≡ Some (state_of W.written self.new)) }
+        ensures err { OnErr result (state_of W.written self.new ≡ state_of W.written self.old) }
         ensures kept { Keeps (W.written self.old.writer) (W.written self.new.writer) }
         ensures refused { OnlyWhere result (serialized (state_of W.written self.old) (scalar (decimal32 bytes.now))) }
         ensures memory { WantsMemory W.takes_memory result }
@@ -148,6 +159,7 @@ impl<W: Sink> Serializer<W> {
     #[tactic(auto, using(crate::proofs::Grown::growing))]
     pub fn serialize_decimal64(&mut self, bytes: &[u8; 8]) -> Result<(), Error>
         ensures ok { OnOk result (serialized (state_of W.written self.old) (scalar (decimal64 bytes.now)) ≡ Some (state_of W.written self.new)) }
+        ensures err { OnErr result (state_of W.written self.new ≡ state_of W.written self.old) }
         ensures kept { Keeps (W.written self.old.writer) (W.written self.new.writer) }
         ensures refused { OnlyWhere result (serialized (state_of W.written self.old) (scalar (decimal64 bytes.now))) }
         ensures memory { WantsMemory W.takes_memory result }
@@ -159,6 +171,7 @@ impl<W: Sink> Serializer<W> {
     #[tactic(auto, using(crate::proofs::Grown::growing))]
     pub fn serialize_decimal128(&mut self, bytes: &[u8; 16]) -> Result<(), Error>
         ensures ok { OnOk result (serialized (state_of W.written self.old) (scalar (decimal128 bytes.now)) ≡ Some (state_of W.written self.new)) }
+        ensures err { OnErr result (state_of W.written self.new ≡ state_of W.written self.old) }
         ensures kept { Keeps (W.written self.old.writer) (W.written self.new.writer) }
         ensures refused { OnlyWhere result (serialized (state_of W.written self.old) (scalar (decimal128 bytes.now))) }
         ensures memory { WantsMemory W.takes_memory result }
@@ -170,6 +183,7 @@ impl<W: Sink> Serializer<W> {
     #[tactic(auto, using(crate::proofs::Grown::growing))]
     pub fn serialize_bytes(&mut self, bytes: &[u8]) -> Result<(), Error>
         ensures ok { OnOk result (serialized (state_of W.written self.old) (scalar (binary bytes.now)) ≡ Some (state_of W.written self.new)) }
+        ensures err { OnErr result (state_of W.written self.new ≡ state_of W.written self.old) }
         ensures kept { Keeps (W.written self.old.writer) (W.written self.new.writer) }
         ensures refused { OnlyWhere result (serialized (state_of W.written self.old) (scalar (binary bytes.now))) }
         ensures memory { WantsMemory W.takes_memory result }
@@ -181,6 +195,7 @@ impl<W: Sink> Serializer<W> {
     #[tactic(auto, using(crate::proofs::Grown::growing))]
     pub fn serialize_none(&mut self) -> Result<(), Error>
         ensures ok { OnOk result (serialized (state_of W.written self.old) (scalar null) ≡ Some (state_of W.written self.new)) }
+        ensures err { OnErr result (state_of W.written self.new ≡ state_of W.written self.old) }
         ensures kept { Keeps (W.written self.old.writer) (W.written self.new.writer) }
         ensures refused { OnlyWhere result (serialized (state_of W.written self.old) (scalar null)) }
         ensures memory { WantsMemory W.takes_memory result }
@@ -192,6 +207,7 @@ impl<W: Sink> Serializer<W> {
     #[tactic(auto, using(crate::proofs::Grown::growing))]
     pub fn serialize_some<T: Serialize>(&mut self, value: &T) -> Result<(), Error>
         ensures ok { OnOk result (serialized (state_of W.written self.old) (T.item value.now) ≡ Some (state_of W.written self.new)) }
+        ensures err { OnErr result (state_of W.written self.new ≡ state_of W.written self.old) }
         ensures kept { Keeps (W.written self.old.writer) (W.written self.new.writer) }
         ensures refused { OnlyWhere result (serialized (state_of W.written self.old) (T.item value.now)) }
         ensures memory { WantsMemory W.takes_memory result }
@@ -204,6 +220,7 @@ impl<W: Sink> Serializer<W> {
     #[tactic(auto, using(crate::proofs::Grown::growing))]
     pub fn serialize_raw(&mut self, bytes: &[u8]) -> Result<(), Error>
         ensures ok { OnOk result (serialized (state_of W.written self.old) (raw bytes.now) ≡ Some (state_of W.written self.new)) }
+        ensures err { OnErr result (state_of W.written self.new ≡ state_of W.written self.old) }
         ensures kept { Keeps (W.written self.old.writer) (W.written self.new.writer) }
         ensures refused { OnlyWhere result (serialized (state_of W.written self.old) (raw bytes.now)) }
         ensures memory { WantsMemory W.takes_memory result }

@@ -1,5 +1,5 @@
 //! What can be written.
-ghost use Rattle.std.specs.Prelude.{◌≡◌, ℕ, List, map, Some, None, OnOk};
+ghost use Rattle.std.specs.Prelude.{◌≡◌, ℕ, List, map, Some, None, OnOk, OnErr};
 ghost use Rattle.serde_amqp_item.specs.Item.{Item, scalar, null, boolean, ubyte, ushort, uint, ulong, byte, short, int, long, float, double, char, string, list, items_of};
 ghost use Rattle.serde_amqp_item.specs.Record.{is_null, option_item};
 ghost use Rattle.std.specs.String.{string_bytes};
@@ -20,9 +20,10 @@ pub trait Serialize {
         ensures { result ≡ is_null (item self.now) };
 
     /// Writes the canonical text of the value's item, in an array its wide form. Any error but `Memory`
-    /// comes exactly where the item has none.
+    /// comes exactly where the item has none. A value that is refused leaves the serializer as before.
     fn serialize<W: Sink>(&self, s: &mut Serializer<W>) -> Result<(), Error>
         ensures ok { OnOk result (serialized (state_of W.written s.old) (item self.now) ≡ Some (state_of W.written s.new)) }
+        ensures err { OnErr result (state_of W.written s.new ≡ state_of W.written s.old) }
         ensures kept { Keeps (W.written s.old.writer) (W.written s.new.writer) }
         ensures refused { OnlyWhere result (serialized (state_of W.written s.old) (item self.now)) }
         ensures memory { WantsMemory W.takes_memory result };

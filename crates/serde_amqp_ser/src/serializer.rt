@@ -1,16 +1,18 @@
 //! The serializer and the values that hold no others.
-ghost use Rattle.std.specs.Prelude.{◌≡◌, ◌≤◌, ◌∷◌, [], ℕ, ◌+◌, List, ◌++◌, length, Some, None, OnOk};
+ghost use Rattle.std.specs.Prelude.{◌≡◌, ◌≤◌, ◌∷◌, [], ℕ, ◌+◌, List, ◌++◌, length, Some, None, OnOk, OnErr};
 ghost use Rattle.serde_amqp_item.specs.Item.{scalar, null, boolean, ushort, uint, ulong, string, symbol};
 ghost use Rattle.serde_amqp_item.specs.Canon.{settled};
 ghost use Rattle.serde_amqp_ser.specs.Written.{Written, extended, inside, Keeps};
+ghost use Rattle.serde_amqp_ser.specs.Open.{IsMark};
 ghost use Rattle.serde_amqp_ser.specs.Puts.{State, behind, begun, serialized, sized_placed, counted_placed, OnlyWhere, WantsMemory, place_of, state_of};
 
+use crate::opened::Opened;
 use crate::place::IsArrayElement;
 use crate::sink::Sink;
 use serde_amqp_item::Error;
 
-/// Writes values, one behind the other. After an error what was written before is still there,
-/// perhaps with the beginning of the refused value behind it.
+/// Writes values, one behind the other. A value that is refused leaves all as before: what is written next
+/// stands where it was to be.
 #[derive(Debug, Drop)]
 pub struct Serializer<W> {
     /// Where it writes to.
@@ -38,10 +40,37 @@ impl<W: Sink> Serializer<W> {
         self.writer
     }
 
+    /// Where the next value is written, to go back to.
+    #[inline(always)]
+    pub fn mark(&self) -> Opened
+        ensures { IsMark (state_of W.written self.now) result }
+    {
+        Opened {
+            start: self.writer.here(),
+            outer: self.element,
+        }
+    }
+
+    /// Goes back to where a value was begun that is refused, and hands on the error that it was refused with.
+    #[cold]
+    pub fn take_back(&mut self, mark: Opened, error: Error) -> Error
+        ensures error { result ≡ error }
+        ensures back {
+            (s : Serializer W) → IsMark (state_of W.written s) mark
+            → Keeps (W.written s.writer) (W.written self.old.writer)
+            → state_of W.written self.new ≡ state_of W.written s
+        }
+    {
+        self.writer.back_to(mark.start);
+        self.element = mark.outer;
+        error
+    }
+
     /// Writes the constructor of a wide form, where one stands at this place.
     #[tactic(auto, using(crate::proofs::Grown::growing))]
     fn begin_wide(&mut self, code: u8) -> Result<(), Error>
         ensures ok { OnOk result (begun (state_of W.written self.old) code ≡ Some (state_of W.written self.new)) }
+        ensures err { OnErr result (state_of W.written self.new ≡ state_of W.written self.old) }
         ensures kept { Keeps (W.written self.old.writer) (W.written self.new.writer) }
         ensures refused { OnlyWhere result (begun (state_of W.written self.old) code) }
         ensures memory { WantsMemory W.takes_memory result }
@@ -65,9 +94,9 @@ impl<W: Sink> Serializer<W> {
         }
     }
 
-    /// Writes a wide form.
+    /// Writes the constructor and the bytes of a wide form. After an error the constructor may stand there.
     #[tactic(auto, using(crate::proofs::Grown::growing, crate::proofs::Heads::begins))]
-    pub(crate) fn put_wide(&mut self, code: u8, body: &[u8]) -> Result<(), Error>
+    fn put_wide_parts(&mut self, code: u8, body: &[u8]) -> Result<(), Error>
         ensures ok { OnOk result (behind (state_of W.written self.old) (settled (place_of self.old.element) (code, body.now)) ≡ Some (state_of W.written self.new)) }
         ensures kept { Keeps (W.written self.old.writer) (W.written self.new.writer) }
         ensures refused { OnlyWhere result (behind (state_of W.written self.old) (settled (place_of self.old.element) (code, body.now))) }
@@ -78,9 +107,25 @@ impl<W: Sink> Serializer<W> {
         Ok(())
     }
 
-    /// Writes a value with a size: the size in one byte up to 254 bytes and outside of arrays, else in four.
+    /// Writes a wide form.
     #[tactic(auto, using(crate::proofs::Grown::growing, crate::proofs::Heads::begins))]
-    pub(crate) fn put_sized(&mut self, narrow: u8, wide: u8, content: &[u8]) -> Result<(), Error>
+    pub(crate) fn put_wide(&mut self, code: u8, body: &[u8]) -> Result<(), Error>
+        ensures ok { OnOk result (behind (state_of W.written self.old) (settled (place_of self.old.element) (code, body.now)) ≡ Some (state_of W.written self.new)) }
+        ensures err { OnErr result (state_of W.written self.new ≡ state_of W.written self.old) }
+        ensures kept { Keeps (W.written self.old.writer) (W.written self.new.writer) }
+        ensures refused { OnlyWhere result (behind (state_of W.written self.old) (settled (place_of self.old.element) (code, body.now))) }
+        ensures memory { WantsMemory W.takes_memory result }
+    {
+        let mark = self.mark();
+        match self.put_wide_parts(code, body) {
+            Ok(()) => Ok(()),
+            Err(error) => Err(self.take_back(mark, error)),
+        }
+    }
+
+    /// Writes the head and the content of a value with a size. After an error the head may stand there.
+    #[tactic(auto, using(crate::proofs::Grown::growing, crate::proofs::Heads::begins))]
+    fn put_sized_parts(&mut self, narrow: u8, wide: u8, content: &[u8]) -> Result<(), Error>
         ensures ok { OnOk result (behind (state_of W.written self.old) (sized_placed (place_of self.old.element) narrow wide content.now) ≡ Some (state_of W.written self.new)) }
         ensures kept { Keeps (W.written self.old.writer) (W.written self.new.writer) }
         ensures refused { OnlyWhere result (behind (state_of W.written self.old) (sized_placed (place_of self.old.element) narrow wide content.now)) }
@@ -102,11 +147,28 @@ impl<W: Sink> Serializer<W> {
         Ok(())
     }
 
+    /// Writes a value with a size: the size in one byte up to 254 bytes and outside of arrays, else in four.
+    #[tactic(auto, using(crate::proofs::Grown::growing, crate::proofs::Heads::begins))]
+    pub(crate) fn put_sized(&mut self, narrow: u8, wide: u8, content: &[u8]) -> Result<(), Error>
+        ensures ok { OnOk result (behind (state_of W.written self.old) (sized_placed (place_of self.old.element) narrow wide content.now) ≡ Some (state_of W.written self.new)) }
+        ensures err { OnErr result (state_of W.written self.new ≡ state_of W.written self.old) }
+        ensures kept { Keeps (W.written self.old.writer) (W.written self.new.writer) }
+        ensures refused { OnlyWhere result (behind (state_of W.written self.old) (sized_placed (place_of self.old.element) narrow wide content.now)) }
+        ensures memory { WantsMemory W.takes_memory result }
+    {
+        let mark = self.mark();
+        match self.put_sized_parts(narrow, wide, content) {
+            Ok(()) => Ok(()),
+            Err(error) => Err(self.take_back(mark, error)),
+        }
+    }
+
     /// Writes null, which is no element of an array (part 1, 1.6.1): there it answers `InvalidValue`.
     #[inline(always)]
     #[tactic(auto, using(crate::proofs::Grown::growing))]
     pub fn serialize_unit(&mut self) -> Result<(), Error>
         ensures ok { OnOk result (serialized (state_of W.written self.old) (scalar null) ≡ Some (state_of W.written self.new)) }
+        ensures err { OnErr result (state_of W.written self.new ≡ state_of W.written self.old) }
         ensures kept { Keeps (W.written self.old.writer) (W.written self.new.writer) }
         ensures refused { OnlyWhere result (serialized (state_of W.written self.old) (scalar null)) }
         ensures memory { WantsMemory W.takes_memory result }
@@ -123,6 +185,7 @@ impl<W: Sink> Serializer<W> {
     #[tactic(auto, using(crate::proofs::Grown::growing))]
     pub fn serialize_bool(&mut self, value: bool) -> Result<(), Error>
         ensures ok { OnOk result (serialized (state_of W.written self.old) (scalar (boolean value)) ≡ Some (state_of W.written self.new)) }
+        ensures err { OnErr result (state_of W.written self.new ≡ state_of W.written self.old) }
         ensures kept { Keeps (W.written self.old.writer) (W.written self.new.writer) }
         ensures refused { OnlyWhere result (serialized (state_of W.written self.old) (scalar (boolean value))) }
         ensures memory { WantsMemory W.takes_memory result }
@@ -138,6 +201,7 @@ impl<W: Sink> Serializer<W> {
     #[tactic(auto, using(crate::proofs::Grown::growing))]
     pub fn serialize_u16(&mut self, value: u16) -> Result<(), Error>
         ensures ok { OnOk result (serialized (state_of W.written self.old) (scalar (ushort value)) ≡ Some (state_of W.written self.new)) }
+        ensures err { OnErr result (state_of W.written self.new ≡ state_of W.written self.old) }
         ensures kept { Keeps (W.written self.old.writer) (W.written self.new.writer) }
         ensures refused { OnlyWhere result (serialized (state_of W.written self.old) (scalar (ushort value))) }
         ensures memory { WantsMemory W.takes_memory result }
@@ -150,6 +214,7 @@ impl<W: Sink> Serializer<W> {
     #[tactic(auto, using(crate::proofs::Grown::growing))]
     pub fn serialize_u32(&mut self, value: u32) -> Result<(), Error>
         ensures ok { OnOk result (serialized (state_of W.written self.old) (scalar (uint value)) ≡ Some (state_of W.written self.new)) }
+        ensures err { OnErr result (state_of W.written self.new ≡ state_of W.written self.old) }
         ensures kept { Keeps (W.written self.old.writer) (W.written self.new.writer) }
         ensures refused { OnlyWhere result (serialized (state_of W.written self.old) (scalar (uint value))) }
         ensures memory { WantsMemory W.takes_memory result }
@@ -173,6 +238,7 @@ impl<W: Sink> Serializer<W> {
     #[tactic(auto, using(crate::proofs::Grown::growing))]
     pub fn serialize_u64(&mut self, value: u64) -> Result<(), Error>
         ensures ok { OnOk result (serialized (state_of W.written self.old) (scalar (ulong value)) ≡ Some (state_of W.written self.new)) }
+        ensures err { OnErr result (state_of W.written self.new ≡ state_of W.written self.old) }
         ensures kept { Keeps (W.written self.old.writer) (W.written self.new.writer) }
         ensures refused { OnlyWhere result (serialized (state_of W.written self.old) (scalar (ulong value))) }
         ensures memory { WantsMemory W.takes_memory result }
@@ -194,6 +260,7 @@ impl<W: Sink> Serializer<W> {
     /// Writes a string (part 1, 1.6.20), or answers `InvalidLength` where it has 2^32 bytes or more.
     pub fn serialize_str(&mut self, value: &str) -> Result<(), Error>
         ensures ok { OnOk result (serialized (state_of W.written self.old) (scalar (string value.now)) ≡ Some (state_of W.written self.new)) }
+        ensures err { OnErr result (state_of W.written self.new ≡ state_of W.written self.old) }
         ensures kept { Keeps (W.written self.old.writer) (W.written self.new.writer) }
         ensures refused { OnlyWhere result (serialized (state_of W.written self.old) (scalar (string value.now))) }
         ensures memory { WantsMemory W.takes_memory result }
@@ -204,6 +271,7 @@ impl<W: Sink> Serializer<W> {
     /// Writes a symbol (part 1, 1.6.21), or answers `InvalidLength` where it has 2^32 bytes or more.
     pub fn symbol(&mut self, value: &str) -> Result<(), Error>
         ensures ok { OnOk result (serialized (state_of W.written self.old) (scalar (symbol value.now)) ≡ Some (state_of W.written self.new)) }
+        ensures err { OnErr result (state_of W.written self.new ≡ state_of W.written self.old) }
         ensures kept { Keeps (W.written self.old.writer) (W.written self.new.writer) }
         ensures refused { OnlyWhere result (serialized (state_of W.written self.old) (scalar (symbol value.now))) }
         ensures memory { WantsMemory W.takes_memory result }

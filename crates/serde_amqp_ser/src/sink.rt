@@ -1,6 +1,6 @@
 //! What a serializer writes to.
-ghost use Rattle.std.specs.Prelude.{◌≡◌, ◌+◌, ℕ, Bool, true, false, List, [], ◌++◌, length, if◌then◌else◌, Some, None, OnOk, OnErr, IfErr, ◌^◌, nat_lt};
-ghost use Rattle.serde_amqp_ser.specs.Written.{Written, extended, inside, capped};
+ghost use Rattle.std.specs.Prelude.{◌≡◌, ◌≢◌, ◌<◌, ◌+◌, ℕ, Bool, true, false, List, [], ◌++◌, length, if◌then◌else◌, Some, None, Err, OnOk, OnErr, IfErr, ◌^◌, nat_lt};
+ghost use Rattle.serde_amqp_ser.specs.Written.{Written, extended, inside, capped, Keeps};
 ghost use Rattle.serde_amqp_ser.specs.Whole.{whole_capped};
 
 use serde_amqp_item::Error;
@@ -35,12 +35,32 @@ pub trait Sink {
     fn content_len(&self, start: u128) -> Option<u32>
         ensures { (w : Written) (content : List ℕ) → written self.now ≡ extended (inside begins w) content → w.size ≡ start → result ≡ (if nat_lt (length content) (2 ^ 32) then Some (length content) else None) };
 
-    /// Ends the content that began there, with these bytes in front of it.
+    /// How many bytes it holds, to go back to.
+    #[inline(always)]
+    fn here(&self) -> u128
+        ensures { result ≡ (written self.now).size };
+
+    /// Goes back to what it held when it was of this size.
+    fn back_to(&mut self, start: u128)
+        ensures {
+            (s : Self) → Keeps (written s) (written self.old) → (written s).size ≡ start
+            → written self.new ≡ written s
+        };
+
+    /// Ends the content that began there, with these bytes in front of it. Answers `InvalidLength`, and changes
+    /// nothing, where that is behind the end, so that no content began there.
     #[inline(always)]
     fn close(&mut self, start: u128, head: &[u8]) -> Result<(), Error>
         ensures ok { OnOk result ((w : Written) (content : List ℕ) → written self.old ≡ extended (inside begins w) content → w.size ≡ start → written self.new ≡ extended w (head.now ++ content)) }
         ensures err { OnErr result (written self.new ≡ written self.old) }
-        ensures memory { IfErr result (λ e. (e ≡ Error.Memory) × (takes_memory ≡ true)) };
+        ensures beyond {
+            (written self.old).size < capped (begins start) → result ≡ Err Error.InvalidLength
+        }
+        ensures refused {
+            IfErr result (λ e. e ≢ Error.Memory
+            → (e ≡ Error.InvalidLength) × ((written self.old).size < capped (begins start)))
+        }
+        ensures memory { IfErr result (λ e. e ≡ Error.Memory → takes_memory ≡ true) };
 
     /// No bytes change nothing.
     ghost whole: { (s : Self) → extended (written s) [] ≡ written s };
@@ -92,6 +112,17 @@ impl Counter {
             self.over = true;
         }
     }
+
+    /// Counts the bytes before a place.
+    #[inline(always)]
+    fn add_start(&mut self, start: u128)
+        ensures { capped self.new ≡ capped (self.old + start) }
+    {
+        match u64::try_from(start) {
+            Ok(start) => self.add(start),
+            Err(_) => self.over = true,
+        }
+    }
 }
 
 impl Sink for Counter {
@@ -131,13 +162,20 @@ impl Sink for Counter {
     }
 
     #[inline(always)]
+    fn here(&self) -> u128 {
+        self.count()
+    }
+
+    fn back_to(&mut self, start: u128) {
+        *self = Counter::new();
+        self.add_start(start);
+    }
+
+    #[inline(always)]
     #[tactic(auto, unfolding(crate::specs::Written::extended, crate::specs::Written::inside))]
     fn close(&mut self, start: u128, head: &[u8]) -> Result<(), Error> {
         self.add(head.len() as u64);
-        match u64::try_from(start) {
-            Ok(start) => self.add(start),
-            Err(_) => self.over = true,
-        }
+        self.add_start(start);
         Ok(())
     }
 }
@@ -178,16 +216,27 @@ impl Sink for Vec<u8> {
     }
 
     #[inline(always)]
+    fn here(&self) -> u128 {
+        self.len() as u128
+    }
+
+    fn back_to(&mut self, start: u128) {
+        if let Ok(len) = usize::try_from(start) {
+            self.truncate(len);
+        }
+    }
+
+    #[inline(always)]
     #[tactic(auto, unfolding(crate::specs::Written::extended, crate::specs::Written::inside))]
     fn close(&mut self, start: u128, head: &[u8]) -> Result<(), Error> {
         let len = self.len();
-        self.extend_from_slice(head)?;
         let Ok(start) = usize::try_from(start) else {
-            return Ok(());
+            return Err(Error::InvalidLength);
         };
         if start > len {
-            return Ok(());
+            return Err(Error::InvalidLength);
         }
+        self.extend_from_slice(head)?;
         let content = start + head.len();
         self.copy_within(start..len, content);
         self[start..content].copy_from_slice(head);
