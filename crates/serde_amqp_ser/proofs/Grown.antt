@@ -51,7 +51,7 @@ pub keeps_content : (begins : ℕ → ℕ) (w now after : Written) (content : Li
 keeps_content begins w now after content e f = keeps_as w now after (keeps_inside begins w now content e) f
 
 -- a state that is as before
-pub keeps_state : (a b : Written) (p q : Place) → record { written = b; place = q } ≡ record { written = a; place = p } → Keeps a b
+pub keeps_state : (a b : Written) (p q : Place) → ◌≡◌ {A = State} (record { written = b; place = q }) (record { written = a; place = p }) → Keeps a b
 keeps_state a b p q e = keeps_same a b (ap (λ (s : State). s.written) e)
 
 pub ruleset growing = (keeps_state, keeps_same, keeps_more, keeps_then, keeps_once, keeps_as, keeps_put, keeps_twice, keeps_inside, keeps_content, extended-extended)
