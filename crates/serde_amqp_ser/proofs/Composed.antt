@@ -7,6 +7,7 @@ use Rattle.serde_amqp_item.specs.declared.error.Error.{Error}
 use Rattle.serde_amqp_ser.specs.Written.{Written, extended, Keeps}
 use Rattle.serde_amqp_ser.specs.Puts.{State, behind, serialized, OnlyWhere}
 use Rattle.serde_amqp_ser.specs.Open.{IsOpen, in_turn}
+use Rattle.serde_amqp_ser.specs.declared.opened.Opened.{Opened}
 use Rattle.serde_amqp_ser.specs.Content.{Holds}
 use Rattle.serde_amqp_ser.specs.Composite.{IsDescribed, HoldsFields, values, struct_item, variant_item}
 use Rattle.serde_amqp_ser.specs.declared.struct_serializer.StructEncoding.{StructEncoding}
@@ -66,21 +67,21 @@ pub holds_value : (begins : ℕ → ℕ) (s : State) (fields : List (Item × Ite
 holds_value begins s fields n x c now h = subst (λ (xs : List Item). Holds begins s xs c now) (sym (values_more fields n x)) h
 
 -- a value that a struct refuses, where names aren't written
-pub value_refuses : {X : Type 0} (r : Result X Error) (begins : ℕ → ℕ) (s : State) (e : StructEncoding) (code : ℕ) (fields others : List (Item × Item)) (n x : Item) (c : Content) (now : State) → (e ≡ encoding.DescribedMap → ⊥) → HoldsFields begins s e code fields c now → ((d : State) (xs : List Item) → Holds begins d xs c now → OnlyWhere r (canon x)) → OnlyWhere r (serialized s (struct_item e code (fields ++ (n, x) ∷ others)))
-value_refuses r begins s encoding.None code fields others n x c now d h f =
+pub value_refuses : {X : Type 0} (r : Result X Error) (begins : ℕ → ℕ) (s : State) (e : StructEncoding) (code : ℕ) (fields others : List (Item × Item)) (n x : Item) (u : Opened) (c : Content) (now : State) → (e ≡ encoding.DescribedMap → ⊥) → HoldsFields begins s e code fields u c now → ((d : State) (xs : List Item) → Holds begins d xs c now → OnlyWhere r (canon x)) → OnlyWhere r (serialized s (struct_item e code (fields ++ (n, x) ∷ others)))
+value_refuses r begins s encoding.None code fields others n x u c now d h f =
     subst (λ (xs : List Item). OnlyWhere r (serialized s (list (items_of xs)))) (sym (values_split fields others n x)) (list_refuses r s (values fields) (values others) x (f h.start (values fields) h.items))
-value_refuses r begins s encoding.DescribedList code fields others n x c now d h f =
+value_refuses r begins s encoding.DescribedList code fields others n x u c now d h f =
     described_refuses r s h.start code (list (items_of (values (fields ++ (n, x) ∷ others)))) h.begun
     (subst (λ (xs : List Item). OnlyWhere r (serialized h.start (list (items_of xs)))) (sym (values_split fields others n x)) (list_refuses r h.start (values fields) (values others) x (f h.start (values fields) h.items)))
-value_refuses r begins s encoding.DescribedMap code fields others n x c now d h f = absurd (d refl)
-value_refuses r begins s encoding.DescribedBasic code fields others n x c now d h f = absurd h.begun
+value_refuses r begins s encoding.DescribedMap code fields others n x u c now d h f = absurd (d refl)
+value_refuses r begins s encoding.DescribedBasic code fields others n x u c now d h f = absurd h.begun
 
 -- a field more of a struct that is a map
-pub named_more : (begins : ℕ → ℕ) (s : State) (e : StructEncoding) (code : ℕ) (fields : List (Item × Item)) (n x : Item) (c v : Content) (now then : State) → e ≡ encoding.DescribedMap → HoldsFields begins s e code fields c now → ((d : State) → Holds begins d (in_turn fields) c now → Holds begins d ((in_turn fields ++ n ∷ []) ++ x ∷ []) v then) → HoldsFields begins s e code (fields ++ (n, x) ∷ []) v then
-named_more begins s encoding.DescribedMap code fields n x c v now then e h f = record { start = h.start; begun = h.begun; items = holds_pair begins h.start fields n x v then (f h.start h.items) }
-named_more begins s encoding.None code fields n x c v now then e h f = absurd cc
-named_more begins s encoding.DescribedList code fields n x c v now then e h f = absurd cc
-named_more begins s encoding.DescribedBasic code fields n x c v now then e h f = absurd cc
+pub named_more : (begins : ℕ → ℕ) (s : State) (e : StructEncoding) (code : ℕ) (fields : List (Item × Item)) (n x : Item) (u : Opened) (c v : Content) (now then : State) → e ≡ encoding.DescribedMap → HoldsFields begins s e code fields u c now → ((d : State) → Holds begins d (in_turn fields) c now → Holds begins d (in_turn (fields ++ (n, x) ∷ [])) v then) → HoldsFields begins s e code (fields ++ (n, x) ∷ []) u v then
+named_more begins s encoding.DescribedMap code fields n x u c v now then e h f = record { mark = h.mark; start = h.start; begun = h.begun; items = f h.start h.items }
+named_more begins s encoding.None code fields n x u c v now then e h f = absurd cc
+named_more begins s encoding.DescribedList code fields n x u c v now then e h f = absurd cc
+named_more begins s encoding.DescribedBasic code fields n x u c v now then e h f = absurd cc
 
 pub ruleset described_rules = (is_described, described_gives, described_none, described_refuses, described_keeps, descriptor_stuck)
 

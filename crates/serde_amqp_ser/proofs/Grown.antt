@@ -1,5 +1,5 @@
 -- Sinks that grow.
-use Rattle.std.proofs.Common.{◌≡◌, ℕ, ◌+◌, List, [], ◌++◌, length, Option, Some, None, sym, ◌∙◌, ap, refl, arith, length-append, append_assoc, append-nil}
+use Rattle.std.proofs.Common.{◌≡◌, ℕ, ◌+◌, ◌<◌, List, [], ◌++◌, length, Option, Some, None, sym, ◌∙◌, ap, refl, arith, length-append, append_assoc, append-nil}
 use Rattle.serde_amqp_item.specs.Canon.{Place}
 use Rattle.serde_amqp_ser.specs.Puts.{State}
 use Rattle.serde_amqp_ser.specs.Written.{Written, capped, extended, longer, inside, Keeps}
@@ -49,6 +49,14 @@ keeps_inside begins w now content e = record { more = content; kept = ap (λ (v 
 
 pub keeps_content : (begins : ℕ → ℕ) (w now after : Written) (content : List ℕ) → now ≡ extended (inside begins w) content → after ≡ now → Keeps w after
 keeps_content begins w now after content e f = keeps_as w now after (keeps_inside begins w now content e) f
+
+-- content that began somewhere doesn't end before that
+pub not_beyond : (begins : ℕ → ℕ) (w now : Written) (content : List ℕ) (start : ℕ) → now ≡ extended (inside begins w) content → w.size ≡ start → now.size < capped (begins start) → ⊥
+unfolding extended inside
+not_beyond begins w now content start e s l =
+    let size : now.size ≡ capped (begins w.size + length content) = ap (λ (v : Written). v.size) e in
+    let same : begins w.size ≡ begins start = ap begins s in
+    omega (arith, size, same, l)
 
 -- a state that is as before
 pub keeps_state : (a b : Written) (p q : Place) → ◌≡◌ {A = State} (record { written = b; place = q }) (record { written = a; place = p }) → Keeps a b

@@ -1,6 +1,6 @@
 -- Items written one behind the other.
 use Rattle.std.proofs.Common.{◌≡◌, ℕ, ◌+◌, ◌<◌, ◌^◌, List, [], ◌∷◌, ◌++◌, length, map, take, drop, get_or, Option, Some, None, Bool, true, false, cond, Result, Ok, Err, sym, ◌∙◌, ap, subst, refl, arith}
-use Rattle.std.specs.Prelude.{◌==◌, nat_lt}
+use Rattle.std.specs.Prelude.{◌≢◌, ◌==◌, nat_lt}
 use Rattle.std.proofs.lemmas.List.{take_more, map-append, take-append-drop, drop_more}
 use Rattle.std.specs.Int.{w32, to_be_bytes}
 use Rattle.std.proofs.lemmas.Bool.Decides.{nat_tests}
@@ -8,14 +8,19 @@ use Rattle.serde_amqp_item.specs.Item.{Item, Items, list, items_of, no_items, it
 use Rattle.serde_amqp_item.specs.Canon.{◌>>=◌, canon, canon_all, Place, alone, first, next, placed, list_placed, counted_text}
 use Rattle.serde_amqp_item.proofs.Texts.{bind_some, canon_all_more, canon_all_stuck, list_is_placed, list_not_placed}
 use Rattle.serde_amqp_item.specs.declared.error.Error.{Error}
-use Rattle.serde_amqp_ser.specs.Written.{Written, extended, inside, Keeps}
+use Rattle.serde_amqp_item.specs.declared.error.Error.TheVariants.{Memory, InvalidLength}
+use Rattle.serde_amqp_ser.specs.Written.{Written, capped, extended, inside, Keeps}
 use Rattle.serde_amqp_ser.specs.Puts.{State, behind, serialized, listed, counted_placed, OnlyWhere}
-use Rattle.serde_amqp_ser.proofs.Grown.{extended-extended, keeps_inside}
+use Rattle.serde_amqp_ser.proofs.Grown.{extended-extended, keeps_inside, not_beyond}
 
 -- a refusal that stays one
 pub only_where : {X Y Z : Type 0} (r : Result X Error) (o : Option Y) (q : Option Z) → (o ≡ None → q ≡ None) → OnlyWhere r o → OnlyWhere r q
 only_where (Ok x) o q f h = tt
 only_where (Err e) o q f h = λ n. f (h n)
+
+-- a sink's refusal to close content that began there
+pub closing : {Y : Type 0} (e : Error) (begins : ℕ → ℕ) (w now : Written) (content : List ℕ) (start : ℕ) (o : Option Y) → (e ≢ Memory → (e ≡ InvalidLength) × (now.size < capped (begins start))) → now ≡ extended (inside begins w) content → w.size ≡ start → e ≢ Memory → o ≡ None
+closing e begins w now content start o f n s = λ d. absurd (not_beyond begins w now content start n s (f d).1)
 
 some_is : (x y : State) → Some x ≡ Some y → x ≡ y
 some_is x y e = cc

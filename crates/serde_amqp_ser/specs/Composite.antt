@@ -45,8 +45,9 @@ BeginsStruct encoding.DescribedList code s d = IsDescribed s code d
 BeginsStruct encoding.DescribedMap code s d = IsDescribed s code d
 BeginsStruct encoding.DescribedBasic code s d = ⊥
 
--- these fields, by their names and values, stand behind the state at which the struct began
-pub record HoldsFields (begins : ℕ → ℕ) (s : State) (e : StructEncoding) (code : ℕ) (fields : List (Item × Item)) (c : Content) (now : State) : Type 0 where
+-- these fields, by their names and values, stand behind the state at which the struct began, which is marked
+pub record HoldsFields (begins : ℕ → ℕ) (s : State) (e : StructEncoding) (code : ℕ) (fields : List (Item × Item)) (outer : Opened) (c : Content) (now : State) : Type 0 where
+  pub mark : IsMark s outer
   pub start : State
   pub begun : BeginsStruct e code s start
   pub items : Holds begins start (field_items e fields) c now

@@ -1,5 +1,5 @@
 //! Values that hold others: lists and arrays.
-ghost use Rattle.std.specs.Prelude.{◌≡◌, ◌≤◌, ◌<◌, ◌∷◌, [], ℕ, ◌+◌, List, ◌++◌, length, map, Some, None, OnOk};
+ghost use Rattle.std.specs.Prelude.{◌≡◌, ◌≤◌, ◌<◌, ◌∷◌, [], ℕ, ◌+◌, List, ◌++◌, length, map, Some, None, OnOk, OnErr};
 ghost use Rattle.serde_amqp_item.specs.Item.{Item, Items, list, array, items_of, item_count};
 ghost use Rattle.serde_amqp_item.specs.Canon.{settled, elements};
 ghost use Rattle.std.specs.Int.{w32, to_be_bytes};
@@ -18,7 +18,7 @@ impl<W: Sink> Serializer<W> {
     fn close_wide(&mut self, start: u128, code: u8, size: u32, count: u32) -> Result<(), Error>
         ensures ok { OnOk result ((w : Written) (content : List ℕ) → W.written self.old.writer ≡ extended (inside W.begins w) content → w.size ≡ start → behind (record { written = w; place = place_of self.old.element }) (settled (place_of self.old.element) (code, to_be_bytes w32 size ++ to_be_bytes w32 count ++ content)) ≡ Some (state_of W.written self.new)) }
         ensures kept { (w : Written) (content : List ℕ) → W.written self.old.writer ≡ extended (inside W.begins w) content → w.size ≡ start → Keeps w (W.written self.new.writer) }
-        ensures refused { (w : Written) (content : List ℕ) → OnlyWhere result (behind (record { written = w; place = place_of self.old.element }) (settled (place_of self.old.element) (code, to_be_bytes w32 size ++ to_be_bytes w32 count ++ content))) }
+        ensures refused { (w : Written) (content : List ℕ) → W.written self.old.writer ≡ extended (inside W.begins w) content → w.size ≡ start → OnlyWhere result (behind (record { written = w; place = place_of self.old.element }) (settled (place_of self.old.element) (code, to_be_bytes w32 size ++ to_be_bytes w32 count ++ content))) }
         ensures memory { WantsMemory W.takes_memory result }
     {
         let [s0, s1, s2, s3] = size.to_be_bytes();
@@ -106,10 +106,9 @@ impl<W: Sink> Serializer<W> {
         self.close_counted(start, count, 0xe0, 0xf0)
     }
 
-    /// Writes a list of these items, one behind the other (part 1, 1.6.22), or answers `InvalidLength`
-    /// where they take 2^32 - 4 bytes or more.
+    /// Writes a list of these items. After an error the beginning of it may stand there.
     #[tactic(auto, using(crate::proofs::Grown::growing))]
-    pub fn serialize_list<T: Serialize>(&mut self, items: &[T]) -> Result<(), Error>
+    fn put_list<T: Serialize>(&mut self, items: &[T]) -> Result<(), Error>
         ensures ok { OnOk result (serialized (state_of W.written self.old) (list (items_of (map T.item items.now))) ≡ Some (state_of W.written self.new)) }
         ensures kept { Keeps (W.written self.old.writer) (W.written self.new.writer) }
         ensures refused { OnlyWhere result (serialized (state_of W.written self.old) (list (items_of (map T.item items.now)))) }
@@ -125,11 +124,26 @@ impl<W: Sink> Serializer<W> {
         self.close_list(start, items.len())
     }
 
-    /// Writes an array of these elements (part 1, 1.6.24): the constructor of the first, and each in its
-    /// wide form; of no elements the constructor of null. Answers `InvalidValue` where an element has no
-    /// wide form or another constructor, `InvalidLength` where they take 2^32 - 4 bytes or more.
+    /// Writes a list of these items, one behind the other (part 1, 1.6.22), or answers `InvalidLength`
+    /// where they take 2^32 - 4 bytes or more.
     #[tactic(auto, using(crate::proofs::Grown::growing))]
-    pub fn serialize_array<T: Serialize>(&mut self, elements: &[T]) -> Result<(), Error>
+    pub fn serialize_list<T: Serialize>(&mut self, items: &[T]) -> Result<(), Error>
+        ensures ok { OnOk result (serialized (state_of W.written self.old) (list (items_of (map T.item items.now))) ≡ Some (state_of W.written self.new)) }
+        ensures err { OnErr result (state_of W.written self.new ≡ state_of W.written self.old) }
+        ensures kept { Keeps (W.written self.old.writer) (W.written self.new.writer) }
+        ensures refused { OnlyWhere result (serialized (state_of W.written self.old) (list (items_of (map T.item items.now)))) }
+        ensures memory { WantsMemory W.takes_memory result }
+    {
+        let mark = self.mark();
+        match self.put_list(items) {
+            Ok(()) => Ok(()),
+            Err(error) => Err(self.take_back(mark, error)),
+        }
+    }
+
+    /// Writes an array of these elements. After an error the beginning of it may stand there.
+    #[tactic(auto, using(crate::proofs::Grown::growing))]
+    fn put_array<T: Serialize>(&mut self, elements: &[T]) -> Result<(), Error>
         ensures ok { OnOk result (serialized (state_of W.written self.old) (array (items_of (map T.item elements.now))) ≡ Some (state_of W.written self.new)) }
         ensures kept { Keeps (W.written self.old.writer) (W.written self.new.writer) }
         ensures refused { OnlyWhere result (serialized (state_of W.written self.old) (array (items_of (map T.item elements.now)))) }
@@ -147,5 +161,23 @@ impl<W: Sink> Serializer<W> {
         }
         self.element = outer;
         self.close_array(start, elements.len())
+    }
+
+    /// Writes an array of these elements (part 1, 1.6.24): the constructor of the first, and each in its
+    /// wide form; of no elements the constructor of null. Answers `InvalidValue` where an element has no
+    /// wide form or another constructor, `InvalidLength` where they take 2^32 - 4 bytes or more.
+    #[tactic(auto, using(crate::proofs::Grown::growing))]
+    pub fn serialize_array<T: Serialize>(&mut self, elements: &[T]) -> Result<(), Error>
+        ensures ok { OnOk result (serialized (state_of W.written self.old) (array (items_of (map T.item elements.now))) ≡ Some (state_of W.written self.new)) }
+        ensures err { OnErr result (state_of W.written self.new ≡ state_of W.written self.old) }
+        ensures kept { Keeps (W.written self.old.writer) (W.written self.new.writer) }
+        ensures refused { OnlyWhere result (serialized (state_of W.written self.old) (array (items_of (map T.item elements.now)))) }
+        ensures memory { WantsMemory W.takes_memory result }
+    {
+        let mark = self.mark();
+        match self.put_array(elements) {
+            Ok(()) => Ok(()),
+            Err(error) => Err(self.take_back(mark, error)),
+        }
     }
 }

@@ -1,5 +1,8 @@
 //! Maps.
+ghost use Rattle.std.specs.Prelude.{◌≡◌, Some, OnOk};
 ghost use Rattle.serde_amqp_ser.specs.Placed.{sorted_item};
+ghost use Rattle.serde_amqp_ser.specs.Written.{Keeps};
+ghost use Rattle.serde_amqp_ser.specs.Puts.{serialized, OnlyWhere, WantsMemory, state_of};
 
 use crate::serialize::Serialize;
 use crate::serializer::Serializer;
@@ -17,10 +20,35 @@ impl<K: Serialize + Ord, V: Serialize> Serialize for BTreeMap<K, V> {
 
     #[tactic(auto, using(crate::proofs::Grown::growing))]
     fn serialize<W: Sink>(&self, s: &mut Serializer<W>) -> Result<(), Error> {
-        let opened = s.begin_compound();
-        for (key, value) in self.iter() {
-            s.serialize_pair(key, value)?;
+        let mark = s.mark();
+        match put_map(self, s) {
+            Ok(()) => Ok(()),
+            Err(error) => Err(s.take_back(mark, error)),
         }
-        s.end_map(opened, self.len())
     }
+}
+
+/// Writes a map of the pairs. After an error the beginning of it may stand there.
+#[tactic(auto, using(crate::proofs::Grown::growing))]
+fn put_map<K: Serialize + Ord, V: Serialize, W: Sink>(
+    pairs: &BTreeMap<K, V>,
+    s: &mut Serializer<W>,
+) -> Result<(), Error>
+    ensures ok {
+        OnOk result (serialized (state_of W.written s.old)
+        (sorted_item K.cmp K.item V.item pairs.now.entries)
+        ≡ Some (state_of W.written s.new))
+    }
+    ensures kept { Keeps (W.written s.old.writer) (W.written s.new.writer) }
+    ensures refused {
+        OnlyWhere result (serialized (state_of W.written s.old)
+        (sorted_item K.cmp K.item V.item pairs.now.entries))
+    }
+    ensures memory { WantsMemory W.takes_memory result }
+{
+    let opened = s.begin_compound();
+    for (key, value) in pairs.iter() {
+        s.put_pair(key, value)?;
+    }
+    s.put_map_head(opened, pairs.len())
 }

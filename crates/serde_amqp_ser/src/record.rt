@@ -1,5 +1,5 @@
 //! Composite types, as described lists of their fields (part 1, 1.4).
-ghost use Rattle.std.specs.Prelude.{◌≡◌, ◌≤◌, ◌∷◌, [], ℕ, ◌+◌, ◌-◌, ◌^◌, List, length, min, Some, OnOk, IfOk};
+ghost use Rattle.std.specs.Prelude.{◌≡◌, ◌≤◌, ◌∷◌, [], ℕ, ◌+◌, ◌-◌, ◌^◌, List, length, min, Some, OnOk, OnErr, IfOk};
 ghost use Rattle.serde_amqp_item.specs.Item.{Item, items_of};
 ghost use Rattle.serde_amqp_item.specs.Canon.{alone};
 ghost use Rattle.serde_amqp_item.specs.Record.{all_null, trimmed, record_item};
@@ -22,7 +22,7 @@ pub trait Fields {
         ensures { result ≡ all_null (items self.now) };
 
     /// Writes the fields outside of arrays, without the nulls at the end, and says how many these are,
-    /// 2^32 - 1 where there are more.
+    /// 2^32 - 1 where there are more. After an error the first fields may stand there: what calls it goes back.
     fn put<W: Sink>(&self, s: &mut Serializer<W>) -> Result<u32, Error>
         requires { place_of s.old.element ≡ alone }
         ensures place { OnOk result (place_of s.new.element ≡ alone) }
@@ -66,10 +66,9 @@ impl<H: Serialize, T: Fields> Fields for (H, T) {
     }
 }
 
-/// Writes a composite value with this descriptor: a described list of its fields without the nulls at
-/// the end (part 1, 1.4). In an array it answers `InvalidValue`, since a described item has no wide form.
+/// Writes a composite value. After an error the beginning of it may stand there.
 #[tactic(auto, using(crate::proofs::Grown::growing))]
-pub fn serialize_record<W: Sink, F: Fields>(
+fn put_record<W: Sink, F: Fields>(
     s: &mut Serializer<W>,
     code: u64,
     fields: &F,
@@ -90,4 +89,25 @@ pub fn serialize_record<W: Sink, F: Fields>(
         return s.close_list(start, count as usize);
     }
     Err(Error::InvalidValue)
+}
+
+/// Writes a composite value with this descriptor: a described list of its fields without the nulls at
+/// the end (part 1, 1.4). In an array it answers `InvalidValue`, since a described item has no wide form.
+#[tactic(auto, using(crate::proofs::Grown::growing))]
+pub fn serialize_record<W: Sink, F: Fields>(
+    s: &mut Serializer<W>,
+    code: u64,
+    fields: &F,
+) -> Result<(), Error>
+    ensures ok { OnOk result (serialized (state_of W.written s.old) (record_item code (F.items fields.now)) ≡ Some (state_of W.written s.new)) }
+    ensures err { OnErr result (state_of W.written s.new ≡ state_of W.written s.old) }
+    ensures kept { Keeps (W.written s.old.writer) (W.written s.new.writer) }
+    ensures refused { OnlyWhere result (serialized (state_of W.written s.old) (record_item code (F.items fields.now))) }
+    ensures memory { WantsMemory W.takes_memory result }
+{
+    let mark = s.mark();
+    match put_record(s, code, fields) {
+        Ok(()) => Ok(()),
+        Err(error) => Err(s.take_back(mark, error)),
+    }
 }

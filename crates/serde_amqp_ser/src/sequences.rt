@@ -1,5 +1,5 @@
 //! The serializers of lists.
-ghost use Rattle.std.specs.Prelude.{◌≡◌, ◌∷◌, [], ◌++◌, List, Some, OnOk};
+ghost use Rattle.std.specs.Prelude.{◌≡◌, ◌∷◌, [], ◌++◌, List, Some, OnOk, OnErr};
 ghost use Rattle.serde_amqp_item.specs.Item.{Item, list, items_of};
 ghost use Rattle.serde_amqp_ser.specs.Written.{Keeps};
 ghost use Rattle.serde_amqp_ser.specs.Puts.{State, serialized, OnlyWhere, WantsMemory, state_of};
@@ -38,10 +38,16 @@ impl<W: Sink> Serializer<W> {
 
 impl<'a, W: Sink> SeqSerializer<'a, W> {
     /// Writes the next item of the list. Any error but `Memory` comes exactly where the item has no canonical text.
+    /// The list is as before then.
     #[tactic(auto, using(crate::proofs::Held::holding))]
     pub fn serialize_element<T: Serialize>(&mut self, item: &T) -> Result<(), Error>
         ensures same_reference { self.new.serializer.ghost_name ≡ self.old.serializer.ghost_name }
         ensures ok { OnOk result ((s : State) (xs : List Item) → Holds W.begins s xs self.old.content (state_of W.written self.old.serializer.now) → Holds W.begins s (xs ++ T.item item.now ∷ []) self.new.content (state_of W.written self.new.serializer.now)) }
+        ensures err {
+            OnErr result ((self.new.content ≡ self.old.content)
+            × (state_of W.written self.new.serializer.now
+            ≡ state_of W.written self.old.serializer.now))
+        }
         ensures kept { Keeps (W.written self.old.serializer.now.writer) (W.written self.new.serializer.now.writer) }
         ensures refused { (s : State) (xs ys : List Item) → Holds W.begins s xs self.old.content (state_of W.written self.old.serializer.now) → OnlyWhere result (serialized s (list (items_of (xs ++ T.item item.now ∷ ys)))) }
         ensures memory { WantsMemory W.takes_memory result }
@@ -51,10 +57,15 @@ impl<'a, W: Sink> SeqSerializer<'a, W> {
     }
 
     /// Ends the list, or answers `InvalidLength` where its items take 2^32 - 4 bytes or more, and
-    /// `InvalidValue` in an array whose first element is no list.
+    /// `InvalidValue` in an array whose first element is no list. After an error all is as before it began.
     pub fn end(self) -> Result<(), Error>
         ensures ok { OnOk result ((s : State) (xs : List Item) → Holds W.begins s xs self.entry.content (state_of W.written self.entry.serializer.now) → serialized s (list (items_of xs)) ≡ Some (state_of W.written self.exit.0.now)) }
-        ensures kept { (s : State) (xs : List Item) → Holds W.begins s xs self.entry.content (state_of W.written self.entry.serializer.now) → Keeps s.written (W.written self.exit.0.now.writer) }
+        ensures err {
+            OnErr result ((s : Serializer W) (xs : List Item)
+            → Holds W.begins (state_of W.written s) xs self.entry.content
+            (state_of W.written self.entry.serializer.now)
+            → state_of W.written self.exit.0.now ≡ state_of W.written s)
+        }
         ensures refused { (s : State) (xs : List Item) → Holds W.begins s xs self.entry.content (state_of W.written self.entry.serializer.now) → OnlyWhere result (serialized s (list (items_of xs))) }
         ensures memory { WantsMemory W.takes_memory result }
     {
@@ -93,10 +104,16 @@ impl<W: Sink> Serializer<W> {
 
 impl<'a, W: Sink> TupleSerializer<'a, W> {
     /// Writes the next part of the tuple. Any error but `Memory` comes exactly where the part has no canonical text.
+    /// The list is as before then.
     #[tactic(auto, using(crate::proofs::Held::holding))]
     pub fn serialize_element<T: Serialize>(&mut self, part: &T) -> Result<(), Error>
         ensures same_reference { self.new.serializer.ghost_name ≡ self.old.serializer.ghost_name }
         ensures ok { OnOk result ((s : State) (xs : List Item) → Holds W.begins s xs self.old.content (state_of W.written self.old.serializer.now) → Holds W.begins s (xs ++ T.item part.now ∷ []) self.new.content (state_of W.written self.new.serializer.now)) }
+        ensures err {
+            OnErr result ((self.new.content ≡ self.old.content)
+            × (state_of W.written self.new.serializer.now
+            ≡ state_of W.written self.old.serializer.now))
+        }
         ensures kept { Keeps (W.written self.old.serializer.now.writer) (W.written self.new.serializer.now.writer) }
         ensures refused { (s : State) (xs ys : List Item) → Holds W.begins s xs self.old.content (state_of W.written self.old.serializer.now) → OnlyWhere result (serialized s (list (items_of (xs ++ T.item part.now ∷ ys)))) }
         ensures memory { WantsMemory W.takes_memory result }
@@ -106,10 +123,15 @@ impl<'a, W: Sink> TupleSerializer<'a, W> {
     }
 
     /// Ends the list, or answers `InvalidLength` where its items take 2^32 - 4 bytes or more, and
-    /// `InvalidValue` in an array whose first element is no list.
+    /// `InvalidValue` in an array whose first element is no list. After an error all is as before it began.
     pub fn end(self) -> Result<(), Error>
         ensures ok { OnOk result ((s : State) (xs : List Item) → Holds W.begins s xs self.entry.content (state_of W.written self.entry.serializer.now) → serialized s (list (items_of xs)) ≡ Some (state_of W.written self.exit.0.now)) }
-        ensures kept { (s : State) (xs : List Item) → Holds W.begins s xs self.entry.content (state_of W.written self.entry.serializer.now) → Keeps s.written (W.written self.exit.0.now.writer) }
+        ensures err {
+            OnErr result ((s : Serializer W) (xs : List Item)
+            → Holds W.begins (state_of W.written s) xs self.entry.content
+            (state_of W.written self.entry.serializer.now)
+            → state_of W.written self.exit.0.now ≡ state_of W.written s)
+        }
         ensures refused { (s : State) (xs : List Item) → Holds W.begins s xs self.entry.content (state_of W.written self.entry.serializer.now) → OnlyWhere result (serialized s (list (items_of xs))) }
         ensures memory { WantsMemory W.takes_memory result }
     {
@@ -148,10 +170,16 @@ impl<W: Sink> Serializer<W> {
 
 impl<'a, W: Sink> TupleStructSerializer<'a, W> {
     /// Writes the next field of the struct. Any error but `Memory` comes exactly where the field has no canonical text.
+    /// The list is as before then.
     #[tactic(auto, using(crate::proofs::Held::holding))]
     pub fn serialize_field<T: Serialize>(&mut self, field: &T) -> Result<(), Error>
         ensures same_reference { self.new.serializer.ghost_name ≡ self.old.serializer.ghost_name }
         ensures ok { OnOk result ((s : State) (xs : List Item) → Holds W.begins s xs self.old.content (state_of W.written self.old.serializer.now) → Holds W.begins s (xs ++ T.item field.now ∷ []) self.new.content (state_of W.written self.new.serializer.now)) }
+        ensures err {
+            OnErr result ((self.new.content ≡ self.old.content)
+            × (state_of W.written self.new.serializer.now
+            ≡ state_of W.written self.old.serializer.now))
+        }
         ensures kept { Keeps (W.written self.old.serializer.now.writer) (W.written self.new.serializer.now.writer) }
         ensures refused { (s : State) (xs ys : List Item) → Holds W.begins s xs self.old.content (state_of W.written self.old.serializer.now) → OnlyWhere result (serialized s (list (items_of (xs ++ T.item field.now ∷ ys)))) }
         ensures memory { WantsMemory W.takes_memory result }
@@ -161,10 +189,15 @@ impl<'a, W: Sink> TupleStructSerializer<'a, W> {
     }
 
     /// Ends the list, or answers `InvalidLength` where its items take 2^32 - 4 bytes or more, and
-    /// `InvalidValue` in an array whose first element is no list.
+    /// `InvalidValue` in an array whose first element is no list. After an error all is as before it began.
     pub fn end(self) -> Result<(), Error>
         ensures ok { OnOk result ((s : State) (xs : List Item) → Holds W.begins s xs self.entry.content (state_of W.written self.entry.serializer.now) → serialized s (list (items_of xs)) ≡ Some (state_of W.written self.exit.0.now)) }
-        ensures kept { (s : State) (xs : List Item) → Holds W.begins s xs self.entry.content (state_of W.written self.entry.serializer.now) → Keeps s.written (W.written self.exit.0.now.writer) }
+        ensures err {
+            OnErr result ((s : Serializer W) (xs : List Item)
+            → Holds W.begins (state_of W.written s) xs self.entry.content
+            (state_of W.written self.entry.serializer.now)
+            → state_of W.written self.exit.0.now ≡ state_of W.written s)
+        }
         ensures refused { (s : State) (xs : List Item) → Holds W.begins s xs self.entry.content (state_of W.written self.entry.serializer.now) → OnlyWhere result (serialized s (list (items_of xs))) }
         ensures memory { WantsMemory W.takes_memory result }
     {

@@ -1,5 +1,5 @@
 //! The serializer of an enum's variants.
-ghost use Rattle.std.specs.Prelude.{◌≡◌, ◌∷◌, [], ◌++◌, ℕ, List, Some, OnOk, IfOk};
+ghost use Rattle.std.specs.Prelude.{◌≡◌, ◌∷◌, [], ◌++◌, ℕ, List, Some, OnOk, OnErr, IfOk};
 ghost use Rattle.std.specs.Borrow.{sem, RestsIfErr};
 ghost use Rattle.serde_amqp_item.specs.Item.{Item, scalar, uint};
 ghost use Rattle.serde_amqp_ser.specs.Written.{Keeps};
@@ -33,13 +33,16 @@ impl<W: Sink> Serializer<W> {
     fn begin_variant(&mut self, index: u32) -> Result<Opened, Error>
         ensures mark { IfOk result (λ opened. IsMark (state_of W.written self.old) opened) }
         ensures key { OnOk result (IsOpen W.begins (W.written self.old.writer) (scalar (uint index) ∷ []) (state_of W.written self.new)) }
+        ensures err { OnErr result (state_of W.written self.new ≡ state_of W.written self.old) }
         ensures kept { Keeps (W.written self.old.writer) (W.written self.new.writer) }
         ensures refused { (xs : List Item) → OnlyWhere result (serialized (state_of W.written self.old) (variant_item index xs)) }
         ensures memory { WantsMemory W.takes_memory result }
     {
         let opened = self.begin_compound();
-        self.serialize_u32(index)?;
-        Ok(opened)
+        match self.serialize_u32(index) {
+            Ok(()) => Ok(opened),
+            Err(error) => Err(self.take_back(opened, error)),
+        }
     }
 
     /// Begins a variant with this index, which is written as a map of one pair: the index as a uint, and a
@@ -49,7 +52,7 @@ impl<W: Sink> Serializer<W> {
         &'a mut self,
         index: u32,
     ) -> Result<VariantSerializer<'a, W>, Error>
-        ensures* kept_at_error { sem 𝓛 (RestsIfErr (the_row W.row) self.entry (λ it. it.serializer.ghost_name) result (λ last. Keeps (W.written self.old.writer) (W.written last.writer))) }
+        ensures* as_before_at_error { sem 𝓛 (RestsIfErr (the_row W.row) self.entry (λ it. it.serializer.ghost_name) result (λ last. state_of W.written last ≡ state_of W.written self.old)) }
         ensures same_reference { IfOk result (λ it. it.serializer.ghost_name ≡ self.entry.ghost_name) }
         ensures kept { IfOk result (λ it. Keeps (W.written self.old.writer) (W.written it.serializer.now.writer)) }
         ensures begun { IfOk result (λ it. HoldsVariant W.begins (state_of W.written self.old) index [] it.outer it.content (state_of W.written it.serializer.now)) }
@@ -78,12 +81,18 @@ impl<'a, W: Sink> VariantSerializer<'a, W> {
         }
     }
 
-    /// Writes the next field. Any error but `Memory` comes exactly where the field has no canonical text.
+    /// Writes the next field. Any error but `Memory` comes exactly where the field has no canonical text. The
+    /// variant is as before then.
     #[tactic(auto, using(crate::proofs::Grown::growing, crate::proofs::Composed::varying))]
     pub fn serialize_field<T: Serialize>(&mut self, field: &T) -> Result<(), Error>
         ensures same_reference { self.new.serializer.ghost_name ≡ self.old.serializer.ghost_name }
         ensures outer { self.new.outer ≡ self.old.outer }
         ensures ok { OnOk result ((s : State) (index : ℕ) (xs : List Item) → HoldsVariant W.begins s index xs self.old.outer self.old.content (state_of W.written self.old.serializer.now) → HoldsVariant W.begins s index (xs ++ T.item field.now ∷ []) self.old.outer self.new.content (state_of W.written self.new.serializer.now)) }
+        ensures err {
+            OnErr result ((self.new.content ≡ self.old.content)
+            × (state_of W.written self.new.serializer.now
+            ≡ state_of W.written self.old.serializer.now))
+        }
         ensures kept { Keeps (W.written self.old.serializer.now.writer) (W.written self.new.serializer.now.writer) }
         ensures refused { (s : State) (index : ℕ) (xs ys : List Item) → HoldsVariant W.begins s index xs self.old.outer self.old.content (state_of W.written self.old.serializer.now) → OnlyWhere result (serialized s (variant_item index (xs ++ T.item field.now ∷ ys))) }
         ensures memory { WantsMemory W.takes_memory result }
@@ -93,11 +102,16 @@ impl<'a, W: Sink> VariantSerializer<'a, W> {
     }
 
     /// Ends the variant, or answers `InvalidLength` where its list or its map takes 2^32 - 4 bytes or more,
-    /// and `InvalidValue` in an array whose first element is no map.
+    /// and `InvalidValue` in an array whose first element is no map. After an error all is as before it began.
     #[tactic(auto, using(crate::proofs::Grown::growing, crate::proofs::Composed::varying))]
     pub fn end(self) -> Result<(), Error>
         ensures ok { OnOk result ((s : State) (index : ℕ) (xs : List Item) → HoldsVariant W.begins s index xs self.entry.outer self.entry.content (state_of W.written self.entry.serializer.now) → serialized s (variant_item index xs) ≡ Some (state_of W.written self.exit.0.now)) }
-        ensures kept { (s : State) (index : ℕ) (xs : List Item) → HoldsVariant W.begins s index xs self.entry.outer self.entry.content (state_of W.written self.entry.serializer.now) → Keeps s.written (W.written self.exit.0.now.writer) }
+        ensures err {
+            OnErr result ((s : Serializer W) (index : ℕ) (xs : List Item)
+            → HoldsVariant W.begins (state_of W.written s) index xs self.entry.outer
+            self.entry.content (state_of W.written self.entry.serializer.now)
+            → state_of W.written self.exit.0.now ≡ state_of W.written s)
+        }
         ensures refused { (s : State) (index : ℕ) (xs : List Item) → HoldsVariant W.begins s index xs self.entry.outer self.entry.content (state_of W.written self.entry.serializer.now) → OnlyWhere result (serialized s (variant_item index xs)) }
         ensures memory { WantsMemory W.takes_memory result }
     {
@@ -106,7 +120,23 @@ impl<'a, W: Sink> VariantSerializer<'a, W> {
             outer,
             content,
         } = self;
-        serializer.finish_list(content)?;
-        serializer.end_map(outer, 1)
+        let Err(error) = serializer.close_variant(outer, content) else {
+            return Ok(());
+        };
+        Err(serializer.take_back(outer, error))
+    }
+}
+
+impl<W: Sink> Serializer<W> {
+    /// Ends the list of a variant's fields, and its map. After an error the beginning of it may stand there.
+    #[tactic(auto, using(crate::proofs::Grown::growing, crate::proofs::Composed::varying))]
+    fn close_variant(&mut self, outer: Opened, content: Content) -> Result<(), Error>
+        ensures ok { OnOk result ((s : State) (index : ℕ) (xs : List Item) → HoldsVariant W.begins s index xs outer content (state_of W.written self.old) → serialized s (variant_item index xs) ≡ Some (state_of W.written self.new)) }
+        ensures kept { (s : State) (index : ℕ) (xs : List Item) → HoldsVariant W.begins s index xs outer content (state_of W.written self.old) → Keeps s.written (W.written self.new.writer) }
+        ensures refused { (s : State) (index : ℕ) (xs : List Item) → HoldsVariant W.begins s index xs outer content (state_of W.written self.old) → OnlyWhere result (serialized s (variant_item index xs)) }
+        ensures memory { WantsMemory W.takes_memory result }
+    {
+        self.close_list_content(content)?;
+        self.put_map_head(outer, 1)
     }
 }

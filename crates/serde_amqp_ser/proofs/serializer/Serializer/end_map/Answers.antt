@@ -1,26 +1,14 @@
-use Rattle.std.proofs.Common.{◌≡◌, ◌≤◌, ◌*◌, ◌^◌, ◌∙◌, Option, length, arith, sym, subst}
-use Rattle.std.proofs.lemmas.Result.{on_ok_weaker}
-use Rattle.serde_amqp_ser.specs.Puts.{State, OnlyWhere, state_of}
-use Rattle.serde_amqp_ser.proofs.Begun.{map_content, map_long, pairs_text}
+use Rattle.serde_amqp_ser.specs.Puts.{state_of}
+use Rattle.serde_amqp_ser.proofs.Grown.{keeps_state}
 use Rattle.serde_amqp_ser.proofs.serializer.Serializer.end_map.Goals as goal
 
-pub returns-in_default-clause-refused : goal.returns-in_default-clause-refused
-returns-in_default-clause-refused g c = λ s ps m o n d.
-    let t = pairs_text g.W.Sink.begins s.written ps (state_of g.W.Sink.written c.args.self.now) o in
-    let many : 2 ^ 32 ≤ 2 * length ps = omega (arith, c.in_default.ensures, n) in
-    map_long s ps t.0 t.1 many
+pub returns-in-Ok-clause-kept : goal.returns-in-Ok-clause-kept
+returns-in-Ok-clause-kept g c = λ s xs m o. c.put_map_head.ensures.kept (state_of g.W.Sink.written s) xs m o
 
-pub returns-clause-ok : goal.returns-clause-ok
-returns-clause-ok g c =
-    on_ok_weaker c.close_counted.result
-    (λ f s ps m o n.
-    let count : 2 * length ps ≡ c.in-Some.count = omega (arith, c.in-Some.ensures, n) in
-    let t = map_content g.W.Sink.begins s (state_of g.W.Sink.written c.args.self.now) c.args.opened ps c.in-Some.count m o count in
-    t.same ∙ f s.written t.content t.behind_it m.start)
-    c.close_counted.ensures.ok
+pub returns-in-Err-clause-err : goal.returns-in-Err-clause-err
+returns-in-Err-clause-err g c = λ s xs m o.
+    c.take_back.ensures.back s m (c.put_map_head.ensures.kept (state_of g.W.Sink.written s) xs m o)
 
-pub returns-clause-refused : goal.returns-clause-refused
-returns-clause-refused g c = λ s ps m o n.
-    let count : 2 * length ps ≡ c.in-Some.count = omega (arith, c.in-Some.ensures, n) in
-    let t = map_content g.W.Sink.begins s (state_of g.W.Sink.written c.args.self.now) c.args.opened ps c.in-Some.count m o count in
-    subst (λ (r : Option State). OnlyWhere c.close_counted.result r) (sym t.same) (c.close_counted.ensures.refused s.written t.content t.behind_it m.start t.room)
+pub returns-in-Err-clause-kept : goal.returns-in-Err-clause-kept
+returns-in-Err-clause-kept g c = λ s xs m o.
+    keeps_state _ _ _ _ (c.take_back.ensures.back s m (c.put_map_head.ensures.kept (state_of g.W.Sink.written s) xs m o))
