@@ -17,7 +17,7 @@ use Rattle.serde_amqp_ser.proofs.Grown.{extended-extended, keeps_once, keeps_the
 use Rattle.serde_amqp_ser.proofs.Listed.{alone_none_of, alone_gives, alone_stays, only_where}
 use Rattle.serde_amqp_item.proofs.Texts.{canon_all_stuck}
 use Rattle.serde_amqp_ser.proofs.Begun.{open_more, map_without_key, map_without_value}
-use Rattle.serde_amqp_ser.proofs.Held.{list_refuses, holds_pair}
+use Rattle.serde_amqp_ser.proofs.Held.{list_refuses}
 use Rattle.serde_amqp_ser.proofs.Fronts.{state_is, described_written, descriptor_stuck, value_stuck}
 
 -- a zero byte and the code

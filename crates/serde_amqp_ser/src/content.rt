@@ -60,19 +60,15 @@ impl<W: Sink> Serializer<W> {
         key: &K,
         value: &V,
     ) -> Result<Content, Error>
-        ensures ok {
-            IfOk result (λ more. (s : State) (ps : List (Item × Item))
+        ensures ok { IfOk result (λ more. (s : State) (ps : List (Item × Item))
             → Holds W.begins s (in_turn ps) content (state_of W.written self.old)
             → Holds W.begins s (in_turn (ps ++ (K.item key.now, V.item value.now) ∷ [])) more
-            (state_of W.written self.new))
-        }
+            (state_of W.written self.new)) }
         ensures kept { Keeps (W.written self.old.writer) (W.written self.new.writer) }
-        ensures refused {
-            (s t : State) (ps qs : List (Item × Item))
+        ensures refused { (s t : State) (ps qs : List (Item × Item))
             → Holds W.begins s (in_turn ps) content (state_of W.written self.old)
             → OnlyWhere result
-            (serialized t (map (pairs_of (ps ++ (K.item key.now, V.item value.now) ∷ qs))))
-        }
+            (serialized t (map (pairs_of (ps ++ (K.item key.now, V.item value.now) ∷ qs)))) }
         ensures memory { WantsMemory W.takes_memory result }
     {
         let keyed = self.put_item(content, key)?;
@@ -87,20 +83,16 @@ impl<W: Sink> Serializer<W> {
         key: &K,
         value: &V,
     ) -> Result<Content, Error>
-        ensures ok {
-            IfOk result (λ more. (s : State) (ps : List (Item × Item))
+        ensures ok { IfOk result (λ more. (s : State) (ps : List (Item × Item))
             → Holds W.begins s (in_turn ps) content (state_of W.written self.old)
             → Holds W.begins s (in_turn (ps ++ (K.item key.now, V.item value.now) ∷ [])) more
-            (state_of W.written self.new))
-        }
+            (state_of W.written self.new)) }
         ensures err { OnErr result (state_of W.written self.new ≡ state_of W.written self.old) }
         ensures kept { Keeps (W.written self.old.writer) (W.written self.new.writer) }
-        ensures refused {
-            (s t : State) (ps qs : List (Item × Item))
+        ensures refused { (s t : State) (ps qs : List (Item × Item))
             → Holds W.begins s (in_turn ps) content (state_of W.written self.old)
             → OnlyWhere result
-            (serialized t (map (pairs_of (ps ++ (K.item key.now, V.item value.now) ∷ qs))))
-        }
+            (serialized t (map (pairs_of (ps ++ (K.item key.now, V.item value.now) ∷ qs)))) }
         ensures memory { WantsMemory W.takes_memory result }
     {
         let mark = self.mark();
@@ -126,11 +118,9 @@ impl<W: Sink> Serializer<W> {
     /// Ends a list. After an error all is as before it began.
     pub(crate) fn finish_list(&mut self, content: Content) -> Result<(), Error>
         ensures ok { OnOk result ((s : State) (xs : List Item) → Holds W.begins s xs content (state_of W.written self.old) → serialized s (list (items_of xs)) ≡ Some (state_of W.written self.new)) }
-        ensures err {
-            OnErr result ((s : Serializer W) (xs : List Item)
+        ensures err { OnErr result ((s : Serializer W) (xs : List Item)
             → Holds W.begins (state_of W.written s) xs content (state_of W.written self.old)
-            → state_of W.written self.new ≡ state_of W.written s)
-        }
+            → state_of W.written self.new ≡ state_of W.written s) }
         ensures refused { (s : State) (xs : List Item) → Holds W.begins s xs content (state_of W.written self.old) → OnlyWhere result (serialized s (list (items_of xs))) }
         ensures memory { WantsMemory W.takes_memory result }
     {
@@ -156,11 +146,9 @@ impl<W: Sink> Serializer<W> {
     /// Ends a map. After an error all is as before it began.
     pub(crate) fn finish_map(&mut self, content: Content) -> Result<(), Error>
         ensures ok { OnOk result ((s : State) (ps : List (Item × Item)) → Holds W.begins s (in_turn ps) content (state_of W.written self.old) → serialized s (map (pairs_of ps)) ≡ Some (state_of W.written self.new)) }
-        ensures err {
-            OnErr result ((s : Serializer W) (xs : List Item)
+        ensures err { OnErr result ((s : Serializer W) (xs : List Item)
             → Holds W.begins (state_of W.written s) xs content (state_of W.written self.old)
-            → state_of W.written self.new ≡ state_of W.written s)
-        }
+            → state_of W.written self.new ≡ state_of W.written s) }
         ensures refused { (s : State) (ps : List (Item × Item)) → Holds W.begins s (in_turn ps) content (state_of W.written self.old) → OnlyWhere result (serialized s (map (pairs_of ps))) }
         ensures memory { WantsMemory W.takes_memory result }
     {

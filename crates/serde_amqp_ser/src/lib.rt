@@ -1,7 +1,6 @@
 // Writing values in AMQP's canonical encoding: whole values with `to_vec` and `append_to_vec`, and with a
-// `Serializer` value by value, field by field or item by item. A value that `append_to_vec` or
-// `Serializer::write_value` refuses leaves the bytes as they were; after any other refusal what was written
-// before the value is still there.
+// `Serializer` value by value, field by field or item by item. A value that is refused leaves all as it was
+// before that value, an element its compound as it was before that element.
 #![tactic(auto)]
 
 mod compound;

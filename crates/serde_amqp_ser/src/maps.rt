@@ -34,16 +34,12 @@ fn put_map<K: Serialize + Ord, V: Serialize, W: Sink>(
     pairs: &BTreeMap<K, V>,
     s: &mut Serializer<W>,
 ) -> Result<(), Error>
-    ensures ok {
-        OnOk result (serialized (state_of W.written s.old)
+    ensures ok { OnOk result (serialized (state_of W.written s.old)
         (sorted_item K.cmp K.item V.item pairs.now.entries)
-        ≡ Some (state_of W.written s.new))
-    }
+        ≡ Some (state_of W.written s.new)) }
     ensures kept { Keeps (W.written s.old.writer) (W.written s.new.writer) }
-    ensures refused {
-        OnlyWhere result (serialized (state_of W.written s.old)
-        (sorted_item K.cmp K.item V.item pairs.now.entries))
-    }
+    ensures refused { OnlyWhere result (serialized (state_of W.written s.old)
+        (sorted_item K.cmp K.item V.item pairs.now.entries)) }
     ensures memory { WantsMemory W.takes_memory result }
 {
     let opened = s.begin_compound();

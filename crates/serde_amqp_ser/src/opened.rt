@@ -90,16 +90,12 @@ impl<W: Sink> Serializer<W> {
     #[tactic(auto, using(crate::proofs::Grown::growing, crate::proofs::Begun::opening))]
     pub fn end_list(&mut self, opened: Opened, items: usize) -> Result<(), Error>
         ensures ok { OnOk result ((s : State) (xs : List Item) → IsMark s opened → IsOpen W.begins s.written xs (state_of W.written self.old) → length xs ≡ items → serialized s (list (items_of xs)) ≡ Some (state_of W.written self.new)) }
-        ensures err {
-            OnErr result ((s : Serializer W) (xs : List Item) → IsMark (state_of W.written s) opened
+        ensures err { OnErr result ((s : Serializer W) (xs : List Item) → IsMark (state_of W.written s) opened
             → IsOpen W.begins (W.written s.writer) xs (state_of W.written self.old)
-            → state_of W.written self.new ≡ state_of W.written s)
-        }
-        ensures kept {
-            (s : Serializer W) (xs : List Item) → IsMark (state_of W.written s) opened
+            → state_of W.written self.new ≡ state_of W.written s) }
+        ensures kept { (s : Serializer W) (xs : List Item) → IsMark (state_of W.written s) opened
             → IsOpen W.begins (W.written s.writer) xs (state_of W.written self.old)
-            → Keeps (W.written s.writer) (W.written self.new.writer)
-        }
+            → Keeps (W.written s.writer) (W.written self.new.writer) }
         ensures refused { (s : State) (xs : List Item) → IsMark s opened → IsOpen W.begins s.written xs (state_of W.written self.old) → length xs ≡ items → OnlyWhere result (serialized s (list (items_of xs))) }
         ensures memory { WantsMemory W.takes_memory result }
     {
@@ -130,16 +126,12 @@ impl<W: Sink> Serializer<W> {
     #[tactic(auto, using(crate::proofs::Grown::growing, crate::proofs::Begun::opening))]
     pub fn end_map(&mut self, opened: Opened, pairs: usize) -> Result<(), Error>
         ensures ok { OnOk result ((s : State) (ps : List (Item × Item)) → IsMark s opened → IsOpen W.begins s.written (in_turn ps) (state_of W.written self.old) → length ps ≡ pairs → serialized s (map (pairs_of ps)) ≡ Some (state_of W.written self.new)) }
-        ensures err {
-            OnErr result ((s : Serializer W) (xs : List Item) → IsMark (state_of W.written s) opened
+        ensures err { OnErr result ((s : Serializer W) (xs : List Item) → IsMark (state_of W.written s) opened
             → IsOpen W.begins (W.written s.writer) xs (state_of W.written self.old)
-            → state_of W.written self.new ≡ state_of W.written s)
-        }
-        ensures kept {
-            (s : Serializer W) (xs : List Item) → IsMark (state_of W.written s) opened
+            → state_of W.written self.new ≡ state_of W.written s) }
+        ensures kept { (s : Serializer W) (xs : List Item) → IsMark (state_of W.written s) opened
             → IsOpen W.begins (W.written s.writer) xs (state_of W.written self.old)
-            → Keeps (W.written s.writer) (W.written self.new.writer)
-        }
+            → Keeps (W.written s.writer) (W.written self.new.writer) }
         ensures refused { (s : State) (ps : List (Item × Item)) → IsMark s opened → IsOpen W.begins s.written (in_turn ps) (state_of W.written self.old) → length ps ≡ pairs → OnlyWhere result (serialized s (map (pairs_of ps))) }
         ensures memory { WantsMemory W.takes_memory result }
     {

@@ -68,11 +68,7 @@ impl<H: Serialize, T: Fields> Fields for (H, T) {
 
 /// Writes a composite value. After an error the beginning of it may stand there.
 #[tactic(auto, using(crate::proofs::Grown::growing))]
-fn put_record<W: Sink, F: Fields>(
-    s: &mut Serializer<W>,
-    code: u64,
-    fields: &F,
-) -> Result<(), Error>
+fn put_record<W: Sink, F: Fields>(s: &mut Serializer<W>, code: u64, fields: &F) -> Result<(), Error>
     ensures ok { OnOk result (serialized (state_of W.written s.old) (record_item code (F.items fields.now)) ≡ Some (state_of W.written s.new)) }
     ensures kept { Keeps (W.written s.old.writer) (W.written s.new.writer) }
     ensures refused { OnlyWhere result (serialized (state_of W.written s.old) (record_item code (F.items fields.now))) }

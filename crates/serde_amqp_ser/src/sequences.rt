@@ -43,11 +43,9 @@ impl<'a, W: Sink> SeqSerializer<'a, W> {
     pub fn serialize_element<T: Serialize>(&mut self, item: &T) -> Result<(), Error>
         ensures same_reference { self.new.serializer.ghost_name ≡ self.old.serializer.ghost_name }
         ensures ok { OnOk result ((s : State) (xs : List Item) → Holds W.begins s xs self.old.content (state_of W.written self.old.serializer.now) → Holds W.begins s (xs ++ T.item item.now ∷ []) self.new.content (state_of W.written self.new.serializer.now)) }
-        ensures err {
-            OnErr result ((self.new.content ≡ self.old.content)
+        ensures err { OnErr result ((self.new.content ≡ self.old.content)
             × (state_of W.written self.new.serializer.now
-            ≡ state_of W.written self.old.serializer.now))
-        }
+            ≡ state_of W.written self.old.serializer.now)) }
         ensures kept { Keeps (W.written self.old.serializer.now.writer) (W.written self.new.serializer.now.writer) }
         ensures refused { (s : State) (xs ys : List Item) → Holds W.begins s xs self.old.content (state_of W.written self.old.serializer.now) → OnlyWhere result (serialized s (list (items_of (xs ++ T.item item.now ∷ ys)))) }
         ensures memory { WantsMemory W.takes_memory result }
@@ -60,12 +58,10 @@ impl<'a, W: Sink> SeqSerializer<'a, W> {
     /// `InvalidValue` in an array whose first element is no list. After an error all is as before it began.
     pub fn end(self) -> Result<(), Error>
         ensures ok { OnOk result ((s : State) (xs : List Item) → Holds W.begins s xs self.entry.content (state_of W.written self.entry.serializer.now) → serialized s (list (items_of xs)) ≡ Some (state_of W.written self.exit.0.now)) }
-        ensures err {
-            OnErr result ((s : Serializer W) (xs : List Item)
+        ensures err { OnErr result ((s : Serializer W) (xs : List Item)
             → Holds W.begins (state_of W.written s) xs self.entry.content
             (state_of W.written self.entry.serializer.now)
-            → state_of W.written self.exit.0.now ≡ state_of W.written s)
-        }
+            → state_of W.written self.exit.0.now ≡ state_of W.written s) }
         ensures refused { (s : State) (xs : List Item) → Holds W.begins s xs self.entry.content (state_of W.written self.entry.serializer.now) → OnlyWhere result (serialized s (list (items_of xs))) }
         ensures memory { WantsMemory W.takes_memory result }
     {
@@ -109,11 +105,9 @@ impl<'a, W: Sink> TupleSerializer<'a, W> {
     pub fn serialize_element<T: Serialize>(&mut self, part: &T) -> Result<(), Error>
         ensures same_reference { self.new.serializer.ghost_name ≡ self.old.serializer.ghost_name }
         ensures ok { OnOk result ((s : State) (xs : List Item) → Holds W.begins s xs self.old.content (state_of W.written self.old.serializer.now) → Holds W.begins s (xs ++ T.item part.now ∷ []) self.new.content (state_of W.written self.new.serializer.now)) }
-        ensures err {
-            OnErr result ((self.new.content ≡ self.old.content)
+        ensures err { OnErr result ((self.new.content ≡ self.old.content)
             × (state_of W.written self.new.serializer.now
-            ≡ state_of W.written self.old.serializer.now))
-        }
+            ≡ state_of W.written self.old.serializer.now)) }
         ensures kept { Keeps (W.written self.old.serializer.now.writer) (W.written self.new.serializer.now.writer) }
         ensures refused { (s : State) (xs ys : List Item) → Holds W.begins s xs self.old.content (state_of W.written self.old.serializer.now) → OnlyWhere result (serialized s (list (items_of (xs ++ T.item part.now ∷ ys)))) }
         ensures memory { WantsMemory W.takes_memory result }
@@ -126,12 +120,10 @@ impl<'a, W: Sink> TupleSerializer<'a, W> {
     /// `InvalidValue` in an array whose first element is no list. After an error all is as before it began.
     pub fn end(self) -> Result<(), Error>
         ensures ok { OnOk result ((s : State) (xs : List Item) → Holds W.begins s xs self.entry.content (state_of W.written self.entry.serializer.now) → serialized s (list (items_of xs)) ≡ Some (state_of W.written self.exit.0.now)) }
-        ensures err {
-            OnErr result ((s : Serializer W) (xs : List Item)
+        ensures err { OnErr result ((s : Serializer W) (xs : List Item)
             → Holds W.begins (state_of W.written s) xs self.entry.content
             (state_of W.written self.entry.serializer.now)
-            → state_of W.written self.exit.0.now ≡ state_of W.written s)
-        }
+            → state_of W.written self.exit.0.now ≡ state_of W.written s) }
         ensures refused { (s : State) (xs : List Item) → Holds W.begins s xs self.entry.content (state_of W.written self.entry.serializer.now) → OnlyWhere result (serialized s (list (items_of xs))) }
         ensures memory { WantsMemory W.takes_memory result }
     {
@@ -175,11 +167,9 @@ impl<'a, W: Sink> TupleStructSerializer<'a, W> {
     pub fn serialize_field<T: Serialize>(&mut self, field: &T) -> Result<(), Error>
         ensures same_reference { self.new.serializer.ghost_name ≡ self.old.serializer.ghost_name }
         ensures ok { OnOk result ((s : State) (xs : List Item) → Holds W.begins s xs self.old.content (state_of W.written self.old.serializer.now) → Holds W.begins s (xs ++ T.item field.now ∷ []) self.new.content (state_of W.written self.new.serializer.now)) }
-        ensures err {
-            OnErr result ((self.new.content ≡ self.old.content)
+        ensures err { OnErr result ((self.new.content ≡ self.old.content)
             × (state_of W.written self.new.serializer.now
-            ≡ state_of W.written self.old.serializer.now))
-        }
+            ≡ state_of W.written self.old.serializer.now)) }
         ensures kept { Keeps (W.written self.old.serializer.now.writer) (W.written self.new.serializer.now.writer) }
         ensures refused { (s : State) (xs ys : List Item) → Holds W.begins s xs self.old.content (state_of W.written self.old.serializer.now) → OnlyWhere result (serialized s (list (items_of (xs ++ T.item field.now ∷ ys)))) }
         ensures memory { WantsMemory W.takes_memory result }
@@ -192,12 +182,10 @@ impl<'a, W: Sink> TupleStructSerializer<'a, W> {
     /// `InvalidValue` in an array whose first element is no list. After an error all is as before it began.
     pub fn end(self) -> Result<(), Error>
         ensures ok { OnOk result ((s : State) (xs : List Item) → Holds W.begins s xs self.entry.content (state_of W.written self.entry.serializer.now) → serialized s (list (items_of xs)) ≡ Some (state_of W.written self.exit.0.now)) }
-        ensures err {
-            OnErr result ((s : Serializer W) (xs : List Item)
+        ensures err { OnErr result ((s : Serializer W) (xs : List Item)
             → Holds W.begins (state_of W.written s) xs self.entry.content
             (state_of W.written self.entry.serializer.now)
-            → state_of W.written self.exit.0.now ≡ state_of W.written s)
-        }
+            → state_of W.written self.exit.0.now ≡ state_of W.written s) }
         ensures refused { (s : State) (xs : List Item) → Holds W.begins s xs self.entry.content (state_of W.written self.entry.serializer.now) → OnlyWhere result (serialized s (list (items_of xs))) }
         ensures memory { WantsMemory W.takes_memory result }
     {

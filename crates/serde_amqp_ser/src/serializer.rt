@@ -55,11 +55,9 @@ impl<W: Sink> Serializer<W> {
     #[cold]
     pub fn take_back(&mut self, mark: Opened, error: Error) -> Error
         ensures error { result ≡ error }
-        ensures back {
-            (s : Serializer W) → IsMark (state_of W.written s) mark
+        ensures back { (s : Serializer W) → IsMark (state_of W.written s) mark
             → Keeps (W.written s.writer) (W.written self.old.writer)
-            → state_of W.written self.new ≡ state_of W.written s
-        }
+            → state_of W.written self.new ≡ state_of W.written s }
     {
         self.writer.back_to(mark.start);
         self.element = mark.outer;

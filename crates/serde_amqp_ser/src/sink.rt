@@ -42,10 +42,8 @@ pub trait Sink {
 
     /// Goes back to what it held when it was of this size.
     fn back_to(&mut self, start: u128)
-        ensures {
-            (s : Self) → Keeps (written s) (written self.old) → (written s).size ≡ start
-            → written self.new ≡ written s
-        };
+        ensures { (s : Self) → Keeps (written s) (written self.old) → (written s).size ≡ start
+            → written self.new ≡ written s };
 
     /// Ends the content that began there, with these bytes in front of it. Answers `InvalidLength`, and changes
     /// nothing, where that is behind the end, so that no content began there.
@@ -53,13 +51,9 @@ pub trait Sink {
     fn close(&mut self, start: u128, head: &[u8]) -> Result<(), Error>
         ensures ok { OnOk result ((w : Written) (content : List ℕ) → written self.old ≡ extended (inside begins w) content → w.size ≡ start → written self.new ≡ extended w (head.now ++ content)) }
         ensures err { OnErr result (written self.new ≡ written self.old) }
-        ensures beyond {
-            (written self.old).size < capped (begins start) → result ≡ Err Error.InvalidLength
-        }
-        ensures refused {
-            IfErr result (λ e. e ≢ Error.Memory
-            → (e ≡ Error.InvalidLength) × ((written self.old).size < capped (begins start)))
-        }
+        ensures beyond { (written self.old).size < capped (begins start) → result ≡ Err Error.InvalidLength }
+        ensures refused { IfErr result (λ e. e ≢ Error.Memory
+            → (e ≡ Error.InvalidLength) × ((written self.old).size < capped (begins start))) }
         ensures memory { IfErr result (λ e. e ≡ Error.Memory → takes_memory ≡ true) };
 
     /// No bytes change nothing.

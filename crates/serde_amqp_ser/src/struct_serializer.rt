@@ -139,19 +139,18 @@ impl<'a, W: Sink> StructSerializer<'a, W> {
         ensures encoding { self.new.encoding ≡ self.old.encoding }
         ensures outer { self.new.outer ≡ self.old.outer }
         ensures ok { OnOk result ((s : State) (code : ℕ) (fields : List (Item × Item)) → HoldsFields W.begins s self.old.encoding code fields self.old.outer self.old.content (state_of W.written self.old.serializer.now) → HoldsFields W.begins s self.old.encoding code (fields ++ (scalar (symbol key.now), T.item value.now) ∷ []) self.old.outer self.new.content (state_of W.written self.new.serializer.now)) }
-        ensures err {
-            OnErr result ((self.new.content ≡ self.old.content)
+        ensures err { OnErr result ((self.new.content ≡ self.old.content)
             × (state_of W.written self.new.serializer.now
-            ≡ state_of W.written self.old.serializer.now))
-        }
+            ≡ state_of W.written self.old.serializer.now)) }
         ensures kept { Keeps (W.written self.old.serializer.now.writer) (W.written self.new.serializer.now.writer) }
         ensures refused { (s : State) (code : ℕ) (fields others : List (Item × Item)) → HoldsFields W.begins s self.old.encoding code fields self.old.outer self.old.content (state_of W.written self.old.serializer.now) → OnlyWhere result (serialized s (struct_item self.old.encoding code (fields ++ (scalar (symbol key.now), T.item value.now) ∷ others))) }
         ensures memory { WantsMemory W.takes_memory result }
     {
         match self.encoding {
             StructEncoding::DescribedMap => {
-                self.content =
-                    self.serializer.put_entry(self.content, &Name { text: key }, value)?;
+                self.content = self
+                    .serializer
+                    .put_entry(self.content, &Name { text: key }, value)?;
                 Ok(())
             }
             _ => {
@@ -167,12 +166,10 @@ impl<'a, W: Sink> StructSerializer<'a, W> {
     #[tactic(auto, using(crate::proofs::Grown::growing, crate::proofs::Held::holding, crate::proofs::Composed::composing))]
     pub fn end(self) -> Result<(), Error>
         ensures ok { OnOk result ((s : State) (code : ℕ) (fields : List (Item × Item)) → HoldsFields W.begins s self.entry.encoding code fields self.entry.outer self.entry.content (state_of W.written self.entry.serializer.now) → serialized s (struct_item self.entry.encoding code fields) ≡ Some (state_of W.written self.exit.0.now)) }
-        ensures err {
-            OnErr result ((s : Serializer W) (code : ℕ) (fields : List (Item × Item))
+        ensures err { OnErr result ((s : Serializer W) (code : ℕ) (fields : List (Item × Item))
             → HoldsFields W.begins (state_of W.written s) self.entry.encoding code fields
             self.entry.outer self.entry.content (state_of W.written self.entry.serializer.now)
-            → state_of W.written self.exit.0.now ≡ state_of W.written s)
-        }
+            → state_of W.written self.exit.0.now ≡ state_of W.written s) }
         ensures refused { (s : State) (code : ℕ) (fields : List (Item × Item)) → HoldsFields W.begins s self.entry.encoding code fields self.entry.outer self.entry.content (state_of W.written self.entry.serializer.now) → OnlyWhere result (serialized s (struct_item self.entry.encoding code fields)) }
         ensures memory { WantsMemory W.takes_memory result }
     {

@@ -83,20 +83,13 @@ impl<A: Serialize, B: Serialize, C: Serialize, D: Serialize> Serialize for (A, B
 
 /// Writes a list of one item. After an error the beginning of it may stand there.
 #[tactic(auto, using(crate::proofs::Grown::growing, crate::proofs::Begun::opening))]
-fn put_one<A: Serialize, W: Sink>(
-    parts: &(A,),
-    s: &mut Serializer<W>,
-) -> Result<(), Error>
-    ensures ok {
-        OnOk result (serialized (state_of W.written s.old)
+fn put_one<A: Serialize, W: Sink>(parts: &(A,), s: &mut Serializer<W>) -> Result<(), Error>
+    ensures ok { OnOk result (serialized (state_of W.written s.old)
         (list (items_of (A.item parts.now.0 ∷ [])))
-        ≡ Some (state_of W.written s.new))
-    }
+        ≡ Some (state_of W.written s.new)) }
     ensures kept { Keeps (W.written s.old.writer) (W.written s.new.writer) }
-    ensures refused {
-        OnlyWhere result (serialized (state_of W.written s.old)
-        (list (items_of (A.item parts.now.0 ∷ []))))
-    }
+    ensures refused { OnlyWhere result (serialized (state_of W.written s.old)
+        (list (items_of (A.item parts.now.0 ∷ [])))) }
     ensures memory { WantsMemory W.takes_memory result }
 {
     let opened = s.begin_compound();
@@ -110,16 +103,12 @@ fn put_two<A: Serialize, B: Serialize, W: Sink>(
     parts: &(A, B),
     s: &mut Serializer<W>,
 ) -> Result<(), Error>
-    ensures ok {
-        OnOk result (serialized (state_of W.written s.old)
+    ensures ok { OnOk result (serialized (state_of W.written s.old)
         (list (items_of (A.item parts.now.0 ∷ B.item parts.now.1 ∷ [])))
-        ≡ Some (state_of W.written s.new))
-    }
+        ≡ Some (state_of W.written s.new)) }
     ensures kept { Keeps (W.written s.old.writer) (W.written s.new.writer) }
-    ensures refused {
-        OnlyWhere result (serialized (state_of W.written s.old)
-        (list (items_of (A.item parts.now.0 ∷ B.item parts.now.1 ∷ []))))
-    }
+    ensures refused { OnlyWhere result (serialized (state_of W.written s.old)
+        (list (items_of (A.item parts.now.0 ∷ B.item parts.now.1 ∷ [])))) }
     ensures memory { WantsMemory W.takes_memory result }
 {
     let opened = s.begin_compound();
@@ -134,16 +123,12 @@ fn put_three<A: Serialize, B: Serialize, C: Serialize, W: Sink>(
     parts: &(A, B, C),
     s: &mut Serializer<W>,
 ) -> Result<(), Error>
-    ensures ok {
-        OnOk result (serialized (state_of W.written s.old)
+    ensures ok { OnOk result (serialized (state_of W.written s.old)
         (list (items_of (A.item parts.now.0 ∷ B.item parts.now.1 ∷ C.item parts.now.2 ∷ [])))
-        ≡ Some (state_of W.written s.new))
-    }
+        ≡ Some (state_of W.written s.new)) }
     ensures kept { Keeps (W.written s.old.writer) (W.written s.new.writer) }
-    ensures refused {
-        OnlyWhere result (serialized (state_of W.written s.old)
-        (list (items_of (A.item parts.now.0 ∷ B.item parts.now.1 ∷ C.item parts.now.2 ∷ []))))
-    }
+    ensures refused { OnlyWhere result (serialized (state_of W.written s.old)
+        (list (items_of (A.item parts.now.0 ∷ B.item parts.now.1 ∷ C.item parts.now.2 ∷ [])))) }
     ensures memory { WantsMemory W.takes_memory result }
 {
     let opened = s.begin_compound();
@@ -159,16 +144,12 @@ fn put_four<A: Serialize, B: Serialize, C: Serialize, D: Serialize, W: Sink>(
     parts: &(A, B, C, D),
     s: &mut Serializer<W>,
 ) -> Result<(), Error>
-    ensures ok {
-        OnOk result (serialized (state_of W.written s.old)
+    ensures ok { OnOk result (serialized (state_of W.written s.old)
         (list (items_of (A.item parts.now.0 ∷ B.item parts.now.1 ∷ C.item parts.now.2 ∷ D.item parts.now.3 ∷ [])))
-        ≡ Some (state_of W.written s.new))
-    }
+        ≡ Some (state_of W.written s.new)) }
     ensures kept { Keeps (W.written s.old.writer) (W.written s.new.writer) }
-    ensures refused {
-        OnlyWhere result (serialized (state_of W.written s.old)
-        (list (items_of (A.item parts.now.0 ∷ B.item parts.now.1 ∷ C.item parts.now.2 ∷ D.item parts.now.3 ∷ []))))
-    }
+    ensures refused { OnlyWhere result (serialized (state_of W.written s.old)
+        (list (items_of (A.item parts.now.0 ∷ B.item parts.now.1 ∷ C.item parts.now.2 ∷ D.item parts.now.3 ∷ [])))) }
     ensures memory { WantsMemory W.takes_memory result }
 {
     let opened = s.begin_compound();

@@ -88,11 +88,9 @@ impl<'a, W: Sink> VariantSerializer<'a, W> {
         ensures same_reference { self.new.serializer.ghost_name ≡ self.old.serializer.ghost_name }
         ensures outer { self.new.outer ≡ self.old.outer }
         ensures ok { OnOk result ((s : State) (index : ℕ) (xs : List Item) → HoldsVariant W.begins s index xs self.old.outer self.old.content (state_of W.written self.old.serializer.now) → HoldsVariant W.begins s index (xs ++ T.item field.now ∷ []) self.old.outer self.new.content (state_of W.written self.new.serializer.now)) }
-        ensures err {
-            OnErr result ((self.new.content ≡ self.old.content)
+        ensures err { OnErr result ((self.new.content ≡ self.old.content)
             × (state_of W.written self.new.serializer.now
-            ≡ state_of W.written self.old.serializer.now))
-        }
+            ≡ state_of W.written self.old.serializer.now)) }
         ensures kept { Keeps (W.written self.old.serializer.now.writer) (W.written self.new.serializer.now.writer) }
         ensures refused { (s : State) (index : ℕ) (xs ys : List Item) → HoldsVariant W.begins s index xs self.old.outer self.old.content (state_of W.written self.old.serializer.now) → OnlyWhere result (serialized s (variant_item index (xs ++ T.item field.now ∷ ys))) }
         ensures memory { WantsMemory W.takes_memory result }
@@ -106,12 +104,10 @@ impl<'a, W: Sink> VariantSerializer<'a, W> {
     #[tactic(auto, using(crate::proofs::Grown::growing, crate::proofs::Composed::varying))]
     pub fn end(self) -> Result<(), Error>
         ensures ok { OnOk result ((s : State) (index : ℕ) (xs : List Item) → HoldsVariant W.begins s index xs self.entry.outer self.entry.content (state_of W.written self.entry.serializer.now) → serialized s (variant_item index xs) ≡ Some (state_of W.written self.exit.0.now)) }
-        ensures err {
-            OnErr result ((s : Serializer W) (index : ℕ) (xs : List Item)
+        ensures err { OnErr result ((s : Serializer W) (index : ℕ) (xs : List Item)
             → HoldsVariant W.begins (state_of W.written s) index xs self.entry.outer
             self.entry.content (state_of W.written self.entry.serializer.now)
-            → state_of W.written self.exit.0.now ≡ state_of W.written s)
-        }
+            → state_of W.written self.exit.0.now ≡ state_of W.written s) }
         ensures refused { (s : State) (index : ℕ) (xs : List Item) → HoldsVariant W.begins s index xs self.entry.outer self.entry.content (state_of W.written self.entry.serializer.now) → OnlyWhere result (serialized s (variant_item index xs)) }
         ensures memory { WantsMemory W.takes_memory result }
     {

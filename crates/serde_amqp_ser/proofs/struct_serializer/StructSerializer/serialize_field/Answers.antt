@@ -2,14 +2,12 @@ use Rattle.std.proofs.Common.{◌≡◌, ℕ, List, ◌∷◌, [], ◌++◌, Err
 use Rattle.std.proofs.lemmas.Result.{err_from_is_err_and}
 use Rattle.serde_amqp_item.specs.Item.{Item, scalar, symbol}
 use Rattle.serde_amqp_ser.specs.Puts.{State, state_of}
-use Rattle.serde_amqp_ser.specs.Open.{in_turn}
 use Rattle.serde_amqp_ser.specs.Content.{Holds}
 use Rattle.serde_amqp_ser.specs.Composite.{HoldsFields, values}
 use Rattle.serde_amqp_ser.specs.declared.content.Content.{Content}
 use Rattle.serde_amqp_ser.specs.declared.opened.Opened.{Opened}
 use Rattle.serde_amqp_ser.specs.declared.struct_serializer.StructEncoding.{StructEncoding}
 use Rattle.serde_amqp_ser.specs.declared.struct_serializer.StructEncoding.TheVariants as encoding
-use Rattle.serde_amqp_ser.proofs.Grown.{keeps_then}
 use Rattle.serde_amqp_ser.proofs.Composed.{value_refuses, named_more, holds_value}
 use Rattle.serde_amqp_ser.proofs.struct_serializer.StructSerializer.serialize_field.Goals as goal
 
@@ -33,5 +31,5 @@ value_more begins s encoding.DescribedBasic code fields n x u c v now then d h f
 
 pub returns-in_ok-self-in_default-clause-ok : goal.returns-in_ok-self-in_default-clause-ok
 returns-in_ok-self-in_default-clause-ok g c = λ s code fields h.
-    value_more g.W.Sink.begins s c.args.self.now.encoding code fields (scalar (symbol c.args.key.now)) (g.T.Serialize.item c.args.value.now) c.args.self.now.outer c.args.self.now.content c.in_ok-self-in_default.field-0 (state_of g.W.Sink.written c.args.self.now.serializer.now) (state_of g.W.Sink.written c.put_item-in_default.new.self) c.in_default.not-DescribedMap h
+    value_more g.W.Sink.begins s c.args.self.now.encoding code fields (scalar (symbol c.args.key.now)) (g.T.Serialize.item c.args.value.now) c.args.self.now.outer c.args.self.now.content c.in_ok-self-in_default.field-0 (state_of g.W.Sink.written c.args.self.now.serializer.now) (state_of g.W.Sink.written c.put_item.new.self) c.in_default.not-DescribedMap h
     (λ d i. c.in_ok-self-in_default.ensures.ok d (values fields) i)
