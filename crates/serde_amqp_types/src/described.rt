@@ -1,6 +1,8 @@
 //! Described values (part 1, section 1.2).
-ghost use Rattle.std.specs.Prelude.{refl};
+ghost use Rattle.std.specs.Prelude.{◌≡◌, Some, OnOk, refl};
 ghost use Rattle.serde_amqp_item.specs.Item.{described};
+ghost use Rattle.serde_amqp_ser.specs.Written.{Keeps};
+ghost use Rattle.serde_amqp_ser.specs.Puts.{serialized, OnlyWhere, WantsMemory, state_of};
 ghost use Rattle.serde_amqp_types.specs.Described.{descriptor_item, described_again, descriptor_again, descriptor_faithful, descriptor_present, same_descriptor, same_value};
 ghost use Rattle.serde_amqp_types.specs.Takes.{any_descriptor_taken, described_with};
 ghost use Rattle.serde_amqp_types.specs.Deciding.{any_descriptor_decided, described_with_decided};
@@ -55,13 +57,34 @@ impl<T: Serialize> Serialize for Described<T> {
 
     #[tactic(auto, using(serde_amqp_ser::proofs::Grown::growing))]
     fn serialize<W: Sink>(&self, s: &mut Serializer<W>) -> Result<(), Error> {
-        if let IsArrayElement::False = s.element {
-            s.writer.put(&[0x00])?;
-            self.descriptor.serialize(s)?;
-            return self.value.serialize(s);
+        let mark = s.mark();
+        match put_described(self, s) {
+            Ok(()) => Ok(()),
+            Err(error) => Err(s.take_back(mark, error)),
         }
-        Err(Error::InvalidValue)
     }
+}
+
+/// Writes a described value. After an error its descriptor may stand there.
+#[tactic(auto, using(serde_amqp_ser::proofs::Grown::growing))]
+fn put_described<T: Serialize, W: Sink>(
+    whole: &Described<T>,
+    s: &mut Serializer<W>,
+) -> Result<(), Error>
+    ensures ok { OnOk result (serialized (state_of W.written s.old)
+        (described (descriptor_item whole.now.descriptor) (T.item whole.now.value))
+        ≡ Some (state_of W.written s.new)) }
+    ensures kept { Keeps (W.written s.old.writer) (W.written s.new.writer) }
+    ensures refused { OnlyWhere result (serialized (state_of W.written s.old)
+        (described (descriptor_item whole.now.descriptor) (T.item whole.now.value))) }
+    ensures memory { WantsMemory W.takes_memory result }
+{
+    if let IsArrayElement::False = s.element {
+        s.writer.put(&[0x00])?;
+        whole.descriptor.serialize(s)?;
+        return whole.value.serialize(s);
+    }
+    Err(Error::InvalidValue)
 }
 
 /// A symbol is a name, and a ulong is a code.

@@ -1,5 +1,5 @@
 use Rattle.serde_amqp_ser.proofs.Grown.{keeps_once, keeps_then}
-use Rattle.serde_amqp_types.proofs.described.DescribedSerialize.serialize.Goals as goal
+use Rattle.serde_amqp_types.proofs.described.put_described.Goals as goal
 
 pub returns-in_err-serialize-clause-kept : goal.returns-in_err-serialize-clause-kept
 returns-in_err-serialize-clause-kept g c = keeps_then _ _ _ (keeps_once _ _ _ c.in_ok-put.ensures.ok) c.serialize.ensures.kept
