@@ -7,13 +7,14 @@ ghost use Rattle.amqp_session_performatives.specs.Attach.{attach_fields, attach_
 ghost use Rattle.amqp_session_performatives.specs.AttachLaws.{attach_decided, attach_again, attach_same};
 
 use crate::both::both;
+use crate::composite::{Composite, read_composite};
 use amqp_session_states::{DeliveryState, Source, TargetArchetype};
 use amqp_session_types::{
     Aside, Boxed, DeliveryTag, Fields, Handle, OrDefault, ReceiverSettleMode, Role,
     SenderSettleMode,
 };
 use serde_amqp_choice::read_fields_of;
-use serde_amqp_de::{Deserialize, Deserializer, Faithful, NeverNull, Read, RoundTrip, read_record};
+use serde_amqp_de::{Deserialize, Deserializer, Faithful, NeverNull, Read, RoundTrip};
 use serde_amqp_map::OrderedMap;
 use serde_amqp_ser::{Serialize, Serializer, Sink, serialize_record};
 use serde_amqp_types::{Array, BoolOr, Multiple, Symbol, Text};
@@ -183,33 +184,47 @@ type Row = (
     ),
 );
 
-/// The attach with these fields.
-macro_rules! from_row {
-    ($row:expr) => {{
-        let (name, (handle, (role, (OrDefault(snd_settle_mode), (OrDefault(rcv_settle_mode), (source, (target, others))))))) = $row;
-        let row_pattern![unsettled, BoolOr(incomplete_unsettled), initial_delivery_count, max_message_size, Multiple(offered_capabilities), Multiple(desired_capabilities), Aside(properties)] = others;
-        Attach { name, handle, role, snd_settle_mode, rcv_settle_mode, source, target, unsettled, incomplete_unsettled, initial_delivery_count, max_message_size, offered_capabilities, desired_capabilities, properties }
-    }};
-}
+impl Composite for Attach {
+    ghost takes = { attach_takes };
 
-impl Attach {
-    /// Reads the list of the fields, which stands behind the descriptor.
-    ///
-    /// Errors: `Memory`; a fault of the reader itself; any other exactly where no front of what is left is a wire form
-    /// of a list that the fields take.
+    ghost fields = { attach_fields };
+
+    #[inline(always)]
     fn read_fields<R: Read>(
         alloc: Global,
         de: &mut Deserializer<R>,
-    ) -> Result<Attach, serde_amqp_item::Error>
-        requires { de.old.element ≡ None }
-        ensures ok { IfOk result (λ v. TookList attach_takes (at_of R.rest de.old) (at_of R.rest de.new) (attach_fields v)) }
-        ensures element { OnOk result (de.new.element ≡ None) }
-        ensures refused { Unless R.faulty result (RefusesList attach_takes (at_of R.rest de.old)) }
-    {
+    ) -> Result<Attach, serde_amqp_item::Error> {
         let row = read_fields_of::<Row, R>(alloc, de)?;
-        Ok(from_row!(row))
+        let (name, (handle, (role, (OrDefault(snd_settle_mode), (OrDefault(rcv_settle_mode), (source, (target, others))))))) = row;
+        let row_pattern![
+            unsettled,
+            BoolOr(incomplete_unsettled),
+            initial_delivery_count,
+            max_message_size,
+            Multiple(offered_capabilities),
+            Multiple(desired_capabilities),
+            Aside(properties)
+        ] = others;
+        Ok(Attach {
+            name,
+            handle,
+            role,
+            snd_settle_mode,
+            rcv_settle_mode,
+            source,
+            target,
+            unsettled,
+            incomplete_unsettled,
+            initial_delivery_count,
+            max_message_size,
+            offered_capabilities,
+            desired_capabilities,
+            properties,
+        })
     }
+}
 
+impl Attach {
     /// Reads the list of the fields, which stands behind the descriptor, as an attach behind a pointer.
     ///
     /// Errors: `Memory`; a fault of the reader itself; any other exactly where no front of what is left is a wire form
@@ -224,7 +239,7 @@ impl Attach {
         ensures element { OnOk result (de.new.element ≡ None) }
         ensures refused { Unless R.faulty result (RefusesList attach_takes (at_of R.rest de.old)) }
     {
-        let attach = Attach::read_fields(alloc, de)?;
+        let attach = <Attach as Composite>::read_fields(alloc, de)?;
         Ok(Boxed::new(alloc, attach)?)
     }
 }
@@ -274,8 +289,7 @@ impl Deserialize for Attach {
         alloc: Global,
         de: &mut Deserializer<R>,
     ) -> Result<Attach, serde_amqp_item::Error> {
-        let row = read_record::<Row, R>(alloc, de, CODE, NAME)?;
-        Ok(from_row!(row))
+        read_composite(alloc, de, CODE, NAME)
     }
 
     ghost decided = { attach_decided };

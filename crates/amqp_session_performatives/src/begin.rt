@@ -1,11 +1,12 @@
 //! The begin performative (part 2, 2.7.2).
 ghost use Rattle.std.specs.Prelude.{◌≡◌, refl};
-ghost use Rattle.amqp_session_performatives.specs.Begin.{begin_item, begin_taken};
+ghost use Rattle.amqp_session_performatives.specs.Begin.{begin_fields, begin_item, begin_takes, begin_taken};
 ghost use Rattle.amqp_session_performatives.specs.BeginLaws.{begin_decided, begin_again, begin_same};
 
 use crate::composite::{Composite, Performs, read_composite};
 use crate::performative::Performative;
 use amqp_session_types::{Aside, Boxed, Fields};
+use serde_amqp_choice::read_fields_of;
 use serde_amqp_de::{Deserialize, Deserializer, Faithful, NeverNull, Read, RoundTrip};
 use serde_amqp_ser::{Serialize, Serializer, Sink, serialize_record};
 use serde_amqp_types::{Array, Multiple, Symbol, UIntOr};
@@ -56,32 +57,37 @@ impl Clone for Begin {
     }
 }
 
-impl Composite for Begin {
-    type Row = (
-        Option<u16>,
+/// The fields in their order.
+type Row = (
+    Option<u16>,
+    (
+        u32,
         (
             u32,
             (
                 u32,
                 (
-                    u32,
+                    UIntOr<4294967295>,
                     (
-                        UIntOr<4294967295>,
-                        (
-                            Multiple<Array<Symbol>>,
-                            (Multiple<Array<Symbol>>, (Aside<Fields>, ())),
-                        ),
+                        Multiple<Array<Symbol>>,
+                        (Multiple<Array<Symbol>>, (Aside<Fields>, ())),
                     ),
                 ),
             ),
         ),
-    );
+    ),
+);
 
-    ghost item = { begin_item };
+impl Composite for Begin {
+    ghost takes = { begin_takes };
 
-    ghost code = { 0x11 };
+    ghost fields = { begin_fields };
 
-    fn from_row(row: Self::Row) -> Begin {
+    #[inline(always)]
+    fn read_fields<R: Read>(
+        alloc: Global,
+        de: &mut Deserializer<R>,
+    ) -> Result<Begin, serde_amqp_item::Error> {
         let row_pattern![
             remote_channel,
             next_outgoing_id,
@@ -91,8 +97,8 @@ impl Composite for Begin {
             Multiple(offered_capabilities),
             Multiple(desired_capabilities),
             Aside(properties)
-        ] = row;
-        Begin {
+        ] = read_fields_of::<Row, R>(alloc, de)?;
+        Ok(Begin {
             remote_channel,
             next_outgoing_id,
             incoming_window,
@@ -101,11 +107,13 @@ impl Composite for Begin {
             offered_capabilities,
             desired_capabilities,
             properties,
-        }
+        })
     }
 }
 
 impl Performs for Begin {
+    ghost code = { 0x11 };
+
     fn into_performative(self) -> Performative {
         Performative::Begin(self)
     }

@@ -1,11 +1,12 @@
 //! The close performative (part 2, 2.7.9).
 ghost use Rattle.std.specs.Prelude.{◌≡◌, refl};
-ghost use Rattle.amqp_session_performatives.specs.Close.{close_item, close_taken};
+ghost use Rattle.amqp_session_performatives.specs.Close.{close_fields, close_item, close_takes, close_taken};
 ghost use Rattle.amqp_session_performatives.specs.CloseLaws.{close_decided, close_again, close_same};
 
 use crate::composite::{Composite, Performs, read_composite};
 use crate::performative::Performative;
 use amqp_session_types::definitions::Error;
+use serde_amqp_choice::read_fields_of;
 use serde_amqp_de::{Deserialize, Deserializer, Faithful, NeverNull, Read, RoundTrip};
 use serde_amqp_ser::{Serialize, Serializer, Sink, serialize_record};
 use std::alloc::{AllocError, Global};
@@ -33,20 +34,27 @@ impl Clone for Close {
     }
 }
 
+/// The fields in their order.
+type Row = (Option<Error>, ());
+
 impl Composite for Close {
-    type Row = (Option<Error>, ());
+    ghost takes = { close_takes };
 
-    ghost item = { close_item };
+    ghost fields = { close_fields };
 
-    ghost code = { 0x18 };
-
-    fn from_row(row: Self::Row) -> Close {
-        let row_pattern![error] = row;
-        Close { error }
+    #[inline(always)]
+    fn read_fields<R: Read>(
+        alloc: Global,
+        de: &mut Deserializer<R>,
+    ) -> Result<Close, serde_amqp_item::Error> {
+        let row_pattern![error] = read_fields_of::<Row, R>(alloc, de)?;
+        Ok(Close { error })
     }
 }
 
 impl Performs for Close {
+    ghost code = { 0x18 };
+
     fn into_performative(self) -> Performative {
         Performative::Close(self)
     }

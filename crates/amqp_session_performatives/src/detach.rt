@@ -1,12 +1,13 @@
 //! The detach performative (part 2, 2.7.7).
 ghost use Rattle.std.specs.Prelude.{◌≡◌, refl};
-ghost use Rattle.amqp_session_performatives.specs.Detach.{detach_item, detach_taken};
+ghost use Rattle.amqp_session_performatives.specs.Detach.{detach_fields, detach_item, detach_takes, detach_taken};
 ghost use Rattle.amqp_session_performatives.specs.DetachLaws.{detach_decided, detach_again, detach_same};
 
 use crate::composite::{Composite, Performs, read_composite};
 use crate::performative::Performative;
 use amqp_session_types::Handle;
 use amqp_session_types::definitions::Error;
+use serde_amqp_choice::read_fields_of;
 use serde_amqp_de::{Deserialize, Deserializer, Faithful, NeverNull, Read, RoundTrip};
 use serde_amqp_ser::{Serialize, Serializer, Sink, serialize_record};
 use serde_amqp_types::BoolOr;
@@ -41,24 +42,31 @@ impl Clone for Detach {
     }
 }
 
+/// The fields in their order.
+type Row = (Handle, (BoolOr<false>, (Option<Error>, ())));
+
 impl Composite for Detach {
-    type Row = (Handle, (BoolOr<false>, (Option<Error>, ())));
+    ghost takes = { detach_takes };
 
-    ghost item = { detach_item };
+    ghost fields = { detach_fields };
 
-    ghost code = { 0x16 };
-
-    fn from_row(row: Self::Row) -> Detach {
-        let row_pattern![handle, BoolOr(closed), error] = row;
-        Detach {
+    #[inline(always)]
+    fn read_fields<R: Read>(
+        alloc: Global,
+        de: &mut Deserializer<R>,
+    ) -> Result<Detach, serde_amqp_item::Error> {
+        let row_pattern![handle, BoolOr(closed), error] = read_fields_of::<Row, R>(alloc, de)?;
+        Ok(Detach {
             handle,
             closed,
             error,
-        }
+        })
     }
 }
 
 impl Performs for Detach {
+    ghost code = { 0x16 };
+
     fn into_performative(self) -> Performative {
         Performative::Detach(self)
     }

@@ -1,12 +1,13 @@
 //! The disposition performative (part 2, 2.7.6).
 ghost use Rattle.std.specs.Prelude.{◌≡◌, refl};
-ghost use Rattle.amqp_session_performatives.specs.Disposition.{disposition_item, disposition_taken};
+ghost use Rattle.amqp_session_performatives.specs.Disposition.{disposition_fields, disposition_item, disposition_takes, disposition_taken};
 ghost use Rattle.amqp_session_performatives.specs.DispositionLaws.{disposition_decided, disposition_again, disposition_same};
 
 use crate::composite::{Composite, Performs, read_composite};
 use crate::performative::Performative;
 use amqp_session_states::DeliveryState;
 use amqp_session_types::Role;
+use serde_amqp_choice::read_fields_of;
 use serde_amqp_de::{Deserialize, Deserializer, Faithful, NeverNull, Read, RoundTrip};
 use serde_amqp_ser::{Serialize, Serializer, Sink, serialize_record};
 use serde_amqp_types::BoolOr;
@@ -51,36 +52,43 @@ impl Clone for Disposition {
     }
 }
 
-impl Composite for Disposition {
-    type Row = (
-        Role,
+/// The fields in their order.
+type Row = (
+    Role,
+    (
+        u32,
         (
-            u32,
-            (
-                Option<u32>,
-                (BoolOr<false>, (Option<DeliveryState>, (BoolOr<false>, ()))),
-            ),
+            Option<u32>,
+            (BoolOr<false>, (Option<DeliveryState>, (BoolOr<false>, ()))),
         ),
-    );
+    ),
+);
 
-    ghost item = { disposition_item };
+impl Composite for Disposition {
+    ghost takes = { disposition_takes };
 
-    ghost code = { 0x15 };
+    ghost fields = { disposition_fields };
 
-    fn from_row(row: Self::Row) -> Disposition {
-        let row_pattern![role, first, last, BoolOr(settled), state, BoolOr(batchable)] = row;
-        Disposition {
+    #[inline(always)]
+    fn read_fields<R: Read>(
+        alloc: Global,
+        de: &mut Deserializer<R>,
+    ) -> Result<Disposition, serde_amqp_item::Error> {
+        let row_pattern![role, first, last, BoolOr(settled), state, BoolOr(batchable)] = read_fields_of::<Row, R>(alloc, de)?;
+        Ok(Disposition {
             role,
             first,
             last,
             settled,
             state,
             batchable,
-        }
+        })
     }
 }
 
 impl Performs for Disposition {
+    ghost code = { 0x15 };
+
     fn into_performative(self) -> Performative {
         Performative::Disposition(self)
     }

@@ -1,11 +1,12 @@
 //! The end performative (part 2, 2.7.8).
 ghost use Rattle.std.specs.Prelude.{◌≡◌, refl};
-ghost use Rattle.amqp_session_performatives.specs.End.{end_item, end_taken};
+ghost use Rattle.amqp_session_performatives.specs.End.{end_fields, end_item, end_takes, end_taken};
 ghost use Rattle.amqp_session_performatives.specs.EndLaws.{end_decided, end_again, end_same};
 
 use crate::composite::{Composite, Performs, read_composite};
 use crate::performative::Performative;
 use amqp_session_types::definitions::Error;
+use serde_amqp_choice::read_fields_of;
 use serde_amqp_de::{Deserialize, Deserializer, Faithful, NeverNull, Read, RoundTrip};
 use serde_amqp_ser::{Serialize, Serializer, Sink, serialize_record};
 use std::alloc::{AllocError, Global};
@@ -33,20 +34,27 @@ impl Clone for End {
     }
 }
 
+/// The fields in their order.
+type Row = (Option<Error>, ());
+
 impl Composite for End {
-    type Row = (Option<Error>, ());
+    ghost takes = { end_takes };
 
-    ghost item = { end_item };
+    ghost fields = { end_fields };
 
-    ghost code = { 0x17 };
-
-    fn from_row(row: Self::Row) -> End {
-        let row_pattern![error] = row;
-        End { error }
+    #[inline(always)]
+    fn read_fields<R: Read>(
+        alloc: Global,
+        de: &mut Deserializer<R>,
+    ) -> Result<End, serde_amqp_item::Error> {
+        let row_pattern![error] = read_fields_of::<Row, R>(alloc, de)?;
+        Ok(End { error })
     }
 }
 
 impl Performs for End {
+    ghost code = { 0x17 };
+
     fn into_performative(self) -> Performative {
         Performative::End(self)
     }

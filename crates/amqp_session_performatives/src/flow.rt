@@ -1,11 +1,12 @@
 //! The flow performative (part 2, 2.7.4).
 ghost use Rattle.std.specs.Prelude.{◌≡◌, refl};
-ghost use Rattle.amqp_session_performatives.specs.Flow.{flow_item, flow_taken};
+ghost use Rattle.amqp_session_performatives.specs.Flow.{flow_fields, flow_item, flow_takes, flow_taken};
 ghost use Rattle.amqp_session_performatives.specs.FlowLaws.{flow_decided, flow_again, flow_same};
 
 use crate::composite::{Composite, Performs, read_composite};
 use crate::performative::Performative;
 use amqp_session_types::{Aside, Boxed, Fields, Handle};
+use serde_amqp_choice::read_fields_of;
 use serde_amqp_de::{Deserialize, Deserializer, Faithful, NeverNull, Read, RoundTrip};
 use serde_amqp_ser::{Serialize, Serializer, Sink, serialize_record};
 use serde_amqp_types::BoolOr;
@@ -65,38 +66,43 @@ impl Clone for Flow {
     }
 }
 
-impl Composite for Flow {
-    type Row = (
-        Option<u32>,
+/// The fields in their order.
+type Row = (
+    Option<u32>,
+    (
+        u32,
         (
             u32,
             (
                 u32,
                 (
-                    u32,
+                    Option<Handle>,
                     (
-                        Option<Handle>,
+                        Option<u32>,
                         (
                             Option<u32>,
                             (
                                 Option<u32>,
-                                (
-                                    Option<u32>,
-                                    (BoolOr<false>, (BoolOr<false>, (Aside<Fields>, ()))),
-                                ),
+                                (BoolOr<false>, (BoolOr<false>, (Aside<Fields>, ()))),
                             ),
                         ),
                     ),
                 ),
             ),
         ),
-    );
+    ),
+);
 
-    ghost item = { flow_item };
+impl Composite for Flow {
+    ghost takes = { flow_takes };
 
-    ghost code = { 0x13 };
+    ghost fields = { flow_fields };
 
-    fn from_row(row: Self::Row) -> Flow {
+    #[inline(always)]
+    fn read_fields<R: Read>(
+        alloc: Global,
+        de: &mut Deserializer<R>,
+    ) -> Result<Flow, serde_amqp_item::Error> {
         let row_pattern![
             next_incoming_id,
             incoming_window,
@@ -109,8 +115,8 @@ impl Composite for Flow {
             BoolOr(drain),
             BoolOr(echo),
             Aside(properties)
-        ] = row;
-        Flow {
+        ] = read_fields_of::<Row, R>(alloc, de)?;
+        Ok(Flow {
             next_incoming_id,
             incoming_window,
             next_outgoing_id,
@@ -122,11 +128,13 @@ impl Composite for Flow {
             drain,
             echo,
             properties,
-        }
+        })
     }
 }
 
 impl Performs for Flow {
+    ghost code = { 0x13 };
+
     fn into_performative(self) -> Performative {
         Performative::Flow(self)
     }

@@ -1,11 +1,12 @@
 //! The open performative (part 2, 2.7.1).
 ghost use Rattle.std.specs.Prelude.{◌≡◌, IfOk, refl};
-ghost use Rattle.amqp_session_performatives.specs.Open.{open_item, open_taken};
+ghost use Rattle.amqp_session_performatives.specs.Open.{open_fields, open_item, open_takes, open_taken};
 ghost use Rattle.amqp_session_performatives.specs.OpenLaws.{open_decided, open_again, open_same};
 
 use crate::composite::{Composite, Performs, read_composite};
 use crate::performative::Performative;
 use amqp_session_types::{Aside, Boxed, Fields};
+use serde_amqp_choice::read_fields_of;
 use serde_amqp_de::{Deserialize, Deserializer, Faithful, NeverNull, Read, RoundTrip};
 use serde_amqp_ser::{Serialize, Serializer, Sink, serialize_record};
 use serde_amqp_types::{Array, Multiple, Symbol, Text, UIntOr, UShortOr};
@@ -87,38 +88,43 @@ impl Open {
     }
 }
 
-impl Composite for Open {
-    type Row = (
-        Text,
+/// The fields in their order.
+type Row = (
+    Text,
+    (
+        Option<Text>,
         (
-            Option<Text>,
+            UIntOr<4294967295>,
             (
-                UIntOr<4294967295>,
+                UShortOr<65535>,
                 (
-                    UShortOr<65535>,
+                    Option<u32>,
                     (
-                        Option<u32>,
+                        Multiple<Array<Symbol>>,
                         (
                             Multiple<Array<Symbol>>,
                             (
                                 Multiple<Array<Symbol>>,
-                                (
-                                    Multiple<Array<Symbol>>,
-                                    (Multiple<Array<Symbol>>, (Aside<Fields>, ())),
-                                ),
+                                (Multiple<Array<Symbol>>, (Aside<Fields>, ())),
                             ),
                         ),
                     ),
                 ),
             ),
         ),
-    );
+    ),
+);
 
-    ghost item = { open_item };
+impl Composite for Open {
+    ghost takes = { open_takes };
 
-    ghost code = { 0x10 };
+    ghost fields = { open_fields };
 
-    fn from_row(row: Self::Row) -> Open {
+    #[inline(always)]
+    fn read_fields<R: Read>(
+        alloc: Global,
+        de: &mut Deserializer<R>,
+    ) -> Result<Open, serde_amqp_item::Error> {
         let row_pattern![
             container_id,
             hostname,
@@ -130,8 +136,8 @@ impl Composite for Open {
             Multiple(offered_capabilities),
             Multiple(desired_capabilities),
             Aside(properties)
-        ] = row;
-        Open {
+        ] = read_fields_of::<Row, R>(alloc, de)?;
+        Ok(Open {
             container_id,
             hostname,
             max_frame_size,
@@ -142,11 +148,13 @@ impl Composite for Open {
             offered_capabilities,
             desired_capabilities,
             properties,
-        }
+        })
     }
 }
 
 impl Performs for Open {
+    ghost code = { 0x10 };
+
     fn into_performative(self) -> Performative {
         Performative::Open(self)
     }

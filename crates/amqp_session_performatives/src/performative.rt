@@ -19,7 +19,7 @@ use crate::flow::{self, Flow};
 use crate::open::{self, Open};
 use crate::transfer::{self, Transfer};
 use amqp_session_types::Boxed;
-use serde_amqp_choice::{Choice, read_choice, read_fields_of};
+use serde_amqp_choice::{Choice, read_choice};
 use serde_amqp_de::{Deserialize, Deserializer, Faithful, NeverNull, Read, RoundTrip};
 use serde_amqp_item::Error;
 use serde_amqp_ser::{Serialize, Serializer, Sink};
@@ -164,12 +164,12 @@ fn read_as<C: Performs, R: Read>(
     de: &mut Deserializer<R>,
 ) -> Result<Performative, Error>
     requires { de.old.element ≡ None }
-    ensures ok { IfOk result (λ p. TookRecord C.Row.ReadFields.takes C.Composite.code (at_of R.rest de.old) (at_of R.rest de.new) (performative_item p)) }
+    ensures ok { IfOk result (λ p. TookRecord C.Composite.takes C.code (at_of R.rest de.old) (at_of R.rest de.new) (performative_item p)) }
     ensures element { OnOk result (de.new.element ≡ None) }
-    ensures refused { Unless R.faulty result (RefusesList C.Row.ReadFields.takes (at_of R.rest de.old)) }
+    ensures refused { Unless R.faulty result (RefusesList C.Composite.takes (at_of R.rest de.old)) }
 {
-    let row = read_fields_of::<C::Row, R>(alloc, de)?;
-    Ok(C::from_row(row).into_performative())
+    let value = C::read_fields(alloc, de)?;
+    Ok(value.into_performative())
 }
 
 /// Reads the list of the fields of an attach, which stands behind its descriptor.

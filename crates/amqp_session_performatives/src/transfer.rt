@@ -1,12 +1,13 @@
 //! The transfer performative (part 2, 2.7.5).
 ghost use Rattle.std.specs.Prelude.{◌≡◌, refl};
-ghost use Rattle.amqp_session_performatives.specs.Transfer.{transfer_item, transfer_taken};
+ghost use Rattle.amqp_session_performatives.specs.Transfer.{transfer_fields, transfer_item, transfer_takes, transfer_taken};
 ghost use Rattle.amqp_session_performatives.specs.TransferLaws.{transfer_decided, transfer_again, transfer_same};
 
 use crate::composite::{Composite, Performs, read_composite};
 use crate::performative::Performative;
 use amqp_session_states::DeliveryState;
 use amqp_session_types::{DeliveryTag, Handle, ReceiverSettleMode};
+use serde_amqp_choice::read_fields_of;
 use serde_amqp_de::{Deserialize, Deserializer, Faithful, NeverNull, Read, RoundTrip};
 use serde_amqp_ser::{Serialize, Serializer, Sink, serialize_record};
 use serde_amqp_types::BoolOr;
@@ -66,38 +67,43 @@ impl Clone for Transfer {
     }
 }
 
-impl Composite for Transfer {
-    type Row = (
-        Handle,
+/// The fields in their order.
+type Row = (
+    Handle,
+    (
+        Option<u32>,
         (
-            Option<u32>,
+            Option<DeliveryTag>,
             (
-                Option<DeliveryTag>,
+                Option<u32>,
                 (
-                    Option<u32>,
+                    Option<bool>,
                     (
-                        Option<bool>,
+                        BoolOr<false>,
                         (
-                            BoolOr<false>,
+                            Option<ReceiverSettleMode>,
                             (
-                                Option<ReceiverSettleMode>,
-                                (
-                                    Option<DeliveryState>,
-                                    (BoolOr<false>, (BoolOr<false>, (BoolOr<false>, ()))),
-                                ),
+                                Option<DeliveryState>,
+                                (BoolOr<false>, (BoolOr<false>, (BoolOr<false>, ()))),
                             ),
                         ),
                     ),
                 ),
             ),
         ),
-    );
+    ),
+);
 
-    ghost item = { transfer_item };
+impl Composite for Transfer {
+    ghost takes = { transfer_takes };
 
-    ghost code = { 0x14 };
+    ghost fields = { transfer_fields };
 
-    fn from_row(row: Self::Row) -> Transfer {
+    #[inline(always)]
+    fn read_fields<R: Read>(
+        alloc: Global,
+        de: &mut Deserializer<R>,
+    ) -> Result<Transfer, serde_amqp_item::Error> {
         let row_pattern![
             handle,
             delivery_id,
@@ -110,8 +116,8 @@ impl Composite for Transfer {
             BoolOr(resume),
             BoolOr(aborted),
             BoolOr(batchable)
-        ] = row;
-        Transfer {
+        ] = read_fields_of::<Row, R>(alloc, de)?;
+        Ok(Transfer {
             handle,
             delivery_id,
             delivery_tag,
@@ -123,11 +129,13 @@ impl Composite for Transfer {
             resume,
             aborted,
             batchable,
-        }
+        })
     }
 }
 
 impl Performs for Transfer {
+    ghost code = { 0x14 };
+
     fn into_performative(self) -> Performative {
         Performative::Transfer(self)
     }
