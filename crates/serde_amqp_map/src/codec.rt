@@ -1,6 +1,7 @@
 //! Maps in AMQP's encoding (part 1, section 1.6.23).
 ghost use Rattle.std.specs.Prelude.{◌≡◌, Some, OnOk};
-ghost use Rattle.serde_amqp_ser.specs.Puts.{serialized, state_of};
+ghost use Rattle.serde_amqp_ser.specs.Written.{Keeps};
+ghost use Rattle.serde_amqp_ser.specs.Puts.{serialized, OnlyWhere, WantsMemory, state_of};
 ghost use Rattle.serde_amqp_map.specs.Again.{ordered_same, ordered_again, ordered_faithful, ordered_present};
 ghost use Rattle.serde_amqp_map.specs.Deciding.{ordered_decided};
 ghost use Rattle.serde_amqp_map.specs.Items.{ordered_item};
@@ -26,13 +27,34 @@ impl<K: Serialize + Eq + Hash, V: Serialize> Serialize for OrderedMap<K, V> {
 
     #[tactic(auto, using(serde_amqp_ser::proofs::Grown::growing))]
     fn serialize<W: Sink>(&self, s: &mut Serializer<W>) -> Result<(), Error> {
-        let count = self.len();
-        let opened = s.begin_compound();
-        for (key, value) in self {
-            s.serialize_pair(key, value)?;
+        let mark = s.mark();
+        match put_map(self, s) {
+            Ok(()) => Ok(()),
+            Err(error) => Err(s.take_back(mark, error)),
         }
-        s.end_map(opened, count)
     }
+}
+
+/// Writes a map of the pairs. After an error the beginning of it may stand there.
+#[tactic(auto, using(serde_amqp_ser::proofs::Grown::growing))]
+fn put_map<K: Serialize + Eq + Hash, V: Serialize, W: Sink>(
+    pairs: &OrderedMap<K, V>,
+    s: &mut Serializer<W>,
+) -> Result<(), Error>
+    ensures ok { OnOk result (serialized (state_of W.written s.old)
+        (ordered_item K.eq K.item V.item pairs.now)
+        ≡ Some (state_of W.written s.new)) }
+    ensures kept { Keeps (W.written s.old.writer) (W.written s.new.writer) }
+    ensures refused { OnlyWhere result (serialized (state_of W.written s.old)
+        (ordered_item K.eq K.item V.item pairs.now)) }
+    ensures memory { WantsMemory W.takes_memory result }
+{
+    let count = pairs.len();
+    let opened = s.begin_compound();
+    for (key, value) in pairs {
+        s.serialize_pair(key, value)?;
+    }
+    s.end_map(opened, count)
 }
 
 /// A map whose keys and values the types take. A key that comes again keeps its first place, and has its last
