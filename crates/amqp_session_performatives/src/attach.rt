@@ -184,6 +184,15 @@ type Row = (
     ),
 );
 
+/// The attach with these fields.
+macro_rules! from_row {
+    ($row:expr) => {{
+        let (name, (handle, (role, (OrDefault(snd_settle_mode), (OrDefault(rcv_settle_mode), (source, (target, others))))))) = $row;
+        let row_pattern![unsettled, BoolOr(incomplete_unsettled), initial_delivery_count, max_message_size, Multiple(offered_capabilities), Multiple(desired_capabilities), Aside(properties)] = others;
+        Attach { name, handle, role, snd_settle_mode, rcv_settle_mode, source, target, unsettled, incomplete_unsettled, initial_delivery_count, max_message_size, offered_capabilities, desired_capabilities, properties }
+    }};
+}
+
 impl Composite for Attach {
     ghost takes = { attach_takes };
 
@@ -194,37 +203,28 @@ impl Composite for Attach {
         alloc: Global,
         de: &mut Deserializer<R>,
     ) -> Result<Attach, serde_amqp_item::Error> {
-        let row = read_fields_of::<Row, R>(alloc, de)?;
-        let (name, (handle, (role, (OrDefault(snd_settle_mode), (OrDefault(rcv_settle_mode), (source, (target, others))))))) = row;
-        let row_pattern![
-            unsettled,
-            BoolOr(incomplete_unsettled),
-            initial_delivery_count,
-            max_message_size,
-            Multiple(offered_capabilities),
-            Multiple(desired_capabilities),
-            Aside(properties)
-        ] = others;
-        Ok(Attach {
-            name,
-            handle,
-            role,
-            snd_settle_mode,
-            rcv_settle_mode,
-            source,
-            target,
-            unsettled,
-            incomplete_unsettled,
-            initial_delivery_count,
-            max_message_size,
-            offered_capabilities,
-            desired_capabilities,
-            properties,
-        })
+        Attach::read_list(alloc, de)
     }
 }
 
 impl Attach {
+    /// Reads the list of the fields, which stands behind the descriptor.
+    ///
+    /// Errors: `Memory`; a fault of the reader itself; any other exactly where no front of what is left is a wire form
+    /// of a list that the fields take.
+    fn read_list<R: Read>(
+        alloc: Global,
+        de: &mut Deserializer<R>,
+    ) -> Result<Attach, serde_amqp_item::Error>
+        requires { de.old.element ≡ None }
+        ensures ok { IfOk result (λ v. TookList attach_takes (at_of R.rest de.old) (at_of R.rest de.new) (attach_fields v)) }
+        ensures element { OnOk result (de.new.element ≡ None) }
+        ensures refused { Unless R.faulty result (RefusesList attach_takes (at_of R.rest de.old)) }
+    {
+        let row = read_fields_of::<Row, R>(alloc, de)?;
+        Ok(from_row!(row))
+    }
+
     /// Reads the list of the fields, which stands behind the descriptor, as an attach behind a pointer.
     ///
     /// Errors: `Memory`; a fault of the reader itself; any other exactly where no front of what is left is a wire form
@@ -239,7 +239,7 @@ impl Attach {
         ensures element { OnOk result (de.new.element ≡ None) }
         ensures refused { Unless R.faulty result (RefusesList attach_takes (at_of R.rest de.old)) }
     {
-        let attach = <Attach as Composite>::read_fields(alloc, de)?;
+        let attach = Attach::read_list(alloc, de)?;
         Ok(Boxed::new(alloc, attach)?)
     }
 }

@@ -74,7 +74,8 @@ impl Composite for Disposition {
         alloc: Global,
         de: &mut Deserializer<R>,
     ) -> Result<Disposition, serde_amqp_item::Error> {
-        let row_pattern![role, first, last, BoolOr(settled), state, BoolOr(batchable)] = read_fields_of::<Row, R>(alloc, de)?;
+        let row_pattern![role, first, last, BoolOr(settled), state, BoolOr(batchable)] =
+            read_fields_of::<Row, R>(alloc, de)?;
         Ok(Disposition {
             role,
             first,
