@@ -105,20 +105,20 @@ module _ {T F : Type 0} where
         | false ↦ (h.0, short-joined handle batch queues h.1 b)
       ]
 
-  short-trailed : (frame : F) (units : List (Outbound T F)) → AllShort units → last_room units < 2 ^ 64 → AllShort (trailed frame units)
+  short-trailed : (frame : F) (units : List (Outbound T F)) → AllShort units → last_room 1 units < 2 ^ 64 → AllShort (trailed frame units)
   short-trailed frame [] h less = tt
   short-trailed frame (u ∷ []) h less = (omega (arith, less, length-append u.behind (frame ∷ [])), tt)
   short-trailed frame (u ∷ v ∷ us) h less = (h.0, short-trailed frame (v ∷ us) h.1 less)
 
-  pub short-followed : (handle : ℕ) (frame : F) (queues : Queues T F) → EachShort queues → room_behind handle queues < 2 ^ 64 → EachShort (followed handle frame queues)
+  pub short-followed : (handle : ℕ) (frame : F) (queues : Queues T F) → EachShort queues → room_behind handle 1 queues < 2 ^ 64 → EachShort (followed handle frame queues)
   short-followed handle frame [] h less = tt
   short-followed handle frame (q ∷ queues) h less =
       elim (same_or_other q.0 handle) [
         | inl e ↦
-            let here : last_room q.1 < 2 ^ 64 = subst (λ (us : List (Outbound T F)). last_room us < 2 ^ 64) (if_same q.0 handle _ _ e) less in
+            let here : last_room 1 q.1 < 2 ^ 64 = subst (λ (us : List (Outbound T F)). last_room 1 us < 2 ^ 64) (if_same q.0 handle _ _ e) less in
             subst (λ (qs : Queues T F). EachShort qs) (sym (if_same q.0 handle _ _ e)) (short-trailed frame q.1 h.0 here, h.1)
         | inr n ↦
-            let later : room_behind handle queues < 2 ^ 64 = subst (λ (us : List (Outbound T F)). last_room us < 2 ^ 64) (if_other q.0 handle _ _ n) less in
+            let later : room_behind handle 1 queues < 2 ^ 64 = subst (λ (us : List (Outbound T F)). last_room 1 us < 2 ^ 64) (if_other q.0 handle _ _ n) less in
             subst (λ (qs : Queues T F). EachShort qs) (sym (if_other q.0 handle _ _ n)) (h.0, short-followed handle frame queues h.1 later)
       ]
 

@@ -1,16 +1,17 @@
 -- Where a link's transfers wait.
-use Rattle.std.proofs.Common.{◌≡◌, ◌≢◌, ℕ, ◌<◌, ◌≤◌, ◌⊎◌, inr, suc, zero, List, [], ◌∷◌, ◌++◌, length, arith, Bool, true, false, length-append, refl, ap, ◌∙◌}
+use Rattle.std.proofs.Common.{◌≡◌, ◌≢◌, ℕ, ◌<◌, ◌≤◌, suc, zero, List, [], ◌∷◌, ◌++◌, length, arith, Bool, true, false, length-append, refl, sym, ap, ◌∙◌, Option, Some, None}
 use Rattle.std.proofs.lemmas.List.Elements.{All-head, All-tail}
 use Rattle.std.specs.Prelude.{Result, Ok, Err, OnOk, OnErr, map, slice_index_or, slice_set, ◌==◌, ◌+◌, if◌then◌else◌}
 use Rattle.std.proofs.lemmas.Grind.{common_steps}
 use Rattle.amqp_session_outgoing.specs.Frames.{last_room}
+use Rattle.amqp_session_outgoing.specs.Nodes.{values_of, HoldValues}
+use Rattle.amqp_session_outgoing.proofs.Noding.{value-at, values-length}
 use Rattle.amqp_session_outgoing.specs.Queues.{Queues, joined, followed, trailed, units_of, room_behind, held_in, turn_of}
 use Rattle.amqp_session_types.specs.declared.handles.OutputHandle.{OutputHandle}
 use Rattle.amqp_session_outgoing.proofs.Numbering.{firsts-followed}
 use Rattle.amqp_session_outgoing.specs.Fields.{queues_of, EachWaits, IsPlace, IsNowhere, ChangesAt}
 use Rattle.amqp_session_outgoing.specs.declared.frames.Outbound.{Outbound}
 use Rattle.amqp_session_outgoing.specs.declared.turns.Queue.{Queue}
-use Rattle.std.specs.declared.collections.VecDeque.{VecDeque}
 
 pub on_ok : {A E P Q : Type 0} → (r : Result A E) → (P → Q) → OnOk r P → OnOk r Q
 on_ok (Ok x) f p = f p
@@ -23,7 +24,7 @@ on_err (Err e) f p = f p
 module _ {T F : Type 0} where
   pub queues_of-same : (items : List (Queue T F)) (i : ℕ) (q d : Queue T F)
       → i < length items → q.handle ≡ (slice_index_or items i d).handle
-      → q.units.items ≡ (slice_index_or items i d).units.items
+      → q.units ≡ (slice_index_or items i d).units
       → queues_of (slice_set items i q) ≡ queues_of items
   queues_of-same [] i q d lt same more = absurd (omega arith)
   queues_of-same (x ∷ xs) zero q d lt same more = grind (arith, common_steps)
@@ -37,8 +38,8 @@ module _ {T F : Type 0} where
   default (x ∷ items) (suc i) d f lt = default items i d f (omega arith)
 
   -- a queue written back at its place with other transfers
-  pub changes : (items : List (Queue T F)) (i : ℕ) (change : List (Outbound T F) → List (Outbound T F)) (now : Queue T F) (units : VecDeque (Outbound T F) _)
-      → i < length items → now ≡ slice_index_or items i now → units.items ≡ change now.units.items
+  pub changes : (items : List (Queue T F)) (i : ℕ) (change : List (Outbound T F) → List (Outbound T F)) (now : Queue T F) (units : List (Outbound T F))
+      → i < length items → now ≡ slice_index_or items i now → units ≡ change now.units
       → ChangesAt items i change (slice_set items i (record { handle = now.handle; units = units }))
   changes items i change now units lt is more =
       let q : Queue T F = record { handle = now.handle; units = units } in
@@ -47,24 +48,63 @@ module _ {T F : Type 0} where
         queue = q;
         changed = refl;
         handle = ap (λ (x : Queue T F). x.handle) e;
-        units = more ∙ ap (λ (x : Queue T F). change x.units.items) e;
+        units = more ∙ ap (λ (x : Queue T F). change x.units) e;
       }
 
   -- and with the same ones
   pub unchanged : (items : List (Queue T F)) (i : ℕ) (now q : Queue T F) → i < length items → now ≡ slice_index_or items i now
-      → q.handle ≡ now.handle → q.units.items ≡ now.units.items → queues_of (slice_set items i q) ≡ queues_of items
-  unchanged items i now q lt is handle same = queues_of-same items i q now lt (handle ∙ ap (λ (x : Queue T F). x.handle) is) (same ∙ ap (λ (x : Queue T F). x.units.items) is)
+      → q.handle ≡ now.handle → q.units ≡ now.units → queues_of (slice_set items i q) ≡ queues_of items
+  unchanged items i now q lt is handle same = queues_of-same items i q now lt (handle ∙ ap (λ (x : Queue T F). x.handle) is) (same ∙ ap (λ (x : Queue T F). x.units) is)
 
-  -- a frame behind the last
-  pub trailed-last : (frame : F) (units : List (Outbound T F)) (last : Outbound T F) → trailed frame (units ++ last ∷ []) ≡ units ++ record last { behind = last.behind ++ frame ∷ [] } ∷ []
-  trailed-last frame [] last = refl
-  trailed-last frame (u ∷ []) last = refl
-  trailed-last frame (u ∷ v ∷ us) last = ap (λ (xs : List (Outbound T F)). u ∷ xs) (trailed-last frame (v ∷ us) last)
+  -- room behind the last
+  pub last-room-is : (count : ℕ) (units : List (Outbound T F)) (i : ℕ) (d : Outbound T F) → length units ≡ i + 1 → last_room count units ≡ length (slice_index_or units i d).behind + count
+  last-room-is count [] i d e = absurd (omega (arith, e))
+  last-room-is count (u ∷ []) zero d e = refl
+  last-room-is count (u ∷ []) (suc i) d e = absurd (omega (arith, e))
+  last-room-is count (u ∷ v ∷ us) zero d e = absurd (omega (arith, e))
+  last-room-is count (u ∷ v ∷ us) (suc i) d e = last-room-is count (v ∷ us) i d (omega (arith, e))
+
+  -- a frame behind the transfer of the last node
+  pub trailed-node : (nodes : List (Option (Outbound T F))) (i : ℕ) (last : Outbound T F) (behind : List F) (frame : F) (d : Option (Outbound T F)) → HoldValues nodes
+      → length nodes ≡ i + 1 → Some last ≡ slice_index_or nodes i d → behind ≡ last.behind ++ frame ∷ []
+      → values_of (slice_set nodes i (Some (record last { behind = behind }))) ≡ trailed frame (values_of nodes)
+  trailed-node [] i last behind frame d h e is more = absurd (omega (arith, e))
+  trailed-node (None ∷ nodes) i last behind frame d h e is more = absurd h
+  trailed-node (Some u ∷ []) zero last behind frame d h e is more = grind (arith, common_steps)
+  trailed-node (Some u ∷ []) (suc i) last behind frame d h e is more = absurd (omega (arith, e))
+  trailed-node (Some u ∷ None ∷ nodes) i last behind frame d h e is more = absurd h
+  trailed-node (Some u ∷ Some v ∷ nodes) zero last behind frame d h e is more = absurd (omega (arith, e))
+  trailed-node (Some u ∷ Some v ∷ nodes) (suc i) last behind frame d h e is more =
+      ap (λ (us : List (Outbound T F)). u ∷ us) (trailed-node (Some v ∷ nodes) i last behind frame d h (omega (arith, e)) is more)
+
+  -- and where it stays as it is
+  pub same-node : (nodes : List (Option (Outbound T F))) (i : ℕ) (last : Outbound T F) (behind : List F) (d : Option (Outbound T F)) → HoldValues nodes
+      → i < length nodes → Some last ≡ slice_index_or nodes i d → behind ≡ last.behind
+      → values_of (slice_set nodes i (Some (record last { behind = behind }))) ≡ values_of nodes
+  same-node [] i last behind d h lt is same = absurd (omega arith)
+  same-node (None ∷ nodes) i last behind d h lt is same = absurd h
+  same-node (Some u ∷ nodes) zero last behind d h lt is same = grind (arith, common_steps)
+  same-node (Some u ∷ nodes) (suc i) last behind d h lt is same =
+      ap (λ (us : List (Outbound T F)). u ∷ us) (same-node nodes i last behind d h (omega arith) is same)
+
+  pub hold-set : (nodes : List (Option (Outbound T F))) (i : ℕ) (u : Outbound T F) → HoldValues nodes → HoldValues (slice_set nodes i (Some u))
+  hold-set [] i u h = h
+  hold-set (None ∷ nodes) i u h = absurd h
+  hold-set (Some x ∷ nodes) zero u h = h
+  hold-set (Some x ∷ nodes) (suc i) u h = hold-set nodes i u h
+
+  -- room behind the transfer of the last node
+  pub room-node : (count : ℕ) (nodes : List (Option (Outbound T F))) (i : ℕ) (last : Outbound T F) (d : Option (Outbound T F)) → HoldValues nodes
+      → length nodes ≡ i + 1 → Some last ≡ slice_index_or nodes i d → last_room count (values_of nodes) ≡ length last.behind + count
+  room-node count nodes i last d h e is =
+      let lt : i < length nodes = omega (arith, e) in
+      let v : last ≡ slice_index_or (values_of nodes) i last = value-at nodes i last d h lt is in
+      last-room-is count (values_of nodes) i last (values-length nodes h ∙ e) ∙ ap (λ (u : Outbound T F). length u.behind + count) (sym v)
 
   joined-found : (items : List (Queue T F)) (i handle : ℕ) (batch : List (Outbound T F)) (q d f : Queue T F)
       → i < length items → ((k : ℕ) (e : Queue T F) → k < i → ((slice_index_or items k e).handle).0 ≢ handle)
       → ((slice_index_or items i f).handle).0 ≡ handle → q.handle ≡ (slice_index_or items i d).handle
-      → q.units.items ≡ (slice_index_or items i d).units.items ++ batch
+      → q.units ≡ (slice_index_or items i d).units ++ batch
       → queues_of (slice_set items i q) ≡ joined handle batch (queues_of items)
   joined-found [] i handle batch q d f lt absent here same more = absurd (omega arith)
   joined-found (x ∷ xs) zero handle batch q d f lt absent here same more = grind (arith, common_steps)
@@ -79,7 +119,7 @@ module _ {T F : Type 0} where
 
   joined-none : (items : List (Queue T F)) (handle : ℕ) (batch : List (Outbound T F)) (q : Queue T F)
       → ((k : ℕ) (e : Queue T F) → k < length items → ((slice_index_or items k e).handle).0 ≢ handle)
-      → (q.handle).0 ≡ handle → q.units.items ≡ batch
+      → (q.handle).0 ≡ handle → q.units ≡ batch
       → queues_of (items ++ q ∷ []) ≡ joined handle batch (queues_of items)
   joined-none [] handle batch q absent same more = grind (arith, common_steps)
   joined-none (x ∷ xs) handle batch q absent same more =
@@ -88,13 +128,13 @@ module _ {T F : Type 0} where
       grind (arith, common_steps)
 
   pub joined-last : (items new : List (Queue T F)) (handle : ℕ) (batch : List (Outbound T F)) (q : Queue T F) → IsNowhere items handle
-      → new ≡ items ++ q ∷ [] → (q.handle).0 ≡ handle → q.units.items ≡ batch → queues_of new ≡ joined handle batch (queues_of items)
+      → new ≡ items ++ q ∷ [] → (q.handle).0 ≡ handle → q.units ≡ batch → queues_of new ≡ joined handle batch (queues_of items)
   joined-last items new handle batch q n is same more = ap (λ (qs : List (Queue T F)). queues_of qs) is ∙ joined-none items handle batch q n.other same more
 
   followed-found : (items : List (Queue T F)) (i handle : ℕ) (frame : F) (q d f : Queue T F)
       → i < length items → ((k : ℕ) (e : Queue T F) → k < i → ((slice_index_or items k e).handle).0 ≢ handle)
       → ((slice_index_or items i f).handle).0 ≡ handle → q.handle ≡ (slice_index_or items i d).handle
-      → q.units.items ≡ trailed frame (slice_index_or items i d).units.items
+      → q.units ≡ trailed frame (slice_index_or items i d).units
       → queues_of (slice_set items i q) ≡ followed handle frame (queues_of items)
   followed-found [] i handle frame q d f lt absent here same more = absurd (omega arith)
   followed-found (x ∷ xs) zero handle frame q d f lt absent here same more = grind (arith, common_steps)
@@ -111,10 +151,10 @@ module _ {T F : Type 0} where
       → i < length items → ((k : ℕ) (e : Queue T F) → k < i → ((slice_index_or items k e).handle).0 ≢ handle)
       → ((slice_index_or items i f).handle).0 ≡ handle → EachWaits items → 0 < length (units_of handle (queues_of items))
   units-found [] i handle f lt absent here waits = absurd (omega arith)
-  units-found (x ∷ xs) zero handle f lt absent here waits = let some : 0 < length x.units.items = All-head (λ (q : Queue T F). 0 < length q.units.items) x xs waits in grind (arith, common_steps)
+  units-found (x ∷ xs) zero handle f lt absent here waits = let some : 0 < length x.units = All-head (λ (q : Queue T F). 0 < length q.units) x xs waits in grind (arith, common_steps)
   units-found (x ∷ xs) (suc i) handle f lt absent here waits =
       let other : (x.handle).0 ≢ handle = absent 0 f (omega arith) in
-      let rest : 0 < length (units_of handle (queues_of xs)) = units-found xs i handle f (omega arith) (λ k e h. absent (suc k) e (omega arith)) here (All-tail (λ (q : Queue T F). 0 < length q.units.items) x xs waits) in
+      let rest : 0 < length (units_of handle (queues_of xs)) = units-found xs i handle f (omega arith) (λ k e h. absent (suc k) e (omega arith)) here (All-tail (λ (q : Queue T F). 0 < length q.units) x xs waits) in
       grind (arith, common_steps)
 
   pub waits-at : (items : List (Queue T F)) (i handle : ℕ) → IsPlace items handle i → EachWaits items → 0 < length (units_of handle (queues_of items))
@@ -130,36 +170,23 @@ module _ {T F : Type 0} where
 
   units-is : (items : List (Queue T F)) (i handle : ℕ) (f d : Queue T F)
       → i < length items → ((k : ℕ) (e : Queue T F) → k < i → ((slice_index_or items k e).handle).0 ≢ handle)
-      → ((slice_index_or items i f).handle).0 ≡ handle → units_of handle (queues_of items) ≡ (slice_index_or items i d).units.items
+      → ((slice_index_or items i f).handle).0 ≡ handle → units_of handle (queues_of items) ≡ (slice_index_or items i d).units
   units-is [] i handle f d lt absent here = absurd (omega arith)
   units-is (x ∷ xs) zero handle f d lt absent here = grind (arith, common_steps)
   units-is (x ∷ xs) (suc i) handle f d lt absent here =
       let other : (x.handle).0 ≢ handle = absent 0 f (omega arith) in
-      let rest : units_of handle (queues_of xs) ≡ (slice_index_or xs i d).units.items = units-is xs i handle f d (omega arith) (λ k e h. absent (suc k) e (omega arith)) here in
+      let rest : units_of handle (queues_of xs) ≡ (slice_index_or xs i d).units = units-is xs i handle f d (omega arith) (λ k e h. absent (suc k) e (omega arith)) here in
       grind (arith, common_steps)
 
   -- the transfers of the link at a place
-  pub units-at : (items : List (Queue T F)) (i handle : ℕ) (d : Queue T F) → IsPlace items handle i → units_of handle (queues_of items) ≡ (slice_index_or items i d).units.items
+  pub units-at : (items : List (Queue T F)) (i handle : ℕ) (d : Queue T F) → IsPlace items handle i → units_of handle (queues_of items) ≡ (slice_index_or items i d).units
   units-at items i handle d p = units-is items i handle p.found d p.within p.before p.here
 
-  pub room-at : (items : List (Queue T F)) (i handle : ℕ) (d : Queue T F) → IsPlace items handle i → room_behind handle (queues_of items) ≡ last_room (slice_index_or items i d).units.items
-  room-at items i handle d p = ap (λ (us : List (Outbound T F)). last_room us) (units-at items i handle d p)
+  pub room-at : (count : ℕ) (items : List (Queue T F)) (i handle : ℕ) (d : Queue T F) → IsPlace items handle i → room_behind handle count (queues_of items) ≡ last_room count (slice_index_or items i d).units
+  room-at count items i handle d p = ap (λ (us : List (Outbound T F)). last_room count us) (units-at items i handle d p)
 
-  pub room-nowhere : (items : List (Queue T F)) (handle : ℕ) → IsNowhere items handle → room_behind handle (queues_of items) ≡ 0
-  room-nowhere items handle n = ap (λ (us : List (Outbound T F)). last_room us) (units-none items handle n.other)
-
-  -- room behind the last
-  pub last-room-push : (units : List (Outbound T F)) (last : Outbound T F) → last_room (units ++ last ∷ []) ≡ length last.behind + 1
-  last-room-push [] last = refl
-  last-room-push (u ∷ []) last = refl
-  last-room-push (u ∷ v ∷ us) last = last-room-push (v ∷ us) last
-
-  pub last-room-is : (units : List (Outbound T F)) (i : ℕ) (d : Outbound T F) → length units ≡ i + 1 → last_room units ≡ length (slice_index_or units i d).behind + 1
-  last-room-is [] i d e = absurd (omega (arith, e))
-  last-room-is (u ∷ []) zero d e = refl
-  last-room-is (u ∷ []) (suc i) d e = absurd (omega (arith, e))
-  last-room-is (u ∷ v ∷ us) zero d e = absurd (omega (arith, e))
-  last-room-is (u ∷ v ∷ us) (suc i) d e = last-room-is (v ∷ us) i d (omega (arith, e))
+  pub room-nowhere : (count : ℕ) (items : List (Queue T F)) (handle : ℕ) → IsNowhere items handle → room_behind handle count (queues_of items) ≡ 0
+  room-nowhere count items handle n = ap (λ (us : List (Outbound T F)). last_room count us) (units-none items handle n.other)
 
   pub waits-nowhere : (items : List (Queue T F)) (handle : ℕ) → IsNowhere items handle → units_of handle (queues_of items) ≡ []
   waits-nowhere items handle n = units-none items handle n.other
@@ -174,16 +201,12 @@ module _ {T F : Type 0} where
       let rest : held_in (joined handle batch queues) ≡ held_in queues + length batch = held-joined handle batch queues in
       held-case (q.0 == handle) _ _ _ (omega (arith, length-append q.1 batch)) (omega arith)
 
-  held-at : (items : List (Queue T F)) (i : ℕ) (d : Queue T F) → i < length items → length (slice_index_or items i d).units.items ≤ held_in (queues_of items)
+  pub held-at : (items : List (Queue T F)) (i : ℕ) (d : Queue T F) → i < length items → length (slice_index_or items i d).units ≤ held_in (queues_of items)
   held-at [] i d lt = absurd (omega arith)
   held-at (x ∷ items) zero d lt = omega arith
   held-at (x ∷ items) (suc i) d lt =
-      let rest : length (slice_index_or items i d).units.items ≤ held_in (queues_of items) = held-at items i d (omega arith) in
+      let rest : length (slice_index_or items i d).units ≤ held_in (queues_of items) = held-at items i d (omega arith) in
       omega arith
-
-  pub refused-at : {P : Type 0} → (items : List (Queue T F)) (i handle capacity more : ℕ) → IsPlace items handle i
-      → ((d : Queue T F) → capacity < length (slice_index_or items i d).units.items + more) → P ⊎ (capacity < held_in (queues_of items) + more)
-  refused-at items i handle capacity more p full = inr (omega (arith, full p.found, held-at items i p.found p.within))
 
   pub trailed-length : (frame : F) (units : List (Outbound T F)) → length (trailed frame units) ≡ length units
   trailed-length frame [] = refl
@@ -197,8 +220,8 @@ module _ {T F : Type 0} where
       held-case (q.0 == handle) _ _ _ (omega (arith, trailed-length frame q.1)) (omega arith)
 
   -- the counts of the links in turn
-  pub counted : (items : List (Queue T F)) → map (λ (q : Queue T F). (q.handle, length q.units.items)) items ≡ turn_of (queues_of items)
+  pub counted : (items : List (Queue T F)) → map (λ (q : Queue T F). (q.handle, length q.units)) items ≡ turn_of (queues_of items)
   counted [] = refl
-  counted (q ∷ items) = ap (λ (xs : List (OutputHandle × ℕ)). (q.handle, length q.units.items) ∷ xs) (counted items)
+  counted (q ∷ items) = ap (λ (xs : List (OutputHandle × ℕ)). (q.handle, length q.units) ∷ xs) (counted items)
 
-pub ruleset rules = (joined-at, joined-last, followed-at, waits-at, waits-nowhere, held-joined, held-followed, firsts-followed, refused-at, on_ok, on_err)
+pub ruleset rules = (joined-at, joined-last, followed-at, waits-at, waits-nowhere, held-joined, held-followed, firsts-followed, on_ok, on_err)

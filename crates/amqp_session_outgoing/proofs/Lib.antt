@@ -1,3 +1,4 @@
+pub mod Noding
 pub mod Turning
 pub mod Passing
 pub mod Joining

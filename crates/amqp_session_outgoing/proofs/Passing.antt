@@ -1,5 +1,5 @@
 -- Transfers that leave without waiting.
-use Rattle.std.proofs.Common.{◌≡◌, ℕ, ◌+◌, ◌<◌, ◌≤◌, ◌%◌, ◌^◌, arith, List, [], ◌∷◌, ◌++◌, length, refl, sym, ap, ◌∙◌, subst, Option, Some, None}
+use Rattle.std.proofs.Common.{◌≡◌, ℕ, ◌+◌, ◌-◌, ◌<◌, ◌≤◌, ◌%◌, ◌^◌, arith, List, [], ◌∷◌, ◌++◌, length, refl, sym, ap, ◌∙◌, subst, Option, Some, None}
 use Rattle.std.specs.Prelude.{if◌then◌else◌}
 use Rattle.amqp_session_types.specs.declared.handles.OutputHandle.{OutputHandle}
 use Rattle.amqp_session_unsettled.specs.Range.{ahead}
@@ -65,9 +65,9 @@ module _ {T F : Type 0} where
 
   -- a batch of a link stands alone where nothing waited
   pub joins-alone : (s : State T F) (handle : ℕ) (batch : List (Outbound T F)) → s.queues ≡ [] → 0 < length batch
-      → with_batch s handle batch ≡ with_alone (record s { room = 0 }) s.next_outgoing_id s.next_delivery_number s.unsettled handle batch
+      → with_batch s handle batch ≡ with_alone (record s { room = s.room - length batch }) s.next_outgoing_id s.next_delivery_number s.unsettled handle batch
   joins-alone s handle [] e some = absurd (omega arith)
-  joins-alone s handle (u ∷ us) e some = ap (λ (qs : Queues T F). record s { queues = joined handle (u ∷ us) qs; room = 0 }) e
+  joins-alone s handle (u ∷ us) e some = ap (λ (qs : Queues T F). record s { queues = joined handle (u ∷ us) qs; room = s.room - length (u ∷ us) }) e
 
   -- the window takes them
   pub fits-window : (s : State T F) (count : ℕ) → 0 < count → count ≤ window_left s → ahead s.next_outgoing_id s.window_base + count ≤ s.window_width
@@ -76,17 +76,17 @@ module _ {T F : Type 0} where
   -- a batch passes where nothing waits and the window takes it
   pub passes-batch : (old : State T F) (handle : ℕ) (batch : List (Outbound T F)) (out_old out_mid out_new : List (Sent T F)) (number delivery : ℕ) (table_mid table_new : Table) (queues : Queues T F) (room : ℕ)
       → old.queues ≡ [] → 0 < length batch → length batch ≤ window_left old → old.window_width < 2 ^ 32
-      → out_mid ≡ out_old → table_mid ≡ old.unsettled → queues ≡ old.queues → room ≡ 0
+      → out_mid ≡ out_old → table_mid ≡ old.unsettled → queues ≡ old.queues → room ≡ old.room - length batch
       → ((s : State T F) → s.window_width < 2 ^ 32 → ahead old.next_outgoing_id s.window_base + length batch ≤ s.window_width
       → Leaving (with_alone s old.next_outgoing_id old.next_delivery_number table_mid handle batch) out_mid (with_alone s number delivery table_new handle []) out_new)
       → Leaving (with_batch old handle batch) out_old (record old { next_outgoing_id = number; next_delivery_number = delivery; unsettled = table_new; queues = queues; room = room }) out_new
-  passes-batch old handle batch out_old out_mid out_new number delivery table_mid table_new queues room empty some window small same table turn none all =
-      let s : State T F = record old { room = 0 } in
+  passes-batch old handle batch out_old out_mid out_new number delivery table_mid table_new queues room empty some window small same table turn less all =
+      let s : State T F = record old { room = old.room - length batch } in
       let start : with_alone s old.next_outgoing_id old.next_delivery_number table_mid handle batch ≡ with_batch old handle batch =
       ap (λ (t : Table). with_alone s old.next_outgoing_id old.next_delivery_number t handle batch) table ∙ sym (joins-alone old handle batch empty some) in
       let end : with_alone s number delivery table_new handle [] ≡ record old { next_outgoing_id = number; next_delivery_number = delivery; unsettled = table_new; queues = queues; room = room } =
-      ap (λ (qs : Queues T F). record old { next_outgoing_id = number; next_delivery_number = delivery; unsettled = table_new; queues = qs; room = 0 }) (sym (turn ∙ empty))
-      ∙ ap (λ (r : ℕ). record old { next_outgoing_id = number; next_delivery_number = delivery; unsettled = table_new; queues = queues; room = r }) (sym none) in
+      ap (λ (qs : Queues T F). record old { next_outgoing_id = number; next_delivery_number = delivery; unsettled = table_new; queues = qs; room = old.room - length batch }) (sym (turn ∙ empty))
+      ∙ ap (λ (r : ℕ). record old { next_outgoing_id = number; next_delivery_number = delivery; unsettled = table_new; queues = queues; room = r }) (sym less) in
       let run : Leaving (with_alone s old.next_outgoing_id old.next_delivery_number table_mid handle batch) out_mid (with_alone s number delivery table_new handle []) out_new = all s small (fits-window old (length batch) some window) in
       subst (λ (x : State T F). Leaving (with_batch old handle batch) out_old x out_new) end
       (subst (λ (x : State T F). Leaving x out_old (with_alone s number delivery table_new handle []) out_new) start

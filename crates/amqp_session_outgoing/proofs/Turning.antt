@@ -14,10 +14,10 @@ use Rattle.amqp_session_outgoing.specs.declared.frames.Sent.{Sent}
 
 module _ {T F : Type 0} where
   pub EachWaits-drop : (items : List (Queue T F)) → EachWaits items → EachWaits (drop 1 items)
-  EachWaits-drop items h = All-drop (λ (q : Queue T F). 0 < length q.units.items) 1 items h
+  EachWaits-drop items h = All-drop (λ (q : Queue T F). 0 < length q.units) 1 items h
 
-  pub EachWaits-push : (items : List (Queue T F)) (q : Queue T F) → EachWaits items → 0 < length q.units.items → EachWaits (items ++ q ∷ [])
-  EachWaits-push items q h w = All-push (λ (q : Queue T F). 0 < length q.units.items) items q h w
+  pub EachWaits-push : (items : List (Queue T F)) (q : Queue T F) → EachWaits items → 0 < length q.units → EachWaits (items ++ q ∷ [])
+  EachWaits-push items q h w = All-push (λ (q : Queue T F). 0 < length q.units) items q h w
 
   held-push : (queues : Queues T F) (q : ℕ × List (Outbound T F)) → held_in (queues ++ q ∷ []) ≡ held_in queues + length q.1
   held-push [] q = omega arith

@@ -19,11 +19,11 @@ HoldsNone (Some frames) = frames.items ≡ []
 
 module _ {T F : Type 0} where
   abbrev pub queues_of : List (Queue T F) → Queues T F
-  queues_of items = map (λ q. ((q.handle).0, q.units.items)) items
+  queues_of items = map (λ q. ((q.handle).0, q.units)) items
 
   -- each link in the turn has something waiting
   abbrev pub EachWaits : List (Queue T F) → Type 0
-  EachWaits items = All (λ q. 0 < length q.units.items) items
+  EachWaits items = All (λ q. 0 < length q.units) items
 
   -- behind each transfer stand fewer frames than a count goes to
   abbrev pub AllShort : List (Outbound T F) → Type 0
@@ -50,19 +50,19 @@ module _ {T F : Type 0} where
     pub queue : Queue T F
     pub changed : new ≡ slice_set old i queue
     pub handle : queue.handle ≡ (slice_index_or old i queue).handle
-    pub units : queue.units.items ≡ change (slice_index_or old i queue).units.items
+    pub units : queue.units ≡ change (slice_index_or old i queue).units
 
   abbrev pub lists_of : turns.Inside T F → Lists T F
   lists_of s = record { queues = queues_of s.queues.items; room = s.room }
 
-  -- the counts are those of what waits, and each link in the turn has something waiting. The spare queue is empty. Where room was
-  -- promised it takes all that waits and that many more, and one more link finds a place in the turn
+  -- the counts are those of what waits, and each link in the turn has something waiting. All nodes together are fewer than a list
+  -- takes. Each transfer for which room was promised finds a node, and its link a place in the turn
   pub record IsSoundTurn (s : turns.Inside T F) : Type 0 where
     pub counted : s.held ≡ held_in (queues_of s.queues.items)
     pub waits : EachWaits s.queues.items
-    pub empty : s.spare.items ≡ []
-    pub fits : 0 < s.room → s.held + s.room ≤ deque_capacity s.spare
-    pub place : 0 < s.room → deque_len s.queues < deque_capacity s.queues
+    pub total : s.held + s.store < 2 ^ 63
+    pub fits : s.room ≤ s.store
+    pub place : deque_len s.queues + s.room ≤ deque_capacity s.queues
     pub framed : s.frames ≡ frames_in (queues_of s.queues.items)
     pub short : EachShort (queues_of s.queues.items)
 

@@ -60,11 +60,11 @@ module _ {T F : Type 0} where
   sent_count [] = 0
   sent_count (s ∷ left) = (length s.behind + 1) + sent_count left
 
-  -- how many frames a list holds at least that takes one more behind the last of these transfers, 0 where there is none
-  abbrev pub last_room : List (Outbound T F) → ℕ
-  last_room [] = 0
-  last_room (u ∷ []) = length u.behind + 1
-  last_room (u ∷ v ∷ us) = last_room (v ∷ us)
+  -- how many frames a list holds at least that takes so many more behind the last of these transfers, 0 where there is none
+  abbrev pub last_room : ℕ → List (Outbound T F) → ℕ
+  last_room count [] = 0
+  last_room count (u ∷ []) = length u.behind + count
+  last_room count (u ∷ v ∷ us) = last_room count (v ∷ us)
 
   abbrev pub HaveTags : List (Outbound T F) → Type 0
   HaveTags [] = Unit {0}

@@ -33,7 +33,7 @@ pub data Step (T F : Type 0) : Type 0 where
   Refuses : (batch : List (Outbound T F)) (error : TransferError) → Step T F
   -- another frame of a link is accepted, which leaves at once or waits
   Follows : (handle : OutputHandle) (frame : F) (left : Option F) → Step T F
-  -- room is made for a batch of so many transfers
+  -- room is made for so many transfers
   Reserves : (count : ℕ) → Step T F
   -- a delivery is settled
   Settles : (number : ℕ) → Step T F

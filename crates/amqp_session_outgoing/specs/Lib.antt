@@ -5,3 +5,4 @@ pub mod Fields
 pub mod History
 pub mod Told
 pub mod Turns
+pub mod Nodes

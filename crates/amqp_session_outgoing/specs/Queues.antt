@@ -37,10 +37,10 @@ module _ {T F : Type 0} where
   units_of handle [] = []
   units_of handle (q ∷ qs) = if q.0 == handle then q.1 else units_of handle qs
 
-  -- how much room a frame of a link takes behind the last of its transfers that wait: for those that are there and for itself.
-  -- Where none waits it leaves at once, and takes none
-  abbrev pub room_behind : ℕ → Queues T F → ℕ
-  room_behind handle queues = last_room (units_of handle queues)
+  -- how much room so many frames of a link take behind the last of its transfers that wait: for those that are there and for
+  -- themselves. Where none waits they leave at once, and take none
+  abbrev pub room_behind : ℕ → ℕ → Queues T F → ℕ
+  room_behind handle count queues = last_room count (units_of handle queues)
 
   -- the frames of a link that wait
   abbrev pub waiting_of : ℕ → Queues T F → List (LinkFrame T F)

@@ -1,5 +1,5 @@
 -- What a contract sees of the sending side of a session, and how transfers leave it.
-use Rattle.std.specs.Prelude.{◌≡◌, ℕ, ◌+◌, ◌%◌, ◌^◌, ◌<◌, ◌≤◌, ◌-◌, List, [], ◌∷◌, ◌++◌, Option, Some, None, if◌then◌else◌}
+use Rattle.std.specs.Prelude.{◌≡◌, ℕ, ◌+◌, ◌%◌, ◌^◌, ◌<◌, ◌≤◌, ◌-◌, List, [], ◌∷◌, ◌++◌, length, Option, Some, None, if◌then◌else◌}
 use Rattle.std.specs.Ordering.{nat_cmp}
 use Rattle.std.specs.FinMap as map
 use Rattle.amqp_session_types.specs.declared.handles.OutputHandle.{OutputHandle}
@@ -27,7 +27,7 @@ pub record State (T F : Type 0) : Type 0 where
   pub queues : List (ℕ × List (Outbound T F))
   -- the deliveries that left and aren't settled, by their numbers
   pub unsettled : map.FinMap nat_cmp Delivery
-  -- how many transfers of a batch are sure to find room
+  -- how many transfers more are sure to find room, in one batch or in several
   pub room : ℕ
 
 -- a delivery that leaves unsettled is kept under its number until it is settled (part 2, 2.6.12)
@@ -98,9 +98,9 @@ module _ {T F : Type 0} where
   with_alone s number delivery table handle units =
       record s { next_outgoing_id = number; next_delivery_number = delivery; unsettled = table; queues = rejoined handle units [] }
 
-  -- a batch uses up the room that was reserved
+  -- a batch waits, and takes of the room that was made as much as it needs
   abbrev pub with_batch : State T F → ℕ → List (Outbound T F) → State T F
-  with_batch s handle batch = record s { queues = joined handle batch s.queues; room = 0 }
+  with_batch s handle batch = record s { queues = joined handle batch s.queues; room = s.room - length batch }
 
   -- the window's base that a Flow tells; where it tells none, the peer has not seen the session's first transfer (part 2, 2.5.6)
   abbrev pub base_of : State T F → Option ℕ → ℕ

@@ -1,4 +1,4 @@
-ghost use Rattle.std.specs.Prelude.{◌≡◌, ◌+◌, ◌^◌, ◌<◌, ◌≤◌, [], ◌∷◌, ◌++◌, length, IfOk, OnOk, OnErr};
+ghost use Rattle.std.specs.Prelude.{◌≡◌, ◌+◌, ◌^◌, ◌<◌, ◌≤◌, [], ◌∷◌, ◌++◌, length, OnOk, OnErr};
 
 use crate::place::Place;
 use std::alloc::{AllocError, Global};
@@ -35,14 +35,6 @@ impl<F: Drop> Behind<F> {
         self.frames
     }
 
-    /// A place for one more frame behind these.
-    pub(crate) fn place_behind(&self, alloc: Global) -> Result<Place<F>, AllocError>
-        ensures { IfOk result (λ place. length self.now + 1 ≤ place) }
-    {
-        let room = self.frames.len().checked_add(1).ok_or(AllocError)?;
-        Place::with_capacity(alloc, room)
-    }
-
     /// How many frames there are.
     pub(crate) fn len(&self) -> usize
         ensures { result ≡ length self.now }
@@ -51,11 +43,11 @@ impl<F: Drop> Behind<F> {
     }
 
     /// Puts a frame last, where there is memory or the place has room. Else it is refused, and nothing changes.
-    pub(crate) fn push(&mut self, place: Place<F>, frame: F) -> Result<(), AllocError>
+    pub(crate) fn push(&mut self, place: &mut Place<F>, frame: F) -> Result<(), AllocError>
         ensures ok { OnOk result (self.new ≡ self.old ++ frame ∷ []) }
         ensures err { OnErr result (self.new ≡ self.old) }
         ensures short { OnOk result (length self.old + 1 < 2 ^ 64) }
-        ensures refused { OnErr result (place ≤ length self.old) }
+        ensures refused { OnErr result (place.old ≤ length self.old) }
     {
         place.take_in(&mut self.frames)?;
         self.frames.push_reserved(frame);

@@ -9,6 +9,7 @@ mod behind;
 mod error;
 mod frames;
 pub mod laws;
+mod nodes;
 mod outgoing;
 mod place;
 mod turns;

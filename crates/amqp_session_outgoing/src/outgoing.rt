@@ -137,6 +137,7 @@ impl<T: Drop, F: Drop> Outgoing<T, F> {
         ensures frames { OnOk result (sent_count out.new.items + frames_in self.new.queues ≡ sent_count out.old.items + frames_in self.old.queues) }
         ensures held { OnOk result (vec_len out.new + held_in self.new.queues ≡ vec_len out.old + held_in self.old.queues) }
         ensures capacity { vec_capacity out.old ≤ vec_capacity out.new }
+        ensures kept_room { self.new.room ≡ self.old.room }
         ensures err { OnErr result (Steps self.old Fails self.new × (out.new.items ≡ out.old.items)) }
         ensures room { vec_len out.old + held_in self.old.queues ≤ vec_capacity out.old → IsOk result }
     {
@@ -159,6 +160,7 @@ impl<T: Drop, F: Drop> Outgoing<T, F> {
         ensures frames { OnOk result (sent_count out.new.items + frames_in self.new.queues ≡ sent_count out.old.items + frames_in self.old.queues) }
         ensures held { OnOk result (vec_len out.new + held_in self.new.queues ≡ vec_len out.old + held_in self.old.queues) }
         ensures capacity { vec_capacity out.old ≤ vec_capacity out.new }
+        ensures kept_room { self.new.room ≡ self.old.room }
         ensures err { OnErr result (Steps self.old Fails self.new × (out.new.items ≡ out.old.items)) }
         ensures room { vec_len out.old + held_in self.old.queues ≤ vec_capacity out.old → IsOk result }
     {
@@ -222,6 +224,7 @@ impl<T: Drop, F: Drop> Outgoing<T, F> {
         ensures frames { OnOk result (sent_count out.new.items + frames_in self.new.queues ≡ sent_count out.old.items + frames_in self.old.queues + frames_count batch.old.items) }
         ensures held { OnOk result (vec_len out.new + held_in self.new.queues ≡ vec_len out.old + held_in self.old.queues + length batch.old.items) }
         ensures capacity { vec_capacity out.old ≤ vec_capacity out.new }
+        ensures used_room { OnOk result (self.new.room ≡ self.old.room - length batch.old.items) }
         ensures err { OnErr result (Steps self.old Fails self.new) }
         ensures out { OnErr result (out.new.items ≡ out.old.items) }
         ensures emptied { OnOk result (batch.new.items ≡ []) }
@@ -257,6 +260,7 @@ impl<T: Drop, F: Drop> Outgoing<T, F> {
         ensures frames { OnOk result (sent_count out.new.items + frames_in self.new.queues ≡ sent_count out.old.items + frames_in self.old.queues + frames_count batch.old.items) }
         ensures held { OnOk result (vec_len out.new + held_in self.new.queues ≡ vec_len out.old + held_in self.old.queues + length batch.old.items) }
         ensures capacity { vec_capacity out.old ≤ vec_capacity out.new }
+        ensures used_room { OnOk result (self.new.room ≡ self.old.room - length batch.old.items) }
         ensures err { IfErr result (λ error. Steps self.old (Refuses batch.old.items error) self.new) }
         ensures out { OnErr result (out.new.items ≡ out.old.items) }
         ensures emptied { OnOk result (batch.new.items ≡ []) }
@@ -280,47 +284,92 @@ impl<T: Drop, F: Drop> Outgoing<T, F> {
         ensures err { OnErr result (Steps self.old Fails self.new) }
         ensures at_once { units_of handle.0 self.old.queues ≡ [] → IsOk result }
     {
-        self.turns.follow(handle, Place::none(), frame)
+        let mut place = Place::none();
+        self.turns.follow(handle, &mut place, frame)
     }
 
-    /// A place for one Flow or Detach of a link behind the transfers that it has waiting. It serves as long as no more
-    /// frames stand behind the last of them than now. Where the link has nothing waiting it takes no memory, and serves
-    /// as long as that stays so. It is refused where there is no memory.
-    pub fn place_behind(&self, alloc: Global, handle: OutputHandle) -> Result<Place<F>, AllocError>
-        ensures room { IfOk result (λ place. room_behind handle.0 self.now.queues ≤ place) }
+    /// A place for so many Flows and Detaches of a link behind the transfers that it has waiting: it serves as long as
+    /// fewer than so many more stand behind the last of them than now. Where the link has nothing waiting it takes no
+    /// memory, and serves as long as that stays so. It is refused where there is no memory.
+    pub fn place_behind(
+        &self,
+        alloc: Global,
+        handle: OutputHandle,
+        count: usize,
+    ) -> Result<Place<F>, AllocError>
+        ensures room { IfOk result (λ place. room_behind handle.0 count self.now.queues ≤ place) }
         ensures at_once { units_of handle.0 self.now.queues ≡ [] → IsOk result }
     {
-        self.turns.place_behind(alloc, handle)
+        let mut place = Place::none();
+        self.turns.widen_place(alloc, handle, count, &mut place)?;
+        Ok(place)
+    }
+
+    /// Makes a place serve for so many Flows and Detaches of a link, as one that `place_behind` answers. Where it does
+    /// it stays as it is, and takes no memory; else it grows. It is refused where there is no memory, and nothing
+    /// changes then.
+    pub fn widen_place(
+        &self,
+        alloc: Global,
+        handle: OutputHandle,
+        count: usize,
+        place: &mut Place<F>,
+    ) -> Result<(), AllocError>
+        ensures ok { OnOk result (room_behind handle.0 count self.now.queues ≤ place.new) }
+        ensures grown { place.old ≤ place.new }
+        ensures err { OnErr result (place.new ≡ place.old) }
+        ensures enough { room_behind handle.0 count self.now.queues ≤ place.old → IsOk result }
+        ensures kept { room_behind handle.0 count self.now.queues ≤ place.old → place.new ≡ place.old }
+    {
+        self.turns.widen_place(alloc, handle, count, place)
     }
 
     /// Accepts a Flow or a Detach of a link, for which there is a place: as `on_outgoing_frame` does, and without fail.
+    /// The place is to be used again. It stays as it is where the link has nothing waiting.
+    pub fn on_outgoing_frame_at(
+        &mut self,
+        handle: OutputHandle,
+        place: &mut Place<F>,
+        frame: F,
+    ) -> Option<F>
+        requires { room_behind handle.0 1 self.old.queues ≤ place.old }
+        ensures step { Steps self.old (Follows handle frame result) self.new }
+        ensures at_once { units_of handle.0 self.old.queues ≡ [] → place.new ≡ place.old }
+    {
+        self.turns.follow(handle, place, frame).unwrap()
+    }
+
+    /// Accepts a Flow or a Detach of a link, as `on_outgoing_frame_at` does, with a place that is used up.
     pub fn on_outgoing_frame_in(
         &mut self,
         handle: OutputHandle,
         place: Place<F>,
         frame: F,
     ) -> Option<F>
-        requires { room_behind handle.0 self.old.queues ≤ place }
+        requires { room_behind handle.0 1 self.old.queues ≤ place }
         ensures { Steps self.old (Follows handle frame result) self.new }
     {
-        self.turns.follow(handle, place, frame).unwrap()
+        let mut place = place;
+        self.on_outgoing_frame_at(handle, &mut place, frame)
     }
 
-    /// Makes room for a batch: the next one of at most so many transfers isn't refused for want of memory. It is
-    /// refused where there is no memory, and nothing changes then.
+    /// Makes room for so many transfers: batches of so many in all, of one link or of several, aren't refused for want
+    /// of memory, where `out` is the same. Each accepted batch takes of the room as many as it has. It is refused where
+    /// there is no memory, and nothing changes then.
     pub fn reserve_transfers(
         &mut self,
         out: &mut Vec<Sent<T, F>>,
         count: usize,
     ) -> Result<(), AllocError>
         ensures ok { OnOk result (Steps self.old (Reserves count) self.new) }
-        ensures room { OnOk result (vec_len out.new + held_in self.new.queues + count ≤ vec_capacity out.new) }
+        ensures room { OnOk result (vec_len out.new + held_in self.new.queues + self.new.room ≤ vec_capacity out.new) }
         ensures err { OnErr result (Steps self.old Fails self.new) }
         ensures out { out.new.items ≡ out.old.items }
         ensures capacity { vec_capacity out.old ≤ vec_capacity out.new }
     {
-        make_room(&mut self.unsettled, out, self.turns.held(), count)?;
-        self.turns.reserve(count)
+        let room = self.turns.room().max(count);
+        make_room(&mut self.unsettled, out, self.turns.held(), room)?;
+        self.turns.reserve(room)
     }
 
     /// Settles a delivery that left, if one of this number is unsettled (part 2, 2.6.12).
@@ -408,7 +457,7 @@ impl<T: Drop, F: Drop> Outgoing<T, F> {
         Ok(())
     }
 
-    /// A batch leaves without waiting, and uses up the room that was made.
+    /// A batch leaves without waiting, and takes of the room that was made.
     fn pass_on(
         &mut self,
         out: &mut Vec<Sent<T, F>>,
@@ -419,6 +468,7 @@ impl<T: Drop, F: Drop> Outgoing<T, F> {
         requires empty { self.old.queues ≡ [] }
         requires window { length batch.old.items ≤ window_left self.old }
         ensures run { OnOk result (Leaving (with_batch self.old handle.0 batch.old.items) out.old.items self.new out.new.items) }
+        ensures used_room { OnOk result (self.new.room ≡ self.old.room - length batch.old.items) }
         ensures held { OnOk result (IsHeld self.new) }
         ensures total { OnOk result (vec_len out.new + held_in self.new.queues ≡ vec_len out.old + held_in self.old.queues + length batch.old.items) }
         ensures err { OnErr result (self.new ≡ self.old) }
@@ -428,7 +478,8 @@ impl<T: Drop, F: Drop> Outgoing<T, F> {
         ensures refused { OnErr result ((self.old.room < length batch.old.items) ⊎ (vec_capacity out.old < vec_len out.old + held_in self.old.queues + length batch.old.items)) }
         ensures capacity { vec_capacity out.old ≤ vec_capacity out.new }
     {
-        make_room(&mut self.unsettled, out, 0, batch.len())?;
+        let count = batch.len();
+        make_room(&mut self.unsettled, out, 0, count)?;
         send_all(
             &mut self.next_outgoing_id,
             &mut self.next_delivery_number,
@@ -437,7 +488,7 @@ impl<T: Drop, F: Drop> Outgoing<T, F> {
             handle,
             batch,
         );
-        self.turns.use_up_room();
+        self.turns.use_room(count);
         Ok(())
     }
 
@@ -445,6 +496,7 @@ impl<T: Drop, F: Drop> Outgoing<T, F> {
     fn take_window(&mut self, out: &mut Vec<Sent<T, F>>, base: u32, width: u32)
         requires room { vec_len out.old + held_in self.old.queues ≤ vec_capacity out.old }
         ensures takes { Takes (TakesWindow base width) self.old out.old.items self.new out.new.items }
+        ensures kept_room { self.new.room ≡ self.old.room }
         ensures total { vec_len out.new + held_in self.new.queues ≡ vec_len out.old + held_in self.old.queues }
         ensures capacity { vec_capacity out.new ≡ vec_capacity out.old }
     {
@@ -457,6 +509,7 @@ impl<T: Drop, F: Drop> Outgoing<T, F> {
     fn leave(&mut self, out: &mut Vec<Sent<T, F>>)
         requires room { vec_len out.old + held_in self.old.queues ≤ vec_capacity out.old }
         ensures run { Leaving self.old out.old.items self.new out.new.items }
+        ensures kept_room { self.new.room ≡ self.old.room }
         ensures held { IsHeld self.new }
         ensures total { vec_len out.new + held_in self.new.queues ≡ vec_len out.old + held_in self.old.queues }
         ensures capacity { vec_capacity out.new ≡ vec_capacity out.old }
@@ -471,6 +524,7 @@ impl<T: Drop, F: Drop> Outgoing<T, F> {
         requires window { InWindow self.old }
         requires waiting { 0 < held_in self.old.queues }
         ensures sent { Sends self.old result self.new }
+        ensures kept_room { self.new.room ≡ self.old.room }
         ensures held { held_in self.new.queues + 1 ≡ held_in self.old.queues }
     {
         let (handle, unit) = self.turns.take_turn();
@@ -544,6 +598,7 @@ fn send_all<T: Drop, F: Drop>(
     ensures len { vec_len out.new ≡ vec_len out.old + length batch.old.items }
     ensures emptied { batch.new.items ≡ [] }
     ensures capacity { vec_capacity out.new ≡ vec_capacity out.old }
+    ensures used { unsettled.old.room ≤ unsettled.new.room + length batch.old.items }
 {
     while let Some(unit) = batch.pop_front() {
         let number = *next;

@@ -5,28 +5,27 @@ ghost use Rattle.amqp_session_outgoing.specs.Queues.{held_in, firsts_in, frames_
 ghost use Rattle.amqp_session_outgoing.specs.Fields.{queues_of, EachWaits, AllShort, IsPlace, IsNowhere, ChangesAt};
 ghost use Rattle.amqp_session_outgoing.specs.declared.turns.Queue.{Queue};
 
-use crate::behind::Behind;
 use crate::frames::Outbound;
+use crate::nodes::{LIMIT, Row, Store};
 use crate::place::Place;
 use amqp_session_types::OutputHandle;
 use std::alloc::{AllocError, Global};
 use std::collections::VecDeque;
 use std::marker::Model;
-use std::mem;
 
 /// The waiting transfers of one link.
 #[derive(Drop)]
 struct Queue<T, F> {
     handle: OutputHandle,
-    units: VecDeque<Outbound<T, F>>,
+    units: Row<Outbound<T, F>>,
 }
 
 /// The links that wait, in turn, each with its waiting transfers.
 #[derive(Drop)]
 pub(crate) struct Turns<T, F> {
     queues: VecDeque<Queue<T, F>>,
-    /// An empty queue whose memory is used again.
-    spare: VecDeque<Outbound<T, F>>,
+    /// The nodes in which more transfers may wait.
+    store: Store<Outbound<T, F>>,
     held: usize,
     frames: u128,
     room: usize,
@@ -51,7 +50,7 @@ impl<T: Drop, F: Drop> Turns<T, F> {
     {
         Turns {
             queues: VecDeque::new(alloc),
-            spare: VecDeque::new(alloc),
+            store: Store::new(alloc),
             held: 0,
             frames: 0,
             room: 0,
@@ -63,6 +62,13 @@ impl<T: Drop, F: Drop> Turns<T, F> {
         ensures { result ≡ held_in self.now.queues }
     {
         self.held
+    }
+
+    /// How many transfers more are sure to find room.
+    pub(crate) fn room(&self) -> usize
+        ensures { result ≡ self.now.room }
+    {
+        self.room
     }
 
     /// Nothing waits.
@@ -103,7 +109,7 @@ impl<T: Drop, F: Drop> Turns<T, F> {
         ensures held { held_in self.new.queues + 1 ≡ held_in self.old.queues }
         ensures firsts { firsts_in self.new.queues + first_count result.1.part ≡ firsts_in self.old.queues }
     {
-        let (handle, unit) = take_turn(&mut self.queues, &mut self.spare);
+        let (handle, unit) = take_turn(&mut self.queues, &mut self.store);
         self.held -= 1;
         self.frames -= 1 + unit.behind.len() as u128;
         (handle, unit)
@@ -118,54 +124,63 @@ impl<T: Drop, F: Drop> Turns<T, F> {
         batch: &mut VecDeque<Outbound<T, F>>,
     ) -> Result<(), AllocError>
         requires { 0 < length batch.old.items }
-        ensures ok { OnOk result (self.new ≡ record { queues = joined handle.0 batch.old.items self.old.queues; room = 0 }) }
+        ensures ok { OnOk result (self.new ≡ record {
+          queues = joined handle.0 batch.old.items self.old.queues;
+          room = self.old.room - length batch.old.items;
+        }) }
         ensures err { OnErr result (self.new ≡ self.old) }
         ensures emptied { OnOk result (batch.new.items ≡ []) }
         ensures batch { OnErr result (batch.new.items ≡ batch.old.items) }
         ensures room { OnErr result (self.old.room < length batch.old.items) }
     {
-        let held = self.held.checked_add(batch.len()).ok_or(AllocError)?;
+        let count = batch.len();
+        let held = sum_in_limit(self.held, count)?;
         let frames = self.frames + count_frames(batch);
-        join(&mut self.queues, &mut self.spare, alloc, handle, batch)?;
+        join(&mut self.queues, &mut self.store, alloc, handle, batch)?;
         self.held = held;
         self.frames = frames;
-        self.room = 0;
+        self.room = self.room.saturating_sub(count);
         Ok(())
     }
 
-    /// Makes room for a batch of so many transfers.
+    /// Makes room for so many transfers, in one batch or in several, of one link or of several.
     pub(crate) fn reserve(&mut self, count: usize) -> Result<(), AllocError>
         ensures ok { OnOk result (self.new ≡ record self.old { room = max self.old.room count }) }
         ensures err { OnErr result (self.new ≡ self.old) }
     {
         let room = self.room.max(count);
-        let held = self.held.checked_add(room).ok_or(AllocError)?;
-        self.queues.reserve(1)?;
-        self.spare.reserve(held)?;
+        let _ = sum_in_limit(self.held, room)?;
+        self.queues.reserve(room)?;
+        self.store.reserve(room)?;
         self.room = room;
         Ok(())
     }
 
-    /// The room that was made is used up.
+    /// So many transfers take of the room that was made.
     #[inline(always)]
-    pub(crate) fn use_up_room(&mut self)
-        ensures { self.new ≡ record self.old { room = 0 } }
+    pub(crate) fn use_room(&mut self, count: usize)
+        ensures { self.new ≡ record self.old { room = self.old.room - count } }
     {
-        self.room = 0;
+        self.room = self.room.saturating_sub(count);
     }
 
-    /// A place for one more frame of a link behind the transfers that the link has waiting.
-    pub(crate) fn place_behind(
+    /// Gets room for so many more frames of a link behind the transfers that the link has waiting.
+    pub(crate) fn widen_place(
         &self,
         alloc: Global,
         handle: OutputHandle,
-    ) -> Result<Place<F>, AllocError>
-        ensures room { IfOk result (λ place. room_behind handle.0 self.now.queues ≤ place) }
-        ensures at_once { units_of handle.0 self.now.queues ≡ [] → IsOk result }
+        count: usize,
+        place: &mut Place<F>,
+    ) -> Result<(), AllocError>
+        ensures ok { OnOk result (room_behind handle.0 count self.now.queues ≤ place.new) }
+        ensures grown { place.old ≤ place.new }
+        ensures err { OnErr result (place.new ≡ place.old) }
+        ensures enough { room_behind handle.0 count self.now.queues ≤ place.old → IsOk result }
+        ensures kept { room_behind handle.0 count self.now.queues ≤ place.old → place.new ≡ place.old }
     {
         match place_of(&self.queues, handle) {
-            Some(index) => place_behind(&self.queues[index].units, alloc),
-            None => Ok(Place::none()),
+            Some(index) => widen_behind(&self.queues[index].units, alloc, count, place),
+            None => Ok(()),
         }
     }
 
@@ -175,7 +190,7 @@ impl<T: Drop, F: Drop> Turns<T, F> {
     pub(crate) fn follow(
         &mut self,
         handle: OutputHandle,
-        place: Place<F>,
+        place: &mut Place<F>,
         frame: F,
     ) -> Result<Option<F>, AllocError>
         ensures ok { IfOk result (λ left. FollowsIn handle.0 frame left self.old.queues self.new.queues) }
@@ -183,7 +198,8 @@ impl<T: Drop, F: Drop> Turns<T, F> {
         ensures held { held_in self.new.queues ≡ held_in self.old.queues }
         ensures firsts { firsts_in self.new.queues ≡ firsts_in self.old.queues }
         ensures err { OnErr result (self.new ≡ self.old) }
-        ensures fits { room_behind handle.0 self.old.queues ≤ place → IsOk result }
+        ensures fits { room_behind handle.0 1 self.old.queues ≤ place.old → IsOk result }
+        ensures at_once { units_of handle.0 self.old.queues ≡ [] → place.new ≡ place.old }
     {
         let Some(index) = place_of(&self.queues, handle) else {
             return Ok(Some(frame));
@@ -194,31 +210,38 @@ impl<T: Drop, F: Drop> Turns<T, F> {
     }
 }
 
-/// The first link of the turn gives up its first transfer, and stands last if another of it waits. Its queue's memory
-/// is kept where it is more than that of the spare one.
+/// Two counts together, where a list takes so many nodes.
+fn sum_in_limit(held: usize, count: usize) -> Result<usize, AllocError>
+    ensures ok { IfOk result (λ sum. (sum ≡ held + count) × (sum < 2 ^ 63)) }
+    ensures err { OnErr result (2 ^ 63 ≤ held + count) }
+{
+    match held.checked_add(count) {
+        Some(sum) if sum < LIMIT => Ok(sum),
+        _ => Err(AllocError),
+    }
+}
+
+/// The first link of the turn gives up its first transfer, and stands last if another of it waits. The node goes to the
+/// store.
 fn take_turn<T: Drop, F: Drop>(
     queues: &mut VecDeque<Queue<T, F>>,
-    spare: &mut VecDeque<Outbound<T, F>>,
+    store: &mut Store<Outbound<T, F>>,
 ) -> (OutputHandle, Outbound<T, F>)
     requires some { 0 < length queues.old.items }
     requires waits { EachWaits queues.old.items }
-    requires empty { spare.old.items ≡ [] }
+    requires short { store.old + 1 < 2 ^ 63 }
     ensures taken { TakesTurn (queues_of queues.old.items) (result.0).0 result.1 (queues_of queues.new.items) }
     ensures waits { EachWaits queues.new.items }
-    ensures empty { spare.new.items ≡ [] }
-    ensures fits { deque_capacity spare.old ≤ deque_capacity spare.new }
+    ensures store { store.new ≡ store.old + 1 }
     ensures capacity { deque_capacity queues.new ≡ deque_capacity queues.old }
     ensures len { deque_len queues.new ≤ deque_len queues.old }
 {
     let mut queue = queues.pop_front().unwrap();
-    let unit = queue.units.pop_front().unwrap();
+    let unit = queue.units.take_first(store);
     let handle = queue.handle;
     if !queue.units.is_empty() {
         queues.push_back_reserved(queue);
         return (handle, unit);
-    }
-    if spare.capacity() < queue.units.capacity() {
-        *spare = queue.units;
     }
     (handle, unit)
 }
@@ -236,16 +259,22 @@ fn place_of<T, F>(queues: &VecDeque<Queue<T, F>>, handle: OutputHandle) -> Optio
     None
 }
 
-/// A place for one more frame behind the last of these transfers.
-fn place_behind<T, F: Drop>(
-    units: &VecDeque<Outbound<T, F>>,
+/// Gets room for so many more frames behind the last of these transfers.
+fn widen_behind<T, F: Drop>(
+    units: &Row<Outbound<T, F>>,
     alloc: Global,
-) -> Result<Place<F>, AllocError>
-    ensures { IfOk result (λ place. last_room units.now.items ≤ place) }
+    count: usize,
+    place: &mut Place<F>,
+) -> Result<(), AllocError>
+    ensures ok { OnOk result (last_room count units.now ≤ place.new) }
+    ensures grown { place.old ≤ place.new }
+    ensures err { OnErr result (place.new ≡ place.old) }
+    ensures enough { last_room count units.now ≤ place.old → IsOk result }
+    ensures kept { last_room count units.now ≤ place.old → place.new ≡ place.old }
 {
-    match units.back() {
-        Some(last) => last.behind.place_behind(alloc),
-        None => Ok(Place::none()),
+    match units.last() {
+        Some(last) => place.widen(alloc, last.behind.len(), count),
+        None => Ok(()),
     }
 }
 
@@ -265,106 +294,89 @@ fn count_frames<T, F: Drop>(batch: &VecDeque<Outbound<T, F>>) -> u128
 #[tactic(auto, using(crate::proofs::Joining::rules))]
 fn join<T: Drop, F: Drop>(
     queues: &mut VecDeque<Queue<T, F>>,
-    spare: &mut VecDeque<Outbound<T, F>>,
+    store: &mut Store<Outbound<T, F>>,
     alloc: Global,
     handle: OutputHandle,
     batch: &mut VecDeque<Outbound<T, F>>,
 ) -> Result<(), AllocError>
     requires some { 0 < length batch.old.items }
     requires waits { EachWaits queues.old.items }
-    requires empty { spare.old.items ≡ [] }
+    requires short { held_in (queues_of queues.old.items) + store.old < 2 ^ 63 }
+    requires fits { held_in (queues_of queues.old.items) + length batch.old.items < 2 ^ 63 }
     ensures ok { OnOk result (queues_of queues.new.items ≡ joined handle.0 batch.old.items (queues_of queues.old.items)) }
     ensures err { OnErr result (queues_of queues.new.items ≡ queues_of queues.old.items) }
     ensures emptied { OnOk result (batch.new.items ≡ []) }
     ensures batch { OnErr result (batch.new.items ≡ batch.old.items) }
     ensures waits { EachWaits queues.new.items }
-    ensures empty { spare.new.items ≡ [] }
-    ensures kept { OnErr result (deque_capacity spare.old ≤ deque_capacity spare.new) }
-    ensures places { OnErr result ((deque_len queues.new ≡ deque_len queues.old) × (deque_capacity queues.old ≤ deque_capacity queues.new)) }
-    ensures refused { OnErr result ((deque_capacity queues.old ≤ deque_len queues.old) ⊎ (deque_capacity spare.old < held_in (queues_of queues.old.items) + length batch.old.items)) }
+    ensures store { OnOk result (store.new + length batch.old.items ≡ max store.old (length batch.old.items)) }
+    ensures kept { OnErr result (store.old ≤ store.new) }
+    ensures bound { OnErr result (store.new ≤ max store.old (length batch.old.items)) }
+    ensures places { OnErr result (deque_len queues.new ≡ deque_len queues.old) }
+    ensures joins { OnOk result (deque_len queues.new ≤ deque_len queues.old + 1) }
+    ensures within { deque_len queues.new ≤ deque_capacity queues.new }
+    ensures capacity { deque_capacity queues.old ≤ deque_capacity queues.new }
+    ensures refused { OnErr result ((deque_capacity queues.old ≤ deque_len queues.old) ⊎ (store.old < length batch.old.items)) }
 {
+    store.reserve(batch.len())?;
     match place_of(queues, handle) {
-        Some(place) => join_at(queues, spare, place, batch),
-        None => join_last(queues, spare, alloc, handle, batch),
+        Some(place) => {
+            join_at(queues, store, place, batch);
+            Ok(())
+        }
+        None => join_last(queues, store, alloc, handle, batch),
     }
 }
 
 /// A batch waits behind what the link at this place has waiting.
 fn join_at<T: Drop, F: Drop>(
     queues: &mut VecDeque<Queue<T, F>>,
-    spare: &mut VecDeque<Outbound<T, F>>,
+    store: &mut Store<Outbound<T, F>>,
     place: usize,
     batch: &mut VecDeque<Outbound<T, F>>,
-) -> Result<(), AllocError>
+)
     requires place { place < length queues.old.items }
-    requires some { 0 < length batch.old.items }
     requires waits { EachWaits queues.old.items }
-    requires empty { spare.old.items ≡ [] }
-    ensures ok { OnOk result (ChangesAt queues.old.items place (λ units. units ++ batch.old.items) queues.new.items) }
-    ensures err { OnErr result (queues_of queues.new.items ≡ queues_of queues.old.items) }
-    ensures emptied { OnOk result (batch.new.items ≡ []) }
-    ensures batch { OnErr result (batch.new.items ≡ batch.old.items) }
+    requires nodes { length batch.old.items ≤ store.old }
+    requires short { held_in (queues_of queues.old.items) + store.old < 2 ^ 63 }
+    ensures changed { ChangesAt queues.old.items place (λ units. units ++ batch.old.items) queues.new.items }
+    ensures emptied { batch.new.items ≡ [] }
     ensures waits { EachWaits queues.new.items }
-    ensures empty { spare.new.items ≡ [] }
-    ensures kept { OnErr result (deque_capacity spare.old ≤ deque_capacity spare.new) }
+    ensures store { store.new + length batch.old.items ≡ store.old }
     ensures len { deque_len queues.new ≡ deque_len queues.old }
     ensures capacity { deque_capacity queues.new ≡ deque_capacity queues.old }
-    ensures refused { OnErr result ((d : Queue T F) → deque_capacity spare.old < length (slice_index_or queues.old.items place d).units.items + length batch.old.items) }
 {
     let queue = &mut queues[place];
-    append(&mut queue.units, spare, batch)
-}
-
-/// A batch goes behind these transfers, which move into the spare queue where they find no more room in their own.
-fn append<U: Drop>(
-    units: &mut VecDeque<U>,
-    spare: &mut VecDeque<U>,
-    batch: &mut VecDeque<U>,
-) -> Result<(), AllocError>
-    requires empty { spare.old.items ≡ [] }
-    ensures ok { OnOk result (units.new.items ≡ units.old.items ++ batch.old.items) }
-    ensures err { OnErr result (units.new.items ≡ units.old.items) }
-    ensures emptied { OnOk result (batch.new.items ≡ []) }
-    ensures batch { OnErr result (batch.new.items ≡ batch.old.items) }
-    ensures empty { spare.new.items ≡ [] }
-    ensures kept { OnErr result (deque_capacity spare.old ≤ deque_capacity spare.new) }
-    ensures refused { OnErr result (deque_capacity spare.old < length units.old.items + length batch.old.items) }
-{
-    if units.reserve(batch.len()).is_err() {
-        let all = units.len().checked_add(batch.len()).ok_or(AllocError)?;
-        spare.reserve(all)?;
-        let _ = spare.append(units);
-        mem::swap(units, spare);
-    }
-    let _ = units.append(batch);
-    Ok(())
+    queue.units.append(store, batch);
 }
 
 /// A batch of a link that has nothing waiting joins the turn at its end.
 fn join_last<T: Drop, F: Drop>(
     queues: &mut VecDeque<Queue<T, F>>,
-    spare: &mut VecDeque<Outbound<T, F>>,
+    store: &mut Store<Outbound<T, F>>,
     alloc: Global,
     handle: OutputHandle,
     batch: &mut VecDeque<Outbound<T, F>>,
 ) -> Result<(), AllocError>
     requires some { 0 < length batch.old.items }
     requires waits { EachWaits queues.old.items }
-    requires empty { spare.old.items ≡ [] }
+    requires nodes { length batch.old.items ≤ store.old }
+    requires short { store.old < 2 ^ 63 }
     ensures waits { EachWaits queues.new.items }
-    ensures ok { OnOk result ((q : Queue T F) × (queues.new.items ≡ queues.old.items ++ q ∷ []) × (q.handle ≡ handle) × (q.units.items ≡ batch.old.items)) }
+    ensures ok { OnOk result ((q : Queue T F) × (queues.new.items ≡ queues.old.items ++ q ∷ []) × (q.handle ≡ handle) × (q.units ≡ batch.old.items)) }
     ensures err { OnErr result (queues.new.items ≡ queues.old.items) }
     ensures emptied { OnOk result (batch.new.items ≡ []) }
     ensures batch { OnErr result (batch.new.items ≡ batch.old.items) }
-    ensures empty { spare.new.items ≡ [] }
-    ensures kept { OnErr result (deque_capacity spare.old ≤ deque_capacity spare.new) }
-    ensures places { OnErr result ((deque_len queues.new ≡ deque_len queues.old) × (deque_capacity queues.old ≤ deque_capacity queues.new)) }
-    ensures refused { OnErr result ((deque_capacity queues.old ≤ deque_len queues.old) ⊎ (deque_capacity spare.old < length batch.old.items)) }
+    ensures store { OnOk result (store.new + length batch.old.items ≡ store.old) }
+    ensures kept { OnErr result (store.new ≡ store.old) }
+    ensures places { OnErr result (deque_len queues.new ≡ deque_len queues.old) }
+    ensures joins { OnOk result (deque_len queues.new ≡ deque_len queues.old + 1) }
+    ensures within { deque_len queues.new ≤ deque_capacity queues.new }
+    ensures capacity { deque_capacity queues.old ≤ deque_capacity queues.new }
+    ensures refused { OnErr result (deque_capacity queues.old ≤ deque_len queues.old) }
 {
     queues.reserve(1)?;
-    spare.reserve(batch.len())?;
-    let mut units = mem::replace(spare, VecDeque::new(alloc));
-    let _ = units.append(batch);
+    let mut units = Row::new(alloc);
+    units.append(store, batch);
     queues.push_back_reserved(Queue { handle, units });
     Ok(())
 }
@@ -373,40 +385,21 @@ fn join_last<T: Drop, F: Drop>(
 fn follow<T: Drop, F: Drop>(
     queues: &mut VecDeque<Queue<T, F>>,
     index: usize,
-    place: Place<F>,
+    place: &mut Place<F>,
     frame: F,
 ) -> Result<(), AllocError>
     requires index { index < length queues.old.items }
     requires waits { EachWaits queues.old.items }
     ensures ok { OnOk result (ChangesAt queues.old.items index (trailed frame) queues.new.items) }
     ensures err { OnErr result (queues_of queues.new.items ≡ queues_of queues.old.items) }
-    ensures short { OnOk result ((d : Queue T F) → last_room (slice_index_or queues.old.items index d).units.items < 2 ^ 64) }
-    ensures refused { OnErr result ((d : Queue T F) → place < last_room (slice_index_or queues.old.items index d).units.items) }
+    ensures short { OnOk result ((d : Queue T F) → last_room 1 (slice_index_or queues.old.items index d).units < 2 ^ 64) }
+    ensures refused { OnErr result ((d : Queue T F) → place.old < last_room 1 (slice_index_or queues.old.items index d).units) }
     ensures waits { EachWaits queues.new.items }
     ensures len { deque_len queues.new ≡ deque_len queues.old }
     ensures capacity { deque_capacity queues.new ≡ deque_capacity queues.old }
 {
     let queue = &mut queues[index];
-    trail(&mut queue.units, place, frame)
-}
-
-/// A frame goes behind the last of these transfers.
-fn trail<T: Drop, F: Drop>(
-    units: &mut VecDeque<Outbound<T, F>>,
-    place: Place<F>,
-    frame: F,
-) -> Result<(), AllocError>
-    requires some { 0 < length units.old.items }
-    ensures ok { OnOk result (units.new.items ≡ trailed frame units.old.items) }
-    ensures err { OnErr result (units.new.items ≡ units.old.items) }
-    ensures short { OnOk result (last_room units.old.items < 2 ^ 64) }
-    ensures refused { OnErr result (place < last_room units.old.items) }
-    ensures some { 0 < length units.new.items }
-{
-    let mut last = units.pop_back().unwrap();
-    let pushed = last.behind.push(place, frame);
-    units.push_back_reserved(last);
-    pushed
+    queue.units.trail(place, frame)
 }
 
 /// The links of the turn, each with how many of its transfers wait.

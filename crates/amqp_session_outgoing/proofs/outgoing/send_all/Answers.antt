@@ -13,4 +13,5 @@ loop-unit-preserved g c =
       len = omega (arith, c.loop-unit.invariant.len, fewer, c.push_reserved.ensures.len);
       capacity = c.push_reserved.ensures.capacity ∙ c.loop-unit.invariant.capacity;
       room = omega (arith, fewer, c.loop-unit.invariant.room, c.give_number-delivery.ensures.room);
+      used = omega (arith, fewer, c.loop-unit.invariant.used, c.give_number-delivery.ensures.room);
     }

@@ -11,6 +11,7 @@ invariant-loop-unit g l = record {
   len : vec_len l.out + length l.batch.items ≡ vec_len l.initial.out + length l.initial.batch.items;
   capacity : vec_capacity l.out ≡ vec_capacity l.initial.out;
   room : length l.batch.items ≤ l.unsettled.room;
+  used : l.initial.unsettled.room + length l.batch.items ≤ l.unsettled.room + length l.initial.batch.items;
 }
 
 abbrev pub decreases-loop-unit : goal.decreases-loop-unit

@@ -6,7 +6,7 @@ use Rattle.amqp_session_outgoing.proofs.turns.counts.Given as goal
 abbrev pub invariant-loop-i : goal.invariant-loop-i
 invariant-loop-i g l = record {
   end : l.i-end ≡ deque_len l.queues;
-  items : l.counts.items ≡ map (λ q. (q.handle, length q.units.items)) (take l.i l.queues.items);
+  items : l.counts.items ≡ map (λ q. (q.handle, length q.units)) (take l.i l.queues.items);
   len : vec_len l.counts ≡ l.i;
   room : l.i-end ≤ vec_capacity l.counts;
 }

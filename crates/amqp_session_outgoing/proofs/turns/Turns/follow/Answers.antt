@@ -10,13 +10,13 @@ pub invariant_of-self-2 : goal.invariant_of-self-2
 invariant_of-self-2 g c =
     let e : queues_of c.follow.new.queues.items ≡ followed (c.args.handle).0 c.args.frame (queues_of c.self.inside.queues.items) = followed-at _ _ c.in-Some.index _ _ c.in-Some.ensures.some c.in_ok-follow.ensures.ok in
     let waits = waits-at c.self.inside.queues.items c.in-Some.index (c.args.handle).0 c.in-Some.ensures.some c.self.invariant.waits in
-    let room = room-at c.self.inside.queues.items c.in-Some.index (c.args.handle).0 c.in-Some.ensures.some.found c.in-Some.ensures.some in
+    let room = room-at 1 c.self.inside.queues.items c.in-Some.index (c.args.handle).0 c.in-Some.ensures.some.found c.in-Some.ensures.some in
     record {
       counted = c.self.invariant.counted ∙ sym (ap (λ queues. held_in queues) e ∙ held-followed _ _ _);
       waits = c.follow.ensures.waits;
-      empty = c.self.invariant.empty;
+      total = c.self.invariant.total;
       fits = c.self.invariant.fits;
-      place = λ some. omega (arith, c.self.invariant.place some, c.follow.ensures.len, c.follow.ensures.capacity);
+      place = omega (arith, c.self.invariant.place, c.follow.ensures.len, c.follow.ensures.capacity);
       framed = omega (arith, c.self.invariant.framed, ap (λ queues. frames_in queues) e, frames-followed (c.args.handle).0 c.args.frame (queues_of c.self.inside.queues.items) waits);
       short = subst (λ queues. EachShort queues) (sym e) (short-followed (c.args.handle).0 c.args.frame (queues_of c.self.inside.queues.items) c.self.invariant.short (omega (arith, room, c.in_ok-follow.ensures.short c.in-Some.ensures.some.found)));
     }
@@ -38,6 +38,6 @@ overflow_add-self g c =
 
 pub returns-in_err-follow-clause-fits : goal.returns-in_err-follow-clause-fits
 returns-in_err-follow-clause-fits g c = λ fits.
-    let room = room-at c.self.inside.queues.items c.in-Some.index (c.args.handle).0 c.in-Some.ensures.some.found c.in-Some.ensures.some in
-    let same = ap (λ (s : Lists _ _). room_behind (c.args.handle).0 s.queues) c.self.view_is in
+    let room = room-at 1 c.self.inside.queues.items c.in-Some.index (c.args.handle).0 c.in-Some.ensures.some.found c.in-Some.ensures.some in
+    let same = ap (λ (s : Lists _ _). room_behind (c.args.handle).0 1 s.queues) c.self.view_is in
     absurd (omega (arith, fits, room, same, c.in_err-follow.ensures.refused c.in-Some.ensures.some.found))

@@ -13,9 +13,9 @@ invariant_of-self g c =
     record {
       counted = omega (arith, c.self.invariant.counted);
       waits = c.take_turn-unit.ensures.waits;
-      empty = c.take_turn-unit.ensures.empty;
-      fits = λ some. omega (arith, c.self.invariant.fits some, c.take_turn-unit.ensures.fits);
-      place = λ some. omega (arith, c.self.invariant.place some, c.take_turn-unit.ensures.len, c.take_turn-unit.ensures.capacity);
+      total = omega (arith, less, c.self.invariant.counted, c.self.invariant.total, c.take_turn-unit.ensures.store);
+      fits = omega (arith, c.self.invariant.fits, c.take_turn-unit.ensures.store);
+      place = omega (arith, c.self.invariant.place, c.take_turn-unit.ensures.len, c.take_turn-unit.ensures.capacity);
       framed = omega (arith, c.self.invariant.framed, fewer, c.len.ensures);
       short = short-turn _ _ _ _ c.take_turn-unit.ensures.taken c.self.invariant.short;
     }
