@@ -81,6 +81,13 @@ impl<T: Drop, F: Drop> Outgoing<T, F> {
         self.turns.held()
     }
 
+    /// How many transfers more are sure to find room, as `reserve_transfers` made it.
+    pub fn room(&self) -> usize
+        ensures { result ≡ self.now.room }
+    {
+        self.turns.room()
+    }
+
     /// How many frames wait: transfers, and the Flows and Detaches behind them.
     pub fn frames(&self) -> u128
         ensures { result ≡ frames_in self.now.queues }
@@ -367,7 +374,7 @@ impl<T: Drop, F: Drop> Outgoing<T, F> {
         ensures out { out.new.items ≡ out.old.items }
         ensures capacity { vec_capacity out.old ≤ vec_capacity out.new }
     {
-        let room = self.turns.room().max(count);
+        let room = self.room().max(count);
         make_room(&mut self.unsettled, out, self.turns.held(), room)?;
         self.turns.reserve(room)
     }
