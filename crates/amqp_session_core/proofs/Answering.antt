@@ -25,7 +25,7 @@ refused-as out flow None told answer result live is same = subst (λ a. SameRefu
 refused-as out flow (Some handle) None answer result live is same = absurd (live handle refl refl)
 refused-as out flow (Some handle) (Some (h, Err e)) answer result live is same = (is.0, subst (λ a. SameRefusal a result) is.1 same)
 refused-as out flow (Some handle) (Some (h, Ok None)) answer result live is same = subst (λ a. SameRefusal a result) is same
-refused-as out flow (Some handle) (Some (h, Ok (Some f))) answer result live is same = subst (λ a. SameRefusal a result) is.1 same
+refused-as out flow (Some handle) (Some (h, Ok (Some f))) answer result live is same = subst (λ a. SameRefusal a result) is same
 
 session-reply : (flow : Flow) (echo : Bool) (reply : Reply) → flow.echo ≡ echo → flow.handle ≡ None → IsReplyOf (Ok (if echo then answer.OfSession else answer.Nothing)) reply → IsReply flow None reply
 session-reply flow true reply e has is = subst (λ r. IsReply flow None r) (sym is) (has, e)
@@ -40,9 +40,9 @@ reply-to out flow (Some handle) None answer reply has only live is of =
     absurd (live handle refl refl)
 reply-to out flow (Some handle) (Some (h, Err e)) answer reply has only live is of = subst (λ a. IsReplyOf a reply) is.1 of
 reply-to out flow (Some handle) (Some (h, Ok None)) answer reply has only live is of = subst (λ a. IsReplyOf a reply) is of
-reply-to out flow (Some handle) (Some (h, Ok (Some f))) answer NoReply has only live is of = subst (λ a. IsReplyOf a NoReply) is.1 of
-reply-to out flow (Some handle) (Some (h, Ok (Some f))) answer OfSession has only live is of = subst (λ a. IsReplyOf a OfSession) is.1 of
-reply-to out flow (Some handle) (Some (h, Ok (Some f))) answer (OfLink k g left) has only live is of = subst (λ a. IsReplyOf a (OfLink k g left)) is.1 of
+reply-to out flow (Some handle) (Some (h, Ok (Some f))) answer NoReply has only live is of = subst (λ a. IsReplyOf a NoReply) is of
+reply-to out flow (Some handle) (Some (h, Ok (Some f))) answer OfSession has only live is of = subst (λ a. IsReplyOf a OfSession) is of
+reply-to out flow (Some handle) (Some (h, Ok (Some f))) answer (OfLink k g left) has only live is of = subst (λ a. IsReplyOf a (OfLink k g left)) is of
 
 -- the number of the first transfer stays
 initial-kept : (reply : Reply) (old new : Sending) → Replies old reply new → new.initial_outgoing_id ≡ old.initial_outgoing_id

@@ -1,10 +1,8 @@
 -- Batches of transfers as their session accepts them.
-use Rattle.std.proofs.Common.{◌≡◌, ◌⊎◌, inl, inr, ℕ, IsSome, [], ◌∷◌, length, refl, ap, arith}
+use Rattle.std.proofs.Common.{◌≡◌, ℕ, IsSome, [], ◌∷◌, length, refl, ap, arith}
 use Rattle.std.proofs.lemmas.List.Elements.{All-head, All-tail}
-use Rattle.amqp_session_types.specs.declared.handles.OutputHandle.{OutputHandle}
 use Rattle.amqp_session_outgoing.specs.Frames.{frames_count}
 use Rattle.amqp_session_outgoing.specs.History as sending_history
-use Rattle.amqp_session_outgoing.specs.State.{with_batch}
 use Rattle.amqp_session_outgoing.specs.declared.error.TransferError.{TransferError}
 use Rattle.amqp_session_outgoing.specs.declared.error.TransferError.TheVariants as refused
 use Rattle.amqp_session_outgoing.specs.declared.frames.Outbound.{Outbound}
@@ -13,11 +11,8 @@ use Rattle.amqp_session_outgoing.specs.declared.frames.Part.TheVariants.{Untagge
 use Rattle.amqp_session_core.specs.declared.batch.TransferFrame.{TransferFrame}
 use Rattle.amqp_session_core.specs.declared.batch.BehindFrame.{BehindFrame}
 use Rattle.amqp_session_core.specs.Batch.{Transfers, AreWhole, IsWhole}
-use Rattle.amqp_session_core.specs.Flowing.{Sending}
-use Rattle.amqp_session_core.specs.Frames.{Left}
 use Rattle.amqp_session_core.specs.Refusals.{RefusesTransfers, refusal}
 use Rattle.amqp_session_core.specs.State.{State, link_at}
-use Rattle.amqp_session_core.proofs.Replying.{leaves-room}
 
 -- nothing stands behind a transfer of a batch
 alone : (part : Part) (u : Outbound TransferFrame BehindFrame) → IsWhole part u → length u.behind ≡ 0
@@ -29,11 +24,6 @@ alone (Unsettled tag) u whole = ap (λ (x : Outbound TransferFrame BehindFrame).
 pub whole-count : (batch : Transfers) → AreWhole batch → frames_count batch ≡ length batch
 whole-count [] whole = refl
 whole-count (u ∷ us) whole = omega (arith, alone u.part u (All-head (λ x. IsWhole x.part x) u us whole), whole-count us (All-tail (λ x. IsWhole x.part x) u us whole))
-
--- a batch uses up the room that was made, and an empty one changes nothing
-pub room-used : (handle : OutputHandle) (batch : Transfers) (left : Left) (old new : Sending) → sending_history.Steps old (sending_history.Accepts handle batch left) new → (new.room ≡ 0) ⊎ (new ≡ old)
-room-used handle [] left old new step = inr step.1
-room-used handle (u ∷ us) left old new step = inl (leaves-room left (with_batch old handle.0 (u ∷ us)) new step.2)
 
 -- why a session refuses a batch
 pub refuses : {R : Type 0} (s : State R) (handle : ℕ) (batch : Transfers) (error : TransferError) → IsSome (link_at s handle)

@@ -1,5 +1,5 @@
 -- How a Flow is answered, and what that leaves of the sending side.
-use Rattle.std.proofs.Common.{◌≡◌, ℕ, ◌+◌, ◌==◌, List, [], ◌∷◌, ◌++◌, Bool, true, false, length, Option, Some, None, Result, Ok, refl, sym, ◌∙◌, ap, subst, arith, if◌then◌else◌}
+use Rattle.std.proofs.Common.{◌≡◌, ℕ, ◌+◌, ◌==◌, List, [], ◌∷◌, ◌++◌, Bool, true, false, length, Option, Some, None, Result, Ok, Err, ◌≤◌, refl, sym, ◌∙◌, ap, subst, arith, if◌then◌else◌}
 use Rattle.std.proofs.lemmas.List.{append-nil}
 use Rattle.std.specs.FinMap as map
 use Rattle.serde_amqp_item.specs.Canon.{◌>>=◌}
@@ -21,16 +21,11 @@ use Rattle.amqp_session_core.specs.declared.fields.SessionFields.{SessionFields}
 use Rattle.amqp_session_core.specs.declared.flows.Answer.{Answer}
 use Rattle.amqp_session_core.specs.declared.flows.Answer.TheVariants as answer
 use Rattle.amqp_session_core.specs.Frames.{Left, behind_frame, has_flow}
-use Rattle.amqp_session_core.specs.Flowing.{Sending, FlowsTo, LinkFlowed, FlowedAt, IsAnswer, Replied, IsReplyOf}
+use Rattle.amqp_session_core.specs.Flowing.{Sending, FlowsTo, LinkFlowed, FlowedAt, IsAnswer, Replied, IsReplyOf, answer_count}
 use Rattle.amqp_session_core.specs.Relay.{Relations}
 use Rattle.amqp_session_core.specs.State.{live_in}
 use Rattle.amqp_session_core.specs.Steps.{OfLink, told_to_link}
 use Rattle.amqp_session_core.specs.Tables.{RouteTable}
-
--- the room that was made stays where transfers leave
-pub leaves-room : (left : Left) (old new : Sending) → sending.Leaves old left new → new.room ≡ old.room
-leaves-room [] old new run = ap (λ (s : Sending). s.room) run
-leaves-room (s ∷ left) old new run = leaves-room left run.0 new run.2 ∙ ap (λ (x : Sending). x.room) run.1.becomes
 
 length-trailed : (frame : BehindFrame) (us : List (Outbound TransferFrame BehindFrame)) → length (trailed frame us) ≡ length us
 length-trailed frame [] = refl
@@ -51,7 +46,7 @@ pub follows-held : (handle : ℕ) (frame : BehindFrame) (left : Option BehindFra
 follows-held handle frame None old new x = ap (λ (qs : Queues TransferFrame BehindFrame). held_in qs) x.1 ∙ held-followed handle frame old
 follows-held handle frame (Some left) old new x = ap (λ (qs : Queues TransferFrame BehindFrame). held_in qs) x.2
 
-module _ (fields : SessionFields) (old new : Sending) (out out_new : List SessionFrame) (result : Result Answer SessionError) (handle : OutputHandle) (place : ℕ) (flow : LinkFlow) (is : result ≡ Ok (answer.OfLink handle place flow)) where
+module _ (fields : SessionFields) (old new : Sending) (out out_new : List SessionFrame) (result : Result Answer SessionError) (handle : OutputHandle) (flow : LinkFlow) (is : result ≡ Ok (answer.OfLink handle flow)) where
   of-link : (left : Option BehindFrame) → IsReplyOf result (OfLink handle flow left)
   of-link left = subst (λ r. IsReplyOf r (OfLink handle flow left)) (sym is) (refl, refl)
 
@@ -105,3 +100,10 @@ module _ {R A T D : Type 0} (gives : Relations R A T D)
       by (Some x) e same =
           let t : told_to_link flow x ≡ told = cc in
           at-found flow x (live_in old (map.get routes x.0)) e refl (subst (λ (f : LinkFlow). FlowedAt gives.flows out f (live_in old (map.get routes (f.handle).0)) old result new) (sym t) at)
+
+-- an answer is one frame at most
+pub count-most : (result : Result Answer SessionError) → answer_count result ≤ 1
+count-most (Err e) = omega arith
+count-most (Ok answer.Nothing) = omega arith
+count-most (Ok answer.OfSession) = omega arith
+count-most (Ok (answer.OfLink handle flow)) = omega arith

@@ -33,8 +33,7 @@ Told = Option (ℕ × Result (Option LinkFlow) RelayError)
 abbrev pub AnswersFlow : Sending → ℕ → Result (Option LinkFlow) RelayError → Result Answer SessionError → Type 0
 AnswersFlow out h (Err e) result = (e ≢ relay.Memory) × (result ≡ Err (session_error e))
 AnswersFlow out h (Ok None) result = result ≡ Ok answer.Nothing
-AnswersFlow out h (Ok (Some f)) result =
-    (place : ℕ) × (result ≡ Ok (answer.OfLink (record { 0 = h }) place (record f { handle = record { 0 = h } })))
+AnswersFlow out h (Ok (Some f)) result = result ≡ Ok (answer.OfLink (record { 0 = h }) (record f { handle = record { 0 = h } }))
 
 abbrev pub IsAnswer : Sending → Flow → Option Handle → Told → Result Answer SessionError → Type 0
 IsAnswer out flow None told result = result ≡ Ok (if flow.echo then answer.OfSession else answer.Nothing)
@@ -64,9 +63,9 @@ abbrev pub IsReplyOf : Result Answer SessionError → Reply → Type 0
 IsReplyOf (Err e) reply = reply ≡ NoReply
 IsReplyOf (Ok answer.Nothing) reply = reply ≡ NoReply
 IsReplyOf (Ok answer.OfSession) reply = reply ≡ OfSession
-IsReplyOf (Ok (answer.OfLink handle place flow)) NoReply = ⊥
-IsReplyOf (Ok (answer.OfLink handle place flow)) OfSession = ⊥
-IsReplyOf (Ok (answer.OfLink handle place flow)) (OfLink h g left) = (h ≡ handle) × (g ≡ flow)
+IsReplyOf (Ok (answer.OfLink handle flow)) NoReply = ⊥
+IsReplyOf (Ok (answer.OfLink handle flow)) OfSession = ⊥
+IsReplyOf (Ok (answer.OfLink handle flow)) (OfLink h g left) = (h ≡ handle) × (g ≡ flow)
 
 -- a reply was handed out, or waits
 pub record Replied (fields : SessionFields) (old : Sending) (out : List SessionFrame) (result : Result Answer SessionError) (flows : Bool) (new : Sending) (out_new : List SessionFrame) : Type 0 where
@@ -76,12 +75,19 @@ pub record Replied (fields : SessionFields) (old : Sending) (out : List SessionF
   pub added : out_new ≡ out ++ reply_frames fields old.next_outgoing_id reply
   pub flows_is : flows ≡ has_flow (reply_frames fields old.next_outgoing_id reply)
 
--- there is room for an answer behind what its link has waiting
-abbrev pub HasPlace : Sending → Result Answer SessionError → Type 0
-HasPlace out (Err e) = Unit {0}
-HasPlace out (Ok answer.Nothing) = Unit {0}
-HasPlace out (Ok answer.OfSession) = Unit {0}
-HasPlace out (Ok (answer.OfLink handle place flow)) = room_behind handle.0 out.queues ≤ place
+-- a place has room for an answer behind what its link has waiting
+abbrev pub HasPlace : Sending → Result Answer SessionError → ℕ → Type 0
+HasPlace out (Err e) place = Unit {0}
+HasPlace out (Ok answer.Nothing) place = Unit {0}
+HasPlace out (Ok answer.OfSession) place = Unit {0}
+HasPlace out (Ok (answer.OfLink handle flow)) place = room_behind handle.0 1 out.queues ≤ place
+
+-- how many frames an answer is
+abbrev pub answer_count : Result Answer SessionError → ℕ
+answer_count (Err e) = 0
+answer_count (Ok answer.Nothing) = 0
+answer_count (Ok answer.OfSession) = 1
+answer_count (Ok (answer.OfLink handle flow)) = 1
 
 -- the refusal stays
 abbrev pub SameRefusal : Result Answer SessionError → Result ⊤ SessionError → Type 0

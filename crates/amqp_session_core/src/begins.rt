@@ -1,4 +1,6 @@
-ghost use Rattle.std.specs.Prelude.{◌≡◌, None, IfOk, IfErr, OnOk, OnErr};
+ghost use Rattle.std.specs.Prelude.{◌≡◌, ◌+◌, ◌≤◌, None, IfOk, IfErr, OnOk, OnErr};
+ghost use Rattle.std.specs.VecDeque.{deque_len, deque_capacity};
+ghost use Rattle.amqp_session_outgoing.specs.Queues.{frames_in};
 ghost use Rattle.amqp_session_core.specs.Refusals.{RefusesBegin};
 ghost use Rattle.amqp_session_core.specs.Steps.{Steps, SendsBegin, SendsEnd, TakesEnd, own_begin};
 ghost use Rattle.amqp_session_core.specs.Table.{after_send_begin, after_incoming_begin, after_send_end, after_incoming_end};
@@ -65,6 +67,10 @@ impl<R: LinkRelay> Session<R> {
         ensures ok { OnOk result (BeginTaken R.gives self.old out.old.items channel begin.now self.new out.new.items) }
         ensures err { IfErr result (λ e. RefusesBegin (after_incoming_begin self.old.local_state) e) }
         ensures kept { OnErr result ((self.new ≡ self.old) × (out.new.items ≡ out.old.items)) }
+        ensures frames { OnOk result (deque_len out.new + frames_in self.new.outgoing.queues ≡
+            deque_len out.old + frames_in self.old.outgoing.queues) }
+        ensures capacity { deque_capacity out.old ≤ deque_capacity out.new }
+        ensures kept_room { self.new.outgoing.room ≡ self.old.outgoing.room }
     {
         let Some(next) = self.local_state.after_incoming_begin() else {
             return Err(BeginError::IllegalState);

@@ -4,7 +4,7 @@ ghost use Rattle.amqp_session_outgoing.specs.Queues.{held_in, frames_in};
 ghost use Rattle.std.specs.FinMap as map;
 ghost use Rattle.amqp_session_core.specs.Incoming.{LinkAnswers};
 ghost use Rattle.amqp_session_core.specs.State.{live_in, leads, leads_in};
-ghost use Rattle.amqp_session_core.specs.Flowing.{LinkFlowed, FlowedAt, Replied, HasPlace, SameRefusal};
+ghost use Rattle.amqp_session_core.specs.Flowing.{LinkFlowed, FlowedAt, Replied, HasPlace, SameRefusal, answer_count};
 ghost use Rattle.amqp_session_core.specs.Told.{FlowTaken, FlowUnattached};
 
 use crate::batch::{BehindFrame, TransferFrame};
@@ -28,8 +28,8 @@ pub enum Answer {
     Nothing,
     /// One of the session.
     OfSession,
-    /// One of a link, with the room for it behind the transfers that the link has waiting.
-    OfLink(OutputHandle, Place<BehindFrame>, LinkFlow),
+    /// One of a link.
+    OfLink(OutputHandle, LinkFlow),
 }
 
 impl<R: LinkRelay> Session<R> {
@@ -40,7 +40,7 @@ impl<R: LinkRelay> Session<R> {
     ///
     /// It is refused with `UnattachedHandle` where no link has the handle (part 2, 2.8.17): its windows are taken then,
     /// and nothing leaves. It is refused with what the link refuses it for; all is done then, too. With `Memory` nothing
-    /// changes.
+    /// changes. What it handed out, and what waits then, is what waited before and at most one frame more.
     pub fn on_incoming_flow(
         &mut self,
         alloc: Global,
@@ -52,6 +52,12 @@ impl<R: LinkRelay> Session<R> {
         ensures step { leads self.old flow.handle ≡ true → result ≢ Err SessionError.Memory →
             FlowTaken R.gives self.old out.old.items flow result self.new out.new.items }
         ensures memory { result ≡ Err SessionError.Memory → (self.new ≡ self.old) × (out.new.items ≡ out.old.items) }
+        ensures frames_most { deque_len out.new + frames_in self.new.outgoing.queues ≤
+            deque_len out.old + frames_in self.old.outgoing.queues + 1 }
+        ensures frames_least { deque_len out.old + frames_in self.old.outgoing.queues ≤
+            deque_len out.new + frames_in self.new.outgoing.queues }
+        ensures capacity { deque_capacity out.old ≤ deque_capacity out.new }
+        ensures kept_room { self.new.outgoing.room ≡ self.old.outgoing.room }
     {
         if !is_attached(&self.routes, &self.links, flow.handle) {
             self.fields.next_incoming_id = Some(flow.next_outgoing_id);
@@ -65,12 +71,25 @@ impl<R: LinkRelay> Session<R> {
             width: flow.incoming_window,
         };
         let next_incoming_id = flow.next_outgoing_id;
-        let answer = flow_to_link(alloc, &mut self.links, &self.routes, &self.outgoing, flow);
+        let answer = flow_to_link(
+            alloc,
+            &mut self.links,
+            &self.routes,
+            &self.outgoing,
+            &mut self.place,
+            flow,
+        );
         if let Err(SessionError::Memory) = answer {
             return Err(SessionError::Memory);
         }
         self.fields.next_incoming_id = Some(next_incoming_id);
-        let (flowed, result) = reply(self.fields, &mut self.outgoing, out, answer);
+        let (flowed, result) = reply(
+            self.fields,
+            &mut self.outgoing,
+            &mut self.place,
+            out,
+            answer,
+        );
         let left = take_window(self.fields, &mut self.outgoing, &mut self.sent, out, window);
         if flowed | left {
             self.taken = 0;
@@ -95,16 +114,17 @@ fn flow_to_link<R: LinkRelay>(
     links: &mut Slab<R>,
     routes: &Routes,
     outgoing: &Outgoing<TransferFrame, BehindFrame>,
+    place: &mut Place<BehindFrame>,
     flow: Flow,
 ) -> Result<Answer, SessionError>
     ensures step { result ≢ Err SessionError.Memory → LinkFlowed R.gives outgoing.now routes.now flow links.old.slots result links.new.slots }
     ensures rest { links.new ≡ record links.old { slots = links.new.slots } }
     ensures memory { result ≡ Err SessionError.Memory → links.new ≡ links.old }
-    ensures place { HasPlace outgoing.now result }
+    ensures place { HasPlace outgoing.now result place.new }
 {
     let echo = flow.echo;
     match LinkFlow::try_from(flow) {
-        Ok(flow) => flow_at(alloc, links, routes, outgoing, flow),
+        Ok(flow) => flow_at(alloc, links, routes, outgoing, place, flow),
         Err(_) if echo => Ok(Answer::OfSession),
         Err(_) => Ok(Answer::Nothing),
     }
@@ -116,19 +136,20 @@ fn flow_at<R: LinkRelay>(
     links: &mut Slab<R>,
     routes: &Routes,
     outgoing: &Outgoing<TransferFrame, BehindFrame>,
+    place: &mut Place<BehindFrame>,
     flow: LinkFlow,
 ) -> Result<Answer, SessionError>
     ensures step { result ≢ Err SessionError.Memory → FlowedAt R.gives.flows outgoing.now flow (live_in links.old.slots (map.get routes.now (flow.handle).0)) links.old.slots result links.new.slots }
     ensures rest { links.new ≡ record links.old { slots = links.new.slots } }
     ensures memory { result ≡ Err SessionError.Memory → links.new ≡ links.old }
-    ensures place { HasPlace outgoing.now result }
+    ensures place { HasPlace outgoing.now result place.new }
 {
     let Some(handle) = reach(routes, links, flow.handle.0) else {
         return Err(SessionError::UnattachedHandle);
     };
-    let place = outgoing.place_behind(alloc, handle)?;
+    outgoing.widen_place(alloc, handle, 1, place)?;
     match step_flow(alloc, links, handle, flow) {
-        Ok(Some(answer)) => Ok(Answer::OfLink(handle, place, own(handle, answer))),
+        Ok(Some(answer)) => Ok(Answer::OfLink(handle, own(handle, answer))),
         Ok(None) => Ok(Answer::Nothing),
         Err(error) => Err(SessionError::from(error)),
     }
@@ -165,13 +186,18 @@ pub(crate) fn own(handle: OutputHandle, flow: LinkFlow) -> LinkFlow
 fn reply(
     fields: SessionFields,
     outgoing: &mut Outgoing<TransferFrame, BehindFrame>,
+    place: &mut Place<BehindFrame>,
     out: &mut VecDeque<SessionFrame>,
     answer: Result<Answer, SessionError>,
 ) -> (bool, Result<(), SessionError>)
     requires room { deque_len out.old + frames_in outgoing.old.queues + 1 ≤ deque_capacity out.old }
-    requires place { HasPlace outgoing.old answer }
+    requires place { HasPlace outgoing.old answer place.old }
     ensures replied { Replied fields outgoing.old out.old.items answer result.0 outgoing.new out.new.items }
     ensures room { deque_len out.new + frames_in outgoing.new.queues ≤ deque_capacity out.new }
+    ensures frames { deque_len out.new + frames_in outgoing.new.queues ≡
+        deque_len out.old + frames_in outgoing.old.queues + answer_count answer }
+    ensures capacity { deque_capacity out.new ≡ deque_capacity out.old }
+    ensures kept_room { outgoing.new.room ≡ outgoing.old.room }
     ensures held { held_in outgoing.new.queues ≡ held_in outgoing.old.queues }
     ensures told { SameRefusal answer result.1 }
 {
@@ -182,8 +208,8 @@ fn reply(
             out.push_back_reserved(fields.session_flow(number));
             (true, Ok(()))
         }
-        Ok(Answer::OfLink(handle, place, flow)) => {
-            let left = outgoing.on_outgoing_frame_in(handle, place, BehindFrame::Flow(flow));
+        Ok(Answer::OfLink(handle, flow)) => {
+            let left = outgoing.on_outgoing_frame_at(handle, place, BehindFrame::Flow(flow));
             match left {
                 Some(frame) => {
                     out.push_back_reserved(fields.behind_frame(number, frame));

@@ -34,6 +34,9 @@ pub(crate) fn make_room(
     ensures sent { sent.new.items ≡ sent.old.items }
     ensures out { out.new.items ≡ out.old.items }
     ensures capacity { vec_capacity sent.old ≤ vec_capacity sent.new }
+    ensures out_capacity { deque_capacity out.old ≤ deque_capacity out.new }
+    ensures out_len { deque_len out.new ≡ deque_len out.old }
+    ensures sent_len { vec_len sent.new ≡ vec_len sent.old }
     ensures sent_room { OnOk result (vec_len sent.new + (held_in outgoing.now.queues + more) ≤ vec_capacity sent.new) }
     ensures out_room { OnOk result (deque_len out.new + (frames_in outgoing.now.queues + more) ≤ deque_capacity out.new) }
     ensures refused { OnErr result ((vec_capacity sent.old < vec_len sent.old + (held_in outgoing.now.queues + more)) ⊎ (deque_capacity out.old < deque_len out.old + (frames_in outgoing.now.queues + more))) }
@@ -61,6 +64,8 @@ pub(crate) fn take_window(
     ensures opens { Opens fields outgoing.old out.old.items window.base window.width result outgoing.new out.new.items }
     ensures empty { sent.new.items ≡ [] }
     ensures capacity { vec_capacity sent.old ≤ vec_capacity sent.new }
+    ensures frames { deque_len out.new + frames_in outgoing.new.queues ≡ deque_len out.old + frames_in outgoing.old.queues }
+    ensures out_capacity { deque_capacity out.new ≡ deque_capacity out.old }
     ensures held { held_in outgoing.new.queues ≤ held_in outgoing.old.queues }
     ensures room { outgoing.new.room ≡ outgoing.old.room }
 {
@@ -82,6 +87,8 @@ pub(crate) fn take_begin(
     ensures begins { Begins fields outgoing.old out.old.items width result outgoing.new out.new.items }
     ensures empty { sent.new.items ≡ [] }
     ensures capacity { vec_capacity sent.old ≤ vec_capacity sent.new }
+    ensures frames { deque_len out.new + frames_in outgoing.new.queues ≡ deque_len out.old + frames_in outgoing.old.queues }
+    ensures out_capacity { deque_capacity out.new ≡ deque_capacity out.old }
     ensures held { held_in outgoing.new.queues ≤ held_in outgoing.old.queues }
     ensures room { outgoing.new.room ≡ outgoing.old.room }
 {
@@ -100,6 +107,8 @@ impl SessionFields {
         ensures frames { out.new.items ≡ out.old.items ++ frames_left self sent.old.items }
         ensures empty { sent.new.items ≡ [] }
         ensures capacity { vec_capacity sent.new ≡ vec_capacity sent.old }
+        ensures count { deque_len out.new ≡ deque_len out.old + sent_count sent.old.items }
+        ensures out_capacity { deque_capacity out.new ≡ deque_capacity out.old }
         ensures flows { result ≡ has_flow (frames_left self sent.old.items) }
     {
         let mut flows = false;

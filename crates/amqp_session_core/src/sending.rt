@@ -1,4 +1,4 @@
-ghost use Rattle.std.specs.Prelude.{◌≡◌, ◌≢◌, ◌+◌, ◌*◌, ◌≤◌, ◌<◌, [], Err, IfOk, IfErr, IfSome, IfNone, OnOk, OnErr, length};
+ghost use Rattle.std.specs.Prelude.{◌≡◌, ◌≢◌, ◌+◌, ◌-◌, ◌*◌, ◌≤◌, ◌<◌, [], Err, IfOk, IfErr, IfSome, IfNone, OnOk, OnErr, length};
 ghost use Rattle.std.specs.VecDeque.{deque_len, deque_capacity};
 ghost use Rattle.amqp_session_performatives.specs.declared.session_frame.SessionFrameBody.TheVariants as body;
 ghost use Rattle.amqp_session_outgoing.specs.Queues.{frames_in, room_behind};
@@ -70,17 +70,18 @@ impl<R: LinkRelay> Session<R> {
         self.send_behind(handle, BehindFrame::Detach(detach))
     }
 
-    /// Room for one Flow or Detach behind the transfers that a link has waiting, for a frame that must not be refused later
-    /// on. It is refused with `Memory` alone.
+    /// Room for so many Flows and Detaches behind the transfers that a link has waiting, for frames that must not be refused
+    /// later on: it serves as long as fewer than so many more wait there. It is refused with `Memory` alone.
     pub fn place_behind(
         &self,
         alloc: Global,
         handle: OutputHandle,
+        count: usize,
     ) -> Result<Place<BehindFrame>, SessionError>
-        ensures ok { IfOk result (λ place. room_behind handle.0 (self.now.outgoing).queues ≤ place) }
+        ensures ok { IfOk result (λ place. room_behind handle.0 count (self.now.outgoing).queues ≤ place) }
         ensures err { IfErr result (λ e. e ≡ SessionError.Memory) }
     {
-        match self.outgoing.place_behind(alloc, handle) {
+        match self.outgoing.place_behind(alloc, handle, count) {
             Ok(place) => Ok(place),
             Err(_) => Err(SessionError::Memory),
         }
@@ -94,7 +95,7 @@ impl<R: LinkRelay> Session<R> {
         place: Place<BehindFrame>,
         detach: Detach,
     ) -> Result<Option<SessionFrame>, SessionError>
-        requires { room_behind handle.0 (self.old.outgoing).queues ≤ place }
+        requires { room_behind handle.0 1 (self.old.outgoing).queues ≤ place }
         ensures ok { IfOk result (λ answer. BehindSent R.gives self.old handle (behind.Detach (record detach { handle = record { 0 = handle.0 } })) answer self.new) }
         ensures err { IfErr result (λ e. (e ≡ SessionError.UnattachedHandle) × (link_at self.old handle.0 ≡ None)) }
         ensures kept { OnErr result (self.new ≡ self.old) }
@@ -112,7 +113,7 @@ impl<R: LinkRelay> Session<R> {
         place: Place<BehindFrame>,
         flow: LinkFlow,
     ) -> Result<Option<SessionFrame>, SessionError>
-        requires { room_behind handle.0 (self.old.outgoing).queues ≤ place }
+        requires { room_behind handle.0 1 (self.old.outgoing).queues ≤ place }
         ensures ok { IfOk result (λ answer. BehindSent R.gives self.old handle (behind.Flow (record flow { handle = record { 0 = handle.0 } })) answer self.new) }
         ensures err { IfErr result (λ e. (e ≡ SessionError.UnattachedHandle) × (link_at self.old handle.0 ≡ None)) }
         ensures kept { OnErr result (self.new ≡ self.old) }
@@ -139,6 +140,10 @@ impl<R: LinkRelay> Session<R> {
         ensures emptied { OnOk result (batch.new ≡ []) }
         ensures err { IfErr result (λ e. RefusesTransfers self.old handle.0 batch.old e) }
         ensures kept { OnErr result ((self.new ≡ self.old) × (out.new.items ≡ out.old.items) × (batch.new ≡ batch.old)) }
+        ensures frames { OnOk result (deque_len out.new + frames_in self.new.outgoing.queues ≡
+            deque_len out.old + frames_in self.old.outgoing.queues + length batch.old) }
+        ensures capacity { deque_capacity out.old ≤ deque_capacity out.new }
+        ensures used_room { OnOk result (self.new.outgoing.room ≡ self.old.outgoing.room - length batch.old) }
         ensures room { length batch.old ≤ (self.old.outgoing).room → deque_len out.old + (frames_in (self.old.outgoing).queues + length batch.old) ≤ deque_capacity out.old → result ≢ Err SessionError.Memory }
     {
         if !self.links.contains(handle.0 as usize) {
@@ -158,20 +163,23 @@ impl<R: LinkRelay> Session<R> {
         Ok(())
     }
 
-    /// Makes room for a batch: the next one of at most so many transfers isn't refused for want of memory. It is
-    /// refused with `Memory` alone, and nothing changes then.
+    /// Makes room for so many transfers: batches of so many in all, of one link or of several, aren't refused for want of
+    /// memory, where `out` is the same and has no frames of others. Each accepted batch takes of the room as many as it
+    /// has. It is refused with `Memory` alone, and nothing changes then.
     pub fn reserve_transfers(
         &mut self,
         out: &mut VecDeque<SessionFrame>,
         count: usize,
     ) -> Result<(), SessionError>
         ensures ok { OnOk result (Steps R.gives self.old (Reserves count) self.new) }
-        ensures room { OnOk result (deque_len out.new + (frames_in (self.new.outgoing).queues + count) ≤ deque_capacity out.new) }
+        ensures room { OnOk result (deque_len out.new + (frames_in (self.new.outgoing).queues + (self.new.outgoing).room) ≤ deque_capacity out.new) }
         ensures err { IfErr result (λ e. e ≡ SessionError.Memory) }
         ensures kept { OnErr result (self.new ≡ self.old) }
         ensures out { out.new.items ≡ out.old.items }
+        ensures capacity { deque_capacity out.old ≤ deque_capacity out.new }
     {
-        make_room(&self.outgoing, &mut self.sent, out, count)?;
+        let room = self.outgoing.room().max(count);
+        make_room(&self.outgoing, &mut self.sent, out, room)?;
         self.outgoing.reserve_transfers(&mut self.sent, count)?;
         Ok(())
     }
@@ -220,7 +228,7 @@ impl<R: LinkRelay> Session<R> {
         place: Place<BehindFrame>,
         frame: BehindFrame,
     ) -> Result<Option<SessionFrame>, SessionError>
-        requires { room_behind handle.0 (self.old.outgoing).queues ≤ place }
+        requires { room_behind handle.0 1 (self.old.outgoing).queues ≤ place }
         ensures ok { IfOk result (λ answer. BehindSent R.gives self.old handle frame answer self.new) }
         ensures err { IfErr result (λ e. (e ≡ SessionError.UnattachedHandle) × (link_at self.old handle.0 ≡ None)) }
         ensures kept { OnErr result (self.new ≡ self.old) }

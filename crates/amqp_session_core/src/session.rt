@@ -5,7 +5,7 @@ use crate::batch::{BehindFrame, TransferFrame};
 use crate::fields::SessionFields;
 use crate::routes::Routes;
 use crate::state::SessionState;
-use amqp_session_outgoing::{Outgoing, Sent};
+use amqp_session_outgoing::{Outgoing, Place, Sent};
 use amqp_session_types::{IncomingChannel, OutgoingChannel};
 use amqp_session_unsettled::Unsettled;
 use slab::Slab;
@@ -34,6 +34,8 @@ pub struct Session<R> {
     /// Empty between calls: its memory is used again.
     pub(crate) sent: Vec<Sent<TransferFrame, BehindFrame>>,
     pub(crate) received: Unsettled,
+    /// Room for the answer to a Flow behind what its link has waiting: it is used again.
+    pub(crate) place: Place<BehindFrame>,
 }
 
 impl<R> Model for Session<R> {
@@ -78,6 +80,7 @@ impl<R> Session<R> {
             outgoing: Outgoing::new(alloc, first_transfer_number),
             sent: Vec::new(alloc),
             received: Unsettled::new(alloc),
+            place: Place::none(),
         }
     }
 }

@@ -352,7 +352,7 @@ fn placed(
     handle: OutputHandle,
     frame: u32,
 ) -> Result<Option<u32>, AllocError> {
-    let place = outgoing.place_behind(alloc, handle)?;
+    let place = outgoing.place_behind(alloc, handle, 1)?;
     Ok(outgoing.on_outgoing_frame_in(handle, place, frame))
 }
 

@@ -155,7 +155,7 @@ fn placed_flow(
     alloc: Global,
     handle: OutputHandle,
 ) -> Result<Option<SessionFrame>, SessionError> {
-    let place = session.place_behind(alloc, handle)?;
+    let place = session.place_behind(alloc, handle, 1)?;
     session.on_outgoing_flow_in(handle, place, frames::link_flow())
 }
 
@@ -165,7 +165,7 @@ fn placed_detach(
     alloc: Global,
     handle: OutputHandle,
 ) -> Result<Option<SessionFrame>, SessionError> {
-    let place = session.place_behind(alloc, handle)?;
+    let place = session.place_behind(alloc, handle, 1)?;
     session.on_outgoing_detach_in(handle, place, frames::detach(99))
 }
 

@@ -15,6 +15,10 @@ loop-one-preserved c =
           let n = count-on f c.in-Some.one _ _ c.args.sent.now.items c.loop-one.out.items c.hand_out_one-flows.new.out.items c.args.out.now.items c.loop-one.flows c.hand_out_one-flows.result is in
           omega (arith, n, length-append c.loop-one.out.items (frames_sent f c.in-Some.one), length-sent f c.in-Some.one, ap (λ l. length l) c.hand_out_one-flows.ensures.frames, c.hand_out_one-flows.ensures.room, c.loop-one.invariant.room);
       capacity = search rules;
+      count =
+          let n = count-on f c.in-Some.one _ _ c.args.sent.now.items c.loop-one.out.items c.hand_out_one-flows.new.out.items c.args.out.now.items c.loop-one.flows c.hand_out_one-flows.result is in
+          omega (arith, n, length-append c.loop-one.out.items (frames_sent f c.in-Some.one), length-sent f c.in-Some.one, ap (λ l. length l) c.hand_out_one-flows.ensures.frames, c.loop-one.invariant.count);
+      out_capacity = search rules;
       flows = flows-on f c.in-Some.one _ _ c.args.sent.now.items c.loop-one.out.items c.hand_out_one-flows.new.out.items c.args.out.now.items _ _ is c.hand_out_one-flows.ensures.flows c.loop-one.invariant.flows;
       same = search rules;
     }

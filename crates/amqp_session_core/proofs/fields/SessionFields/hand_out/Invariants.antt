@@ -9,6 +9,8 @@ invariant-loop-one l = record {
   frames : l.out.items ++ frames_left l.fn.self (reverse l.sent.items) ≡ l.fn.out.items ++ frames_left l.fn.self l.fn.sent.items;
   room : deque_len l.out + sent_count (reverse l.sent.items) ≤ deque_capacity l.out;
   capacity : vec_capacity l.sent ≡ vec_capacity l.fn.sent;
+  count : deque_len l.out + sent_count (reverse l.sent.items) ≡ deque_len l.fn.out + sent_count l.fn.sent.items;
+  out_capacity : deque_capacity l.out ≡ deque_capacity l.fn.out;
   flows : (l.flows || has_flow (frames_left l.fn.self (reverse l.sent.items))) ≡ has_flow (frames_left l.fn.self l.fn.sent.items);
   same : l.self ≡ l.fn.self;
 }

@@ -1,13 +1,14 @@
-use Rattle.std.proofs.Common.{inl, inr, rules, arith, ap, sym, subst, ◌∙◌, length, IsSome}
+use Rattle.std.proofs.Common.{◌≡◌, rules, arith, ap, sym, subst, ◌∙◌, length, vec_len, IsSome}
 use Rattle.amqp_session_outgoing.specs.Frames.{sent_count}
-use Rattle.amqp_session_outgoing.specs.Queues.{held_in}
+use Rattle.amqp_session_outgoing.specs.Queues.{frames_in}
 use Rattle.amqp_session_outgoing.specs.History.{RefusesBatch}
 use Rattle.amqp_session_core.specs.Batch.{Transfers}
 use Rattle.amqp_session_core.specs.Flowing.{Sending}
 use Rattle.amqp_session_core.specs.State.{State, link_at}
 use Rattle.amqp_session_core.specs.Frames.{Left}
 use Rattle.amqp_session_core.specs.Refusals.{RefusesTransfers}
-use Rattle.amqp_session_core.proofs.Batches.{whole-count, room-used, refuses}
+use Rattle.amqp_session_core.proofs.Batches.{whole-count, refuses}
+use Rattle.amqp_session_core.proofs.session.Session.on_outgoing_transfer.Goals.{then-hand_out, else-hand_out}
 use Rattle.amqp_session_core.proofs.session.Session.on_outgoing_transfer.Goals as goal
 
 pub returns-in-Err-clause-err : goal.returns-in-Err-clause-err
@@ -25,24 +26,30 @@ hand_out-requires g c =
 
 pub invariant_of-self-then-hand_out : goal.invariant_of-self-then-hand_out
 invariant_of-self-then-hand_out g c =
-    let held = c.in_ok-accept.ensures.held in
-    let grown = c.in_ok-accept.ensures.capacity in
-    elim (room-used c.args.handle c.batch.inside.transfers.items c.in_ok-accept.ensures.ok.left _ _ c.in_ok-accept.ensures.ok.stepped) [
-      | inl none ↦ record { empty = search rules; room = omega (arith, none, held, grown, c.in_ok-make_room.ensures.sent_room, ap (λ (b : Transfers). length b) c.batch.view_is, c.hand_out.ensures.capacity); open_window = search rules }
-      | inr same ↦
-          let as_held = ap (λ (s : Sending). held_in s.queues) same in
-          let as_room = ap (λ (s : Sending). s.room) same in
-          record { empty = search rules; room = omega (arith, as_held, as_room, grown, c.self.invariant.room, c.in_ok-make_room.ensures.capacity, c.hand_out.ensures.capacity); open_window = search rules }
-    ]
+    let zero : vec_len c.self.inside.sent ≡ 0 = search rules in
+    record {
+      empty = search rules;
+      room = omega (arith, zero, c.in_ok-make_room.ensures.sent_len, c.in_ok-accept.ensures.used_room, c.in_ok-accept.ensures.held, c.in_ok-accept.ensures.capacity, c.self.invariant.room, c.in_ok-make_room.ensures.capacity, c.in_ok-make_room.ensures.sent_room, ap (λ (b : Transfers). length b) c.batch.view_is, c.hand_out.ensures.capacity);
+      open_window = search rules;
+    }
 
 pub invariant_of-self-else-hand_out : goal.invariant_of-self-else-hand_out
 invariant_of-self-else-hand_out g c =
-    let held = c.in_ok-accept.ensures.held in
-    let grown = c.in_ok-accept.ensures.capacity in
-    elim (room-used c.args.handle c.batch.inside.transfers.items c.in_ok-accept.ensures.ok.left _ _ c.in_ok-accept.ensures.ok.stepped) [
-      | inl none ↦ record { empty = search rules; room = omega (arith, none, held, grown, c.in_ok-make_room.ensures.sent_room, ap (λ (b : Transfers). length b) c.batch.view_is, c.hand_out.ensures.capacity); open_window = search rules }
-      | inr same ↦
-          let as_held = ap (λ (s : Sending). held_in s.queues) same in
-          let as_room = ap (λ (s : Sending). s.room) same in
-          record { empty = search rules; room = omega (arith, as_held, as_room, grown, c.self.invariant.room, c.in_ok-make_room.ensures.capacity, c.hand_out.ensures.capacity); open_window = search rules }
-    ]
+    let zero : vec_len c.self.inside.sent ≡ 0 = search rules in
+    record {
+      empty = search rules;
+      room = omega (arith, zero, c.in_ok-make_room.ensures.sent_len, c.in_ok-accept.ensures.used_room, c.in_ok-accept.ensures.held, c.in_ok-accept.ensures.capacity, c.self.invariant.room, c.in_ok-make_room.ensures.capacity, c.in_ok-make_room.ensures.sent_room, ap (λ (b : Transfers). length b) c.batch.view_is, c.hand_out.ensures.capacity);
+      open_window = search rules;
+    }
+
+pub returns-clause-frames : goal.returns-clause-frames
+returns-clause-frames g c =
+    let none = ap (λ (l : Left). sent_count l) (c.in_ok-make_room.ensures.sent ∙ c.self.invariant.empty) in
+    let old = ap (λ (s : State _). frames_in (s.outgoing).queues) c.self.view_is in
+    let new : (c.if-hand_out.self).outgoing ≡ c.accept.new.self =
+    elim c.if-hand_out.branch [
+      | then-hand_out w ↦ ap (λ (s : State _). s.outgoing) w.self-is
+      | else-hand_out w ↦ ap (λ (s : State _). s.outgoing) w.self-is
+    ] in
+    let waits = ap (λ (s : Sending). frames_in s.queues) new in
+    omega (arith, none, old, waits, whole-count c.batch.inside.transfers.items c.batch.invariant, ap (λ (b : Transfers). length b) c.batch.view_is, c.in_ok-accept.ensures.frames, c.in_ok-make_room.ensures.out_len, c.hand_out.ensures.count)
