@@ -11,7 +11,6 @@ use Rattle.amqp_session_performatives.specs.LinkFlow.{link_flow}
 use Rattle.amqp_session_performatives.specs.declared.link_flow.LinkFlow.{LinkFlow}
 use Rattle.amqp_session_performatives.specs.declared.session_frame.SessionFrame.{SessionFrame}
 use Rattle.amqp_session_outgoing.specs.Queues.{Queues, held_in, FollowsIn, followed, trailed}
-use Rattle.amqp_session_outgoing.specs.State as sending
 use Rattle.amqp_session_outgoing.specs.History as sending_history
 use Rattle.amqp_session_outgoing.specs.declared.frames.Outbound.{Outbound}
 use Rattle.amqp_session_core.specs.declared.batch.TransferFrame.{TransferFrame}
@@ -20,7 +19,7 @@ use Rattle.amqp_session_core.specs.declared.batch.BehindFrame.TheVariants as beh
 use Rattle.amqp_session_core.specs.declared.fields.SessionFields.{SessionFields}
 use Rattle.amqp_session_core.specs.declared.flows.Answer.{Answer}
 use Rattle.amqp_session_core.specs.declared.flows.Answer.TheVariants as answer
-use Rattle.amqp_session_core.specs.Frames.{Left, behind_frame, has_flow}
+use Rattle.amqp_session_core.specs.Frames.{behind_frame, has_flow}
 use Rattle.amqp_session_core.specs.Flowing.{Sending, FlowsTo, LinkFlowed, FlowedAt, IsAnswer, Replied, IsReplyOf, answer_count}
 use Rattle.amqp_session_core.specs.Relay.{Relations}
 use Rattle.amqp_session_core.specs.State.{live_in}

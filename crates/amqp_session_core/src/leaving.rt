@@ -64,7 +64,8 @@ pub(crate) fn take_window(
     ensures opens { Opens fields outgoing.old out.old.items window.base window.width result outgoing.new out.new.items }
     ensures empty { sent.new.items ≡ [] }
     ensures capacity { vec_capacity sent.old ≤ vec_capacity sent.new }
-    ensures frames { deque_len out.new + frames_in outgoing.new.queues ≡ deque_len out.old + frames_in outgoing.old.queues }
+    ensures frames { deque_len out.new + frames_in outgoing.new.queues ≡
+        deque_len out.old + frames_in outgoing.old.queues }
     ensures out_capacity { deque_capacity out.new ≡ deque_capacity out.old }
     ensures held { held_in outgoing.new.queues ≤ held_in outgoing.old.queues }
     ensures room { outgoing.new.room ≡ outgoing.old.room }
@@ -87,7 +88,8 @@ pub(crate) fn take_begin(
     ensures begins { Begins fields outgoing.old out.old.items width result outgoing.new out.new.items }
     ensures empty { sent.new.items ≡ [] }
     ensures capacity { vec_capacity sent.old ≤ vec_capacity sent.new }
-    ensures frames { deque_len out.new + frames_in outgoing.new.queues ≡ deque_len out.old + frames_in outgoing.old.queues }
+    ensures frames { deque_len out.new + frames_in outgoing.new.queues ≡
+        deque_len out.old + frames_in outgoing.old.queues }
     ensures out_capacity { deque_capacity out.new ≡ deque_capacity out.old }
     ensures held { held_in outgoing.new.queues ≤ held_in outgoing.old.queues }
     ensures room { outgoing.new.room ≡ outgoing.old.room }

@@ -78,7 +78,8 @@ impl<R: LinkRelay> Session<R> {
         handle: OutputHandle,
         count: usize,
     ) -> Result<Place<BehindFrame>, SessionError>
-        ensures ok { IfOk result (λ place. room_behind handle.0 count (self.now.outgoing).queues ≤ place) }
+        ensures ok { IfOk result (λ place.
+            room_behind handle.0 count (self.now.outgoing).queues ≤ place) }
         ensures err { IfErr result (λ e. e ≡ SessionError.Memory) }
     {
         match self.outgoing.place_behind(alloc, handle, count) {
@@ -143,7 +144,8 @@ impl<R: LinkRelay> Session<R> {
         ensures frames { OnOk result (deque_len out.new + frames_in self.new.outgoing.queues ≡
             deque_len out.old + frames_in self.old.outgoing.queues + length batch.old) }
         ensures capacity { deque_capacity out.old ≤ deque_capacity out.new }
-        ensures used_room { OnOk result (self.new.outgoing.room ≡ self.old.outgoing.room - length batch.old) }
+        ensures used_room { OnOk result (self.new.outgoing.room ≡
+            self.old.outgoing.room - length batch.old) }
         ensures room { length batch.old ≤ (self.old.outgoing).room → deque_len out.old + (frames_in (self.old.outgoing).queues + length batch.old) ≤ deque_capacity out.old → result ≢ Err SessionError.Memory }
     {
         if !self.links.contains(handle.0 as usize) {
@@ -172,7 +174,8 @@ impl<R: LinkRelay> Session<R> {
         count: usize,
     ) -> Result<(), SessionError>
         ensures ok { OnOk result (Steps R.gives self.old (Reserves count) self.new) }
-        ensures room { OnOk result (deque_len out.new + (frames_in (self.new.outgoing).queues + (self.new.outgoing).room) ≤ deque_capacity out.new) }
+        ensures room { OnOk result (deque_len out.new +
+            (frames_in (self.new.outgoing).queues + (self.new.outgoing).room) ≤ deque_capacity out.new) }
         ensures err { IfErr result (λ e. e ≡ SessionError.Memory) }
         ensures kept { OnErr result (self.new ≡ self.old) }
         ensures out { out.new.items ≡ out.old.items }

@@ -326,7 +326,8 @@ impl<T: Drop, F: Drop> Outgoing<T, F> {
         ensures grown { place.old ≤ place.new }
         ensures err { OnErr result (place.new ≡ place.old) }
         ensures enough { room_behind handle.0 count self.now.queues ≤ place.old → IsOk result }
-        ensures kept { room_behind handle.0 count self.now.queues ≤ place.old → place.new ≡ place.old }
+        ensures kept { room_behind handle.0 count self.now.queues ≤ place.old →
+            place.new ≡ place.old }
     {
         self.turns.widen_place(alloc, handle, count, place)
     }
@@ -369,7 +370,8 @@ impl<T: Drop, F: Drop> Outgoing<T, F> {
         count: usize,
     ) -> Result<(), AllocError>
         ensures ok { OnOk result (Steps self.old (Reserves count) self.new) }
-        ensures room { OnOk result (vec_len out.new + held_in self.new.queues + self.new.room ≤ vec_capacity out.new) }
+        ensures room { OnOk result (vec_len out.new + held_in self.new.queues + self.new.room ≤
+            vec_capacity out.new) }
         ensures err { OnErr result (Steps self.old Fails self.new) }
         ensures out { out.new.items ≡ out.old.items }
         ensures capacity { vec_capacity out.old ≤ vec_capacity out.new }
