@@ -90,7 +90,7 @@ impl Work {
             let frame = decoder.decode(alloc, text.clone()?)?;
             bytes = bytes.saturating_add(text.len() as u64);
             if let Way::Both = self.way {
-                bytes = bytes.saturating_add(length_of(&encoder.encode(alloc, frame)?));
+                bytes = bytes.saturating_add(length_of(&encoder.encode(alloc, &frame)?));
             }
         }
         Ok(bytes)

@@ -9,7 +9,7 @@ use Rattle.amqp_session_performatives.specs.Performative.{performative_item}
 use Rattle.amqp_session_performatives.specs.declared.performative.Performative.{Performative}
 use Rattle.amqp_session_frames.specs.Cutting.{with_size}
 use Rattle.amqp_session_frames.specs.Parts.{room, IsWritten}
-use Rattle.amqp_session_frames.specs.Sizes.{HasSize, NotSized, IsOnePiece, IsWhole, LacksRoom}
+use Rattle.amqp_session_frames.specs.Sizes.{HasSize, NotSized, IsOnePiece, IsWhole, Overflows}
 use Rattle.amqp_session_frames.specs.Text.{IsOver, performative_of, performative_text, payload_of, sized_text, frame_text}
 use Rattle.amqp_session_frames.specs.declared.frame.Frame.{Frame}
 use Rattle.amqp_session_frames.specs.declared.frame.FrameBody.{FrameBody}
@@ -130,12 +130,15 @@ pub whole_within : (limit : ℕ) (f : Frame) (p : Performative) (pieces : List (
 whole_within limit f p pieces e w = one_within limit f (w.piece.head ++ payload_of f.body) pieces (whole_piece limit f p pieces e w) w.piece.one
 
 -- a frame that has no room
-lacking_by : (limit : ℕ) (f : Frame) → LacksRoom limit (performative_text (performative_of f.body)) (payload_of f.body) → (o : Option (List ℕ)) → performative_text (performative_of f.body) ≡ o → IsOver (limit + 4) (frame_text f)
-lacking_by limit f n None e = subst (λ (o : Option (List ℕ)). IsOver (limit + 4) o) (sym (frame_none f e)) tt
-lacking_by limit f n (Some text) e = over_room f text limit e (n.none text e)
+over_by : (limit : ℕ) (f : Frame) → Overflows limit (performative_text (performative_of f.body)) (length (payload_of f.body)) → (o : Option (List ℕ)) → performative_text (performative_of f.body) ≡ o → IsOver (limit + 4) (frame_text f)
+over_by limit f n None e = subst (λ (o : Option (List ℕ)). IsOver (limit + 4) o) (sym (frame_none f e)) tt
+over_by limit f n (Some text) e = over_room f text limit e (n.over text e)
 
-pub over_lacking : (limit : ℕ) (f : Frame) (p : Performative) → performative_of f.body ≡ Some p → LacksRoom limit (canon (performative_item p)) (payload_of f.body) → IsOver (limit + 4) (frame_text f)
-over_lacking limit f p e n = lacking_by limit f (subst (λ (o : Option Performative). LacksRoom limit (performative_text o) (payload_of f.body)) (sym e) n) (performative_text (performative_of f.body)) refl
+pub over_text : (limit : ℕ) (f : Frame) → Overflows limit (performative_text (performative_of f.body)) (length (payload_of f.body)) → IsOver (limit + 4) (frame_text f)
+over_text limit f n = over_by limit f n (performative_text (performative_of f.body)) refl
+
+pub over_performative : (limit : ℕ) (f : Frame) (p : Performative) → performative_of f.body ≡ Some p → Overflows limit (canon (performative_item p)) (length (payload_of f.body)) → IsOver (limit + 4) (frame_text f)
+over_performative limit f p e n = over_text limit f (subst (λ (o : Option Performative). Overflows limit (performative_text o) (length (payload_of f.body))) (sym e) n)
 
 -- what is in one piece, as the encoder finds out
 pub fitting : (limit channel size : ℕ) (text : Option (List ℕ)) (payload : List ℕ) (pieces : List (List ℕ)) → HasSize text size → size + length payload + 4 ≤ room limit → IsOnePiece text (2 ∷ 0 ∷ to_be_bytes w16 channel) payload pieces → IsWhole limit channel text payload pieces
@@ -144,8 +147,8 @@ fitting limit channel size text payload pieces h le w =
     let same : w.appends.bytes ≡ h.bytes = cc in
     record { piece = w; short = omega (arith, h.long, ap length same, le) }
 
-pub lacks_size : (limit : ℕ) (text : Option (List ℕ)) (payload : List ℕ) → NotSized text → LacksRoom limit text payload
-lacks_size limit text payload n = record { none = λ bytes e. omega (arith, n.none bytes e) }
+pub over_size : (limit : ℕ) (text : Option (List ℕ)) (payload : ℕ) → NotSized text → Overflows limit text payload
+over_size limit text payload n = record { over = λ bytes e. omega (arith, n.none bytes e) }
 
-pub lacks_room : (limit size : ℕ) (text : Option (List ℕ)) (payload : List ℕ) → HasSize text size → room limit < size + length payload + 4 → LacksRoom limit text payload
-lacks_room limit size text payload h lt = record { none = λ bytes e. let one : Some bytes ≡ Some h.bytes = sym e ∙ h.is in let same : bytes ≡ h.bytes = cc in omega (arith, h.long, ap length same, lt) }
+pub over_sum : (limit size payload : ℕ) (text : Option (List ℕ)) → HasSize text size → room limit < size + payload + 4 → Overflows limit text payload
+over_sum limit size payload text h lt = record { over = λ bytes e. let one : Some bytes ≡ Some h.bytes = sym e ∙ h.is in let same : bytes ≡ h.bytes = cc in omega (arith, h.long, ap length same, lt) }

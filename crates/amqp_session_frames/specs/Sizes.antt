@@ -1,10 +1,10 @@
--- How long texts are, and what room they leave.
+-- How long texts are, and whether a payload has room behind them.
 use Rattle.std.specs.Prelude.{◌≡◌, ◌≤◌, ◌<◌, ◌+◌, ◌^◌, ℕ, List, [], ◌∷◌, ◌++◌, length, true, Option, Some}
 use Rattle.std.specs.Int.{w16, to_be_bytes}
 use Rattle.serde_amqp_item.specs.Canon.{canon}
 use Rattle.amqp_session_performatives.specs.Transfer.{transfer_item}
 use Rattle.amqp_session_performatives.specs.declared.transfer.Transfer.{Transfer}
-use Rattle.amqp_session_frames.specs.Parts.{room}
+use Rattle.amqp_session_frames.specs.Parts.{room, saying}
 use Rattle.amqp_session_frames.specs.declared.error.Error.{Error}
 use Rattle.amqp_session_frames.specs.declared.error.Error.TheVariants.{DecodeError, NotImplemented, TooLarge, Memory}
 
@@ -44,43 +44,33 @@ pub record IsWhole (limit channel : ℕ) (text : Option (List ℕ)) (payload : L
   pub piece : IsOnePiece text (2 ∷ 0 ∷ to_be_bytes w16 channel) payload pieces
   pub short : 4 + length piece.appends.bytes + length payload ≤ room limit
 
--- there is no text that has room with this payload behind it
-pub record LacksRoom (limit : ℕ) (text : Option (List ℕ)) (payload : List ℕ) : Type 0 where
-  pub none : (bytes : List ℕ) → text ≡ Some bytes → room limit < 4 + length bytes + length payload
-
--- why they are not one piece
-abbrev pub NotWhole : ℕ → Option (List ℕ) → List ℕ → Error → Type 0
-NotWhole limit text payload TooLarge = LacksRoom limit text payload
-NotWhole limit text payload Memory = Unit {0}
-NotWhole limit text payload DecodeError = ⊥
-NotWhole limit text payload NotImplemented = ⊥
-
--- behind the header and the text a byte has room
-pub record HasRoom (limit : ℕ) (text : Option (List ℕ)) : Type 0 where
+-- the text fits, behind a header and with so many bytes of payload behind it
+pub record Fits (limit : ℕ) (text : Option (List ℕ)) (payload : ℕ) : Type 0 where
   pub bytes : List ℕ
   pub is : text ≡ Some bytes
-  pub some : 4 + length bytes < room limit
+  pub within : 4 + length bytes + payload ≤ room limit
 
--- behind them so many bytes have room, one at least, and no more
-pub record LeavesRoom (limit : ℕ) (text : Option (List ℕ)) (payload : ℕ) : Type 0 where
+-- the text fits, and so many bytes of payload, one at least, fill the room behind it
+pub record Fills (limit : ℕ) (text : Option (List ℕ)) (payload : ℕ) : Type 0 where
   pub bytes : List ℕ
   pub is : text ≡ Some bytes
   pub full : 4 + length bytes + payload ≡ room limit
   pub some : 0 < payload
 
--- behind them no byte has room
-pub record LeavesNoRoom (limit : ℕ) (text : Option (List ℕ)) : Type 0 where
-  pub none : (bytes : List ℕ) → text ≡ Some bytes → room limit ≤ 4 + length bytes
+-- with so many bytes of payload behind it no text fits
+pub record Overflows (limit : ℕ) (text : Option (List ℕ)) (payload : ℕ) : Type 0 where
+  pub over : (bytes : List ℕ) → text ≡ Some bytes → room limit < 4 + length bytes + payload
 
--- behind them this payload has no room
-pub record Overflows (limit : ℕ) (text : Option (List ℕ)) (payload : List ℕ) : Type 0 where
-  pub bytes : List ℕ
-  pub is : text ≡ Some bytes
-  pub over : room limit < 4 + length bytes + length payload
+-- why they are not one piece
+abbrev pub NotWhole : ℕ → Option (List ℕ) → List ℕ → Error → Type 0
+NotWhole limit text payload TooLarge = Overflows limit text (length payload)
+NotWhole limit text payload Memory = Unit {0}
+NotWhole limit text payload DecodeError = ⊥
+NotWhole limit text payload NotImplemented = ⊥
 
 -- why a transfer that doesn't fit can't go in parts
 abbrev pub PartsRefused : ℕ → Transfer → Error → Type 0
-PartsRefused limit t TooLarge = LeavesNoRoom limit (transfer_text (record t { more = true }))
+PartsRefused limit t TooLarge = Overflows limit (transfer_text (saying t true)) 1
 PartsRefused limit t Memory = Unit {0}
 PartsRefused limit t DecodeError = ⊥
 PartsRefused limit t NotImplemented = ⊥

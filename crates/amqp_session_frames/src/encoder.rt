@@ -3,17 +3,18 @@ ghost use Rattle.std.specs.Prelude.{[], ◌∷◌, ◌+◌, ◌++◌, ◌<◌, �
 ghost use Rattle.serde_amqp_item.specs.Canon.{canon};
 ghost use Rattle.amqp_session_performatives.specs.Continuation.{continuation};
 ghost use Rattle.amqp_session_frames.specs.Cutting.{Cuts};
-ghost use Rattle.amqp_session_frames.specs.Parts.{Continues, IsWritten, NotWritten, room};
-ghost use Rattle.amqp_session_frames.specs.Sizes.{Appends, HasRoom, HasSize, IsOnePiece, HasText, IsWhole, LeavesNoRoom, LeavesRoom, NotSized, NotWhole, Overflows, PartsRefused, transfer_text};
+ghost use Rattle.amqp_session_frames.specs.Parts.{Continues, IsWritten, NotWritten, room, saying};
+ghost use Rattle.amqp_session_frames.specs.Sizes.{Appends, Fills, Fits, HasSize, HasText, IsOnePiece, IsWhole, NotSized, NotWhole, Overflows, PartsRefused, transfer_text};
 ghost use Rattle.amqp_session_frames.specs.declared.error.Error.TheVariants.{Memory, TooLarge};
 ghost use Rattle.amqp_session_frames.specs.declared.frame.FrameBody.TheVariants.{Empty, Transfer as TransferBody};
 
 use crate::error::Error;
 use crate::frame::{Frame, FrameBody};
-use crate::header::AMQP_TYPE;
+use crate::header::{AMQP_TYPE, HEADER_SIZE, SIZE_FIELD};
+use crate::part::Part;
 use crate::piece::Piece;
 use crate::pieces::Pieces;
-use amqp_session_performatives::{Transfer, clear_continuation_fields};
+use amqp_session_performatives::Transfer;
 use bytes::Bytes;
 use serde_amqp_ser::{Serialize, Serializer, serialized_size};
 use std::alloc::Global;
@@ -35,14 +36,14 @@ impl Model for FrameEncoder {
     ghost invariant = { λ e. 4 ≤ e.limit };
 }
 
-/// The bytes of a header without its size field and without an extension (part 2, 2.3.1).
-const HEADER_SIZE: usize = 4;
+/// The bytes of a header behind its size field, without an extension (part 2, 2.3.1).
+const HEAD_SIZE: usize = HEADER_SIZE - SIZE_FIELD;
 
 /// The data offset of a frame without an extended header, in words of four bytes.
 const DATA_OFFSET: u8 = 2;
 
 /// The most bytes that a frame can have without its size field.
-const MOST: usize = u32::MAX as usize - 4;
+const MOST: usize = u32::MAX as usize - SIZE_FIELD;
 
 impl FrameEncoder {
     /// An encoder for pieces of at most `limit` bytes, without the four of the size field.
@@ -57,19 +58,20 @@ impl FrameEncoder {
     ///
     /// A transfer that doesn't fit goes in several frames, each but the last as long as it may be: the first says all that
     /// it says and that more comes, those behind it the handle and whether more comes, and together they carry its payload
-    /// (part 2, 2.7.5). The payload is shared with the pieces, and not copied.
+    /// (part 2, 2.7.5). The payload is shared with the pieces, and not copied. The frame is lent: what can't be written yet
+    /// is kept as it is.
     ///
     /// `TooLarge` where the frame has no text, as where one of its texts is longer than 2^32 - 1 bytes, or where it does
     /// not fit: a transfer where its performative, with `more`, leaves no room for a byte of payload. `Memory` where there
     /// is no memory.
     #[inline(always)]
-    pub fn encode(&self, alloc: Global, frame: Frame) -> Result<Pieces, Error>
-        ensures text { IfOk result (λ v. IsWritten self.now frame v) }
+    pub fn encode(&self, alloc: Global, frame: &Frame) -> Result<Pieces, Error>
+        ensures text { IfOk result (λ v. IsWritten self.now frame.now v) }
         ensures limit { IfOk result (λ v. All (λ p. length p ≤ self.now) v) }
-        ensures refused { IfErr result (λ e. NotWritten self.now frame e) }
+        ensures refused { IfErr result (λ e. NotWritten self.now frame.now e) }
     {
-        let Frame { channel, body } = frame;
-        match body {
+        let channel = frame.channel;
+        match &frame.body {
             FrameBody::Empty => self.encode_empty(alloc, channel),
             FrameBody::Open(open) => self.encode_undivided(alloc, channel, open),
             FrameBody::Begin(begin) => self.encode_undivided(alloc, channel, begin),
@@ -78,7 +80,7 @@ impl FrameEncoder {
             FrameBody::Transfer {
                 performative,
                 payload,
-            } => self.encode_owned(alloc, channel, performative, payload),
+            } => self.encode_transfer(alloc, channel, performative, payload),
             FrameBody::Disposition(disposition) => {
                 self.encode_undivided(alloc, channel, disposition)
             }
@@ -101,58 +103,41 @@ impl FrameEncoder {
     }
 
     /// The piece of a frame with this performative, which is never divided.
-    fn encode_undivided<P: Serialize + Drop>(
+    fn encode_undivided<P: Serialize>(
         &self,
         alloc: Global,
         channel: u16,
-        performative: P,
+        performative: &P,
     ) -> Result<Pieces, Error>
-        ensures text { IfOk result (λ v. IsWhole self.now channel (canon (P.item performative)) [] v) }
-        ensures refused { IfErr result (λ e. NotWhole self.now (canon (P.item performative)) [] e) }
+        ensures text { IfOk result (λ v. IsWhole self.now channel (canon (P.item performative.now)) [] v) }
+        ensures refused { IfErr result (λ e. NotWhole self.now (canon (P.item performative.now)) [] e) }
     {
-        let size = size_of(&performative)?;
+        let size = size_of(performative)?;
         if fits(self.body_room(), size, 0) {
-            return write_whole(alloc, channel, &performative, size, Bytes::new());
+            return write_whole(alloc, channel, performative, size, Bytes::new());
         }
         Err(Error::TooLarge)
     }
 
     /// The pieces of a frame with this transfer, and this payload behind it.
-    ///
-    /// It owns the transfer and does no more than lend it: what owns a value of so large a type takes long to check where
-    /// it may return at several places.
-    fn encode_owned(
-        &self,
-        alloc: Global,
-        channel: u16,
-        transfer: Transfer,
-        payload: Bytes,
-    ) -> Result<Pieces, Error>
-        ensures text { IfOk result (λ v. IsWritten self.now (record { channel = channel; body = TransferBody transfer payload }) v) }
-        ensures limit { IfOk result (λ v. All (λ p. length p ≤ self.now) v) }
-        ensures refused { IfErr result (λ e. NotWritten self.now (record { channel = channel; body = TransferBody transfer payload }) e) }
-    {
-        let mut transfer = transfer;
-        self.encode_transfer(alloc, channel, &mut transfer, payload)
-    }
-
-    /// The pieces of a frame with this transfer, and this payload behind it. The transfer is used up.
     fn encode_transfer(
         &self,
         alloc: Global,
         channel: u16,
-        transfer: &mut Transfer,
-        payload: Bytes,
+        transfer: &Transfer,
+        payload: &Bytes,
     ) -> Result<Pieces, Error>
-        ensures text { IfOk result (λ v. IsWritten self.now (record { channel = channel; body = TransferBody transfer.old payload }) v) }
+        ensures text { IfOk result (λ v. IsWritten self.now
+            (record { channel = channel; body = TransferBody transfer.now payload.now }) v) }
         ensures limit { IfOk result (λ v. All (λ p. length p ≤ self.now) v) }
-        ensures refused { IfErr result (λ e. NotWritten self.now (record { channel = channel; body = TransferBody transfer.old payload }) e) }
+        ensures refused { IfErr result (λ e. NotWritten self.now
+            (record { channel = channel; body = TransferBody transfer.now payload.now }) e) }
     {
         let size = size_of(transfer)?;
         if fits(self.body_room(), size, payload.len()) {
-            return write_whole(alloc, channel, transfer, size, payload);
+            return write_whole(alloc, channel, transfer, size, payload.clone()?);
         }
-        self.encode_parts(alloc, channel, transfer, payload)
+        self.encode_parts(alloc, channel, transfer, payload.clone()?)
     }
 
     /// The pieces of a transfer that doesn't fit.
@@ -160,51 +145,81 @@ impl FrameEncoder {
         &self,
         alloc: Global,
         channel: u16,
-        transfer: &mut Transfer,
+        transfer: &Transfer,
         payload: Bytes,
     ) -> Result<Pieces, Error>
-        requires { Overflows self.now (transfer_text transfer.old) payload }
-        ensures text { IfOk result (λ v. IsWritten self.now (record { channel = channel; body = TransferBody transfer.old payload }) v) }
+        requires { Overflows self.now (transfer_text transfer.now) (length payload) }
+        ensures text { IfOk result (λ v. IsWritten self.now
+            (record { channel = channel; body = TransferBody transfer.now payload }) v) }
         ensures limit { IfOk result (λ v. All (λ p. length p ≤ self.now) v) }
-        ensures refused { IfErr result (λ e. PartsRefused self.now transfer.old e) }
+        ensures refused { IfErr result (λ e. PartsRefused self.now transfer.now e) }
     {
-        let more = transfer.more;
         let mut payload = payload;
-        say_more(transfer, true);
-        let room = self.payload_room(transfer)?;
-        let head = write_transfer(alloc, channel, transfer, self.body_room() - room)?;
+        let part = Part {
+            transfer,
+            more: true,
+        };
+        let room = self.payload_room(&part)?;
+        let head = write_part(alloc, channel, &part, self.body_room() - room)?;
         let first = payload.split_to(room)?;
-        clear_continuation_fields(transfer);
         let mut others = Vec::new(alloc);
-        self.push_others(alloc, channel, transfer, more, payload, &mut others)?;
+        self.push_others(alloc, channel, transfer, payload, &mut others)?;
         Ok(Pieces::new(Piece::new(head, first), others))
     }
 
-    /// The pieces behind the first one, which carry the rest of the payload. The transfer says what continuations say, and
-    /// that more comes; the last one says whether more comes behind it.
+    /// The pieces behind the first one, which carry the rest of the payload.
+    ///
+    /// It owns what they say and does no more than lend it: what owns a value of so large a type takes long to check where
+    /// it may return at several places.
     fn push_others(
         &self,
         alloc: Global,
         channel: u16,
-        transfer: &mut Transfer,
-        more: bool,
+        transfer: &Transfer,
         payload: Bytes,
         pieces: &mut Vec<Piece>,
     ) -> Result<(), Error>
-        requires continues { continuation transfer.old ≡ transfer.old }
-        requires more { (transfer.old).more ≡ true }
-        requires room { HasRoom self.now (transfer_text transfer.old) }
+        requires room { Fits self.now (transfer_text (saying (continuation transfer.now) true)) 1 }
         requires payload { 0 < length payload }
-        ensures ok { OnOk result (Continues self.now channel transfer.old more payload pieces.old.items pieces.new.items) }
+        ensures ok { OnOk result (Continues self.now channel (continuation transfer.now) transfer.now.more payload
+            pieces.old.items pieces.new.items) }
+        ensures memory { IfErr result (λ e. e ≡ Memory) }
+    {
+        let behind = continued(transfer);
+        self.push_continuations(alloc, channel, &behind, payload, pieces)
+    }
+
+    /// The pieces of a continuation, each but the last as long as it may be: those say that more comes, and the last one
+    /// whether more comes behind it.
+    fn push_continuations(
+        &self,
+        alloc: Global,
+        channel: u16,
+        behind: &Transfer,
+        payload: Bytes,
+        pieces: &mut Vec<Piece>,
+    ) -> Result<(), Error>
+        requires continues { continuation behind.now ≡ behind.now }
+        requires room { Fits self.now (transfer_text (saying behind.now true)) 1 }
+        requires payload { 0 < length payload }
+        ensures ok { OnOk result (Continues self.now channel behind.now behind.now.more payload
+            pieces.old.items pieces.new.items) }
         ensures memory { IfErr result (λ e. e ≡ Memory) }
     {
         let mut payload = payload;
-        let room = self.payload_room(transfer)?;
+        let full = Part {
+            transfer: behind,
+            more: true,
+        };
+        let room = self.payload_room(&full)?;
         let size = self.body_room() - room;
-        let head = write_shared(alloc, channel, transfer, size)?;
+        let head = write_shared(alloc, channel, &full, size)?;
         push_middles(pieces, &head, &mut payload, room)?;
-        say_more(transfer, more);
-        let last = write_transfer(alloc, channel, transfer, size)?;
+        let last = Part {
+            transfer: behind,
+            more: behind.more,
+        };
+        let last = write_part(alloc, channel, &last, size)?;
         pieces.push(Piece::new(last, payload))?;
         Ok(())
     }
@@ -213,17 +228,19 @@ impl FrameEncoder {
     fn body_room(&self) -> usize
         ensures { result + 4 ≡ room self.now }
     {
-        self.limit.min(MOST) - HEADER_SIZE
+        self.limit.min(MOST) - HEAD_SIZE
     }
 
-    /// How many bytes of payload have room behind this transfer: as many as there is room for, one at least.
-    #[tactic(auto, using(crate::proofs::Dividing::leaving))]
-    fn payload_room(&self, transfer: &Transfer) -> Result<usize, Error>
-        ensures room { IfOk result (λ n. LeavesRoom self.now (transfer_text transfer.now) n) }
-        ensures refused { IfErr result (λ e. (e ≡ TooLarge) × LeavesNoRoom self.now (transfer_text transfer.now)) }
+    /// How many bytes of payload fill the room behind this part's transfer, one at least.
+    #[tactic(auto, using(crate::proofs::Dividing::filling))]
+    fn payload_room(&self, part: &Part<'_>) -> Result<usize, Error>
+        ensures room { IfOk result (λ n. Fills self.now
+            (transfer_text (saying part.now.transfer.now part.now.more)) n) }
+        ensures refused { IfErr result (λ e. (e ≡ TooLarge) × Overflows self.now
+            (transfer_text (saying part.now.transfer.now part.now.more)) 1) }
     {
         let room = self.body_room();
-        let size = transfer_size(transfer)?;
+        let size = part_size(part)?;
         if fits(room, size, 1) {
             return Ok(room - size);
         }
@@ -242,52 +259,60 @@ fn fits(room: usize, size: usize, payload: usize) -> bool
     }
 }
 
-/// How many bytes the transfer is written as.
+/// How many bytes the part's transfer is written as.
 #[tactic(auto, unfolding(crate::specs::Sizes::transfer_text))]
-fn transfer_size(transfer: &Transfer) -> Result<usize, Error>
-    ensures size { IfOk result (λ n. HasSize (transfer_text transfer.now) n) }
-    ensures refused { IfErr result (λ e. (e ≡ TooLarge) × NotSized (transfer_text transfer.now)) }
+fn part_size(part: &Part<'_>) -> Result<usize, Error>
+    ensures size { IfOk result (λ n. HasSize
+        (transfer_text (saying part.now.transfer.now part.now.more)) n) }
+    ensures refused { IfErr result (λ e. (e ≡ TooLarge) × NotSized
+        (transfer_text (saying part.now.transfer.now part.now.more))) }
 {
-    size_of(transfer)
+    size_of(part)
 }
 
-/// The bytes of a frame with this transfer up to its payload, without its size field. Room for so many bytes of the
-/// transfer, which has a text, is taken at once.
+/// The bytes of a frame with this part up to its payload, without its size field. Room for so many bytes of its transfer,
+/// which has a text, is taken at once.
 #[tactic(auto, unfolding(crate::specs::Sizes::transfer_text))]
-fn write_transfer(
-    alloc: Global,
-    channel: u16,
-    transfer: &Transfer,
-    size: usize,
-) -> Result<Vec<u8>, Error>
-    requires { HasText (transfer_text transfer.now) }
-    ensures ok { IfOk result (λ h. Appends (transfer_text transfer.now) (2 ∷ 0 ∷ to_be_bytes w16 channel) h.items) }
+fn write_part(alloc: Global, channel: u16, part: &Part<'_>, size: usize) -> Result<Vec<u8>, Error>
+    requires { HasText (transfer_text (saying part.now.transfer.now part.now.more)) }
+    ensures ok { IfOk result (λ h. Appends
+        (transfer_text (saying part.now.transfer.now part.now.more))
+        (2 ∷ 0 ∷ to_be_bytes w16 channel) h.items) }
     ensures memory { IfErr result (λ e. e ≡ Memory) }
 {
-    write_head(alloc, channel, transfer, size)
+    write_head(alloc, channel, part, size)
 }
 
-/// The bytes that several frames begin with, each with this transfer, up to their payloads and without their size fields.
+/// The bytes that several frames begin with, each with this part, up to their payloads and without their size fields.
 /// Room is taken as for one.
-fn write_shared(
-    alloc: Global,
-    channel: u16,
-    transfer: &Transfer,
-    size: usize,
-) -> Result<Bytes, Error>
-    requires { HasText (transfer_text transfer.now) }
-    ensures ok { IfOk result (λ h. Appends (transfer_text transfer.now) (2 ∷ 0 ∷ to_be_bytes w16 channel) h) }
+fn write_shared(alloc: Global, channel: u16, part: &Part<'_>, size: usize) -> Result<Bytes, Error>
+    requires { HasText (transfer_text (saying part.now.transfer.now part.now.more)) }
+    ensures ok { IfOk result (λ h. Appends
+        (transfer_text (saying part.now.transfer.now part.now.more))
+        (2 ∷ 0 ∷ to_be_bytes w16 channel) h) }
     ensures memory { IfErr result (λ e. e ≡ Memory) }
 {
-    let head = write_transfer(alloc, channel, transfer, size)?;
+    let head = write_part(alloc, channel, part, size)?;
     Ok(Bytes::from_vec(head)?)
 }
 
-/// Says whether more of the delivery comes (part 2, 2.7.5).
-fn say_more(transfer: &mut Transfer, more: bool)
-    ensures { transfer.new ≡ record transfer.old { more = more } }
+/// What the transfers behind a delivery's first one say of it: the link, and whether more comes (part 2, 2.7.5).
+fn continued(transfer: &Transfer) -> Transfer
+    ensures { result ≡ continuation transfer.now }
 {
-    transfer.more = more;
+    Transfer {
+        handle: transfer.handle,
+        delivery_id: None,
+        delivery_tag: None,
+        message_format: None,
+        settled: None,
+        more: transfer.more,
+        rcv_settle_mode: None,
+        state: None,
+        resume: false,
+        aborted: false,
+        batchable: false,
+    }
 }
 
 /// Pieces that begin with these bytes and carry so many bytes of the payload each, while more than that is left.
@@ -339,7 +364,7 @@ fn empty_head(alloc: Global, channel: u16) -> Result<Vec<u8>, Error>
     ensures ok { IfOk result (λ h. h.items ≡ 2 ∷ 0 ∷ to_be_bytes w16 channel) }
     ensures memory { IfErr result (λ e. e ≡ Memory) }
 {
-    let mut head = Vec::with_capacity(alloc, HEADER_SIZE)?;
+    let mut head = Vec::with_capacity(alloc, HEAD_SIZE)?;
     push_header(&mut head, channel)?;
     Ok(head)
 }
@@ -357,7 +382,7 @@ fn write_head<T: Serialize>(
     ensures ok { IfOk result (λ h. Appends (canon (T.item performative.now)) (2 ∷ 0 ∷ to_be_bytes w16 channel) h.items) }
     ensures memory { IfErr result (λ e. e ≡ Memory) }
 {
-    let mut head = Vec::with_capacity(alloc, HEADER_SIZE.saturating_add(size))?;
+    let mut head = Vec::with_capacity(alloc, HEAD_SIZE.saturating_add(size))?;
     push_header(&mut head, channel)?;
     let mut serializer = Serializer::new(head);
     match performative.serialize(&mut serializer) {

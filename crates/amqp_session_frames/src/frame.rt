@@ -48,13 +48,6 @@ impl Frame {
     {
         &self.body
     }
-
-    /// What it says, by value.
-    pub fn into_body(self) -> FrameBody
-        ensures { result ≡ self.body }
-    {
-        self.body
-    }
 }
 
 /// What a frame says: one performative, or nothing (part 2, 2.3.2, 2.4.5).

@@ -16,8 +16,11 @@ pub(crate) struct Header {
 /// The type of AMQP's frames (part 2, 2.3.2).
 pub(crate) const AMQP_TYPE: u8 = 0;
 
-/// The bytes of a header without its extension.
-const HEADER_SIZE: usize = 8;
+/// The bytes of the size field, with which a frame begins (part 2, 2.3.1).
+pub(crate) const SIZE_FIELD: usize = 4;
+
+/// The bytes of a header with its size field, without an extension (part 2, 2.3.1).
+pub(crate) const HEADER_SIZE: usize = 8;
 
 /// Whether the bytes have another type than AMQP's frames.
 fn has_other_type(bytes: &[u8]) -> bool

@@ -6,7 +6,7 @@
 //! came in, and with the pieces that they go in.
 //!
 //! Which bytes are a frame, and which frame they are, says `FrameText` in specs/Text.antt; what a frame is written as,
-//! `frame_text` there; in which frames a transfer goes, `Carries` in specs/Parts.antt. That bytes are at most one frame, that
+//! `frame_text` there; in which frames a transfer goes, `AreParts` in specs/Parts.antt. That bytes are at most one frame, that
 //! a frame that was written is read back, and that a stream is read in one way, are laws: see [`laws`].
 #![tactic(auto)]
 
@@ -16,6 +16,7 @@ mod error;
 mod frame;
 mod header;
 pub mod laws;
+mod part;
 mod piece;
 mod pieces;
 

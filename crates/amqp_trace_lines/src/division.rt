@@ -8,11 +8,11 @@ use std::alloc::Global;
 /// The frames that the frame of these bytes is written as, each with its size in front, where each may have so many bytes
 /// behind its size. A limit of less than four is taken for four.
 pub fn divided(alloc: Global, limit: usize, bytes: &[u8]) -> Result<Vec<Vec<u8>>, FrameError> {
-    decoded(alloc, bytes).and_then(|frame| encoded(alloc, limit, frame))
+    decoded(alloc, bytes).and_then(|frame| encoded(alloc, limit, &frame))
 }
 
 /// The frames that the frame is written as, each with its size in front.
-fn encoded(alloc: Global, limit: usize, frame: Frame) -> Result<Vec<Vec<u8>>, FrameError> {
+fn encoded(alloc: Global, limit: usize, frame: &Frame) -> Result<Vec<Vec<u8>>, FrameError> {
     let pieces = FrameEncoder::new(limit.max(4)).encode(alloc, frame)?;
     with_sizes(alloc, &pieces)
 }
@@ -46,7 +46,7 @@ pub(crate) fn division_line(alloc: Global, limit: usize, bytes: &[u8]) -> Result
 }
 
 /// The frames that this one is written as.
-pub(crate) fn frame_words(alloc: Global, limit: usize, frame: Frame) -> Result<String, Refusal> {
+pub(crate) fn frame_words(alloc: Global, limit: usize, frame: &Frame) -> Result<String, Refusal> {
     let frames = encoded(alloc, limit, frame)?;
     words(alloc, frames.as_slice())
 }

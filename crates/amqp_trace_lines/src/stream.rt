@@ -4,7 +4,7 @@ use crate::refusal::Refusal;
 use std::alloc::{AllocError, Global};
 
 /// How long a protocol header is (part 2, 2.2).
-const HEADER_SIZE: usize = 8;
+const PROTOCOL_HEADER_SIZE: usize = 8;
 
 /// The fewest bytes of a frame (part 2, 2.3.1).
 const LEAST_FRAME: usize = 8;
@@ -47,7 +47,7 @@ pub(crate) fn stream_lines(
     separator: &str,
 ) -> Result<String, Refusal> {
     let mut lines = String::new(alloc);
-    let Some((header, frames)) = bytes.split_at_checked(HEADER_SIZE) else {
+    let Some((header, frames)) = bytes.split_at_checked(PROTOCOL_HEADER_SIZE) else {
         lines.push_str("0 fault incomplete")?;
         return Ok(lines);
     };
