@@ -8,8 +8,8 @@ use Rattle.amqp_session_types.specs.declared.refusals.BeginError.TheVariants as 
 use Rattle.amqp_session_connection.specs.declared.state.ConnectionState.{ConnectionState}
 use Rattle.amqp_session_connection.specs.declared.state.ConnectionState.TheVariants.{Start}
 use Rattle.amqp_session_connection.specs.State.{State}
-use Rattle.amqp_session_connection.specs.Steps.{Step, Steps, History, DeallocateSession, SetsStopReason, SendsOpen, TakesOpen, SendsClose, TakesClose, SendsBegin, SendsEnd, AllocatesSession, DeallocatesSession, TakesBegin, AcceptsRoute, TakesEnd, FindsSession}
-use Rattle.amqp_session_connection.specs.Table.{after_incoming_open, after_send_close, after_incoming_close}
+use Rattle.amqp_session_connection.specs.Steps.{Step, Steps, History, DeallocateSession, SetsStopReason, SendsHeader, TakesHeader, SendsOpen, TakesOpen, SendsClose, TakesClose, SendsBegin, SendsEnd, AllocatesSession, DeallocatesSession, TakesBegin, AcceptsRoute, TakesEnd, FindsSession}
+use Rattle.amqp_session_connection.specs.Table.{after_send_header, after_incoming_header, after_incoming_open, after_send_close, after_incoming_close}
 use Rattle.amqp_session_connection.specs.Told.{row, is_illegal, moved, state_after}
 use Rattle.amqp_session_connection.proofs.Histories.{last_step}
 use Rattle.std.specs.FinMap as map
@@ -27,6 +27,10 @@ deallocated old new channel (Some session) s = ap (λ (s : State). s.local_state
 
 pub step_moves : (step : Step) (old new : State) → Steps old step new → moved step (Some old.local_state) ≡ Some new.local_state
 step_moves (SetsStopReason reason) old new s = kept old new (ap (λ (s : State). s.local_state) s)
+step_moves (SendsHeader (Err e)) old new s = same old new s.2
+step_moves (SendsHeader (Ok x)) old new s = s.0
+step_moves (TakesHeader (Err e)) old new s = same old new s.2
+step_moves (TakesHeader (Ok x)) old new s = s.0
 step_moves (SendsOpen (Err e)) old new s = same old new s.1
 step_moves (SendsOpen (Ok frame)) old new s = s.1
 step_moves (TakesOpen channel opening (Err e)) old new s = same old new s.2
@@ -67,6 +71,10 @@ illegal next e = (λ _. e, λ _. refl)
 
 illegal_exactly : (step : Step) (old new : State) → Steps old step new → IsTrue (is_illegal step) ↔ (row step old.local_state ≡ None)
 illegal_exactly (SetsStopReason reason) old new s = legal false _ refl refl
+illegal_exactly (SendsHeader (Err e)) old new s = subst (λ e. IsTrue (is_illegal (SendsHeader (Err e))) ↔ (after_send_header old.local_state ≡ None)) (sym s.0) (illegal _ s.1)
+illegal_exactly (SendsHeader (Ok x)) old new s = legal false _ refl s.0
+illegal_exactly (TakesHeader (Err e)) old new s = subst (λ e. IsTrue (is_illegal (TakesHeader (Err e))) ↔ (after_incoming_header old.local_state ≡ None)) (sym s.0) (illegal _ s.1)
+illegal_exactly (TakesHeader (Ok x)) old new s = legal false _ refl s.0
 illegal_exactly (SendsOpen (Err opening.ProtocolHeaderMismatch)) old new s = absurd s.0
 illegal_exactly (SendsOpen (Err opening.IllegalState)) old new s = illegal _ s.0
 illegal_exactly (SendsOpen (Err opening.NotImplemented)) old new s = absurd s.0

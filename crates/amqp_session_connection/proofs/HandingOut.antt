@@ -7,10 +7,10 @@ use Rattle.amqp_session_frames.specs.declared.frame.FrameBody.{FrameBody}
 use Rattle.amqp_session_connection.specs.declared.state.ConnectionState.{ConnectionState}
 use Rattle.amqp_session_connection.specs.declared.state.ConnectionState.TheVariants.{Start, HeaderReceived, HeaderSent, HeaderExchange, OpenPipe, OpenClosePipe, OpenReceived, OpenSent, ClosePipe, Opened, CloseReceived, CloseSent, Discarding, End}
 use Rattle.amqp_session_connection.specs.State.{State}
-use Rattle.amqp_session_connection.specs.Steps.{Step, Steps, History, SetsStopReason, SendsOpen, TakesOpen, SendsClose, TakesClose, SendsBegin, SendsEnd, AllocatesSession, DeallocatesSession, TakesBegin, AcceptsRoute, TakesEnd, FindsSession}
+use Rattle.amqp_session_connection.specs.Steps.{Step, Steps, History, SetsStopReason, SendsHeader, TakesHeader, SendsOpen, TakesOpen, SendsClose, TakesClose, SendsBegin, SendsEnd, AllocatesSession, DeallocatesSession, TakesBegin, AcceptsRoute, TakesEnd, FindsSession}
 use Rattle.amqp_session_connection.specs.Told.{frame_of, frames_out, says_open, says_close}
 use Rattle.amqp_session_connection.proofs.Following.{step_moves}
-use Rattle.amqp_session_connection.proofs.States.{opens_left, closes_left, Spends, send_open_moves, incoming_open_moves, send_close_moves, incoming_close_moves}
+use Rattle.amqp_session_connection.proofs.States.{opens_left, closes_left, Spends, send_header_moves, incoming_header_moves, send_open_moves, incoming_open_moves, send_close_moves, incoming_close_moves}
 
 -- how many of these frames pass the test
 abbrev many : (FrameBody → Bool) → List Frame → ℕ
@@ -34,6 +34,10 @@ none old new s = record { opens = omega (arith, s.opened); closes = omega (arith
 
 step_within : (step : Step) (old new : State) → Steps old step new → Within old.local_state (frame_of step) new.local_state
 step_within (SetsStopReason reason) old new s = stayed old new [] refl refl (step_moves (SetsStopReason reason) old new s)
+step_within (SendsHeader (Err e)) old new s = stayed old new [] refl refl (step_moves (SendsHeader (Err e)) old new s)
+step_within (SendsHeader (Ok x)) old new s = none old new (send_header_moves old.local_state new.local_state s.0)
+step_within (TakesHeader (Err e)) old new s = stayed old new [] refl refl (step_moves (TakesHeader (Err e)) old new s)
+step_within (TakesHeader (Ok x)) old new s = none old new (incoming_header_moves old.local_state new.local_state s.0)
 step_within (SendsOpen (Err e)) old new s = stayed old new [] refl refl (step_moves (SendsOpen (Err e)) old new s)
 step_within (SendsOpen (Ok frame)) old new s =
     let spent = send_open_moves old.local_state new.local_state s.1 in

@@ -1,6 +1,6 @@
 -- Live sessions have outgoing channels of their own, within both channel-max.
 use Rattle.std.proofs.Common.{◌≡◌, ◌≢◌, ◌≤◌, ◌⊎◌, inl, inr, ℕ, Bool, true, false, cond, List, [], ◌∷◌, ◌++◌, Option, Some, None, Ok, Err, All, nat_eq, refl, sym, ap, ◌∙◌, subst, ◌==◌, is_some}
-use Rattle.std.specs.Prelude.{not}
+use Rattle.std.specs.Prelude.{min, not}
 use Rattle.std.specs.Cmp.{nat_eq_equiv}
 use Rattle.std.specs.FinMap as map
 use Rattle.std.specs.List.{IsDistinct, AllByRecursion}
@@ -18,10 +18,10 @@ use Rattle.amqp_session_performatives.specs.declared.open.Open.{Open}
 use Rattle.amqp_session_performatives.specs.declared.begin.Begin.{Begin}
 use Rattle.amqp_session_connection.specs.declared.state.ConnectionState.{ConnectionState}
 use Rattle.amqp_session_connection.specs.State.{State, Table, fresh, highest_channel}
-use Rattle.amqp_session_connection.specs.Steps.{Step, Steps, History, DeallocateSession, named_session, SetsStopReason, SendsOpen, TakesOpen, SendsClose, TakesClose, SendsBegin, SendsEnd, AllocatesSession, DeallocatesSession, TakesBegin, AcceptsRoute, TakesEnd, FindsSession}
+use Rattle.amqp_session_connection.specs.Steps.{Step, Steps, History, DeallocateSession, named_session, SetsStopReason, SendsHeader, TakesHeader, SendsOpen, TakesOpen, SendsClose, TakesClose, SendsBegin, SendsEnd, AllocatesSession, DeallocatesSession, TakesBegin, AcceptsRoute, TakesEnd, FindsSession}
 use Rattle.amqp_session_connection.specs.Told.{without, still_live, live_after, learned, peer_channel_max}
 use Rattle.amqp_session_connection.proofs.Histories.{last_step}
-use Rattle.amqp_session_connection.proofs.States.{is_settled, send_open_moves, send_close_moves, incoming_close_moves, open_comes_first, begun_settled}
+use Rattle.amqp_session_connection.proofs.States.{is_settled, send_header_moves, incoming_header_moves, send_open_moves, send_close_moves, incoming_close_moves, open_comes_first, begun_settled}
 use Rattle.amqp_session_connection.proofs.Tables.{get-put, get-take, get-none}
 
 -- no live session has a channel above this
@@ -136,6 +136,10 @@ module _ (opening : Open) (peer : Option ℕ) (live : List (ℕ × ℕ)) where
 
   step_lives : (step : Step) (old new : State) → Steps old step new → Lives opening peer live old → Lives opening (learned step peer) (still_live step live) new
   step_lives (SetsStopReason reason) old new s w = still old new s refl refl refl refl w
+  step_lives (SendsHeader (Err e)) old new s w = same old new s.2 w
+  step_lives (SendsHeader (Ok x)) old new s w = kept old new s.1 refl refl refl (send_header_moves old.local_state new.local_state s.0).settled w
+  step_lives (TakesHeader (Err e)) old new s w = same old new s.2 w
+  step_lives (TakesHeader (Ok x)) old new s w = kept old new s.1 refl refl refl (incoming_header_moves old.local_state new.local_state s.0).settled w
   step_lives (SendsOpen (Err e)) old new s w = same old new s.1 w
   step_lives (SendsOpen (Ok frame)) old new s w = kept old new s.2 refl refl refl (send_open_moves old.local_state new.local_state s.1).settled w
   step_lives (TakesOpen channel remote (Err e)) old new s w = same old new s.2 w
@@ -180,6 +184,9 @@ module _ (state : ConnectionState) (opening : Open) where
 
   pub live_within : (end : State) (steps : List Step) → History (fresh state opening) steps end → Below (highest_channel opening.channel_max (peer_channel_max None steps)) (live_after [] steps)
   live_within end steps run = (lives end steps run).within
+
+  pub live_allowed : (end : State) (steps : List Step) (peer : ℕ) → History (fresh state opening) steps end → peer_channel_max None steps ≡ Some peer → Below (min opening.channel_max peer) (live_after [] steps)
+  live_allowed end steps peer run is = subst (λ (o : Option ℕ). Below (highest_channel opening.channel_max o) (live_after [] steps)) is (live_within end steps run)
 
   module _ (end : State) (steps : List Step) (channel : IncomingChannel) (beginning : Begin) (named : ℕ) where
     pub reached : (session : ℕ) → History (fresh state opening) (steps ++ TakesBegin channel beginning (Ok session) ∷ []) end → beginning.remote_channel ≡ Some named → lookup (nat_eq named) (live_after [] steps) ≡ Some session

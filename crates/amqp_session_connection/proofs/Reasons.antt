@@ -3,7 +3,7 @@ use Rattle.std.proofs.Common.{◌≡◌, ℕ, List, [], ◌∷◌, Option, Some,
 use Rattle.std.specs.FinMap as map
 use Rattle.amqp_session_types.specs.declared.refusals.ConnectionStopReason.{ConnectionStopReason}
 use Rattle.amqp_session_connection.specs.State.{State}
-use Rattle.amqp_session_connection.specs.Steps.{Step, Steps, History, DeallocateSession, SetsStopReason, SendsOpen, TakesOpen, SendsClose, TakesClose, SendsBegin, SendsEnd, AllocatesSession, DeallocatesSession, TakesBegin, AcceptsRoute, TakesEnd, FindsSession}
+use Rattle.amqp_session_connection.specs.Steps.{Step, Steps, History, DeallocateSession, SetsStopReason, SendsHeader, TakesHeader, SendsOpen, TakesOpen, SendsClose, TakesClose, SendsBegin, SendsEnd, AllocatesSession, DeallocatesSession, TakesBegin, AcceptsRoute, TakesEnd, FindsSession}
 use Rattle.amqp_session_connection.specs.Told.{reasoned, first_given}
 
 abbrev reason : State → Option ConnectionStopReason
@@ -15,6 +15,10 @@ deallocated old new channel (Some session) s = ap reason s
 
 step_reasons : (step : Step) (old new : State) → Steps old step new → new.stop_reason ≡ reasoned step old.stop_reason
 step_reasons (SetsStopReason given) old new s = ap reason s
+step_reasons (SendsHeader (Err e)) old new s = ap reason s.2
+step_reasons (SendsHeader (Ok x)) old new s = ap reason s.1
+step_reasons (TakesHeader (Err e)) old new s = ap reason s.2
+step_reasons (TakesHeader (Ok x)) old new s = ap reason s.1
 step_reasons (SendsOpen (Err e)) old new s = ap reason s.1
 step_reasons (SendsOpen (Ok frame)) old new s = ap reason s.2
 step_reasons (TakesOpen channel opening (Err e)) old new s = ap reason s.2
@@ -48,6 +52,8 @@ stays (step ∷ steps) given = ap (λ (o : Option ConnectionStopReason). first_g
   where
     one : (step : Step) → reasoned step (Some given) ≡ Some given
     one (SetsStopReason later) = refl
+    one (SendsHeader answer) = refl
+    one (TakesHeader answer) = refl
     one (SendsOpen answer) = refl
     one (TakesOpen channel opening answer) = refl
     one (SendsClose error answer) = refl

@@ -8,7 +8,7 @@ use Rattle.amqp_session_performatives.specs.declared.open.Open.{Open}
 use Rattle.amqp_session_performatives.specs.declared.end.End.{End}
 use Rattle.amqp_session_connection.specs.declared.state.ConnectionState.{ConnectionState}
 use Rattle.amqp_session_connection.specs.State.{State, fresh}
-use Rattle.amqp_session_connection.specs.Steps.{Step, Steps, History, DeallocateSession, SetsStopReason, SendsOpen, TakesOpen, SendsClose, TakesClose, SendsBegin, SendsEnd, AllocatesSession, DeallocatesSession, TakesBegin, AcceptsRoute, TakesEnd, FindsSession}
+use Rattle.amqp_session_connection.specs.Steps.{Step, Steps, History, DeallocateSession, SetsStopReason, SendsHeader, TakesHeader, SendsOpen, TakesOpen, SendsClose, TakesClose, SendsBegin, SendsEnd, AllocatesSession, DeallocatesSession, TakesBegin, AcceptsRoute, TakesEnd, FindsSession}
 use Rattle.amqp_session_connection.specs.Told.{rerouted, routed}
 use Rattle.amqp_session_connection.proofs.Histories.{last_step}
 use Rattle.amqp_session_connection.proofs.Tables.{get-put, get-take, get-none}
@@ -23,6 +23,10 @@ module _ (q : ℕ) where
 
   step_routes : (step : Step) (old new : State) → Steps old step new → at new ≡ rerouted q step (at old)
   step_routes (SetsStopReason given) old new s = ap at s
+  step_routes (SendsHeader (Err e)) old new s = ap at s.2
+  step_routes (SendsHeader (Ok x)) old new s = ap at s.1
+  step_routes (TakesHeader (Err e)) old new s = ap at s.2
+  step_routes (TakesHeader (Ok x)) old new s = ap at s.1
   step_routes (SendsOpen (Err e)) old new s = ap at s.1
   step_routes (SendsOpen (Ok frame)) old new s = ap at s.2
   step_routes (TakesOpen channel opening (Err e)) old new s = ap at s.2

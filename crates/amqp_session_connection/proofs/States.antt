@@ -4,17 +4,24 @@ use Rattle.std.specs.Prelude.{unwrap_or}
 use Rattle.std.proofs.lemmas.Option.{none-some}
 use Rattle.amqp_session_connection.specs.declared.state.ConnectionState.{ConnectionState}
 use Rattle.amqp_session_connection.specs.declared.state.ConnectionState.TheVariants.{Start, HeaderReceived, HeaderSent, HeaderExchange, OpenPipe, OpenClosePipe, OpenReceived, OpenSent, ClosePipe, Opened, CloseReceived, CloseSent, Discarding, End}
-use Rattle.amqp_session_connection.specs.Table.{after_send_open, after_incoming_open, after_send_close, after_incoming_close, refusal_of_begin}
+use Rattle.amqp_session_connection.specs.Table.{after_send_header, after_incoming_header, after_send_open, after_incoming_open, after_send_close, after_incoming_close, refusal_of_begin}
 
 -- how many Open may still be handed out
 abbrev pub opens_left : ConnectionState → ℕ
+opens_left Start = 1
+opens_left HeaderReceived = 1
+opens_left HeaderSent = 1
 opens_left HeaderExchange = 1
 opens_left OpenReceived = 1
 opens_left other = 0
 
 -- how many Close may still be handed out
 abbrev pub closes_left : ConnectionState → ℕ
+closes_left Start = 1
+closes_left HeaderReceived = 1
+closes_left HeaderSent = 1
 closes_left HeaderExchange = 1
+closes_left OpenPipe = 1
 closes_left OpenReceived = 1
 closes_left OpenSent = 1
 closes_left Opened = 1
@@ -38,6 +45,38 @@ pub record Spends (opens closes : ℕ) (state next : ConnectionState) : Type 0 w
 
 to : {opens closes : ℕ} {state : ConnectionState} (there next : ConnectionState) → Spends opens closes state there → Some there ≡ Some next → Spends opens closes state next
 to {opens} {closes} {state} there next s e = subst (λ (n : ConnectionState). Spends opens closes state n) (ap (λ (o : Option ConnectionState). unwrap_or o Start) e) s
+
+pub send_header_moves : (state next : ConnectionState) → after_send_header state ≡ Some next → Spends 0 0 state next
+send_header_moves Start next e = to HeaderSent next (record { opened = omega arith; closed = omega arith; settled = λ h. absurd cc }) e
+send_header_moves HeaderReceived next e = to HeaderExchange next (record { opened = omega arith; closed = omega arith; settled = λ h. absurd cc }) e
+send_header_moves HeaderSent next e = absurd (none-some next e)
+send_header_moves HeaderExchange next e = absurd (none-some next e)
+send_header_moves OpenPipe next e = absurd (none-some next e)
+send_header_moves OpenClosePipe next e = absurd (none-some next e)
+send_header_moves OpenReceived next e = absurd (none-some next e)
+send_header_moves OpenSent next e = absurd (none-some next e)
+send_header_moves ClosePipe next e = absurd (none-some next e)
+send_header_moves Opened next e = absurd (none-some next e)
+send_header_moves CloseReceived next e = absurd (none-some next e)
+send_header_moves CloseSent next e = absurd (none-some next e)
+send_header_moves Discarding next e = absurd (none-some next e)
+send_header_moves End next e = absurd (none-some next e)
+
+pub incoming_header_moves : (state next : ConnectionState) → after_incoming_header state ≡ Some next → Spends 0 0 state next
+incoming_header_moves Start next e = to HeaderReceived next (record { opened = omega arith; closed = omega arith; settled = λ h. absurd cc }) e
+incoming_header_moves HeaderReceived next e = absurd (none-some next e)
+incoming_header_moves HeaderSent next e = to HeaderExchange next (record { opened = omega arith; closed = omega arith; settled = λ h. absurd cc }) e
+incoming_header_moves HeaderExchange next e = absurd (none-some next e)
+incoming_header_moves OpenPipe next e = to OpenSent next (record { opened = omega arith; closed = omega arith; settled = λ h. absurd cc }) e
+incoming_header_moves OpenClosePipe next e = to ClosePipe next (record { opened = omega arith; closed = omega arith; settled = λ h. absurd cc }) e
+incoming_header_moves OpenReceived next e = absurd (none-some next e)
+incoming_header_moves OpenSent next e = absurd (none-some next e)
+incoming_header_moves ClosePipe next e = absurd (none-some next e)
+incoming_header_moves Opened next e = absurd (none-some next e)
+incoming_header_moves CloseReceived next e = absurd (none-some next e)
+incoming_header_moves CloseSent next e = absurd (none-some next e)
+incoming_header_moves Discarding next e = absurd (none-some next e)
+incoming_header_moves End next e = absurd (none-some next e)
 
 pub send_open_moves : (state next : ConnectionState) → after_send_open state ≡ Some next → Spends 1 0 state next
 send_open_moves Start next e = absurd (none-some next e)

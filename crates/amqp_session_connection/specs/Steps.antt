@@ -21,11 +21,13 @@ use Rattle.amqp_session_frames.specs.declared.frame.FrameBody.{FrameBody}
 use Rattle.amqp_session_frames.specs.declared.frame.FrameBody.TheVariants as body
 use Rattle.amqp_session_connection.specs.declared.state.ConnectionState.{ConnectionState}
 use Rattle.amqp_session_connection.specs.State.{State, channel_limit}
-use Rattle.amqp_session_connection.specs.Table.{after_send_open, after_incoming_open, after_send_close, after_incoming_close, refusal_of_begin}
+use Rattle.amqp_session_connection.specs.Table.{after_send_header, after_incoming_header, after_send_open, after_incoming_open, after_send_close, after_incoming_close, refusal_of_begin}
 
 -- a call with what it was given, and what it answered
 pub data Step : Type 0 where
   SetsStopReason : (reason : ConnectionStopReason) → Step
+  SendsHeader : (answer : Result ⊤ ConnectionError) → Step
+  TakesHeader : (answer : Result ⊤ ConnectionError) → Step
   SendsOpen : (answer : Result Frame OpenError) → Step
   TakesOpen : (channel : IncomingChannel) (opening : Open) (answer : Result ⊤ OpenError) → Step
   SendsClose : (error : Option Error) (answer : Result Frame ConnectionError) → Step
@@ -50,6 +52,18 @@ first_reason (Some earlier) reason = Some earlier
 
 abbrev pub SetStopReason : State → ConnectionStopReason → State → Type 0
 SetStopReason old reason new = new ≡ record old { stop_reason = first_reason old.stop_reason reason }
+
+-- the own protocol header is sent
+abbrev pub SendHeader : State → Result ⊤ ConnectionError → State → Type 0
+SendHeader old (Err e) new = (e ≡ IllegalState) × (after_send_header old.local_state ≡ None) × (new ≡ old)
+SendHeader old (Ok _) new =
+    (after_send_header old.local_state ≡ Some new.local_state) × (new ≡ record old { local_state = new.local_state })
+
+-- the peer's protocol header is taken
+abbrev pub TakeHeader : State → Result ⊤ ConnectionError → State → Type 0
+TakeHeader old (Err e) new = (e ≡ IllegalState) × (after_incoming_header old.local_state ≡ None) × (new ≡ old)
+TakeHeader old (Ok _) new =
+    (after_incoming_header old.local_state ≡ Some new.local_state) × (new ≡ record old { local_state = new.local_state })
 
 -- why an Open is refused, where the table has this state behind it
 abbrev pub RefusesOpen : Option ConnectionState → OpenError → Type 0
@@ -134,6 +148,8 @@ TakeEnd old channel (Ok session) new = (map.get old.routes channel ≡ Some sess
 -- the states around a call
 abbrev pub Steps : State → Step → State → Type 0
 Steps old (SetsStopReason reason) new = SetStopReason old reason new
+Steps old (SendsHeader answer) new = SendHeader old answer new
+Steps old (TakesHeader answer) new = TakeHeader old answer new
 Steps old (SendsOpen answer) new = SendOpen old answer new
 Steps old (TakesOpen channel opening answer) new = TakeOpen old opening answer new
 Steps old (SendsClose error answer) new = SendClose old error answer new

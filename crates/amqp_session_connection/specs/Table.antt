@@ -5,6 +5,20 @@ use Rattle.amqp_session_types.specs.declared.refusals.BeginError.TheVariants.{Co
 use Rattle.amqp_session_connection.specs.declared.state.ConnectionState.{ConnectionState}
 use Rattle.amqp_session_connection.specs.declared.state.ConnectionState.TheVariants.{Start, HeaderReceived, HeaderSent, HeaderExchange, OpenPipe, OpenClosePipe, OpenReceived, OpenSent, ClosePipe, Opened, CloseReceived, CloseSent, Discarding, End}
 
+-- the own protocol header is sent
+abbrev pub after_send_header : ConnectionState → Option ConnectionState
+after_send_header Start = Some HeaderSent
+after_send_header HeaderReceived = Some HeaderExchange
+after_send_header other = None
+
+-- the peer's protocol header comes
+abbrev pub after_incoming_header : ConnectionState → Option ConnectionState
+after_incoming_header Start = Some HeaderReceived
+after_incoming_header HeaderSent = Some HeaderExchange
+after_incoming_header OpenPipe = Some OpenSent
+after_incoming_header OpenClosePipe = Some ClosePipe
+after_incoming_header other = None
+
 -- an Open is sent
 abbrev pub after_send_open : ConnectionState → Option ConnectionState
 after_send_open HeaderExchange = Some OpenSent

@@ -8,19 +8,23 @@ use Rattle.amqp_session_frames.specs.declared.frame.Frame.{Frame}
 use Rattle.amqp_session_frames.specs.declared.frame.FrameBody.{FrameBody}
 use Rattle.amqp_session_frames.specs.declared.frame.FrameBody.TheVariants as body
 use Rattle.amqp_session_connection.specs.declared.state.ConnectionState.{ConnectionState}
-use Rattle.amqp_session_connection.specs.Steps.{Step, SetsStopReason, SendsOpen, TakesOpen, SendsClose, TakesClose, SendsBegin, SendsEnd, AllocatesSession, DeallocatesSession, TakesBegin, AcceptsRoute, TakesEnd, first_reason}
-use Rattle.amqp_session_connection.specs.Table.{after_send_open, after_incoming_open, after_send_close, after_incoming_close}
+use Rattle.amqp_session_connection.specs.Steps.{Step, SetsStopReason, SendsHeader, TakesHeader, SendsOpen, TakesOpen, SendsClose, TakesClose, SendsBegin, SendsEnd, AllocatesSession, DeallocatesSession, TakesBegin, AcceptsRoute, TakesEnd, first_reason}
+use Rattle.amqp_session_connection.specs.Table.{after_send_header, after_incoming_header, after_send_open, after_incoming_open, after_send_close, after_incoming_close}
 
--- the state that the table has behind a call, whatever the call answered: only an Open and a Close move it (part 2, 2.4.6)
+-- the state that the table has behind a call, whatever the call answered: only a header, an Open and a Close move it (part 2, 2.4.6)
 abbrev pub row : Step → ConnectionState → Option ConnectionState
+row (SendsHeader answer) state = after_send_header state
+row (TakesHeader answer) state = after_incoming_header state
 row (SendsOpen answer) state = after_send_open state
 row (TakesOpen channel opening answer) state = after_incoming_open state
 row (SendsClose error answer) state = after_send_close (is_some error) state
 row (TakesClose channel closing answer) state = after_incoming_close state
 row step state = Some state
 
--- an Open or a Close that was refused
+-- a header, an Open or a Close that was refused
 abbrev pub is_refused : Step → Bool
+is_refused (SendsHeader (Err e)) = true
+is_refused (TakesHeader (Err e)) = true
 is_refused (SendsOpen (Err e)) = true
 is_refused (TakesOpen channel opening (Err e)) = true
 is_refused (SendsClose error (Err e)) = true
@@ -29,6 +33,8 @@ is_refused step = false
 
 -- a call that answered IllegalState
 abbrev pub is_illegal : Step → Bool
+is_illegal (SendsHeader (Err IllegalState)) = true
+is_illegal (TakesHeader (Err IllegalState)) = true
 is_illegal (SendsOpen (Err IllegalStateOfOpen)) = true
 is_illegal (TakesOpen channel opening (Err IllegalStateOfOpen)) = true
 is_illegal (SendsClose error (Err IllegalState)) = true

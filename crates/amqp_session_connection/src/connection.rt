@@ -1,7 +1,8 @@
 ghost use Rattle.std.specs.Prelude.{◌≡◌, IsSome, option_copied};
 ghost use Rattle.std.specs.FinMap as map;
 ghost use Rattle.amqp_session_connection.specs.State.{fresh, channel_limit};
-ghost use Rattle.amqp_session_connection.specs.Steps.{Steps, SetsStopReason, SendsOpen, TakesOpen, SendsClose, TakesClose, SendsBegin, SendsEnd, AllocatesSession, DeallocatesSession, TakesBegin, AcceptsRoute, TakesEnd, FindsSession};
+ghost use Rattle.amqp_session_connection.specs.declared.state.ConnectionState.TheVariants.{Start};
+ghost use Rattle.amqp_session_connection.specs.Steps.{Steps, SetsStopReason, SendsHeader, TakesHeader, SendsOpen, TakesOpen, SendsClose, TakesClose, SendsBegin, SendsEnd, AllocatesSession, DeallocatesSession, TakesBegin, AcceptsRoute, TakesEnd, FindsSession};
 
 use crate::routes::Routes;
 use crate::sessions::Sessions;
@@ -60,6 +61,18 @@ impl Connection {
         }
     }
 
+    /// Becomes a new connection before its start, with the same own Open to send: without sessions, routes or a stop
+    /// reason, and without the peer's Open. What it was is dropped. It takes no memory, and the Open is not copied.
+    pub fn begin_anew(&mut self, alloc: Global)
+        ensures { self.new ≡ fresh Start self.old.local_open }
+    {
+        self.local_state = ConnectionState::Start;
+        self.remote_channel_max = None;
+        self.sessions = Sessions::new(alloc);
+        self.routes = Routes::new(alloc);
+        self.stop_reason = None;
+    }
+
     /// The state (part 2, 2.4.6).
     pub fn local_state(&self) -> ConnectionState
         ensures { result ≡ self.now.local_state }
@@ -88,6 +101,30 @@ impl Connection {
         if self.stop_reason.is_none() {
             self.stop_reason = Some(reason);
         }
+    }
+
+    /// Notes that the own protocol header is sent, and moves the state on (part 2, 2.2, 2.4.6). It is refused with
+    /// `IllegalState` where the state allows none, and nothing changes then.
+    pub fn send_header(&mut self) -> Result<(), ConnectionError>
+        ensures step { Steps self.old (SendsHeader result) self.new }
+    {
+        let Some(next) = self.local_state.after_send_header() else {
+            return Err(ConnectionError::IllegalState);
+        };
+        self.local_state = next;
+        Ok(())
+    }
+
+    /// Takes the peer's protocol header, which the caller found to be the right one, and moves the state on (part 2,
+    /// 2.2, 2.4.6). It is refused with `IllegalState` where the state allows none, and nothing changes then.
+    pub fn on_incoming_header(&mut self) -> Result<(), ConnectionError>
+        ensures step { Steps self.old (TakesHeader result) self.new }
+    {
+        let Some(next) = self.local_state.after_incoming_header() else {
+            return Err(ConnectionError::IllegalState);
+        };
+        self.local_state = next;
+        Ok(())
     }
 
     /// Hands out the own Open, on channel 0, and moves the state on (part 2, 2.4.1, 2.4.6). It is refused with

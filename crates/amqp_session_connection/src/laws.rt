@@ -1,5 +1,5 @@
 //! Laws of a connection's histories. A function here does nothing: its contract is the law.
-ghost use Rattle.std.specs.Prelude.{◌≡◌, ◌≤◌, ◌↔◌, ◌++◌, ℕ, List, [], ◌∷◌, Option, Some, None, Result, Ok, Err, All, IsTrue, length, nat_eq};
+ghost use Rattle.std.specs.Prelude.{◌≡◌, ◌≤◌, ◌↔◌, ◌++◌, ℕ, List, [], ◌∷◌, Option, Some, None, Result, Ok, Err, All, IsTrue, length, min, nat_eq};
 ghost use Rattle.std.specs.List.{IsDistinct};
 ghost use Rattle.std.specs.Map.{keys_of, lookup};
 ghost use Rattle.amqp_session_connection.specs.State.{State, fresh, highest_channel};
@@ -34,11 +34,15 @@ pub fn routes_last_from_begin_to_end()
 {}
 
 /// No two live sessions have one outgoing channel, and none has one above the smaller of both channel-max (part 2,
-/// 2.7.1): a session is live from where a channel was given to it until that is taken back.
+/// 2.7.1): a session is live from where a channel was given to it until that is taken back. Once the peer's Open was
+/// taken, the smaller is that of both numbers; before, where a connection is made behind it, the own one stands alone.
 pub fn live_channels_are_apart()
     ensures apart { (state : ConnectionState) (opening : Open) (end : State) (steps : List Step) → History (fresh state opening) steps end → IsDistinct nat_eq (keys_of (live_after [] steps)) }
     ensures within { (state : ConnectionState) (opening : Open) (end : State) (steps : List Step) → History (fresh state opening) steps end
         → All (λ s. s.0 ≤ highest_channel opening.channel_max (peer_channel_max None steps)) (live_after [] steps) }
+    ensures allowed { (state : ConnectionState) (opening : Open) (end : State) (steps : List Step) (peer : ℕ)
+        → History (fresh state opening) steps end → peer_channel_max None steps ≡ Some peer
+        → All (λ s. s.0 ≤ min opening.channel_max peer) (live_after [] steps) }
 {}
 
 /// A Begin of the peer that names a channel goes to the live session that has it, and is refused NotFound only where

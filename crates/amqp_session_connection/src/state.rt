@@ -1,5 +1,5 @@
 ghost use Rattle.std.specs.Prelude.{◌≡◌};
-ghost use Rattle.amqp_session_connection.specs.Table.{after_send_open, after_incoming_open, after_send_close, after_incoming_close, refusal_of_begin};
+ghost use Rattle.amqp_session_connection.specs.Table.{after_send_header, after_incoming_header, after_send_open, after_incoming_open, after_send_close, after_incoming_close, refusal_of_begin};
 
 use amqp_session_types::BeginError;
 
@@ -37,6 +37,30 @@ pub enum ConnectionState {
 }
 
 impl ConnectionState {
+    /// The state behind the own protocol header that is sent in this one, or None where none may be sent.
+    pub(crate) fn after_send_header(self) -> Option<ConnectionState>
+        ensures { result ≡ after_send_header self }
+    {
+        match self {
+            ConnectionState::Start => Some(ConnectionState::HeaderSent),
+            ConnectionState::HeaderReceived => Some(ConnectionState::HeaderExchange),
+            _ => None,
+        }
+    }
+
+    /// The state behind the peer's protocol header that comes in this one, or None where none may come.
+    pub(crate) fn after_incoming_header(self) -> Option<ConnectionState>
+        ensures { result ≡ after_incoming_header self }
+    {
+        match self {
+            ConnectionState::Start => Some(ConnectionState::HeaderReceived),
+            ConnectionState::HeaderSent => Some(ConnectionState::HeaderExchange),
+            ConnectionState::OpenPipe => Some(ConnectionState::OpenSent),
+            ConnectionState::OpenClosePipe => Some(ConnectionState::ClosePipe),
+            _ => None,
+        }
+    }
+
     /// The state behind an Open that is sent in this one, or None where none may be sent.
     pub(crate) fn after_send_open(self) -> Option<ConnectionState>
         ensures { result ≡ after_send_open self }

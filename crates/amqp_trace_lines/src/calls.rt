@@ -5,6 +5,12 @@ use amqp_session_types::ConnectionStopReason;
 /// A call of a connection.
 #[derive(Clone, Copy, PartialEq, Eq)]
 pub(crate) enum Call<'a> {
+    /// `send-header`
+    SendHeader,
+    /// `take-header`
+    TakeHeader,
+    /// `begin-anew`
+    BeginAnew,
     /// `send-open`
     SendOpen,
     /// `take-open`, with the peer's channel-max.
@@ -69,6 +75,9 @@ pub(crate) fn call_of<'a>(words: &[&'a str]) -> Option<Call<'a>> {
 /// The call that this word alone says.
 fn alone(verb: &str) -> Option<Call<'static>> {
     match verb {
+        "send-header" => Some(Call::SendHeader),
+        "take-header" => Some(Call::TakeHeader),
+        "begin-anew" => Some(Call::BeginAnew),
         "send-open" => Some(Call::SendOpen),
         "send-close" => Some(Call::SendClose(None)),
         "take-close" => Some(Call::TakeClose),

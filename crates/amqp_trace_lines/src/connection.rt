@@ -67,6 +67,9 @@ fn answer_to(alloc: Global, connection: &mut Connection, words: &str) -> Result<
 /// What the connection answers to the call.
 fn perform(alloc: Global, connection: &mut Connection, call: Call<'_>) -> Result<String, Refusal> {
     match call {
+        Call::SendHeader => taken(alloc, connection.send_header()),
+        Call::TakeHeader => taken(alloc, connection.on_incoming_header()),
+        Call::BeginAnew => begin_anew(alloc, connection),
         Call::SendOpen => sent(alloc, connection.send_open()),
         Call::TakeOpen(channel_max) => take_open(alloc, connection, channel_max),
         Call::SendClose(condition) => send_close(alloc, connection, condition),
@@ -100,7 +103,7 @@ fn refused<E: Debug + Drop>(alloc: Global, error: E) -> Result<String, Refusal> 
 /// The frame that is handed out, or why none is.
 fn sent<E: Debug + Drop>(alloc: Global, answer: Result<Frame, E>) -> Result<String, Refusal> {
     match answer {
-        Ok(frame) => frame_words(alloc, MOST, frame),
+        Ok(frame) => frame_words(alloc, MOST, &frame),
         Err(error) => refused(alloc, error),
     }
 }
@@ -119,6 +122,11 @@ fn routed<E: Debug + Drop>(alloc: Global, answer: Result<u64, E>) -> Result<Stri
         Ok(session) => Ok(format!(in alloc; "session {session}")?),
         Err(error) => refused(alloc, error),
     }
+}
+
+fn begin_anew(alloc: Global, connection: &mut Connection) -> Result<String, Refusal> {
+    connection.begin_anew(alloc);
+    said(alloc, "ok")
 }
 
 fn take_open(
@@ -208,12 +216,12 @@ fn send_begin(
     answered: Option<u16>,
 ) -> Result<String, Refusal> {
     let frame = connection.on_outgoing_begin(OutgoingChannel(channel), begin(alloc, answered));
-    frame_words(alloc, MOST, frame)
+    frame_words(alloc, MOST, &frame)
 }
 
 fn send_end(alloc: Global, connection: &Connection, channel: u16) -> Result<String, Refusal> {
     let frame = connection.on_outgoing_end(OutgoingChannel(channel), End { error: None });
-    frame_words(alloc, MOST, frame)
+    frame_words(alloc, MOST, &frame)
 }
 
 fn stop(alloc: Global, connection: &mut Connection, reason: StopWord) -> Result<String, Refusal> {

@@ -1,4 +1,4 @@
-use Rattle.amqp_session_connection.proofs.Living.{live_apart, live_within}
+use Rattle.amqp_session_connection.proofs.Living.{live_allowed, live_apart, live_within}
 use Rattle.amqp_session_connection.proofs.laws.live_channels_are_apart.Goals as goal
 
 pub returns-clause-apart : goal.returns-clause-apart
@@ -6,3 +6,6 @@ returns-clause-apart c = live_apart
 
 pub returns-clause-within : goal.returns-clause-within
 returns-clause-within c = live_within
+
+pub returns-clause-allowed : goal.returns-clause-allowed
+returns-clause-allowed c = live_allowed
