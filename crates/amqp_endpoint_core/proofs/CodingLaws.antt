@@ -69,12 +69,12 @@ close_fits NotAllowed = refl
 close_fits NotFound = refl
 
 -- what was encoded is the frame, within the limit
-pub encoded_is : (least : ℕ) (f : Frame) (pieces others : List (List ℕ)) (piece queued : List ℕ) (limit : ℕ)
-    → IsWritten least f pieces → session_refusal f.body ≡ None → All (λ p. length p ≤ limit - 4) pieces → 4 ≤ limit → pieces ≡ piece ∷ others → queued ≡ with_size piece
-    → (queued ≡ written f) × (fits limit f ≡ true)
-encoded_is least f pieces others piece queued limit w none short four both is =
+pub encoded_is : (least most limit : ℕ) (f : Frame) (pieces others : List (List ℕ)) (piece : List ℕ)
+    → IsWritten least f pieces → session_refusal f.body ≡ None → All (λ p. length p ≤ most) pieces → 4 + most ≤ limit → pieces ≡ piece ∷ others
+    → (with_size piece ≡ written f) × (fits limit f ≡ true)
+encoded_is least most limit f pieces others piece w none short le both =
     let P : List (List ℕ) → Type 0 = IsAll f in
     let text = first_piece f piece others (subst P both (in_one_piece least f pieces w none)) in
-    let Q : List (List ℕ) → Type 0 = All (λ p. length p ≤ limit - 4) in
-    let h : length piece ≤ limit - 4 = subst Q both short 0 [] (omega arith) in
-    (is ∙ sym (written_is f (with_size piece) text), fits_is f (with_size piece) limit text (omega (arith, length-with_size piece)))
+    let Q : List (List ℕ) → Type 0 = All (λ p. length p ≤ most) in
+    let h : length piece ≤ most = subst Q both short 0 [] (omega arith) in
+    (sym (written_is f (with_size piece) text), fits_is f (with_size piece) limit text (omega (arith, length-with_size piece)))

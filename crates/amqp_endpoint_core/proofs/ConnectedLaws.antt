@@ -1,7 +1,7 @@
 -- Laws of an endpoint and its connection.
-use Rattle.std.proofs.Common.{◌≡◌, ℕ, Bool, true, false, Option, Some, None, IsSome, is_some, refl, sym, ◌∙◌, ap, subst}
+use Rattle.std.proofs.Common.{◌≡◌, ℕ, Bool, true, false, Option, Some, None, Ok, Err, Result, IsSome, is_some, refl, sym, ◌∙◌, ap, subst}
 use Rattle.amqp_session_connection.specs.declared.state.ConnectionState.{ConnectionState}
-use Rattle.amqp_session_connection.specs.declared.state.ConnectionState.TheVariants.{OpenSent, ClosePipe, Opened, CloseReceived, CloseSent, Discarding, End}
+use Rattle.amqp_session_connection.specs.declared.state.ConnectionState.TheVariants.{Start, HeaderSent, HeaderExchange, OpenSent, ClosePipe, Opened, CloseReceived, CloseSent, Discarding, End}
 use Rattle.std.specs.FinMap as map
 use Rattle.std.specs.FinMap.{get-empty}
 use Rattle.std.specs.Ordering.{nat_cmp}
@@ -11,9 +11,12 @@ use Rattle.amqp_session_performatives.specs.declared.begin.Begin.{Begin}
 use Rattle.amqp_session_frames.specs.declared.frame.FrameBody.{FrameBody}
 use Rattle.amqp_session_frames.specs.declared.frame.FrameBody.TheVariants as body
 use Rattle.amqp_session_frames.specs.declared.frame.FrameBody.TheVariants.{Open}
-use Rattle.amqp_session_connection.specs.State.{State, Table}
-use Rattle.amqp_session_connection.specs.Steps.{named_session, RefusesBegin, frame_on}
-use Rattle.amqp_session_connection.specs.Table.{after_send_close}
+use Rattle.std.specs.Prelude.{⊤}
+use Rattle.amqp_session_performatives.specs.declared.open.Open.{Open as OpenFields}
+use Rattle.amqp_session_frames.specs.declared.frame.Frame.{Frame}
+use Rattle.amqp_session_connection.specs.State.{State, Table, fresh}
+use Rattle.amqp_session_connection.specs.Steps.{named_session, RefusesBegin, SendHeader, SendOpen, TakeHeader, frame_on}
+use Rattle.amqp_session_connection.specs.Table.{after_incoming_header, after_send_close, after_send_open}
 use Rattle.amqp_endpoint_model.specs.declared.phase.Phase.{Phase}
 use Rattle.amqp_endpoint_model.specs.declared.phase.Phase.TheVariants.{Unconnected, Greeting, Running, Over}
 use Rattle.amqp_endpoint_model.specs.declared.error.EndpointError.{EndpointError}
@@ -22,8 +25,47 @@ use Rattle.amqp_endpoint_model.specs.Refusals.{of_connection}
 use Rattle.amqp_endpoint_model.specs.Step.{begin_refusal, session_refusal}
 use Rattle.amqp_endpoint_model.specs.State.{State as EndpointState, has_opened}
 use Rattle.amqp_endpoint_model.specs.declared.settings.Settings.{Settings}
-use Rattle.amqp_endpoint_core.specs.Connected.{sent_close, took_close, Runs, Agrees, HasNoSession, Stands, MovesBy}
+use Rattle.amqp_endpoint_core.specs.Connected.{sent_close, took_close, Runs, Greets, Agrees, HasNoSession, Stands, MovesBy}
 use Rattle.amqp_endpoint_core.specs.Reading.{BodyRefused}
+
+-- a new connection sends its header
+pub header_sent : (opening : OpenFields) (answer : Result ⊤ ConnectionError) (new : State) → SendHeader (fresh Start opening) answer new → new ≡ fresh HeaderSent opening
+header_sent opening (Ok x) new s =
+    let at : HeaderSent ≡ new.local_state = let e : Some HeaderSent ≡ Some new.local_state = s.0 in cc in
+    s.1 ∙ ap (λ (c : ConnectionState). fresh c opening) (sym at)
+header_sent opening (Err e) new s = let wrong : Some HeaderSent ≡ None = s.1 in absurd (cc)
+
+greets_to : (state next : ConnectionState) → Greets state → after_incoming_header state ≡ Some next → next ≡ HeaderExchange
+greets_to HeaderSent next greets e = let at : HeaderExchange ≡ next = cc in sym at
+greets_to HeaderExchange next greets e = absurd (cc)
+greets_to state next greets e = absurd greets
+
+greets_at : (state : ConnectionState) → Greets state → after_incoming_header state ≡ None → state ≡ HeaderExchange
+greets_at HeaderSent greets e = absurd (cc)
+greets_at HeaderExchange greets e = refl
+greets_at state greets e = absurd greets
+
+-- the peer's header is taken, unless it was
+pub header_taken : (old new : State) (answer : Result ⊤ ConnectionError) → Greets old.local_state → TakeHeader old answer new → new ≡ record old { local_state = HeaderExchange }
+header_taken old new (Ok x) greets s = s.1 ∙ ap (λ (c : ConnectionState). record old { local_state = c }) (greets_to old.local_state new.local_state greets s.0)
+header_taken old new (Err e) greets s = s.2 ∙ ap (λ (c : ConnectionState). record old { local_state = c }) (greets_at old.local_state greets s.1)
+
+-- behind both headers the own Open is sent
+pub open_sent : (old mid new : State) (frame : Frame) → mid ≡ record old { local_state = HeaderExchange } → SendOpen mid (Ok frame) new → new ≡ record old { local_state = OpenSent }
+open_sent old mid new frame is s =
+    let from : after_send_open mid.local_state ≡ Some OpenSent = ap (λ (c : State). after_send_open c.local_state) is in
+    let both : Some OpenSent ≡ Some new.local_state = sym from ∙ s.1 in
+    let at : OpenSent ≡ new.local_state = cc in
+    s.2 ∙ (ap (λ (c : State). record c { local_state = new.local_state }) is ∙ ap (λ (c : ConnectionState). record old { local_state = c }) (sym at))
+
+pub open_says : (old mid new : State) (frame : Frame) → mid ≡ record old { local_state = HeaderExchange } → SendOpen mid (Ok frame) new → frame ≡ frame_on 0 (body.Open old.local_open)
+open_says old mid new frame is s = s.0 ∙ ap (λ (c : State). frame_on 0 (body.Open c.local_open)) is
+
+-- where the own header was sent and no Open, no Close went
+pub greets_open : (state : ConnectionState) → Greets state → (sent_close state ≡ false) × (took_close state ≡ false)
+greets_open HeaderSent greets = (refl, refl)
+greets_open HeaderExchange greets = (refl, refl)
+greets_open state greets = absurd greets
 
 -- behind the own Close it was sent, and nothing more is known of the peer's
 pub close_is_sent : (error : Bool) (state next : ConnectionState) → after_send_close error state ≡ Some next → sent_close next ≡ true

@@ -1,16 +1,16 @@
 -- How an endpoint and its connection agree.
-use Rattle.std.specs.Prelude.{◌≡◌, ℕ, Bool, true, false, List, Option, Some, None}
+use Rattle.std.specs.Prelude.{◌≡◌, ℕ, Bool, true, false, Option, Some, None}
 use Rattle.std.specs.FinMap as map
 use Rattle.amqp_session_frames.specs.declared.frame.FrameBody.TheVariants as body
 use Rattle.amqp_session_connection.specs.declared.state.ConnectionState.{ConnectionState}
-use Rattle.amqp_session_connection.specs.declared.state.ConnectionState.TheVariants.{HeaderSent, OpenClosePipe, OpenSent, ClosePipe, Opened, CloseReceived, CloseSent, Discarding, End}
+use Rattle.amqp_session_connection.specs.declared.state.ConnectionState.TheVariants.{HeaderSent, HeaderExchange, OpenClosePipe, OpenSent, ClosePipe, Opened, CloseReceived, CloseSent, Discarding, End}
 use Rattle.amqp_session_performatives.specs.declared.open.Open.{Open}
 use Rattle.amqp_session_connection.specs.State.{State, fresh}
 use Rattle.amqp_session_connection.specs.Steps.{frame_on}
 use Rattle.amqp_endpoint_model.specs.declared.phase.Phase.{Phase}
 use Rattle.amqp_endpoint_model.specs.declared.phase.Phase.TheVariants.{Unconnected, Greeting, Running, Over}
 use Rattle.amqp_endpoint_model.specs.declared.settings.Settings.{Settings}
-use Rattle.amqp_endpoint_model.specs.State.{own_open, written}
+use Rattle.amqp_endpoint_model.specs.State.{own_open}
 
 -- the own Close was sent (part 2, 2.4.6)
 abbrev pub sent_close : ConnectionState → Bool
@@ -36,10 +36,16 @@ Runs (Some limit) CloseSent = Unit {0}
 Runs (Some limit) Discarding = Unit {0}
 Runs limit state = ⊥
 
+-- the own header was sent, and no Open (part 2, 2.4.6)
+abbrev pub Greets : ConnectionState → Type 0
+Greets HeaderSent = Unit {0}
+Greets HeaderExchange = Unit {0}
+Greets state = ⊥
+
 -- where an endpoint stands, the peer's limit, and the state of its connection belong together
 abbrev pub Agrees : Phase → Option ℕ → ConnectionState → Type 0
 Agrees Unconnected limit state = Unit {0}
-Agrees Greeting limit state = (limit ≡ None) × (state ≡ HeaderSent)
+Agrees Greeting limit state = (limit ≡ None) × Greets state
 Agrees Running limit state = Runs limit state
 Agrees Over limit state = sent_close state ≡ true
 
@@ -59,11 +65,6 @@ pub record BeginsWith (state : ConnectionState) (settings : Settings) (connectio
   pub opening : Open
   pub own : frame_on 0 (body.Open opening) ≡ own_open settings
   pub is : connection ≡ fresh state opening
-
--- a new connection that sent this Open, and the Open as it is written
-pub record Sends (opening : Open) (connection : State) (text : List ℕ) : Type 0 where
-  pub is : connection ≡ fresh OpenSent opening
-  pub text_is : text ≡ written (frame_on 0 (body.Open opening))
 
 -- the connection went on as a row of the table says, and nothing else changed (part 2, 2.4.6)
 pub record MovesBy (row : ConnectionState → Option ConnectionState) (old new : State) : Type 0 where

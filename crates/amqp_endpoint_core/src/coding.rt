@@ -1,16 +1,16 @@
-ghost use Rattle.std.specs.Prelude.{◌≡◌, ◌≤◌, ◌⊎◌, true, false, None, IfOk, IfErr};
+ghost use Rattle.std.specs.Prelude.{◌≡◌, ◌+◌, ◌<◌, ◌^◌, ◌⊎◌, true, false, length, None, IfOk, IfErr};
 ghost use Rattle.amqp_session_frames.specs.Text.{FrameText};
-ghost use Rattle.amqp_session_frames.specs.Cutting.{IsPiece};
+ghost use Rattle.amqp_session_frames.specs.Cutting.{IsPiece, with_size};
 ghost use Rattle.amqp_session_connection.specs.Steps.{frame_on};
-ghost use Rattle.amqp_endpoint_model.specs.State.{written, fits, own_open, own_close_with, error_of};
+ghost use Rattle.amqp_session_frames.specs.declared.frame.FrameBody.TheVariants as body;
+ghost use Rattle.amqp_endpoint_model.specs.State.{written, fits, own_open, error_of};
 ghost use Rattle.amqp_endpoint_model.specs.Step.{session_refusal};
 ghost use Rattle.amqp_endpoint_model.specs.declared.error.EndpointError.TheVariants.{Memory, FrameTooLarge};
 ghost use Rattle.amqp_endpoint_core.specs.Reading.{NotTaken};
 
-use crate::queued::Queued;
 use amqp_endpoint_model::{EndpointError, Settings};
-use amqp_session_frames::{Error as FrameError, Frame, FrameBody, FrameDecoder, FrameEncoder};
-use amqp_session_performatives::{Close, Open};
+use amqp_session_frames::{Error as FrameError, Frame, FrameDecoder, FrameEncoder, Piece};
+use amqp_session_performatives::Open;
 use amqp_session_types::definitions;
 use bytes::Bytes;
 use serde_amqp_types::{Array, Symbol};
@@ -22,18 +22,22 @@ pub(crate) const MIN_MAX_FRAME_SIZE: u32 = 512;
 /// How many bytes the size of a frame takes (part 2, 2.3.1).
 pub(crate) const SIZE_FIELD: usize = 4;
 
-/// A frame of no session as it is queued, in one piece within this limit.
-pub(crate) fn encoded(alloc: Global, limit: u32, frame: Frame) -> Result<Queued, EndpointError>
-    requires limit { 512 ≤ limit }
-    requires own { session_refusal frame.body ≡ None }
-    ensures ok { IfOk result (λ q. (q ≡ written frame) × (fits limit frame ≡ true)) }
-    ensures err { IfErr result (λ e. (e ≡ Memory) ⊎ ((e ≡ FrameTooLarge) × (fits limit frame ≡ false))) }
+/// The protocol header: AMQP, protocol id 0, version 1.0.0 (part 2, 2.2).
+pub(crate) const PROTOCOL_HEADER: &[u8] = b"AMQP\x00\x01\x00\x00";
+
+/// A frame of no session in one piece, which any peer takes.
+pub(crate) fn encoded(alloc: Global, frame: &Frame) -> Result<Piece, EndpointError>
+    requires own { session_refusal frame.now.body ≡ None }
+    ensures size { IfOk result (λ p. 4 + length p < 2 ^ 32) }
+    ensures ok { IfOk result (λ p. (with_size p ≡ written frame.now) × (fits 512 frame.now ≡ true)) }
+    ensures err { IfErr result (λ e. (e ≡ Memory)
+        ⊎ ((e ≡ FrameTooLarge) × (fits 512 frame.now ≡ false))) }
 {
-    let encoder = FrameEncoder::new(limit as usize - SIZE_FIELD);
+    let encoder = FrameEncoder::new(MIN_MAX_FRAME_SIZE as usize - SIZE_FIELD);
     match encoder.encode(alloc, frame) {
         Ok(pieces) => {
             let (piece, _) = pieces.into_parts();
-            Ok(Queued::frame(piece))
+            Ok(piece)
         }
         Err(FrameError::TooLarge) => Err(EndpointError::FrameTooLarge),
         Err(_) => Err(EndpointError::Memory),
@@ -42,7 +46,7 @@ pub(crate) fn encoded(alloc: Global, limit: u32, frame: Frame) -> Result<Queued,
 
 /// What the own Open says (part 2, 2.7.1).
 pub(crate) fn open_of(alloc: Global, settings: &Settings) -> Result<Open, EndpointError>
-    ensures ok { IfOk result (λ opening. frame_on 0 (FrameBody.Open opening) ≡ own_open settings.now) }
+    ensures ok { IfOk result (λ opening. frame_on 0 (body.Open opening) ≡ own_open settings.now) }
     ensures err { IfErr result (λ e. e ≡ Memory) }
 {
     Ok(Open {
@@ -57,13 +61,6 @@ pub(crate) fn open_of(alloc: Global, settings: &Settings) -> Result<Open, Endpoi
         desired_capabilities: Array::new(alloc),
         properties: None,
     })
-}
-
-/// The own Close (part 2, 2.7.9).
-pub(crate) fn close_frame(error: Option<definitions::Error>) -> Frame
-    ensures { result ≡ own_close_with error }
-{
-    Frame::new(0, FrameBody::Close(Close { error }))
 }
 
 /// An error that says this condition alone (part 2, 2.8.14).

@@ -1,21 +1,21 @@
-ghost use Rattle.std.specs.Prelude.{◌≡◌, ◌⊎◌, true, false, None, is_some, IfOk, IfErr, OnOk, MatchResult};
+ghost use Rattle.std.specs.Prelude.{◌≡◌, ◌⊎◌, true, false, None, is_some, IfOk, IfErr, OnOk, OnErr, MatchResult};
 ghost use Rattle.amqp_session_types.specs.declared.refusals.ConnectionError.TheVariants.{IllegalState, NotFound};
 ghost use Rattle.amqp_session_connection.specs.State.{fresh};
 ghost use Rattle.amqp_session_connection.specs.Steps.{frame_on};
 ghost use Rattle.amqp_session_connection.specs.Table.{after_incoming_close, after_send_close};
 ghost use Rattle.amqp_session_connection.specs.declared.state.ConnectionState.TheVariants.{Start, HeaderSent, HeaderExchange, OpenSent};
 ghost use Rattle.amqp_session_frames.specs.declared.frame.FrameBody.TheVariants as body;
-ghost use Rattle.amqp_endpoint_model.specs.State.{fits, own_open, written};
-ghost use Rattle.amqp_endpoint_model.specs.Step.{begin_refusal, session_refusal};
+ghost use Rattle.amqp_endpoint_model.specs.State.{fits, own_close_with, own_open, written};
+ghost use Rattle.amqp_endpoint_model.specs.Step.{begin_refusal};
 ghost use Rattle.amqp_endpoint_model.specs.declared.error.EndpointError.TheVariants.{Memory, FrameTooLarge};
-ghost use Rattle.amqp_endpoint_core.specs.Connected.{BeginsWith, HasNoSession, MovesBy, Sends, sent_close, took_close};
+ghost use Rattle.amqp_endpoint_core.specs.Connected.{BeginsWith, Greets, HasNoSession, MovesBy, sent_close, took_close};
 
-use crate::coding::{MIN_MAX_FRAME_SIZE, encoded, open_of};
+use crate::coding::{encoded, open_of};
 use crate::queued::Queued;
 use amqp_endpoint_model::{EndpointError, Settings};
 use amqp_session_connection::{Connection, ConnectionState};
 use amqp_session_frames::{Frame, FrameBody};
-use amqp_session_performatives::{Begin, Close, End, Open};
+use amqp_session_performatives::{Begin, Close, End};
 use amqp_session_types::{ConnectionError, IncomingChannel, definitions};
 use std::alloc::Global;
 
@@ -26,73 +26,62 @@ pub(crate) fn unopened(alloc: Global, settings: &Settings) -> Result<Connection,
     ensures err { IfErr result (λ e. (e ≡ Memory) ⊎ ((e ≡ FrameTooLarge) × (fits 512 (own_open settings.now) ≡ false))) }
 {
     let open = Frame::new(0, FrameBody::Open(open_of(alloc, settings)?));
-    encoded(alloc, MIN_MAX_FRAME_SIZE, open)?;
+    encoded(alloc, &open)?;
     let open = open_of(alloc, settings)?;
     Ok(Connection::new(alloc, ConnectionState::Start, open))
 }
 
-/// In the place of a connection comes a new one with its Open, whose header is sent. Refused for want of memory, it is
-/// as before.
-pub(crate) fn begin_anew(alloc: Global, connection: &mut Connection) -> Result<(), EndpointError>
-    ensures ok { OnOk result (connection.new ≡ fresh HeaderSent connection.old.local_open) }
-    ensures err { IfErr result (λ e. (e ≡ Memory) × (connection.new ≡ connection.old)) }
+/// The connection begins anew, with its Open to send, and its header is sent.
+#[tactic(auto, using(crate::proofs::ConnectedLaws::header_sent))]
+pub(crate) fn greet(alloc: Global, connection: &mut Connection)
+    ensures { connection.new ≡ fresh HeaderSent connection.old.local_open }
 {
-    let open = connection.local_open().clone()?;
-    *connection = Connection::new(alloc, ConnectionState::HeaderSent, open);
-    Ok(())
+    connection.begin_anew(alloc);
+    let _ = connection.send_header();
 }
 
-/// A new connection with the Open of this one, behind the exchange of headers: that Open was sent, and it is written.
-pub(crate) fn opened(
-    alloc: Global,
-    last: &Connection,
-) -> Result<(Connection, Queued), EndpointError>
-    requires { fits 512 (frame_on 0 (body.Open last.now.local_open)) ≡ true }
-    ensures ok { IfOk result (λ both. Sends last.now.local_open both.0 both.1) }
+/// The peer's header came: the connection hands out its Open, as it is queued. `Memory` where there is no memory for
+/// the copy that is handed out: the header is taken then, and the Open is still to be handed out.
+#[tactic(auto, using(crate::proofs::ConnectedLaws::open_sent))]
+pub(crate) fn hand_out_open(connection: &mut Connection) -> Result<Queued, EndpointError>
+    requires greets { Greets connection.old.local_state }
+    requires short { fits 512 (frame_on 0 (body.Open connection.old.local_open)) ≡ true }
+    ensures ok { OnOk result (connection.new ≡ record connection.old { local_state = OpenSent }) }
+    ensures text { IfOk result (λ q. q ≡ written (frame_on 0 (body.Open connection.old.local_open))) }
     ensures err { IfErr result (λ e. e ≡ Memory) }
+    ensures kept { OnErr result (connection.new ≡ record connection.old { local_state = HeaderExchange }) }
 {
-    let open = last.local_open().clone()?;
-    let (connection, frame) = sent(alloc, open)?;
-    match short(alloc, frame) {
-        Ok(open) => Ok((connection, open)),
-        Err(error) => Err(error),
-    }
-}
-
-fn sent(alloc: Global, opening: Open) -> Result<(Connection, Frame), EndpointError>
-    ensures ok { IfOk result (λ both. (both.0 ≡ fresh OpenSent opening) × (both.1 ≡ frame_on 0 (body.Open opening))) }
-    ensures err { IfErr result (λ e. e ≡ Memory) }
-{
-    let mut connection = Connection::new(alloc, ConnectionState::HeaderExchange, opening);
+    take_header(connection);
     match connection.send_open() {
-        Ok(frame) => Ok((connection, frame)),
+        Ok(frame) => Ok(Queued::frame(frame)),
         Err(_) => Err(EndpointError::Memory),
     }
 }
 
-/// An Open that fits any peer's limit, as it is queued.
-fn short(alloc: Global, frame: Frame) -> Result<Queued, EndpointError>
-    requires short { fits 512 frame ≡ true }
-    requires own { session_refusal frame.body ≡ None }
-    ensures ok { IfOk result (λ q. q ≡ written frame) }
-    ensures err { IfErr result (λ e. e ≡ Memory) }
+/// The connection takes the peer's header, unless it did.
+#[tactic(auto, using(crate::proofs::ConnectedLaws::header_taken))]
+fn take_header(connection: &mut Connection)
+    requires { Greets connection.old.local_state }
+    ensures { connection.new ≡ record connection.old { local_state = HeaderExchange } }
 {
-    encoded(alloc, MIN_MAX_FRAME_SIZE, frame)
+    let _ = connection.on_incoming_header();
 }
 
-/// The connection sends its Close, with this error. The frame is known before, and queued by the caller.
+/// The connection hands out its Close, with this error, as it is queued.
 #[tactic(auto, using(crate::proofs::ConnectedLaws::close_is_sent, crate::proofs::ConnectedLaws::close_tells_nothing))]
 pub(crate) fn close(
     connection: &mut Connection,
     error: Option<definitions::Error>,
-) -> Result<(), EndpointError>
+) -> Result<Queued, EndpointError>
+    requires { fits 512 (own_close_with error) ≡ true }
     ensures ok { OnOk result (MovesBy (after_send_close (is_some error)) connection.old connection.new) }
+    ensures text { IfOk result (λ q. q ≡ written (own_close_with error)) }
     ensures own { OnOk result (sent_close connection.new.local_state ≡ true) }
     ensures peer { OnOk result (took_close connection.new.local_state ≡ took_close connection.old.local_state) }
     ensures err { IfErr result (λ e. (e ≡ EndpointError.Connection IllegalState) × (after_send_close (is_some error) connection.old.local_state ≡ None) × (connection.new ≡ connection.old)) }
 {
-    connection.send_close(error)?;
-    Ok(())
+    let close = connection.send_close(error)?;
+    Ok(Queued::frame(close))
 }
 
 /// The connection takes the peer's Close.

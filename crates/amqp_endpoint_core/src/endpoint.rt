@@ -1,25 +1,22 @@
 ghost use Rattle.std.specs.Prelude.{◌≡◌, ◌==◌, ◌&&◌, ◌⊎◌, ◌++◌, ◌∷◌, [], true, false, length, Some, None, IfOk, IfErr, OnOk, MatchOption, MatchResult};
 ghost use Rattle.amqp_endpoint_model.specs.State.{fresh, has_opened, is_running, protocol_header, written, heartbeat, fits, own_close_with};
 ghost use Rattle.amqp_endpoint_model.specs.Said.{said};
-ghost use Rattle.amqp_endpoint_model.specs.Step.{refusal_of_settings, refusal, MayRefuse, Pulls, Step, broken, close_refusal, connected, session_refusal};
+ghost use Rattle.amqp_endpoint_model.specs.Step.{refusal_of_settings, refusal, MayRefuse, Pulls, Step, broken, close_refusal, connected};
 ghost use Rattle.amqp_endpoint_model.specs.declared.error.EndpointError.TheVariants.{Memory};
 
-use crate::coding::{MIN_MAX_FRAME_SIZE, close_frame, encoded};
-use crate::connecting::{begin_anew, close, unopened};
+use crate::coding::MIN_MAX_FRAME_SIZE;
+use crate::connecting::{close, greet, unopened};
 use crate::queued::Queued;
 use amqp_endpoint_model::{Answer, Call, EndpointError, Phase, Settings};
 use amqp_session_connection::{Connection, ConnectionState};
 use amqp_session_frames::Frame;
 use amqp_session_types::{TryCloseError, definitions};
-use bytes::{Bytes, BytesMut};
+use bytes::BytesMut;
 use std::alloc::Global;
 use std::collections::VecDeque;
 use std::marker::Model;
 
 mod feeding;
-
-/// The protocol header: AMQP, protocol id 0, version 1.0.0 (part 2, 2.2).
-const PROTOCOL_HEADER: &[u8] = b"AMQP\x00\x01\x00\x00";
 
 /// The greatest incoming-window, in transfers (part 2, 2.8.10).
 const MAX_WINDOW: u32 = 0x7fff_ffff;
@@ -98,7 +95,7 @@ impl Endpoint {
             return Err(EndpointError::AlreadyConnected);
         }
         let queue = greeting(self.alloc)?;
-        begin_anew(self.alloc, &mut *self.connection)?;
+        greet(self.alloc, &mut *self.connection);
         self.phase = Phase::Greeting;
         self.peer_limit = None;
         self.close_told = false;
@@ -110,7 +107,7 @@ impl Endpoint {
     /// The next bytes for the peer: the protocol header, or one frame with its size. None where nothing is
     /// queued.
     ///
-    /// `Memory` where there is no memory for the bytes: they stay queued.
+    /// `Memory` where there is no memory for the bytes: what they are written of stays queued.
     pub fn pull(&mut self) -> Result<Option<Vec<u8>>, EndpointError>
         ensures ok { IfOk result (λ pulled. MatchOption pulled (Pulls self.old None self.new) (λ bytes. Pulls self.old (Some (bytes.items)) self.new)) }
         ensures err { IfErr result (λ e. (e ≡ Memory) × (self.new ≡ self.old)) }
@@ -151,8 +148,7 @@ impl Endpoint {
         if self.own_close() {
             return Err(EndpointError::NotConnected);
         }
-        let heartbeat = self.written(Frame::empty())?;
-        self.queue.push_back(heartbeat)?;
+        self.queue.push_back(Queued::frame(Frame::empty()))?;
         Ok(())
     }
 
@@ -262,19 +258,8 @@ impl Endpoint {
         }
     }
 
-    /// A frame of no session that fits any peer's limit, as it is queued.
-    fn written(&self, frame: Frame) -> Result<Queued, EndpointError>
-        requires short { fits 512 frame ≡ true }
-        requires own { session_refusal frame.body ≡ None }
-        ensures ok { IfOk result (λ q. q ≡ written frame) }
-        ensures err { IfErr result (λ e. e ≡ Memory) }
-    {
-        let limit = self.peer_limit.unwrap_or(MIN_MAX_FRAME_SIZE);
-        encoded(self.alloc, limit, frame)
-    }
-
-    /// Queues the own Close with this error. It is written first, since a connection that has sent it can't take it
-    /// back where there is no memory for it.
+    /// Queues the own Close with this error, which the connection hands out. There is room for it first, since a
+    /// connection that has sent it can't take it back.
     fn send_close(&mut self, error: Option<definitions::Error>) -> Result<(), EndpointError>
         requires short { fits 512 (own_close_with error) ≡ true }
         requires opened { has_opened self.old.phase ≡ true }
@@ -282,10 +267,9 @@ impl Endpoint {
         ensures ok { OnOk result (self.new ≡ record self.old { own_close = true; queue = self.old.queue ++ written (own_close_with error) ∷ [] }) }
         ensures err { IfErr result (λ e. (e ≡ Memory) × (self.new ≡ self.old)) }
     {
-        let text = self.written(close_frame(error.clone()?))?;
         self.queue.reserve(1)?;
-        close(&mut *self.connection, error)?;
-        self.queue.push_back_reserved(text);
+        let close = close(&mut *self.connection, error)?;
+        self.queue.push_back_reserved(close);
         Ok(())
     }
 }
@@ -296,7 +280,7 @@ fn greeting(alloc: Global) -> Result<VecDeque<Queued>, EndpointError>
     ensures err { IfErr result (λ e. e ≡ Memory) }
 {
     let mut queue = VecDeque::new(alloc);
-    queue.push_back(Queued::whole(Bytes::from_static(PROTOCOL_HEADER)))?;
+    queue.push_back(Queued::header())?;
     Ok(queue)
 }
 

@@ -1,19 +1,21 @@
-ghost use Rattle.std.specs.Prelude.{◌≡◌, ◌+◌, ◌<◌, ◌^◌, ◌++◌, length, IfOk};
-ghost use Rattle.std.specs.Int.{w32, to_be_bytes};
+ghost use Rattle.std.specs.Prelude.{◌≡◌, ◌+◌, ◌<◌, ◌^◌, true, None, length, IfErr, IfOk};
 ghost use Rattle.amqp_session_frames.specs.Cutting.{with_size};
+ghost use Rattle.amqp_endpoint_model.specs.State.{fits, protocol_header, written};
+ghost use Rattle.amqp_endpoint_model.specs.Step.{session_refusal};
+ghost use Rattle.amqp_endpoint_model.specs.declared.error.EndpointError.TheVariants.{Memory};
 
-use crate::coding::SIZE_FIELD;
-use amqp_session_frames::Piece;
-use bytes::Bytes;
+use crate::coding::{PROTOCOL_HEADER, SIZE_FIELD, encoded};
+use amqp_endpoint_model::EndpointError;
+use amqp_session_frames::{Frame, Piece};
 use std::alloc::{AllocError, Global};
 use std::marker::Model;
 
 #[derive(Drop)]
 pub(crate) enum Content {
-    /// Bytes that are written as they are.
-    Whole(Bytes),
-    /// A frame, whose size is written in front of it.
-    Frame(Piece),
+    /// The protocol header.
+    Header,
+    /// A frame, which is written where it is pulled.
+    Frame(Frame),
 }
 
 /// What one `pull` gives. A clause sees its bytes.
@@ -27,43 +29,70 @@ impl Model for Queued {
 
     ghost Value = { List ℕ };
 
-    ghost use Rattle.amqp_endpoint_core.specs.Queue.{content_bytes, HasSize};
+    ghost use Rattle.amqp_endpoint_core.specs.Queue.{content_bytes, IsShort};
 
     ghost view = { λ q. content_bytes q.content };
 
-    ghost invariant = { λ q. HasSize q.content };
+    ghost invariant = { λ q. IsShort q.content };
 }
 
 impl Queued {
-    pub(crate) fn whole(bytes: Bytes) -> Self
-        ensures { result ≡ bytes }
+    /// The protocol header.
+    pub(crate) fn header() -> Self
+        ensures { result ≡ protocol_header }
     {
         Queued {
-            content: Content::Whole(bytes),
+            content: Content::Header,
         }
     }
 
-    pub(crate) fn frame(piece: Piece) -> Self
-        requires { 4 + length piece < 2 ^ 32 }
-        ensures { result ≡ with_size piece }
+    /// A frame of no session that fits any peer's limit.
+    pub(crate) fn frame(frame: Frame) -> Self
+        requires own { session_refusal frame.body ≡ None }
+        requires short { fits 512 frame ≡ true }
+        ensures { result ≡ written frame }
     {
         Queued {
-            content: Content::Frame(piece),
+            content: Content::Frame(frame),
         }
     }
 
     /// The bytes. It is refused where there is no memory for them.
-    pub(crate) fn to_vec(&self, alloc: Global) -> Result<Vec<u8>, AllocError>
-        ensures { IfOk result (λ v. v.items ≡ self.now) }
+    pub(crate) fn to_vec(&self, alloc: Global) -> Result<Vec<u8>, EndpointError>
+        ensures ok { IfOk result (λ v. v.items ≡ self.now) }
+        ensures err { IfErr result (λ e. e ≡ Memory) }
     {
         match &self.content {
-            Content::Whole(bytes) => Vec::from_slice(alloc, bytes.as_slice()),
-            Content::Frame(piece) => frame_bytes(alloc, piece),
+            Content::Header => Ok(Vec::from_slice(alloc, PROTOCOL_HEADER)?),
+            Content::Frame(frame) => frame_bytes(alloc, frame),
         }
     }
 }
 
-fn frame_bytes(alloc: Global, piece: &Piece) -> Result<Vec<u8>, AllocError>
+/// What a frame of no session that fits any peer's limit is written as.
+fn frame_bytes(alloc: Global, frame: &Frame) -> Result<Vec<u8>, EndpointError>
+    requires own { session_refusal frame.now.body ≡ None }
+    requires short { fits 512 frame.now ≡ true }
+    ensures ok { IfOk result (λ v. v.items ≡ written frame.now) }
+    ensures err { IfErr result (λ e. e ≡ Memory) }
+{
+    let piece = piece_of(alloc, frame)?;
+    Ok(sized(alloc, &piece)?)
+}
+
+/// The piece of a frame that fits any peer's limit.
+fn piece_of(alloc: Global, frame: &Frame) -> Result<Piece, EndpointError>
+    requires own { session_refusal frame.now.body ≡ None }
+    requires short { fits 512 frame.now ≡ true }
+    ensures size { IfOk result (λ p. 4 + length p < 2 ^ 32) }
+    ensures text { IfOk result (λ p. with_size p ≡ written frame.now) }
+    ensures err { IfErr result (λ e. e ≡ Memory) }
+{
+    encoded(alloc, frame)
+}
+
+/// A piece with its size in front.
+fn sized(alloc: Global, piece: &Piece) -> Result<Vec<u8>, AllocError>
     requires { 4 + length piece.now < 2 ^ 32 }
     ensures { IfOk result (λ v. v.items ≡ with_size piece.now) }
 {

@@ -5,10 +5,10 @@ ghost use Rattle.amqp_endpoint_model.specs.declared.error.EndpointError.TheVaria
 ghost use Rattle.amqp_endpoint_model.specs.declared.phase.Phase.TheVariants.{Greeting, Running};
 ghost use Rattle.amqp_endpoint_core.specs.Reading.{BodyRefused, BodyTaken, EndsBy, FrameSplit, FrontRefused, FrontTaken, FrontUnread, HeaderRefused, HeaderTaken, PieceOf, SizeRefused, condition_text};
 
-use super::{Endpoint, PROTOCOL_HEADER};
-use crate::coding::{MIN_MAX_FRAME_SIZE, close_frame, decoded, error_of_condition};
+use super::Endpoint;
+use crate::coding::{MIN_MAX_FRAME_SIZE, PROTOCOL_HEADER, decoded, error_of_condition};
 use crate::condition::Condition;
-use crate::connecting::{close, find_session, opened, take_begin, take_close, take_end};
+use crate::connecting::{close, find_session, hand_out_open, take_begin, take_close, take_end};
 use amqp_endpoint_model::{Closed, EndpointError, Event, Fed, Opened, Phase};
 use amqp_session_frames::{Frame, FrameBody};
 use amqp_session_performatives::{Close, Open};
@@ -90,9 +90,8 @@ impl Endpoint {
         ensures err { IfErr result (λ e. (e ≡ Memory) × (self.new ≡ self.old)) }
     {
         self.queue.reserve(1)?;
-        let (connection, open) = opened(self.alloc, &*self.connection)?;
+        let open = hand_out_open(&mut *self.connection)?;
         self.queue.push_back_reserved(open);
-        *self.connection = connection;
         self.phase = Phase::Running;
         Ok(())
     }
@@ -280,10 +279,9 @@ impl Endpoint {
             self.phase = Phase::Over;
             return Ok(());
         }
-        let answer = self.written(close_frame(None))?;
         self.queue.reserve(1)?;
         take_close(&mut *self.connection, channel, peer)?;
-        close(&mut *self.connection, None)?;
+        let answer = close(&mut *self.connection, None)?;
         self.queue.push_back_reserved(answer);
         self.phase = Phase::Over;
         Ok(())
