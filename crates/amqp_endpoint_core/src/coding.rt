@@ -29,7 +29,8 @@ pub(crate) const PROTOCOL_HEADER: &[u8] = b"AMQP\x00\x01\x00\x00";
 pub(crate) fn encoded(alloc: Global, frame: &Frame) -> Result<Piece, EndpointError>
     requires own { session_refusal frame.now.body ≡ None }
     ensures size { IfOk result (λ p. 4 + length p < 2 ^ 32) }
-    ensures ok { IfOk result (λ p. (with_size p ≡ written frame.now) × (fits 512 frame.now ≡ true)) }
+    ensures ok { IfOk result (λ p. (with_size p ≡ written frame.now)
+        × (fits 512 frame.now ≡ true)) }
     ensures err { IfErr result (λ e. (e ≡ Memory)
         ⊎ ((e ≡ FrameTooLarge) × (fits 512 frame.now ≡ false))) }
 {

@@ -47,9 +47,11 @@ pub(crate) fn hand_out_open(connection: &mut Connection) -> Result<Queued, Endpo
     requires greets { Greets connection.old.local_state }
     requires short { fits 512 (frame_on 0 (body.Open connection.old.local_open)) ≡ true }
     ensures ok { OnOk result (connection.new ≡ record connection.old { local_state = OpenSent }) }
-    ensures text { IfOk result (λ q. q ≡ written (frame_on 0 (body.Open connection.old.local_open))) }
+    ensures text { IfOk result (λ q. q
+        ≡ written (frame_on 0 (body.Open connection.old.local_open))) }
     ensures err { IfErr result (λ e. e ≡ Memory) }
-    ensures kept { OnErr result (connection.new ≡ record connection.old { local_state = HeaderExchange }) }
+    ensures kept { OnErr result (connection.new
+        ≡ record connection.old { local_state = HeaderExchange }) }
 {
     take_header(connection);
     match connection.send_open() {

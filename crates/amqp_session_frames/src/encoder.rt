@@ -109,8 +109,10 @@ impl FrameEncoder {
         channel: u16,
         performative: &P,
     ) -> Result<Pieces, Error>
-        ensures text { IfOk result (λ v. IsWhole self.now channel (canon (P.item performative.now)) [] v) }
-        ensures refused { IfErr result (λ e. NotWhole self.now (canon (P.item performative.now)) [] e) }
+        ensures text { IfOk result (λ v. IsWhole self.now channel
+            (canon (P.item performative.now)) [] v) }
+        ensures refused { IfErr result (λ e. NotWhole self.now
+            (canon (P.item performative.now)) [] e) }
     {
         let size = size_of(performative)?;
         if fits(self.body_room(), size, 0) {
@@ -181,8 +183,8 @@ impl FrameEncoder {
     ) -> Result<(), Error>
         requires room { Fits self.now (transfer_text (saying (continuation transfer.now) true)) 1 }
         requires payload { 0 < length payload }
-        ensures ok { OnOk result (Continues self.now channel (continuation transfer.now) transfer.now.more payload
-            pieces.old.items pieces.new.items) }
+        ensures ok { OnOk result (Continues self.now channel (continuation transfer.now)
+            transfer.now.more payload pieces.old.items pieces.new.items) }
         ensures memory { IfErr result (λ e. e ≡ Memory) }
     {
         let behind = continued(transfer);
