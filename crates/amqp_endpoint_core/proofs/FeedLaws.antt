@@ -8,12 +8,12 @@ use Rattle.amqp_session_types.specs.declared.refusals.ConnectionError.TheVariant
 use Rattle.amqp_session_frames.specs.Cutting.{ReadsAs}
 use Rattle.amqp_endpoint_model.specs.declared.event.Event.{Event}
 use Rattle.amqp_endpoint_model.specs.declared.error.EndpointError.{EndpointError}
-use Rattle.amqp_endpoint_model.specs.declared.error.EndpointError.TheVariants.{Memory, SizeUnder8, SizeOverLimit, PeerLimitUnder512, Frame as FrameFault, Connection}
+use Rattle.amqp_endpoint_model.specs.declared.error.EndpointError.TheVariants.{Memory, PeerLimitUnder512, Connection}
 use Rattle.amqp_endpoint_model.specs.declared.phase.Phase.{Phase}
 use Rattle.amqp_endpoint_model.specs.declared.phase.Phase.TheVariants.{Unconnected, Greeting, Running, Over}
 use Rattle.amqp_endpoint_model.specs.State.{State, is_running}
-use Rattle.amqp_endpoint_model.specs.Step.{RefusesBody, Admits, TakesBody, Takes, TakesAll, Waits, Ends, EndsRunning, ReadsOn, broken}
-use Rattle.amqp_endpoint_core.specs.Reading.{FrontRefused, TakesFront, SoFar, EndsBy, after_fault, condition_of}
+use Rattle.amqp_endpoint_model.specs.Step.{RefusesBody, FrontRefused, Admits, TakesBody, Takes, TakesAll, Waits, Ends, EndsRunning, ReadsOn, after_fault, condition_of, broken}
+use Rattle.amqp_endpoint_core.specs.Reading.{TakesFront, SoFar, EndsBy}
 
 chosen : (b : Bool) (x y : State) → b ≡ true → (if b then x else y) ≡ x
 chosen true x y e = refl
@@ -163,13 +163,9 @@ refuses_body m r e b h = absurd h
 
 -- a fault ends it
 fault_ends : (m : State) (r left : List ℕ) (e : EndpointError) (new : State) → FrontRefused (record m { rest = r }) left e → new ≡ after_fault (condition_of e) m → EndsRunning m left (Some e) new
-fault_ends m r left Memory new h after = after
-fault_ends m r left SizeUnder8 new h after = (h.0, h.1, after)
-fault_ends m r left SizeOverLimit new h after = (h.0, h.1, h.2, after)
-fault_ends m r left (FrameFault e) new h after = (h.0, h.1, h.2, after)
-fault_ends m r left PeerLimitUnder512 new h after = (h.0, h.1, h.2, h.3, refuses_body m r PeerLimitUnder512 (h.1.body) h.4, after)
-fault_ends m r left (Connection e) new h after = (h.0, h.1, h.2, h.3, refuses_body m r (Connection e) (h.1.body) h.4, after)
-fault_ends m r left e new h after = absurd h
+fault_ends m r left PeerLimitUnder512 new h after = ((h.0, h.1, h.2, h.3, refuses_body m r PeerLimitUnder512 (h.1.body) h.4), after)
+fault_ends m r left (Connection e) new h after = ((h.0, h.1, h.2, h.3, refuses_body m r (Connection e) (h.1.body) h.4), after)
+fault_ends m r left e new h after = (h, after)
 
 after_fault-rest : (condition : Option (List ℕ)) (m : State) (r : List ℕ) → after_fault condition (record m { rest = r }) ≡ after_fault condition m
 after_fault-rest None m r = refl
@@ -183,7 +179,7 @@ fault_or_memory mid m left e told new h cut (inl (is, after)) =
     subst P (sym is) (fault_ends mid left left e new h (after ∙ ap (after_fault (condition_of e)) cut ∙ after_fault-rest (condition_of e) mid m.rest))
 fault_or_memory mid m left e told new h cut (inr (is, after)) =
     let P : EndpointError → Type 0 = λ x. EndsRunning mid left (Some x) new in
-    subst P (sym is) (after ∙ ap broken cut)
+    subst P (sym is) (tt, after ∙ ap broken cut)
 
 pub ends_by_fault : (start now : State) (events behind : List Event) (m new : State) (e told : EndpointError) → SoFar start events now → is_running now.phase ≡ true → FrontRefused now now.rest e
     → behind ≡ events → m ≡ record now { rest = m.rest } → EndsBy e told m new → ReadsOn start start.rest behind (Some told) new

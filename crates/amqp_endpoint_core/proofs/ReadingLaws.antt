@@ -12,8 +12,8 @@ use Rattle.amqp_endpoint_model.specs.declared.error.EndpointError.{EndpointError
 use Rattle.amqp_endpoint_model.specs.declared.error.EndpointError.TheVariants.{Memory, SizeUnder8, SizeOverLimit, PeerLimitUnder512, Frame as FrameFault, Connection}
 use Rattle.amqp_endpoint_model.specs.declared.phase.Phase.TheVariants.{Running}
 use Rattle.amqp_endpoint_model.specs.State.{State, is_running}
-use Rattle.amqp_endpoint_model.specs.Step.{Front, TakesBody, closed}
-use Rattle.amqp_endpoint_core.specs.Reading.{PieceOf, NotTaken, SizeRefused, BodyRefused, BodyTaken, FrameSplit, FrontUnread, FrontRefused, TakesFront}
+use Rattle.amqp_endpoint_model.specs.Step.{Front, FrontUnread, FrontRefused, TakesBody, closed}
+use Rattle.amqp_endpoint_core.specs.Reading.{PieceOf, NotTaken, SizeRefused, BodyRefused, BodyTaken, FrameSplit, TakesFront}
 
 -- a whole piece stands in front
 pub front_piece : (limit : ℕ) (left : List ℕ) (size : ℕ) → PieceOf limit left size → IsPiece (take size left)

@@ -9,7 +9,7 @@ use Rattle.amqp_endpoint_model.specs.declared.error.EndpointError.TheVariants.{M
 use Rattle.amqp_endpoint_model.specs.declared.event.Event.{Event}
 use Rattle.amqp_endpoint_model.specs.declared.phase.Phase.TheVariants.{Running, Over}
 use Rattle.amqp_endpoint_model.specs.State.{State, is_running, protocol_header}
-use Rattle.amqp_endpoint_model.specs.Step.{Admits, TakesBody, TakesAll, Front, NoFrame, RefusesBody, Waits, opened, broken, faulted, framing_error, decode_error, not_allowed, not_found, condition_of_frame, condition_of_connection}
+use Rattle.amqp_endpoint_model.specs.Step.{Admits, TakesBody, TakesAll, Front, FrontUnread, NoFrame, RefusesBody, Waits, opened, broken, after_fault, condition_of, framing_error, decode_error, not_allowed, not_found}
 use Rattle.amqp_endpoint_core.specs.declared.condition.Condition.{Condition}
 use Rattle.amqp_endpoint_core.specs.declared.condition.Condition.TheVariants.{FramingError, DecodeError, NotAllowed, NotFound}
 
@@ -31,8 +31,8 @@ NotTaken piece e = ⊥
 
 -- the size that stands in front may not be
 abbrev pub SizeRefused : ℕ → List ℕ → EndpointError → Type 0
-SizeRefused limit left SizeUnder8 = (4 ≤ length left) × (said_size left < 8)
-SizeRefused limit left SizeOverLimit = (4 ≤ length left) × (8 ≤ said_size left) × (limit < said_size left)
+SizeRefused limit left SizeUnder8 = FrontUnread limit left SizeUnder8
+SizeRefused limit left SizeOverLimit = FrontUnread limit left SizeOverLimit
 SizeRefused limit left e = ⊥
 
 -- a whole piece of so many bytes stands in front
@@ -54,24 +54,6 @@ pub record BodyTaken (old : State) (body : FrameBody) (before behind : List Even
   pub events : List Event
   pub told : behind ≡ before ++ events
   pub takes : TakesBody old body events new
-
--- why no frame is read in front, though its size is there
-abbrev pub FrontUnread : ℕ → List ℕ → EndpointError → Type 0
-FrontUnread limit left Memory = Unit {0}
-FrontUnread limit left SizeUnder8 = SizeRefused limit left SizeUnder8
-FrontUnread limit left SizeOverLimit = SizeRefused limit left SizeOverLimit
-FrontUnread limit left (FrameFault e) = (piece : List ℕ) × Front limit left piece × NoFrame e piece
-FrontUnread limit left e = ⊥
-
--- a frame in front that is refused for what it says
-abbrev pub FrontBarred : State → List ℕ → EndpointError → Type 0
-FrontBarred s left e = (piece : List ℕ) × (f : Frame) × Front s.settings.max_frame_size left piece × FrameText piece f × RefusesBody s e f.body
-
--- why the frame in front is not taken
-abbrev pub FrontRefused : State → List ℕ → EndpointError → Type 0
-FrontRefused s left PeerLimitUnder512 = FrontBarred s left PeerLimitUnder512
-FrontRefused s left (Connection e) = FrontBarred s left (Connection e)
-FrontRefused s left e = FrontUnread s.settings.max_frame_size left e
 
 -- the frame in front is split off
 pub record FrameSplit (old : State) (frame : Frame) (new : State) : Type 0 where
@@ -105,20 +87,6 @@ condition_text NotFound = not_found
 abbrev pub told_by : Option Condition → Option (List ℕ)
 told_by (Some c) = Some (condition_text c)
 told_by None = None
-
--- what the own Close says behind this fault, if it tells of it
-abbrev pub condition_of : EndpointError → Option (List ℕ)
-condition_of SizeUnder8 = Some framing_error
-condition_of SizeOverLimit = Some framing_error
-condition_of PeerLimitUnder512 = Some framing_error
-condition_of (FrameFault e) = Some (condition_of_frame e)
-condition_of (Connection e) = Some (condition_of_connection e)
-condition_of e = None
-
--- the state behind a fault
-abbrev pub after_fault : Option (List ℕ) → State → State
-after_fault (Some condition) s = faulted condition s
-after_fault None s = broken s
 
 -- a fault ends the connection, or want of memory for the Close that tells of it does
 abbrev pub EndsBy : EndpointError → EndpointError → State → State → Type 0

@@ -1,5 +1,6 @@
 ghost use Rattle.std.specs.Prelude.{◌≡◌};
-ghost use Rattle.amqp_endpoint_core.specs.Reading.{condition_of, condition_text, told_by};
+ghost use Rattle.amqp_endpoint_model.specs.Step.{condition_of};
+ghost use Rattle.amqp_endpoint_core.specs.Reading.{condition_text, told_by};
 
 use amqp_endpoint_model::EndpointError;
 use amqp_session_frames::Error as FrameError;

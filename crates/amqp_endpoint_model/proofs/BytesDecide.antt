@@ -7,14 +7,14 @@ use Rattle.amqp_session_frames.specs.declared.frame.FrameBody.{FrameBody}
 use Rattle.amqp_session_frames.specs.declared.frame.FrameBody.TheVariants.{Empty, Open, Close}
 use Rattle.amqp_session_frames.proofs.CuttingLaws.{same_fronts}
 use Rattle.amqp_endpoint_model.specs.declared.error.EndpointError.{EndpointError}
-use Rattle.amqp_endpoint_model.specs.declared.error.EndpointError.TheVariants.{Memory, SizeUnder8, SizeOverLimit, PeerLimitUnder512, Frame as FrameFault, Connection}
+use Rattle.amqp_endpoint_model.specs.declared.error.EndpointError.TheVariants.{Memory, PeerLimitUnder512, Connection}
 use Rattle.amqp_endpoint_model.specs.declared.phase.Phase.{Phase}
 use Rattle.amqp_endpoint_model.specs.declared.phase.Phase.TheVariants.{Running, Over}
 use Rattle.amqp_endpoint_model.specs.declared.settings.Settings.{Settings}
 use Rattle.amqp_endpoint_model.specs.declared.call.Call.{Call}
 use Rattle.amqp_endpoint_model.specs.Said.{Told}
 use Rattle.amqp_endpoint_model.specs.State.{State, protocol_header, fresh}
-use Rattle.amqp_endpoint_model.specs.Step.{TakesBody, TakesAll, EndsRunning, Ends, opened, closed, faulted, condition_of_frame, condition_of_connection, session_refusal, framing_error, not_allowed}
+use Rattle.amqp_endpoint_model.specs.Step.{TakesBody, TakesAll, EndsRunning, Ends, opened, closed, condition_of, after_fault, session_refusal}
 use Rattle.amqp_endpoint_model.specs.History.{Run, Summary, nothing, summary, body_events, events_of, is_open, is_close, has_open, has_close, CloseIsLast, OpenIsTaken, OpenIsOnce, NoneOfSessions, Stops, Framed, Pieces}
 use Rattle.amqp_endpoint_model.proofs.Joins.{header_long}
 use Rattle.amqp_endpoint_model.proofs.Takings.{same_settings}
@@ -71,34 +71,26 @@ takes_all-after s (f ∷ g ∷ fs) is closes once known n = (
   refl,
 )
 
--- the state behind a fault, or behind bytes that wait
-abbrev after_fault : State → List ℕ → Option EndpointError → State
-after_fault s left None = record s { rest = left }
-after_fault s left (Some SizeUnder8) = faulted framing_error s
-after_fault s left (Some SizeOverLimit) = faulted framing_error s
-after_fault s left (Some (FrameFault e)) = faulted (condition_of_frame e) s
-after_fault s left (Some PeerLimitUnder512) = faulted framing_error s
-after_fault s left (Some (Connection e)) = faulted (condition_of_connection e) s
-after_fault s left (Some e) = faulted not_allowed s
+-- the state behind bytes that wait, or behind a fault
+abbrev ended : State → List ℕ → Option EndpointError → State
+ended s left None = record s { rest = left }
+ended s left (Some e) = after_fault (condition_of e) s
 
 none-is : (o : Option ℕ) → is_some o ≡ false → o ≡ None
 none-is None e = refl
 none-is (Some n) e = cc
 
 stops-ends : (s : State) (fs : List Frame) (left : List ℕ) (fault : Option EndpointError) → is_some s.peer_limit ≡ has_open fs → has_close fs ≡ false → fault ≢ Some Memory
-    → Stops s.settings.max_frame_size fs left fault → EndsRunning s left fault (after_fault s left fault)
+    → Stops s.settings.max_frame_size fs left fault → EndsRunning s left fault (ended s left fault)
 stops-ends s fs left None opens still n (inl w) = (w, refl)
 stops-ends s fs left None opens still n (inr there) = absurd (let x : true ≡ false = sym there ∙ still in cc)
 stops-ends s fs left (Some Memory) opens still n t = absurd (n refl)
-stops-ends s fs left (Some SizeUnder8) opens still n (four, less) = (four, less, refl)
-stops-ends s fs left (Some SizeOverLimit) opens still n (four, least, more) = (four, least, more, refl)
-stops-ends s fs left (Some (FrameFault e)) opens still n (piece, front, none) = (piece, front, none, refl)
 stops-ends s fs left (Some PeerLimitUnder512) opens still n (o, next, none, less) =
-    (next.piece, (record { channel = next.channel; body = Open o }), next.front, next.text, (none-is s.peer_limit (opens ∙ none), less), refl)
+    ((next.piece, (record { channel = next.channel; body = Open o }), next.front, next.text, (none-is s.peer_limit (opens ∙ none), less)), refl)
 stops-ends s fs left (Some (Connection OutOfOrder)) opens still n (o, next, there) =
-    (next.piece, (record { channel = next.channel; body = Open o }), next.front, next.text, opens ∙ there, refl)
-stops-ends s fs left (Some (Connection e)) opens still n (body, next, r) = (next.piece, (record { channel = next.channel; body = body }), next.front, next.text, r, refl)
-stops-ends s fs left (Some e) opens still n t = absurd t
+    ((next.piece, (record { channel = next.channel; body = Open o }), next.front, next.text, opens ∙ there), refl)
+stops-ends s fs left (Some (Connection e)) opens still n (body, next, r) = ((next.piece, (record { channel = next.channel; body = body }), next.front, next.text, r), refl)
+stops-ends s fs left (Some e) opens still n t = (t, refl)
 
 closing : (s : State) (left : List ℕ) (fault : Option EndpointError) → fault ≡ None → Ends s Over left fault s
 closing s left None e = refl
@@ -107,7 +99,7 @@ closing s left (Some f) e = cc
 -- how reading ended
 abbrev end_of : Bool → State → List ℕ → Option EndpointError → State
 end_of true s left fault = s
-end_of false s left fault = after_fault s left fault
+end_of false s left fault = ended s left fault
 
 ends-at : (closed : Bool) (s : State) (fs : List Frame) (left : List ℕ) (fault : Option EndpointError) → has_close fs ≡ closed → is_some s.peer_limit ≡ has_open fs → fault ≢ Some Memory → (has_close fs ≡ true → fault ≡ None)
     → Stops s.settings.max_frame_size fs left fault → Ends s (phase_after closed) left fault (end_of closed s left fault)

@@ -11,7 +11,7 @@ use Rattle.amqp_endpoint_model.specs.declared.call.Call.TheVariants.{Connect, Fe
 use Rattle.amqp_endpoint_model.specs.Said.{Said, done, refused, fed, pulled, count, truth, tried_close, Told}
 use Rattle.amqp_endpoint_model.specs.State.{State, heartbeat, written, own_close_with}
 use Rattle.amqp_endpoint_model.specs.Step.{refusal, MayRefuse, connected, broken, opened, close_refusal, Greets, FeedsIn, Pulls, Step}
-use Rattle.amqp_endpoint_model.specs.History.{Run, HasMemory, AllHaveMemory, joined, gist}
+use Rattle.amqp_endpoint_model.specs.History.{Run, HasMemory, AllHaveMemory, feeds_joined, told_joined}
 use Rattle.amqp_endpoint_model.proofs.Joins.{header_long}
 use Rattle.amqp_endpoint_model.proofs.Recuts.{FeedSaid, feed_said, has_memory, Joined, joined-run}
 use Rattle.amqp_endpoint_model.proofs.Endings.{SameRead, reads_on-unique}
@@ -168,9 +168,9 @@ run-decides s (call ∷ calls) (x ∷ ts) (y ∷ us) m n (mid, one, queued, rest
     (ap (λ z. z ∷ ts) same ∙ ap (λ zs. y ∷ zs) later, end)
 
 -- runs of the same calls, but for how the bytes of adjacent feeds are cut
-pub recut : (s : State) (calls calls2 : List Call) (ts us : List Told) (m n : State) → Run s calls ts m → Run s calls2 us n → joined calls ≡ joined calls2 → AllHaveMemory ts → AllHaveMemory us → (gist calls ts ≡ gist calls2 us) × (m ≡ n)
+pub recut : (s : State) (calls calls2 : List Call) (ts us : List Told) (m n : State) → Run s calls ts m → Run s calls2 us n → feeds_joined calls ≡ feeds_joined calls2 → AllHaveMemory ts → AllHaveMemory us → (told_joined calls ts ≡ told_joined calls2 us) × (m ≡ n)
 recut s calls calls2 ts us m n r t same h k =
-    let x : Joined s (joined calls) (gist calls ts) m = joined-run s calls ts m r h in
-    let y : Joined s (joined calls2) (gist calls2 us) n = joined-run s calls2 us n t k in
-    let P : List Call → Type 0 = λ z. Run s z (gist calls2 us) n in
-    run-decides s (joined calls) (gist calls ts) (gist calls2 us) m n x.run (subst P (sym same) y.run) x.memory y.memory
+    let x : Joined s (feeds_joined calls) (told_joined calls ts) m = joined-run s calls ts m r h in
+    let y : Joined s (feeds_joined calls2) (told_joined calls2 us) n = joined-run s calls2 us n t k in
+    let P : List Call → Type 0 = λ z. Run s z (told_joined calls2 us) n in
+    run-decides s (feeds_joined calls) (told_joined calls ts) (told_joined calls2 us) m n x.run (subst P (sym same) y.run) x.memory y.memory

@@ -56,12 +56,12 @@ connection-refused s piece f e body new is text r after = unknown f e text (ap s
 pub ending : (s : State) (left : List ℕ) (fault : Option EndpointError) (new : State) → fault ≢ Some Memory → EndsRunning s left fault new → Ending s left fault new
 ending s left None new n (w, after) = waits w refl after
 ending s left (Some Memory) new n r = absurd (n refl)
-ending s left (Some SizeUnder8) new n (four, less, after) = under four less refl after
-ending s left (Some SizeOverLimit) new n (four, least, more, after) = over four least more refl after
-ending s left (Some (FrameFault e)) new n (piece, f, none, after) = front piece f (no_frame-refused s piece e new none after)
-ending s left (Some PeerLimitUnder512) new n (piece, frame, f, text, refuses, after) = front piece f (small-refused s piece frame frame.body new refl text refuses after)
-ending s left (Some (Connection e)) new n (piece, frame, f, text, refuses, after) = front piece f (connection-refused s piece frame e frame.body new refl text refuses after)
-ending s left (Some e) new n r = absurd r
+ending s left (Some SizeUnder8) new n ((four, less), after) = under four less refl after
+ending s left (Some SizeOverLimit) new n ((four, least, more), after) = over four least more refl after
+ending s left (Some (FrameFault e)) new n ((piece, f, none), after) = front piece f (no_frame-refused s piece e new none after)
+ending s left (Some PeerLimitUnder512) new n ((piece, frame, f, text, refuses), after) = front piece f (small-refused s piece frame frame.body new refl text refuses after)
+ending s left (Some (Connection e)) new n ((piece, frame, f, text, refuses), after) = front piece f (connection-refused s piece frame e frame.body new refl text refuses after)
+ending s left (Some e) new n (r, after) = absurd r
 
 -- a whole piece in front of what is left has the size that is said there
 pub record Sized (limit : ℕ) (left : List ℕ) : Type 0 where

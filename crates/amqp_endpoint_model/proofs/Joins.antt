@@ -28,24 +28,24 @@ longer left more le = omega (arith, le, length-append left more)
 -- a fault is the same with more bytes behind it
 fault-more : (mid : State) (left more : List ℕ) (e : EndpointError) (new : State) → EndsRunning mid left (Some e) new → EndsRunning mid (left ++ more) (Some e) new
 fault-more mid left more Memory new r = r
-fault-more mid left more SizeUnder8 new (four, under, after) =
-    (longer left more four, omega (arith, under, said_size-append left more four), after)
-fault-more mid left more SizeOverLimit new (four, least, over, after) =
-    (longer left more four, omega (arith, least, said_size-append left more four), omega (arith, over, said_size-append left more four), after)
-fault-more mid left more (FrameFault e) new (piece, front, none, after) = (piece, Front-more mid.settings.max_frame_size left piece more front, none, after)
-fault-more mid left more PeerLimitUnder512 new (piece, f, front, text, refuses, after) = (piece, f, Front-more mid.settings.max_frame_size left piece more front, text, refuses, after)
-fault-more mid left more (Connection e) new (piece, f, front, text, refuses, after) = (piece, f, Front-more mid.settings.max_frame_size left piece more front, text, refuses, after)
-fault-more mid left more e new r = absurd r
+fault-more mid left more SizeUnder8 new ((four, under), after) =
+    ((longer left more four, omega (arith, under, said_size-append left more four)), after)
+fault-more mid left more SizeOverLimit new ((four, least, over), after) =
+    ((longer left more four, omega (arith, least, said_size-append left more four), omega (arith, over, said_size-append left more four)), after)
+fault-more mid left more (FrameFault e) new ((piece, front, none), after) = ((piece, Front-more mid.settings.max_frame_size left piece more front, none), after)
+fault-more mid left more PeerLimitUnder512 new ((piece, f, front, text, refuses), after) = ((piece, f, Front-more mid.settings.max_frame_size left piece more front, text, refuses), after)
+fault-more mid left more (Connection e) new ((piece, f, front, text, refuses), after) = ((piece, f, Front-more mid.settings.max_frame_size left piece more front, text, refuses), after)
+fault-more mid left more e new r = absurd r.0
 
 -- a fault other than want of memory leaves the connection over
 fault-over : (mid : State) (left : List ℕ) (e : EndpointError) (new : State) → Some e ≢ Some Memory → EndsRunning mid left (Some e) new → new.phase ≡ Over
 fault-over mid left Memory new n r = absurd (n refl)
-fault-over mid left SizeUnder8 new n (a, b, after) = ap (λ s. s.phase) after
-fault-over mid left SizeOverLimit new n (a, b, c, after) = ap (λ s. s.phase) after
-fault-over mid left (FrameFault e) new n (piece, front, none, after) = ap (λ s. s.phase) after
-fault-over mid left PeerLimitUnder512 new n (piece, f, front, text, refuses, after) = ap (λ s. s.phase) after
-fault-over mid left (Connection e) new n (piece, f, front, text, refuses, after) = ap (λ s. s.phase) after
-fault-over mid left e new n r = absurd r
+fault-over mid left SizeUnder8 new n (refused, after) = ap (λ s. s.phase) after
+fault-over mid left SizeOverLimit new n (refused, after) = ap (λ s. s.phase) after
+fault-over mid left (FrameFault e) new n (refused, after) = ap (λ s. s.phase) after
+fault-over mid left PeerLimitUnder512 new n (refused, after) = ap (λ s. s.phase) after
+fault-over mid left (Connection e) new n (refused, after) = ap (λ s. s.phase) after
+fault-over mid left e new n r = absurd r.0
 
 -- behind a fault or the peer's Close nothing more is read
 silent : (p : Phase) (s : State) (more : List ℕ) (ds : List Event) (fault : Option EndpointError) (end : State) → p ≡ Over → FeedsIn p s more ds fault end → (ds ≡ []) × (fault ≡ None) × (end ≡ s)

@@ -10,21 +10,19 @@ use Rattle.amqp_endpoint_model.specs.declared.call.Call.{Call}
 use Rattle.amqp_endpoint_model.specs.declared.call.Call.TheVariants.{Connect, Feed, Pull, Queued, IsIdle, Heartbeat, BreakOff, Close as CloseCall, IsClosed, TryClose}
 use Rattle.amqp_endpoint_model.specs.Said.{Said, done, refused, fed, pulled, count, truth, tried_close, Told}
 use Rattle.amqp_endpoint_model.specs.State.{State, fresh}
-use Rattle.amqp_endpoint_model.specs.Step.{EndsRunning, Ends, ReadsOn, FeedsIn, opened, Step}
+use Rattle.amqp_endpoint_model.specs.Step.{EndsRunning, Ends, ReadsOn, FeedsIn, condition_of, after_fault, opened, Step}
 use Rattle.amqp_endpoint_model.specs.History.{Run, Summary, nothing, note, summary, Pieces}
 use Rattle.amqp_endpoint_model.proofs.Takings.{same_settings}
 use Rattle.amqp_endpoint_model.proofs.Recuts.{FeedSaid}
 use Rattle.amqp_endpoint_model.proofs.PieceLaws.{StandsAt, stands-pieces, step-stands}
 
+fault-settings : (condition : Option (List ℕ)) (s : State) → (after_fault condition s).settings ≡ s.settings
+fault-settings None s = refl
+fault-settings (Some condition) s = refl
+
 running-settings : (mid : State) (left : List ℕ) (fault : Option EndpointError) (new : State) → EndsRunning mid left fault new → new.settings ≡ mid.settings
 running-settings mid left None new (waits, after) = ap (λ s. s.settings) after
-running-settings mid left (Some Memory) new after = ap (λ s. s.settings) after
-running-settings mid left (Some SizeUnder8) new (four, less, after) = ap (λ s. s.settings) after
-running-settings mid left (Some SizeOverLimit) new (four, least, more, after) = ap (λ s. s.settings) after
-running-settings mid left (Some (FrameFault e)) new (piece, front, none, after) = ap (λ s. s.settings) after
-running-settings mid left (Some PeerLimitUnder512) new (piece, f, front, text, refuses, after) = ap (λ s. s.settings) after
-running-settings mid left (Some (Connection e)) new (piece, f, front, text, refuses, after) = ap (λ s. s.settings) after
-running-settings mid left (Some e) new r = absurd r
+running-settings mid left (Some e) new (refused, after) = ap (λ s. s.settings) after ∙ fault-settings (condition_of e) mid
 
 ends-settings : (p : Phase) (mid : State) (left : List ℕ) (fault : Option EndpointError) (new : State) → Ends mid p left fault new → new.settings ≡ mid.settings
 ends-settings Running mid left fault new e = running-settings mid left fault new e

@@ -19,7 +19,7 @@ use Rattle.amqp_endpoint_model.specs.declared.call.Call.{Call}
 use Rattle.amqp_endpoint_model.specs.declared.call.Call.TheVariants.{Connect, Feed, Pull, Queued, IsIdle, Heartbeat, BreakOff, Close as CloseCall, IsClosed, TryClose}
 use Rattle.amqp_endpoint_model.specs.Said.{Said, done, refused, pulled, count, truth, tried_close}
 use Rattle.amqp_endpoint_model.specs.State.{State, protocol_header}
-use Rattle.amqp_endpoint_model.specs.Step.{Admits, Waits, Front, RefusesBody, session_refusal, begin_refusal, TakesAll, EndsRunning, Ends, ReadsOn, Greets, FeedsIn, broken, opened, faulted, Step}
+use Rattle.amqp_endpoint_model.specs.Step.{Admits, Waits, Front, FrontUnread, RefusesBody, session_refusal, begin_refusal, TakesAll, EndsRunning, Ends, ReadsOn, Greets, FeedsIn, broken, opened, faulted, Step}
 use Rattle.amqp_endpoint_model.specs.History.{Summary, nothing, first_fault, note_fed, note, events_of, has_open, has_close, CloseIsLast, OpenIsOnce, NoneOfSessions, Next, Stops, Framed, Pieces}
 use Rattle.amqp_endpoint_model.proofs.Takings.{same_settings}
 use Rattle.amqp_endpoint_model.proofs.Joins.{Front-more, none_later}
@@ -77,20 +77,23 @@ stands-pieces Running limit rest peer_limit σ h =
 stands-pieces Over limit rest peer_limit σ h = inr (inr (inr h.framed))
 
 -- a fault stands in front still where more bytes come
+pub unread-more : (limit : ℕ) (left more : List ℕ) (e : EndpointError) → FrontUnread limit left e → FrontUnread limit (left ++ more) e
+unread-more limit left more Memory s = tt
+unread-more limit left more SizeUnder8 (four, less) = (omega (arith, four, length-append left more), omega (arith, less, said_size-append left more four))
+unread-more limit left more SizeOverLimit (four, least, longer) =
+    (omega (arith, four, length-append left more), omega (arith, least, said_size-append left more four), omega (arith, longer, said_size-append left more four))
+unread-more limit left more (FrameFault e) (piece, front, none) = (piece, Front-more limit left piece more front, none)
+unread-more limit left more e s = absurd s
+
+next-more : (limit : ℕ) (left more : List ℕ) (body : FrameBody) → Next limit left body → Next limit (left ++ more) body
+next-more limit left more body next = record { piece = next.piece; front = Front-more limit left next.piece more next.front; channel = next.channel; text = next.text }
+
 stops-more : (limit : ℕ) (frames : List Frame) (left more : List ℕ) (fault : Option EndpointError) → (fault ≡ None → has_close frames ≡ true) → Stops limit frames left fault → Stops limit frames (left ++ more) fault
 stops-more limit frames left more None why s = inr (why refl)
-stops-more limit frames left more (Some Memory) why s = tt
-stops-more limit frames left more (Some SizeUnder8) why (four, less) = (omega (arith, four, length-append left more), omega (arith, less, said_size-append left more four))
-stops-more limit frames left more (Some SizeOverLimit) why (four, least, longer) =
-    (omega (arith, four, length-append left more), omega (arith, least, said_size-append left more four), omega (arith, longer, said_size-append left more four))
-stops-more limit frames left more (Some (FrameFault e)) why (piece, front, none) = (piece, Front-more limit left piece more front, none)
-stops-more limit frames left more (Some PeerLimitUnder512) why (o, next, none, less) =
-    (o, (record { piece = next.piece; front = Front-more limit left next.piece more next.front; channel = next.channel; text = next.text }), none, less)
-stops-more limit frames left more (Some (Connection OutOfOrder)) why (o, next, there) =
-    (o, (record { piece = next.piece; front = Front-more limit left next.piece more next.front; channel = next.channel; text = next.text }), there)
-stops-more limit frames left more (Some (Connection e)) why (body, next, r) =
-    (body, (record { piece = next.piece; front = Front-more limit left next.piece more next.front; channel = next.channel; text = next.text }), r)
-stops-more limit frames left more (Some e) why s = absurd s
+stops-more limit frames left more (Some PeerLimitUnder512) why (o, next, none, less) = (o, next-more limit left more (Open o) next, none, less)
+stops-more limit frames left more (Some (Connection OutOfOrder)) why (o, next, there) = (o, next-more limit left more (Open o) next, there)
+stops-more limit frames left more (Some (Connection e)) why (body, next, r) = (body, next-more limit left more body next, r)
+stops-more limit frames left more (Some e) why s = unread-more limit left more e s
 
 closed-more : (limit : ℕ) (σ : Summary) (bytes : List ℕ) (es : List Event) (fault : Option EndpointError) → Closed limit σ → es ≡ [] → fault ≡ None → Closed limit (record { fed = σ.fed ++ bytes; events = σ.events ++ es; fault = first_fault σ.fault fault })
 closed-more limit σ bytes es fault c none is =
@@ -155,15 +158,15 @@ no_none e is = cc
 
 ended : (s : State) (frames : List Frame) (left : List ℕ) (fault : Option EndpointError) (new : State) → has_open frames ≡ is_some s.peer_limit → EndsRunning s left fault new → Ended s.settings.max_frame_size s frames left fault new
 ended s frames left None new opens (w, after) = goes_on refl w after
-ended s frames left (Some Memory) new opens after = lost refl after
-ended s frames left (Some SizeUnder8) new opens (four, less, after) = ends (no_none SizeUnder8) _ (four, less) after
-ended s frames left (Some SizeOverLimit) new opens (four, least, more, after) = ends (no_none SizeOverLimit) _ (four, least, more) after
-ended s frames left (Some (FrameFault e)) new opens (piece, front, none, after) = ends (no_none (FrameFault e)) _ (piece, front, none) after
-ended s frames left (Some PeerLimitUnder512) new opens (piece, f, front, text, refuses, after) =
+ended s frames left (Some Memory) new opens (none, after) = lost refl after
+ended s frames left (Some SizeUnder8) new opens (unread, after) = ends (no_none SizeUnder8) _ unread after
+ended s frames left (Some SizeOverLimit) new opens (unread, after) = ends (no_none SizeOverLimit) _ unread after
+ended s frames left (Some (FrameFault e)) new opens (unread, after) = ends (no_none (FrameFault e)) _ unread after
+ended s frames left (Some PeerLimitUnder512) new opens ((piece, f, front, text, refuses), after) =
     ends (no_none PeerLimitUnder512) _ (stops-small s.settings.max_frame_size s frames left piece f f.body opens refl front text refuses) after
-ended s frames left (Some (Connection e)) new opens (piece, f, front, text, refuses, after) =
+ended s frames left (Some (Connection e)) new opens ((piece, f, front, text, refuses), after) =
     ends (no_none (Connection e)) _ (stops-connection s.settings.max_frame_size s frames left piece f e f.body opens refl front text refuses) after
-ended s frames left (Some e) new opens r = absurd r
+ended s frames left (Some e) new opens (r, after) = absurd r
 
 -- the frames read since the header
 pub record SoFar (limit : ℕ) (fs : List Frame) (body left : List ℕ) (peer_limit : Option ℕ) (phase : Phase) (events : List Event) : Type 0 where
@@ -326,7 +329,7 @@ greeting-feed limit σ old bytes es fault new l is none well unopened (inr (inr 
     subst R (ap (λ x. x ++ es) (sym none)) (subst Q (ap (λ x. first_fault x fault) (sym well)) (subst P (ap (λ x. x ++ body) (sym header) ∙ take-append-drop 8 (σ.fed ++ bytes)) s))
 
 over-ends : (p : Phase) (mid : State) (left : List ℕ) (fault : Option EndpointError) (new : State) → Ends mid p left fault new → fault ≢ Some NotConnected
-over-ends Running mid left (Some NotConnected) new e is = e
+over-ends Running mid left (Some NotConnected) new e is = e.0
 over-ends Running mid left None new e is = cc
 over-ends Running mid left (Some Memory) new e is = cc
 over-ends Running mid left (Some other) new e is = let P : Option EndpointError → Type 0 = λ x. EndsRunning mid left x new in subst P is e

@@ -8,7 +8,7 @@ use Rattle.amqp_endpoint_model.specs.declared.call.Call.TheVariants.{Feed}
 use Rattle.amqp_endpoint_model.specs.Said.{Said, refused, fed, Told}
 use Rattle.amqp_endpoint_model.specs.State.{State}
 use Rattle.amqp_endpoint_model.specs.Step.{FeedsIn, MayRefuse, Step}
-use Rattle.amqp_endpoint_model.specs.History.{Run, first_fault, joined, feed_before, merged_answer, gist, gist_before, HasMemory, AllHaveMemory}
+use Rattle.amqp_endpoint_model.specs.History.{Run, first_fault, feeds_joined, feed_before, merged_answer, told_joined, told_before, HasMemory, AllHaveMemory}
 use Rattle.amqp_endpoint_model.proofs.Joins.{feeds_then}
 
 pub no_feed_refused : (s : State) (bytes : List ℕ) (e : EndpointError) → MayRefuse s (Feed bytes) e → ⊥
@@ -43,7 +43,7 @@ pub record Joined (old : State) (calls : List Call) (ts : List Told) (end : Stat
 
 joined-feed : (old mid : State) (bytes : List ℕ) (t : Told) (calls : List Call) (ts : List Told) (end : State)
     → Step old (Feed bytes) t.answer mid → t.queued ≡ length mid.queue → HasMemory t.answer → Run mid calls ts end → AllHaveMemory ts
-    → Joined old (feed_before bytes calls) (gist_before t calls ts) end
+    → Joined old (feed_before bytes calls) (told_before t calls ts) end
 joined-feed old mid bytes t (Feed more ∷ calls) (u ∷ us) end step queued h (next, one, left, rest) (first, others) =
     let a : FeedSaid old bytes t.answer mid = feed_said old bytes t.answer mid step in
     let b : FeedSaid mid more u.answer next = feed_said mid more u.answer next one in
@@ -60,13 +60,13 @@ joined-feed old mid bytes t (Feed more ∷ calls) [] end step queued h run other
 joined-feed old mid bytes t calls ts end step queued h run others = record { run = (mid, step, queued, run); memory = (h, others) }
 
 -- a run, its adjacent feeds as one, is a run
-pub joined-run : (old : State) (calls : List Call) (ts : List Told) (end : State) → Run old calls ts end → AllHaveMemory ts → Joined old (joined calls) (gist calls ts) end
+pub joined-run : (old : State) (calls : List Call) (ts : List Told) (end : State) → Run old calls ts end → AllHaveMemory ts → Joined old (feeds_joined calls) (told_joined calls ts) end
 joined-run old [] [] end run h = record { run = run; memory = h }
 joined-run old [] (t ∷ ts) end run h = absurd run
 joined-run old (call ∷ calls) [] end run h = absurd run
 joined-run old (Feed bytes ∷ calls) (t ∷ ts) end (mid, step, queued, rest) (first, others) =
-    let later : Joined mid (joined calls) (gist calls ts) end = joined-run mid calls ts end rest others in
-    joined-feed old mid bytes t (joined calls) (gist calls ts) end step queued first later.run later.memory
+    let later : Joined mid (feeds_joined calls) (told_joined calls ts) end = joined-run mid calls ts end rest others in
+    joined-feed old mid bytes t (feeds_joined calls) (told_joined calls ts) end step queued first later.run later.memory
 joined-run old (call ∷ calls) (t ∷ ts) end (mid, step, queued, rest) (first, others) =
-    let later : Joined mid (joined calls) (gist calls ts) end = joined-run mid calls ts end rest others in
+    let later : Joined mid (feeds_joined calls) (told_joined calls ts) end = joined-run mid calls ts end rest others in
     record { run = (mid, step, queued, later.run); memory = (first, later.memory) }

@@ -6,16 +6,16 @@ use Rattle.amqp_session_frames.specs.declared.frame.FrameBody.{FrameBody}
 use Rattle.amqp_session_frames.specs.declared.frame.FrameBody.TheVariants.{Open, Close}
 use Rattle.amqp_session_types.specs.declared.refusals.ConnectionError.TheVariants.{IllegalState as OutOfOrder}
 use Rattle.amqp_session_frames.specs.Text.{FrameText}
-use Rattle.amqp_session_frames.specs.Cutting.{Cut, ReadsAs, said_size}
+use Rattle.amqp_session_frames.specs.Cutting.{Cut, ReadsAs}
 use Rattle.amqp_endpoint_model.specs.declared.error.EndpointError.{EndpointError}
-use Rattle.amqp_endpoint_model.specs.declared.error.EndpointError.TheVariants.{Memory, NotConnected, ProtocolHeaderMismatch, SizeUnder8, SizeOverLimit, PeerLimitUnder512, Frame as FrameFault, Connection}
+use Rattle.amqp_endpoint_model.specs.declared.error.EndpointError.TheVariants.{Memory, NotConnected, ProtocolHeaderMismatch, PeerLimitUnder512, Connection}
 use Rattle.amqp_endpoint_model.specs.declared.event.Event.{Event}
 use Rattle.amqp_endpoint_model.specs.declared.event.Event.TheVariants.{Opened, Closed}
 use Rattle.amqp_endpoint_model.specs.declared.call.Call.{Call}
 use Rattle.amqp_endpoint_model.specs.declared.call.Call.TheVariants.{Connect, Feed}
 use Rattle.amqp_endpoint_model.specs.Said.{Said, done, refused, fed, pulled, Told}
 use Rattle.amqp_endpoint_model.specs.State.{State, protocol_header}
-use Rattle.amqp_endpoint_model.specs.Step.{Step, Admits, Waits, Front, NoFrame, session_refusal}
+use Rattle.amqp_endpoint_model.specs.Step.{Step, Admits, Waits, Front, FrontUnread, session_refusal}
 
 -- the calls may be answered so, one after the other
 abbrev pub Run : State → List Call → List Told → State → Type 0
@@ -106,17 +106,13 @@ pub record Next (limit : ℕ) (left : List ℕ) (body : FrameBody) : Type 0 wher
   pub channel : ℕ
   pub text : FrameText piece (record { channel = channel; body = body })
 
--- why no frame more is read of what is left: there is less than a whole one, or a fault stands in front
+-- why no frame more is read of what is left: there is less than a whole one, the peer closed, or a fault stands in front
 abbrev pub Stops : ℕ → List Frame → List ℕ → Option EndpointError → Type 0
 Stops limit frames left None = Waits limit left ⊎ (has_close frames ≡ true)
-Stops limit frames left (Some Memory) = Unit {0}
-Stops limit frames left (Some SizeUnder8) = (4 ≤ length left) × (said_size left < 8)
-Stops limit frames left (Some SizeOverLimit) = (4 ≤ length left) × (8 ≤ said_size left) × (limit < said_size left)
-Stops limit frames left (Some (FrameFault e)) = (piece : List ℕ) × Front limit left piece × NoFrame e piece
 Stops limit frames left (Some PeerLimitUnder512) = (o : OpenFields) × Next limit left (Open o) × (has_open frames ≡ false) × (o.max_frame_size < 512)
 Stops limit frames left (Some (Connection OutOfOrder)) = (o : OpenFields) × Next limit left (Open o) × (has_open frames ≡ true)
 Stops limit frames left (Some (Connection e)) = (body : FrameBody) × Next limit left body × (session_refusal body ≡ Some e)
-Stops limit frames left (Some e) = ⊥
+Stops limit frames left (Some e) = FrontUnread limit left e
 
 -- behind the header the bytes fed are these frames, each once and in order, and then what is left
 pub record Framed (limit : ℕ) (σ : Summary) : Type 0 where
@@ -174,10 +170,10 @@ abbrev pub feed_before : List ℕ → List Call → List Call
 feed_before bytes (Feed more ∷ calls) = Feed (bytes ++ more) ∷ calls
 feed_before bytes calls = Feed bytes ∷ calls
 
-abbrev pub joined : List Call → List Call
-joined [] = []
-joined (Feed bytes ∷ calls) = feed_before bytes (joined calls)
-joined (call ∷ calls) = call ∷ joined calls
+abbrev pub feeds_joined : List Call → List Call
+feeds_joined [] = []
+feeds_joined (Feed bytes ∷ calls) = feed_before bytes (feeds_joined calls)
+feeds_joined (call ∷ calls) = call ∷ feeds_joined calls
 
 -- the answers of adjacent feeds as that of one: their events, the first fault, and what is queued behind the last
 abbrev pub merged_answer : Said → Said → Said
@@ -188,15 +184,15 @@ abbrev pub merged : Told → Told → Told
 merged t u = record { answer = merged_answer t.answer u.answer; queued = u.queued }
 
 -- what a feed told, and then what was told of these calls
-abbrev pub gist_before : Told → List Call → List Told → List Told
-gist_before t (Feed more ∷ calls) (u ∷ us) = merged t u ∷ us
-gist_before t calls us = t ∷ us
+abbrev pub told_before : Told → List Call → List Told → List Told
+told_before t (Feed more ∷ calls) (u ∷ us) = merged t u ∷ us
+told_before t calls us = t ∷ us
 
 -- what was told, that of adjacent feeds as one
-abbrev pub gist : List Call → List Told → List Told
-gist (Feed bytes ∷ calls) (t ∷ ts) = gist_before t (joined calls) (gist calls ts)
-gist (call ∷ calls) (t ∷ ts) = t ∷ gist calls ts
-gist calls ts = []
+abbrev pub told_joined : List Call → List Told → List Told
+told_joined (Feed bytes ∷ calls) (t ∷ ts) = told_before t (feeds_joined calls) (told_joined calls ts)
+told_joined (call ∷ calls) (t ∷ ts) = t ∷ told_joined calls ts
+told_joined calls ts = []
 
 -- no answer for want of memory
 abbrev pub HasMemory : Said → Type 0

@@ -157,16 +157,43 @@ pub record Front (limit : ℕ) (left piece : List ℕ) : Type 0 where
 abbrev pub Waits : ℕ → List ℕ → Type 0
 Waits limit left = (length left < 4) ⊎ ((8 ≤ said_size left) × (said_size left ≤ limit) × (length left < said_size left))
 
--- how a feed ends behind the frames that it took, in mid: what is left, the fault, and the state behind it
+-- why no frame is read in front: its size may not be, or it is no frame, or there was no memory to read it
+abbrev pub FrontUnread : ℕ → List ℕ → EndpointError → Type 0
+FrontUnread limit left Memory = Unit {0}
+FrontUnread limit left SizeUnder8 = (4 ≤ length left) × (said_size left < 8)
+FrontUnread limit left SizeOverLimit = (4 ≤ length left) × (8 ≤ said_size left) × (limit < said_size left)
+FrontUnread limit left (FrameFault e) = (piece : List ℕ) × Front limit left piece × NoFrame e piece
+FrontUnread limit left e = ⊥
+
+-- the frame in front is refused for what it says
+abbrev pub FrontBarred : State → List ℕ → EndpointError → Type 0
+FrontBarred s left e =
+    (piece : List ℕ) × (f : Frame) × Front s.settings.max_frame_size left piece × FrameText piece f × RefusesBody s e f.body
+
+-- why the frame in front is not taken
+abbrev pub FrontRefused : State → List ℕ → EndpointError → Type 0
+FrontRefused s left PeerLimitUnder512 = FrontBarred s left PeerLimitUnder512
+FrontRefused s left (Connection e) = FrontBarred s left (Connection e)
+FrontRefused s left e = FrontUnread s.settings.max_frame_size left e
+
+-- what the own Close says of a fault; nothing, where the connection ends without one
+abbrev pub condition_of : EndpointError → Option (List ℕ)
+condition_of SizeUnder8 = Some framing_error
+condition_of SizeOverLimit = Some framing_error
+condition_of PeerLimitUnder512 = Some framing_error
+condition_of (FrameFault e) = Some (condition_of_frame e)
+condition_of (Connection e) = Some (condition_of_connection e)
+condition_of e = None
+
+-- the state behind a fault
+abbrev pub after_fault : Option (List ℕ) → State → State
+after_fault (Some condition) s = faulted condition s
+after_fault None s = broken s
+
+-- how a feed ends behind the frames that it took, in mid: what is left waits, or a fault in front of it ends the connection
 abbrev pub EndsRunning : State → List ℕ → Option EndpointError → State → Type 0
 EndsRunning mid left None new = Waits mid.settings.max_frame_size left × (new ≡ record mid { rest = left })
-EndsRunning mid left (Some Memory) new = new ≡ broken mid
-EndsRunning mid left (Some SizeUnder8) new = (4 ≤ length left) × (said_size left < 8) × (new ≡ faulted framing_error mid)
-EndsRunning mid left (Some SizeOverLimit) new = (4 ≤ length left) × (8 ≤ said_size left) × (mid.settings.max_frame_size < said_size left) × (new ≡ faulted framing_error mid)
-EndsRunning mid left (Some (FrameFault e)) new = (piece : List ℕ) × Front mid.settings.max_frame_size left piece × NoFrame e piece × (new ≡ faulted (condition_of_frame e) mid)
-EndsRunning mid left (Some PeerLimitUnder512) new = (piece : List ℕ) × (f : Frame) × Front mid.settings.max_frame_size left piece × FrameText piece f × RefusesBody mid PeerLimitUnder512 f.body × (new ≡ faulted framing_error mid)
-EndsRunning mid left (Some (Connection e)) new = (piece : List ℕ) × (f : Frame) × Front mid.settings.max_frame_size left piece × FrameText piece f × RefusesBody mid (Connection e) f.body × (new ≡ faulted (condition_of_connection e) mid)
-EndsRunning mid left (Some e) new = ⊥
+EndsRunning mid left (Some e) new = FrontRefused mid left e × (new ≡ after_fault (condition_of e) mid)
 
 -- behind the peer's Close the rest is dropped
 abbrev pub EndsOver : State → Option EndpointError → State → Type 0

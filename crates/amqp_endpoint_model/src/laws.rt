@@ -3,7 +3,7 @@ ghost use Rattle.std.specs.Prelude.{◌≡◌, ◌≢◌, ℕ, List, Some, None}
 ghost use Rattle.amqp_endpoint_model.specs.Said.{Said, Told};
 ghost use Rattle.amqp_endpoint_model.specs.State.{State, fresh};
 ghost use Rattle.amqp_endpoint_model.specs.Step.{Step, refusal_of_settings};
-ghost use Rattle.amqp_endpoint_model.specs.History.{AllHaveMemory, HasMemory, KeepsLimit, Pieces, Run, gist, joined, judge_limit, nothing, summary};
+ghost use Rattle.amqp_endpoint_model.specs.History.{AllHaveMemory, HasMemory, KeepsLimit, Pieces, Run, told_joined, feeds_joined, judge_limit, nothing, summary};
 ghost use Rattle.amqp_endpoint_model.specs.declared.call.Call.{Call};
 ghost use Rattle.amqp_endpoint_model.specs.declared.error.EndpointError.TheVariants.{Memory};
 ghost use Rattle.amqp_endpoint_model.specs.declared.settings.Settings.{Settings};
@@ -38,7 +38,7 @@ pub fn judge_says_one_limit()
 /// queued are the same, want of memory aside.
 pub fn recut()
     ensures { (old : State) (calls calls2 : List Call) (told told2 : List Told) (end end2 : State) → Run old calls told end → Run old calls2 told2 end2
-        → joined calls ≡ joined calls2 → AllHaveMemory told → AllHaveMemory told2 → (gist calls told ≡ gist calls2 told2) × (end ≡ end2) }
+        → feeds_joined calls ≡ feeds_joined calls2 → AllHaveMemory told → AllHaveMemory told2 → (told_joined calls told ≡ told_joined calls2 told2) × (end ≡ end2) }
 {}
 
 /// The state decides what a call answers and where it leads, want of memory aside.

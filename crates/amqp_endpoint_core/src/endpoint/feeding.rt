@@ -1,9 +1,9 @@
 ghost use Rattle.std.specs.Prelude.{◌≡◌, ◌++◌, [], true, Some, None, IsSome, IfOk, IfErr, OnOk, MatchOption, MatchResult};
 ghost use Rattle.amqp_endpoint_model.specs.State.{error_of, has_opened, own_close_with, written};
-ghost use Rattle.amqp_endpoint_model.specs.Step.{FeedsIn, Greets, ReadsOn, Waits, closed, opened as opened_state, session_refusal, with_close};
+ghost use Rattle.amqp_endpoint_model.specs.Step.{FeedsIn, FrontRefused, FrontUnread, Greets, ReadsOn, Waits, closed, opened as opened_state, session_refusal, with_close};
 ghost use Rattle.amqp_endpoint_model.specs.declared.error.EndpointError.TheVariants.{Memory};
 ghost use Rattle.amqp_endpoint_model.specs.declared.phase.Phase.TheVariants.{Greeting, Running};
-ghost use Rattle.amqp_endpoint_core.specs.Reading.{BodyRefused, BodyTaken, EndsBy, FrameSplit, FrontRefused, FrontTaken, FrontUnread, HeaderRefused, HeaderTaken, PieceOf, SizeRefused, condition_text};
+ghost use Rattle.amqp_endpoint_core.specs.Reading.{BodyRefused, BodyTaken, EndsBy, FrameSplit, FrontTaken, HeaderRefused, HeaderTaken, PieceOf, SizeRefused, condition_text};
 
 use super::Endpoint;
 use crate::coding::{MIN_MAX_FRAME_SIZE, PROTOCOL_HEADER, decoded, error_of_condition};
