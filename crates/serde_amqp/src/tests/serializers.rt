@@ -106,3 +106,27 @@ fn a_serializer_that_refuses(rt: HostRuntime) -> Result<(), Error> {
     assert_eq!(rt; s.writer.as_slice(), [7, 8, 0x70, 0, 0, 1, 0].as_slice());
     Ok(())
 }
+
+/// An array whose second element is refused leaves what stood before it, and so does the `end` of a map whose last
+/// key has no value; an element that is refused leaves its list.
+#[test]
+fn what_is_refused_is_taken_back(rt: HostRuntime) -> Result<(), Error> {
+    let alloc = rt.alloc();
+    let mut s = Serializer::new(Vec::from_slice(alloc, &[7])?);
+    assert_eq!(rt;
+        s.serialize_array(&[Some(1u32), None]),
+        Err(Error::InvalidValue)
+    );
+    let mut map = s.serialize_map();
+    map.serialize_key(&1u32)?;
+    assert_eq!(rt; map.end(), Err(Error::SequenceLengthMismatch));
+    wrote(&rt, s, b"\x07");
+    let array = Array::from(vec![in alloc; Some(1u32), None]?);
+    let mut s = writer(alloc);
+    let mut list = s.serialize_seq();
+    list.serialize_element(&true)?;
+    assert_eq!(rt; list.serialize_element(&array), Err(Error::InvalidValue));
+    list.end()?;
+    wrote(&rt, s, b"\xc0\x02\x01\x41");
+    Ok(())
+}
