@@ -25,7 +25,7 @@ use Rattle.amqp_endpoint_model.specs.Refusals.{of_connection}
 use Rattle.amqp_endpoint_model.specs.Step.{begin_refusal, session_refusal}
 use Rattle.amqp_endpoint_model.specs.State.{State as EndpointState, has_opened}
 use Rattle.amqp_endpoint_model.specs.declared.settings.Settings.{Settings}
-use Rattle.amqp_endpoint_core.specs.Connected.{sent_close, took_close, Runs, Greets, Agrees, HasNoSession, Stands, MovesBy}
+use Rattle.amqp_endpoint_core.specs.Connected.{sent_close, took_close, Runs, IsGreeting, Agrees, HasNoSession, Stands, MovesBy}
 use Rattle.amqp_endpoint_core.specs.Reading.{BodyRefused}
 
 -- a new connection sends its header
@@ -35,18 +35,18 @@ header_sent opening (Ok x) new s =
     s.1 ∙ ap (λ (c : ConnectionState). fresh c opening) (sym at)
 header_sent opening (Err e) new s = let wrong : Some HeaderSent ≡ None = s.1 in absurd (cc)
 
-greets_to : (state next : ConnectionState) → Greets state → after_incoming_header state ≡ Some next → next ≡ HeaderExchange
+greets_to : (state next : ConnectionState) → IsGreeting state → after_incoming_header state ≡ Some next → next ≡ HeaderExchange
 greets_to HeaderSent next greets e = let at : HeaderExchange ≡ next = cc in sym at
 greets_to HeaderExchange next greets e = absurd (cc)
 greets_to state next greets e = absurd greets
 
-greets_at : (state : ConnectionState) → Greets state → after_incoming_header state ≡ None → state ≡ HeaderExchange
+greets_at : (state : ConnectionState) → IsGreeting state → after_incoming_header state ≡ None → state ≡ HeaderExchange
 greets_at HeaderSent greets e = absurd (cc)
 greets_at HeaderExchange greets e = refl
 greets_at state greets e = absurd greets
 
 -- the peer's header is taken, unless it was
-pub header_taken : (old new : State) (answer : Result ⊤ ConnectionError) → Greets old.local_state → TakeHeader old answer new → new ≡ record old { local_state = HeaderExchange }
+pub header_taken : (old new : State) (answer : Result ⊤ ConnectionError) → IsGreeting old.local_state → TakeHeader old answer new → new ≡ record old { local_state = HeaderExchange }
 header_taken old new (Ok x) greets s = s.1 ∙ ap (λ (c : ConnectionState). record old { local_state = c }) (greets_to old.local_state new.local_state greets s.0)
 header_taken old new (Err e) greets s = s.2 ∙ ap (λ (c : ConnectionState). record old { local_state = c }) (greets_at old.local_state greets s.1)
 
@@ -62,7 +62,7 @@ pub open_says : (old mid new : State) (frame : Frame) → mid ≡ record old { l
 open_says old mid new frame is s = s.0 ∙ ap (λ (c : State). frame_on 0 (body.Open c.local_open)) is
 
 -- where the own header was sent and no Open, no Close went
-pub greets_open : (state : ConnectionState) → Greets state → (sent_close state ≡ false) × (took_close state ≡ false)
+pub greets_open : (state : ConnectionState) → IsGreeting state → (sent_close state ≡ false) × (took_close state ≡ false)
 greets_open HeaderSent greets = (refl, refl)
 greets_open HeaderExchange greets = (refl, refl)
 greets_open state greets = absurd greets

@@ -37,15 +37,15 @@ Runs (Some limit) Discarding = Unit {0}
 Runs limit state = ⊥
 
 -- the own header was sent, and no Open (part 2, 2.4.6)
-abbrev pub Greets : ConnectionState → Type 0
-Greets HeaderSent = Unit {0}
-Greets HeaderExchange = Unit {0}
-Greets state = ⊥
+abbrev pub IsGreeting : ConnectionState → Type 0
+IsGreeting HeaderSent = Unit {0}
+IsGreeting HeaderExchange = Unit {0}
+IsGreeting state = ⊥
 
 -- where an endpoint stands, the peer's limit, and the state of its connection belong together
 abbrev pub Agrees : Phase → Option ℕ → ConnectionState → Type 0
 Agrees Unconnected limit state = Unit {0}
-Agrees Greeting limit state = (limit ≡ None) × Greets state
+Agrees Greeting limit state = (limit ≡ None) × IsGreeting state
 Agrees Running limit state = Runs limit state
 Agrees Over limit state = sent_close state ≡ true
 

@@ -8,7 +8,7 @@ ghost use Rattle.amqp_session_frames.specs.declared.frame.FrameBody.TheVariants 
 ghost use Rattle.amqp_endpoint_model.specs.State.{fits, own_close_with, own_open, written};
 ghost use Rattle.amqp_endpoint_model.specs.Step.{begin_refusal};
 ghost use Rattle.amqp_endpoint_model.specs.declared.error.EndpointError.TheVariants.{Memory, FrameTooLarge};
-ghost use Rattle.amqp_endpoint_core.specs.Connected.{BeginsWith, Greets, HasNoSession, MovesBy, sent_close, took_close};
+ghost use Rattle.amqp_endpoint_core.specs.Connected.{BeginsWith, IsGreeting, HasNoSession, MovesBy, sent_close, took_close};
 
 use crate::coding::{encoded, open_of};
 use crate::queued::Queued;
@@ -44,7 +44,7 @@ pub(crate) fn greet(alloc: Global, connection: &mut Connection)
 /// the copy that is handed out: the header is taken then, and the Open is still to be handed out.
 #[tactic(auto, using(crate::proofs::ConnectedLaws::open_sent))]
 pub(crate) fn hand_out_open(connection: &mut Connection) -> Result<Queued, EndpointError>
-    requires greets { Greets connection.old.local_state }
+    requires greets { IsGreeting connection.old.local_state }
     requires short { fits 512 (frame_on 0 (body.Open connection.old.local_open)) ≡ true }
     ensures ok { OnOk result (connection.new ≡ record connection.old { local_state = OpenSent }) }
     ensures text { IfOk result (λ q. q
@@ -63,7 +63,7 @@ pub(crate) fn hand_out_open(connection: &mut Connection) -> Result<Queued, Endpo
 /// The connection takes the peer's header, unless it did.
 #[tactic(auto, using(crate::proofs::ConnectedLaws::header_taken))]
 fn take_header(connection: &mut Connection)
-    requires { Greets connection.old.local_state }
+    requires { IsGreeting connection.old.local_state }
     ensures { connection.new ≡ record connection.old { local_state = HeaderExchange } }
 {
     let _ = connection.on_incoming_header();
