@@ -40,11 +40,11 @@ fault-more mid left more e new r = absurd r.0
 -- a fault other than want of memory leaves the connection over
 fault-over : (mid : State) (left : List ℕ) (e : EndpointError) (new : State) → Some e ≢ Some Memory → EndsRunning mid left (Some e) new → new.phase ≡ Over
 fault-over mid left Memory new n r = absurd (n refl)
-fault-over mid left SizeUnder8 new n (refused, after) = ap (λ s. s.phase) after
-fault-over mid left SizeOverLimit new n (refused, after) = ap (λ s. s.phase) after
-fault-over mid left (FrameFault e) new n (refused, after) = ap (λ s. s.phase) after
-fault-over mid left PeerLimitUnder512 new n (refused, after) = ap (λ s. s.phase) after
-fault-over mid left (Connection e) new n (refused, after) = ap (λ s. s.phase) after
+fault-over mid left SizeUnder8 new n (why, after) = ap (λ s. s.phase) after
+fault-over mid left SizeOverLimit new n (why, after) = ap (λ s. s.phase) after
+fault-over mid left (FrameFault e) new n (why, after) = ap (λ s. s.phase) after
+fault-over mid left PeerLimitUnder512 new n (why, after) = ap (λ s. s.phase) after
+fault-over mid left (Connection e) new n (why, after) = ap (λ s. s.phase) after
 fault-over mid left e new n r = absurd r.0
 
 -- behind a fault or the peer's Close nothing more is read

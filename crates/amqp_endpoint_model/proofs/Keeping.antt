@@ -22,7 +22,7 @@ fault-settings (Some condition) s = refl
 
 running-settings : (mid : State) (left : List ℕ) (fault : Option EndpointError) (new : State) → EndsRunning mid left fault new → new.settings ≡ mid.settings
 running-settings mid left None new (waits, after) = ap (λ s. s.settings) after
-running-settings mid left (Some e) new (refused, after) = ap (λ s. s.settings) after ∙ fault-settings (condition_of e) mid
+running-settings mid left (Some e) new (why, after) = ap (λ s. s.settings) after ∙ fault-settings (condition_of e) mid
 
 ends-settings : (p : Phase) (mid : State) (left : List ℕ) (fault : Option EndpointError) (new : State) → Ends mid p left fault new → new.settings ≡ mid.settings
 ends-settings Running mid left fault new e = running-settings mid left fault new e

@@ -115,12 +115,12 @@ all-short old (f ∷ fs) es new h (mid, first, others, one, all, split) = all-sh
 running-short : (mid : State) (left : List ℕ) (fault : Option EndpointError) (new : State) → QueueShort mid → EndsRunning mid left fault new → QueueShort new
 running-short mid left None new h (waits, after) = to (record mid { rest = left }) new after (record { all = h.all })
 running-short mid left (Some Memory) new h (none, after) = to _ new after (record { all = tt })
-running-short mid left (Some SizeUnder8) new h (refused, after) = faulted-short framing_error mid new h framing_error-short after
-running-short mid left (Some SizeOverLimit) new h (refused, after) = faulted-short framing_error mid new h framing_error-short after
-running-short mid left (Some (FrameFault e)) new h (refused, after) = faulted-short (condition_of_frame e) mid new h (condition-short e) after
-running-short mid left (Some PeerLimitUnder512) new h (refused, after) = faulted-short framing_error mid new h framing_error-short after
-running-short mid left (Some (Connection e)) new h (refused, after) = faulted-short (condition_of_connection e) mid new h (connection-short e) after
-running-short mid left (Some e) new h (refused, after) = absurd refused
+running-short mid left (Some SizeUnder8) new h (why, after) = faulted-short framing_error mid new h framing_error-short after
+running-short mid left (Some SizeOverLimit) new h (why, after) = faulted-short framing_error mid new h framing_error-short after
+running-short mid left (Some (FrameFault e)) new h (why, after) = faulted-short (condition_of_frame e) mid new h (condition-short e) after
+running-short mid left (Some PeerLimitUnder512) new h (why, after) = faulted-short framing_error mid new h framing_error-short after
+running-short mid left (Some (Connection e)) new h (why, after) = faulted-short (condition_of_connection e) mid new h (connection-short e) after
+running-short mid left (Some e) new h (why, after) = absurd why
 
 ends-short : (p : Phase) (mid : State) (left : List ℕ) (fault : Option EndpointError) (new : State) → QueueShort mid → Ends mid p left fault new → QueueShort new
 ends-short Running mid left fault new h e = running-short mid left fault new h e

@@ -332,7 +332,7 @@ over-ends : (p : Phase) (mid : State) (left : List ℕ) (fault : Option Endpoint
 over-ends Running mid left (Some NotConnected) new e is = e.0
 over-ends Running mid left None new e is = cc
 over-ends Running mid left (Some Memory) new e is = cc
-over-ends Running mid left (Some other) new e is = let P : Option EndpointError → Type 0 = λ x. EndsRunning mid left x new in subst P is e
+over-ends Running mid left (Some other) new e is = let P : Option EndpointError → Type 0 = λ x. EndsRunning mid left x new in (subst P is e).0
 over-ends Over mid left None new e is = cc
 over-ends Over mid left (Some other) new e is = e
 over-ends p mid left fault new e is = e
