@@ -22,10 +22,13 @@ use std::alloc::Global;
 
 fn main(rt: HostRuntime) -> Result<()> {
     let mut line = String::new(rt.alloc());
-    while rt.read_line(&mut line)? > 0 {
+    for _ in 0..u64::MAX {
+        line.clear();
+        if rt.read_line(&mut line)? == 0 {
+            break;
+        }
         let found = found(rt.alloc(), line.trim())?;
         println!(rt; "{found}")?;
-        line.clear();
     }
     Ok(())
 }
