@@ -8,7 +8,12 @@ use serde_amqp_types::{Array, Text};
 use std::alloc::{AllocError, Global};
 
 /// The peer's Begin.
-pub fn begin(alloc: Global, next_outgoing_id: u32, incoming_window: u32, handle_max: u32) -> Begin {
+pub(crate) fn begin(
+    alloc: Global,
+    next_outgoing_id: u32,
+    incoming_window: u32,
+    handle_max: u32,
+) -> Begin {
     Begin {
         remote_channel: None,
         next_outgoing_id,
@@ -22,7 +27,7 @@ pub fn begin(alloc: Global, next_outgoing_id: u32, incoming_window: u32, handle_
 }
 
 /// A Flow of the peer, whose next transfer has the number 0. A link that it names gets a credit of ten.
-pub fn flow(said: FlowOf) -> Flow {
+pub(crate) fn flow(said: FlowOf) -> Flow {
     Flow {
         next_incoming_id: said.next_incoming_id,
         incoming_window: said.incoming_window,
@@ -39,7 +44,7 @@ pub fn flow(said: FlowOf) -> Flow {
 }
 
 /// A Flow of a link, with a handle that isn't the link's.
-pub fn link_flow() -> LinkFlow {
+pub(crate) fn link_flow() -> LinkFlow {
     LinkFlow {
         handle: Handle(99),
         delivery_count: Some(3),
@@ -52,7 +57,7 @@ pub fn link_flow() -> LinkFlow {
 }
 
 /// A Detach of the link with this handle.
-pub fn detach(handle: u32) -> Detach {
+pub(crate) fn detach(handle: u32) -> Detach {
     Detach {
         handle: Handle(handle),
         closed: true,
@@ -61,12 +66,12 @@ pub fn detach(handle: u32) -> Detach {
 }
 
 /// A tag of one byte.
-pub fn tag(alloc: Global, byte: u8) -> Result<DeliveryTag, AllocError> {
+pub(crate) fn tag(alloc: Global, byte: u8) -> Result<DeliveryTag, AllocError> {
     DeliveryTag::from_slice(alloc, &[byte])
 }
 
 /// A transfer that a link sends, with a handle that isn't the link's.
-pub fn transfer(delivery_tag: Option<DeliveryTag>, settled: bool) -> Transfer {
+pub(crate) fn transfer(delivery_tag: Option<DeliveryTag>, settled: bool) -> Transfer {
     Transfer {
         handle: Handle(99),
         delivery_id: None,
@@ -83,7 +88,7 @@ pub fn transfer(delivery_tag: Option<DeliveryTag>, settled: bool) -> Transfer {
 }
 
 /// A transfer of the peer. A delivery that it begins has the tag of its number's last byte.
-pub fn peers_transfer(alloc: Global, said: TransferOf) -> Result<Transfer, AllocError> {
+pub(crate) fn peers_transfer(alloc: Global, said: TransferOf) -> Result<Transfer, AllocError> {
     match said.delivery_id {
         Some(number) => {
             let tag = tag(alloc, number.to_be_bytes()[3])?;
@@ -110,7 +115,7 @@ fn tagged_transfer(delivery_tag: Option<DeliveryTag>, said: TransferOf) -> Trans
 }
 
 /// A disposition with the state accepted.
-pub fn disposition(said: DispositionOf) -> Disposition {
+pub(crate) fn disposition(said: DispositionOf) -> Disposition {
     Disposition {
         role: said.role,
         first: said.first,
@@ -122,7 +127,7 @@ pub fn disposition(said: DispositionOf) -> Disposition {
 }
 
 /// The Attach of a receiver with this handle.
-pub fn attach(alloc: Global, handle: u32) -> Result<Attach, AllocError> {
+pub(crate) fn attach(alloc: Global, handle: u32) -> Result<Attach, AllocError> {
     let name = Text::from_str(alloc, "link")?;
     Ok(named_attach(alloc, name, handle))
 }

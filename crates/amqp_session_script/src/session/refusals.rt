@@ -43,7 +43,11 @@ impl Refuses for Unallocated<Plain> {
 }
 
 /// What is shown of an answer, or the word of the error that the call is refused with.
-pub fn told<T, E, F>(alloc: Global, answer: Result<T, E>, show: F) -> Result<String, AllocError>
+pub(crate) fn told<T, E, F>(
+    alloc: Global,
+    answer: Result<T, E>,
+    show: F,
+) -> Result<String, AllocError>
 where
     T: Drop,
     E: Refuses + Drop,
@@ -57,7 +61,7 @@ where
 }
 
 /// What is shown of a value.
-pub fn seen<T, F>(value: T, show: F) -> Result<String, AllocError>
+pub(crate) fn seen<T, F>(value: T, show: F) -> Result<String, AllocError>
 where
     T: Drop,
     F: FnOnce(&T) -> Result<String, AllocError>,
