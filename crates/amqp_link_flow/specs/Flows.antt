@@ -16,20 +16,24 @@ StandsAt s n = s.delivery_count ≡ n % 2 ^ 32
 abbrev pub credit_limit : LinkFlowStateInner → ℕ
 credit_limit s = (s.delivery_count + s.link_credit) % 2 ^ 32
 
--- the credit of a sender by a Flow of its receiver: delivery-count_rcv + link-credit_rcv - delivery-count_snd, where the
--- count that is ahead by less than 2^31 is the later one. It is neither below 0 nor above what a credit can be
+-- the credit of a sender by a Flow of its receiver: delivery-count_rcv + link-credit_rcv - delivery-count_snd, but not
+-- below 0 nor above what a credit can be. Of two counts the one that is ahead by less than 2^31 is the later
 abbrev pub credit_after : ℕ → ℕ → ℕ → ℕ
 credit_after own theirs credit =
-    if nat_lt (ahead own theirs) (2 ^ 31) then credit - ahead own theirs else min (credit + ahead theirs own) (2 ^ 32 - 1)
+    if nat_lt (ahead own theirs) (2 ^ 31)
+    then credit - ahead own theirs
+    else min (credit + ahead theirs own) (2 ^ 32 - 1)
 
--- a receiver that doesn't know the count means the one that the link was attached with, and a Flow without credit leaves it
+-- a receiver that doesn't know the count means the one that the link was attached with, and a Flow without credit
+-- leaves the sender's
 abbrev pub sender_credit : LinkFlowStateInner → Option ℕ → Option ℕ → ℕ
 sender_credit s count None = s.link_credit
 sender_credit s count (Some credit) = credit_after s.delivery_count (unwrap_or count s.initial_delivery_count) credit
 
--- a sender with this credit: where it is to be used up, the count moves past all of it
-abbrev pub sender_with : LinkFlowStateInner → Bool → ℕ → LinkFlowStateInner
-sender_with s true credit = record s { delivery_count = (s.delivery_count + credit) % 2 ^ 32; link_credit = 0; drain = true }
+-- a sender that is given this credit: where it is to be used up, the count moves past all of it
+abbrev pub sender_with : LinkFlowStateInner → (drain : Bool) → ℕ → LinkFlowStateInner
+sender_with s true credit =
+    record s { delivery_count = (s.delivery_count + credit) % 2 ^ 32; link_credit = 0; drain = true }
 sender_with s false credit = record s { link_credit = credit; drain = false }
 
 -- a sender after a Flow of its receiver
@@ -42,7 +46,9 @@ counted s None = s
 counted s (Some count) =
     record s {
       delivery_count = count;
-      link_credit = (if nat_lt (ahead count s.delivery_count) (2 ^ 31) then s.link_credit - ahead count s.delivery_count else s.link_credit);
+      link_credit = (if nat_lt (ahead count s.delivery_count) (2 ^ 31)
+          then s.link_credit - ahead count s.delivery_count
+          else s.link_credit);
     }
 
 -- a receiver after a Flow of its sender
@@ -67,7 +73,8 @@ sender_attached s = record s { initial_delivery_count = s.delivery_count; link_c
 
 -- a receiver as its link is attached, by the count that the sender's Attach tells
 abbrev pub receiver_attached : LinkFlowStateInner → ℕ → LinkFlowStateInner
-receiver_attached s count = record s { initial_delivery_count = count; delivery_count = count; link_credit = 0; drain = false }
+receiver_attached s count =
+    record s { initial_delivery_count = count; delivery_count = count; link_credit = 0; drain = false }
 
 -- the Flow that shows count, credit and drain
 abbrev pub shown : OutputHandle → Bool → LinkFlowStateInner → LinkFlow

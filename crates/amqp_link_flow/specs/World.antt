@@ -22,7 +22,12 @@ pub record World : Type 0 where
 -- a link as it is attached: the receiver learns the sender's count, and nothing is on its way
 abbrev pub attached : LinkFlowStateInner → LinkFlowStateInner → World
 attached sender receiver =
-    record { sender = sender_attached sender; receiver = receiver_attached receiver sender.delivery_count; to_sender = []; to_receiver = [] }
+    record {
+      sender = sender_attached sender;
+      receiver = receiver_attached receiver sender.delivery_count;
+      to_sender = [];
+      to_receiver = [];
+    }
 
 -- what happens at one of the ends
 pub data Act : Type 0 where
@@ -41,7 +46,8 @@ pub data Act : Type 0 where
 
 -- a Flow that shows an end's count, credit and drain, whatever else it says
 abbrev pub Shows : LinkFlowStateInner → LinkFlow → Type 0
-Shows s flow = (flow.delivery_count ≡ Some s.delivery_count) × (flow.link_credit ≡ Some s.link_credit) × (flow.drain ≡ s.drain)
+Shows s flow =
+    (flow.delivery_count ≡ Some s.delivery_count) × (flow.link_credit ≡ Some s.link_credit) × (flow.drain ≡ s.drain)
 
 -- an answer goes behind what is on its way
 abbrev pub with_flow : List LinkFlow → Option LinkFlow → List LinkFlow
@@ -80,11 +86,13 @@ Steps old Sends new =
     (1 ≤ old.sender.link_credit)
     × (new ≡ record old { sender = consumed old.sender 1; to_receiver = old.to_receiver ++ Message ∷ [] })
 Steps old (Grants credit) new =
-    (old.receiver.link_credit ≤ credit) × (credit < 2 ^ 31) × (new ≡ record old { receiver = granted old.receiver credit })
+    (old.receiver.link_credit ≤ credit) × (credit < 2 ^ 31)
+    × (new ≡ record old { receiver = granted old.receiver credit })
 Steps old Drains new = new ≡ record old { receiver = draining old.receiver }
 Steps old (SenderTells flow) new =
     Shows old.sender flow × (new ≡ record old { to_receiver = old.to_receiver ++ Tells flow ∷ [] })
-Steps old (ReceiverTells flow) new = Shows old.receiver flow × (new ≡ record old { to_sender = old.to_sender ++ flow ∷ [] })
+Steps old (ReceiverTells flow) new =
+    Shows old.receiver flow × (new ≡ record old { to_sender = old.to_sender ++ flow ∷ [] })
 Steps old (SenderTakes handle) new = SenderTakesOf old.to_sender handle old new
 Steps old (ReceiverTakes handle) new = ReceiverTakesOf old.to_receiver handle old new
 

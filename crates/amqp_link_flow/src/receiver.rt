@@ -1,7 +1,8 @@
 //! The flow state of a link's receiving end (part 2, 2.6.7).
 ghost use Rattle.std.specs.Prelude.{◌≡◌, ◌≤◌, ◌↔◌, IsOk, OnOk, IfErr};
 ghost use Rattle.amqp_link_types.specs.declared.refusals.ReceiverTransferError.TheVariants.{TransferLimitExceeded};
-ghost use Rattle.amqp_link_flow.specs.Flows.{receiver_flowed, receiver_answer, consumed, granted, draining, receiver_attached};
+ghost use Rattle.amqp_link_flow.specs.Flows.{receiver_flowed, receiver_answer, receiver_attached};
+ghost use Rattle.amqp_link_flow.specs.Flows.{consumed, granted, draining};
 
 use crate::inner::LinkFlowStateInner;
 use crate::state::LinkFlowState;
@@ -31,7 +32,8 @@ impl LinkFlowState<ReceiverMarker> {
     /// Takes a Flow of the sender: the count becomes the sender's, and the credit shrinks by what the count moves on
     /// (part 2, 2.6.7).
     ///
-    /// A Flow that asks for an echo is answered by the Flow that is to be sent on `output_handle`. It takes no memory.
+    /// A Flow that asks for an echo is answered by the Flow that is to be sent on `output_handle`. It takes no
+    /// memory.
     pub fn on_incoming_flow(
         &mut self,
         flow: LinkFlow,
