@@ -5,7 +5,7 @@ use Rattle.amqp_session_types.specs.declared.handles.OutputHandle.{OutputHandle}
 use Rattle.amqp_session_performatives.specs.declared.link_flow.LinkFlow.{LinkFlow}
 use Rattle.amqp_link_flow.specs.declared.inner.LinkFlowStateInner.{LinkFlowStateInner}
 use Rattle.amqp_link_flow.specs.Flows.{sender_flowed, sender_answer, receiver_flowed, receiver_answer, consumed, granted, draining, shown, StandsAt, credit_limit, ahead}
-use Rattle.amqp_link_flow.specs.World.{FromSender, Message, Tells, World, Act, Sends, Grants, Drains, SenderTells, ReceiverTells, SenderTakes, ReceiverTakes, attached, with_told, with_flow, Shows, SenderTakesOf, ReceiverTakesOf, Steps, Runs}
+use Rattle.amqp_link_flow.specs.World.{FromSender, Message, Tells, World, Act, Sends, Grants, Drains, SenderTells, ReceiverTells, SenderTakes, ReceiverTakes, begun, with_told, with_flow, Shows, SenderTakesOf, ReceiverTakesOf, Steps, Runs}
 use Rattle.amqp_link_flow.proofs.Ends.{sender-takes, sender-drained, receiver-keeps, consumed-keeps, limit-moves}
 
 -- what is on its way to the receiver leads it from one count to another
@@ -307,19 +307,19 @@ runs-hold : (start end : World) (acts : List Act) → Runs start acts end → Ho
 runs-hold start end [] run h = subst (λ (w : World). Holds w) (sym run) h
 runs-hold start end (act ∷ acts) run h = runs-hold run.0 end acts run.2 ((step-moves start run.0 act run.1 h).holds)
 
-attached-holds : (sender receiver : LinkFlowStateInner) → sender.delivery_count < 2 ^ 32 → Holds (attached sender receiver)
-attached-holds sender receiver fits =
+begun-holds : (sender receiver : LinkFlowStateInner) → sender.delivery_count < 2 ^ 32 → Holds (begun sender receiver)
+begun-holds sender receiver fits =
     record { sent = sender.delivery_count; got = sender.delivery_count; sender = omega arith; receiver = omega arith; small = omega arith; carries = refl; announces = omega arith }
 
-pub never-refused : (sender receiver : LinkFlowStateInner) (acts : List Act) (end : World) → sender.delivery_count < 2 ^ 32 → Runs (attached sender receiver) acts end
+pub never-refused : (sender receiver : LinkFlowStateInner) (acts : List Act) (end : World) → sender.delivery_count < 2 ^ 32 → Runs (begun sender receiver) acts end
     → (later : List FromSender) → end.to_receiver ≡ Message ∷ later → 1 ≤ end.receiver.link_credit
 never-refused sender receiver acts end fits run later e =
-    message-left end (runs-hold (attached sender receiver) end acts run (attached-holds sender receiver fits)) later e
+    message-left end (runs-hold (begun sender receiver) end acts run (begun-holds sender receiver fits)) later e
 
-pub moves-on : (sender receiver : LinkFlowStateInner) (acts : List Act) (old new : World) (act : Act) → sender.delivery_count < 2 ^ 32 → Runs (attached sender receiver) acts old
+pub moves-on : (sender receiver : LinkFlowStateInner) (acts : List Act) (old new : World) (act : Act) → sender.delivery_count < 2 ^ 32 → Runs (begun sender receiver) acts old
     → Steps old act new → (ahead (credit_limit new.receiver) (credit_limit old.receiver) < 2 ^ 31) × (ahead (credit_limit new.sender) (credit_limit old.sender) < 2 ^ 31)
 moves-on sender receiver acts old new act fits run step =
-    let h = runs-hold (attached sender receiver) old acts run (attached-holds sender receiver fits) in
+    let h = runs-hold (begun sender receiver) old acts run (begun-holds sender receiver fits) in
     let m = step-moves old new act step h in (
       limit-moves old.receiver new.receiver h.got m.holds.got h.receiver m.holds.receiver m.receiver-on m.receiver-near,
       limit-moves old.sender new.sender h.sent m.holds.sent h.sender m.holds.sender m.sender-on m.sender-near,

@@ -4,7 +4,7 @@ use Rattle.std.specs.Prelude.{Option, Some, None}
 use Rattle.amqp_session_types.specs.declared.handles.OutputHandle.{OutputHandle}
 use Rattle.amqp_session_performatives.specs.declared.link_flow.LinkFlow.{LinkFlow}
 use Rattle.amqp_link_flow.specs.declared.inner.LinkFlowStateInner.{LinkFlowStateInner}
-use Rattle.amqp_link_flow.specs.Flows.{sender_flowed, sender_answer, sender_attached, receiver_flowed, receiver_answer, receiver_attached, consumed, granted, draining, told}
+use Rattle.amqp_link_flow.specs.Flows.{sender_flowed, sender_answer, receiver_flowed, receiver_answer, attached, consumed, granted, draining, told}
 
 -- a state with these counts and this credit
 abbrev at : ℕ → ℕ → ℕ → LinkFlowStateInner
@@ -107,11 +107,8 @@ given_anew : granted (draining (at 0 4 10)) 3 ≡ at 0 4 3
 given_anew = refl
 
 -- an attachment begins without credit
-sender_begins : sender_attached (draining (at 3 8 2)) ≡ at 8 8 0
-sender_begins = refl
-
-receiver_begins : receiver_attached (draining (at 3 8 2)) 9 ≡ at 9 9 0
-receiver_begins = refl
+begins : attached (draining (at 3 8 2)) 9 ≡ at 9 9 0
+begins = refl
 
 -- no Flow shows how many deliveries are available
 available_untold : (asked : Bool) → (told seven true asked (record (at 0 4 1) { available = 9 })).available ≡ None

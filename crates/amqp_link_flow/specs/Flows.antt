@@ -67,13 +67,9 @@ granted s credit = record s { link_credit = credit; drain = false }
 abbrev pub draining : LinkFlowStateInner → LinkFlowStateInner
 draining s = record s { drain = true }
 
--- a sender as its link is attached
-abbrev pub sender_attached : LinkFlowStateInner → LinkFlowStateInner
-sender_attached s = record s { initial_delivery_count = s.delivery_count; link_credit = 0; drain = false }
-
--- a receiver as its link is attached, by the count that the sender's Attach tells
-abbrev pub receiver_attached : LinkFlowStateInner → ℕ → LinkFlowStateInner
-receiver_attached s count =
+-- an end as its link is attached, by the count that the sender's Attach tells: there is no credit
+abbrev pub attached : LinkFlowStateInner → ℕ → LinkFlowStateInner
+attached s count =
     record s { initial_delivery_count = count; delivery_count = count; link_credit = 0; drain = false }
 
 -- the Flow that shows count, credit and drain

@@ -4,7 +4,7 @@ use Rattle.std.specs.Prelude.{◌≡◌, ℕ, ◌≤◌, ◌<◌, ◌^◌, List,
 use Rattle.amqp_session_types.specs.declared.handles.OutputHandle.{OutputHandle}
 use Rattle.amqp_session_performatives.specs.declared.link_flow.LinkFlow.{LinkFlow}
 use Rattle.amqp_link_flow.specs.declared.inner.LinkFlowStateInner.{LinkFlowStateInner}
-use Rattle.amqp_link_flow.specs.Flows.{sender_flowed, sender_answer, sender_attached, receiver_flowed, receiver_answer, receiver_attached, consumed, granted, draining}
+use Rattle.amqp_link_flow.specs.Flows.{sender_flowed, sender_answer, receiver_flowed, receiver_answer, attached, consumed, granted, draining}
 
 -- what a sender sends: messages and Flows
 pub data FromSender : Type 0 where
@@ -20,11 +20,11 @@ pub record World : Type 0 where
   pub to_receiver : List FromSender
 
 -- a link as it is attached: the receiver learns the sender's count, and nothing is on its way
-abbrev pub attached : LinkFlowStateInner → LinkFlowStateInner → World
-attached sender receiver =
+abbrev pub begun : LinkFlowStateInner → LinkFlowStateInner → World
+begun sender receiver =
     record {
-      sender = sender_attached sender;
-      receiver = receiver_attached receiver sender.delivery_count;
+      sender = attached sender sender.delivery_count;
+      receiver = attached receiver sender.delivery_count;
       to_sender = [];
       to_receiver = [];
     }

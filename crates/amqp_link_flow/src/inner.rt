@@ -1,6 +1,6 @@
 //! The flow state of one end of a link, and how a Flow shows it (part 2, 2.6.7).
 ghost use Rattle.std.specs.Prelude.{◌≡◌, IsOk, IfOk, false};
-ghost use Rattle.amqp_link_flow.specs.Flows.{shown, told};
+ghost use Rattle.amqp_link_flow.specs.Flows.{attached, shown, told};
 
 use amqp_session_performatives::LinkFlow;
 use amqp_session_types::{Boxed, Fields, Handle, OutputHandle};
@@ -39,6 +39,16 @@ impl Clone for LinkFlowStateInner {
 }
 
 impl LinkFlowStateInner {
+    /// Begins an attachment with this count of the sender: there is no credit, and no drain is wanted.
+    pub(crate) fn begin(&mut self, delivery_count: u32)
+        ensures { self.new ≡ attached self.old delivery_count }
+    {
+        self.initial_delivery_count = delivery_count;
+        self.delivery_count = delivery_count;
+        self.link_credit = 0;
+        self.drain = false;
+    }
+
     /// A Flow that shows count, credit and drain, and no properties. No Flow shows how many deliveries are available
     /// (part 2, 2.7.4). It takes no memory.
     pub fn shown(&self, output_handle: OutputHandle, echo: bool) -> LinkFlow

@@ -1,14 +1,15 @@
 //! The flow state of a link's receiving end (part 2, 2.6.7).
 ghost use Rattle.std.specs.Prelude.{◌≡◌, ◌≤◌, ◌↔◌, IsOk, OnOk, IfErr};
 ghost use Rattle.amqp_link_types.specs.declared.refusals.ReceiverTransferError.TheVariants.{TransferLimitExceeded};
-ghost use Rattle.amqp_link_flow.specs.Flows.{receiver_flowed, receiver_answer, receiver_attached};
-ghost use Rattle.amqp_link_flow.specs.Flows.{consumed, granted, draining};
+ghost use Rattle.amqp_link_flow.specs.Flows.{receiver_flowed, receiver_answer};
+ghost use Rattle.amqp_link_flow.specs.Flows.{attached, consumed, granted, draining};
 
 use crate::inner::LinkFlowStateInner;
 use crate::state::LinkFlowState;
 use amqp_link_types::{ReceiverMarker, ReceiverTransferError};
 use amqp_session_performatives::LinkFlow;
 use amqp_session_types::OutputHandle;
+use std::mem;
 
 impl LinkFlowState<ReceiverMarker> {
     /// A receiving end in this state.
@@ -21,12 +22,9 @@ impl LinkFlowState<ReceiverMarker> {
     /// Begins an attachment: there is no credit, no drain is wanted, and both counts are the one that the sender's
     /// Attach tells (part 2, 2.6.3 and 2.6.7).
     pub fn attach(&mut self, initial_delivery_count: u32)
-        ensures { self.new ≡ receiver_attached self.old initial_delivery_count }
+        ensures { self.new ≡ attached self.old initial_delivery_count }
     {
-        self.inner.initial_delivery_count = initial_delivery_count;
-        self.inner.delivery_count = initial_delivery_count;
-        self.inner.link_credit = 0;
-        self.inner.drain = false;
+        self.inner.begin(initial_delivery_count);
     }
 
     /// Takes a Flow of the sender: the count becomes the sender's, and the credit shrinks by what the count moves on
@@ -81,10 +79,8 @@ impl LinkFlowState<ReceiverMarker> {
         ensures state { self.new ≡ granted self.old credit }
         ensures left { result ≡ self.old.link_credit }
     {
-        let left = self.inner.link_credit;
-        self.inner.link_credit = credit;
         self.inner.drain = false;
-        left
+        mem::replace(&mut self.inner.link_credit, credit)
     }
 
     /// Wants the credit used up (part 2, 2.6.7).

@@ -1,12 +1,13 @@
 //! The flow state of a link's sending end (part 2, 2.6.7).
 ghost use Rattle.std.specs.Prelude.{◌≡◌, ◌≤◌, ◌↔◌, IsOk, OnOk, OnErr};
-ghost use Rattle.amqp_link_flow.specs.Flows.{credit_after, sender_flowed, sender_answer, consumed, sender_attached};
+ghost use Rattle.amqp_link_flow.specs.Flows.{credit_after, sender_flowed, sender_answer, attached, consumed};
 
 use crate::inner::LinkFlowStateInner;
 use crate::state::LinkFlowState;
 use amqp_link_types::{InsufficientCredit, SenderMarker};
 use amqp_session_performatives::LinkFlow;
 use amqp_session_types::OutputHandle;
+use std::mem;
 
 impl LinkFlowState<SenderMarker> {
     /// A sending end in this state.
@@ -19,11 +20,10 @@ impl LinkFlowState<SenderMarker> {
     /// Begins an attachment: there is no credit, no drain is wanted, and the count from which the link starts is the
     /// count of now (part 2, 2.6.3 and 2.6.7).
     pub fn attach(&mut self)
-        ensures { self.new ≡ sender_attached self.old }
+        ensures { self.new ≡ attached self.old self.old.delivery_count }
     {
-        self.inner.initial_delivery_count = self.inner.delivery_count;
-        self.inner.link_credit = 0;
-        self.inner.drain = false;
+        let count = self.inner.delivery_count;
+        self.inner.begin(count);
     }
 
     /// Takes a Flow of the receiver: the credit comes to reach as far as the receiver's, and where the receiver wants
@@ -47,11 +47,8 @@ impl LinkFlowState<SenderMarker> {
         }
         self.inner.drain = flow.drain;
         if flow.drain {
-            self.inner.delivery_count = self
-                .inner
-                .delivery_count
-                .wrapping_add(self.inner.link_credit);
-            self.inner.link_credit = 0;
+            let left = mem::replace(&mut self.inner.link_credit, 0);
+            self.inner.delivery_count = self.inner.delivery_count.wrapping_add(left);
             return Some(self.inner.shown(output_handle, false));
         }
         if flow.echo {
