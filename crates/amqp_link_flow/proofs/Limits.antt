@@ -1,11 +1,11 @@
 -- The sender's limit stays at or below the receiver's, and each moves on by less than 2^31.
 use Rattle.std.proofs.Common.{◌≡◌, ℕ, ◌+◌, ◌<◌, ◌≤◌, ◌%◌, ◌^◌, List, [], ◌∷◌, ◌++◌, Bool, true, false, ap, sym, refl, ◌∙◌, arith, subst}
-use Rattle.std.specs.Prelude.{Some, None, ◌||◌, if◌then◌else◌}
+use Rattle.std.specs.Prelude.{Some, None, option_map, ◌||◌, if◌then◌else◌}
 use Rattle.amqp_session_types.specs.declared.handles.OutputHandle.{OutputHandle}
 use Rattle.amqp_session_performatives.specs.declared.link_flow.LinkFlow.{LinkFlow}
 use Rattle.amqp_link_flow.specs.declared.inner.LinkFlowStateInner.{LinkFlowStateInner}
 use Rattle.amqp_link_flow.specs.Flows.{sender_flowed, sender_answer, receiver_flowed, receiver_answer, consumed, granted, draining, shown, StandsAt, credit_limit, ahead}
-use Rattle.amqp_link_flow.specs.World.{FromSender, Message, Tells, World, Act, Sends, Grants, Drains, SenderTells, ReceiverTells, SenderTakes, ReceiverTakes, begun, with_told, with_flow, Shows, SenderTakesOf, ReceiverTakesOf, Steps, Runs}
+use Rattle.amqp_link_flow.specs.World.{FromSender, Message, Tells, World, Act, Sends, Grants, Drains, SenderTells, ReceiverTells, SenderTakes, ReceiverTakes, begun, behind, Shows, SenderTakesOf, ReceiverTakesOf, Steps, Runs}
 use Rattle.amqp_link_flow.proofs.Ends.{sender-takes, sender-drained, receiver-keeps, consumed-keeps, limit-moves}
 
 -- what is on its way to the receiver leads it from one count to another
@@ -89,7 +89,7 @@ flowed true old flow own theirs credit e s c d le ge small =
 
 -- what the sender answers leads the receiver to where the sender has come
 carries-answer : (drain echo : Bool) (got own count : ℕ) (items : List FromSender) (handle : OutputHandle) (new : LinkFlowStateInner) → own ≤ count → StandsAt new count
-    → (drain ≡ false → own ≡ count) → Carries got items own → Carries got (with_told items (if drain || echo then Some (shown handle false new) else None)) count
+    → (drain ≡ false → own ≡ count) → Carries got items own → Carries got (behind items (option_map Tells (if drain || echo then Some (shown handle false new) else None))) count
 carries-answer true echo got own count items handle new le s same h =
     carries-append got items (Tells (shown handle false new) ∷ []) own count h (count, ap (λ (n : ℕ). Some n) s, le, refl)
 carries-answer false true got own count items handle new le s same h =
@@ -98,7 +98,7 @@ carries-answer false false got own count items handle new le s same h = let P : 
 
 -- what the receiver answers shows it as it is
 announces-answer : (echo : Bool) (got limit : ℕ) (flows : List LinkFlow) (handle : OutputHandle) (new : LinkFlowStateInner) → StandsAt new got → new.link_credit < 2 ^ 31
-    → Announces got limit flows (got + new.link_credit) → Announces got limit (with_flow flows (if echo then Some (shown handle false new) else None)) (got + new.link_credit)
+    → Announces got limit flows (got + new.link_credit) → Announces got limit (behind flows (if echo then Some (shown handle false new) else None)) (got + new.link_credit)
 announces-answer true got limit flows handle new s small h =
     announces-append got limit flows new.link_credit (shown handle false new) (ap (λ (n : ℕ). Some n) s) refl small h
 announces-answer false got limit flows handle new s small h = h
@@ -154,7 +154,7 @@ drains w h =
 
 sender-tells : (w : World) (h : Holds w) (flow : LinkFlow) → Shows w.sender flow → Moved w h (record w { to_receiver = w.to_receiver ++ Tells flow ∷ [] })
 sender-tells w h flow shows =
-    let behind : h.got ≤ h.sent = carries-le h.got w.to_receiver h.sent h.carries in
+    let late : h.got ≤ h.sent = carries-le h.got w.to_receiver h.sent h.carries in
     record {
       holds = record {
         sent = h.sent;
@@ -193,11 +193,11 @@ same : (w : World) (h : Holds w) → Moved w h w
 same w h = record { holds = h; receiver-on = omega arith; receiver-near = omega arith; sender-on = omega arith; sender-near = omega arith }
 
 sender-flowed : (w : World) (h : Holds w) (flow : LinkFlow) (flows : List LinkFlow) (handle : OutputHandle) → w.to_sender ≡ flow ∷ flows
-    → Moved w h (record w { sender = sender_flowed w.sender flow; to_sender = flows; to_receiver = with_told w.to_receiver (sender_answer flow handle (sender_flowed w.sender flow)) })
+    → Moved w h (record w { sender = sender_flowed w.sender flow; to_sender = flows; to_receiver = behind w.to_receiver (option_map Tells (sender_answer flow handle (sender_flowed w.sender flow))) })
 sender-flowed w h flow flows handle e =
     let Q : List LinkFlow → Type 0 = λ l. Announces h.got (h.sent + w.sender.link_credit) l (h.got + w.receiver.link_credit) in
     let a = subst Q e h.announces in
-    let behind : h.got ≤ h.sent = carries-le h.got w.to_receiver h.sent h.carries in
+    let late : h.got ≤ h.sent = carries-le h.got w.to_receiver h.sent h.carries in
     let theirs : a.0 ≤ h.got = a.4 in
     let little : a.1 < 2 ^ 31 = a.5 in
     let reaches : h.sent + w.sender.link_credit ≤ a.0 + a.1 = a.6 in
@@ -257,7 +257,7 @@ message-taken w h later e =
     }
 
 receiver-flowed : (w : World) (h : Holds w) (flow : LinkFlow) (later : List FromSender) (handle : OutputHandle) → w.to_receiver ≡ Tells flow ∷ later
-    → Moved w h (record w { receiver = receiver_flowed w.receiver flow; to_receiver = later; to_sender = with_flow w.to_sender (receiver_answer flow handle (receiver_flowed w.receiver flow)) })
+    → Moved w h (record w { receiver = receiver_flowed w.receiver flow; to_receiver = later; to_sender = behind w.to_sender (receiver_answer flow handle (receiver_flowed w.receiver flow)) })
 receiver-flowed w h flow later handle e =
     let Q : List FromSender → Type 0 = λ l. Carries h.got l h.sent in
     let b = subst Q e h.carries in

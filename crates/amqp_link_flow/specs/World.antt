@@ -1,6 +1,6 @@
 -- The two ends of an attached link, and what is on its way between them: part 2, 2.6.7. What an end sends comes to the
 -- other end in order (part 2, 2.5).
-use Rattle.std.specs.Prelude.{◌≡◌, ℕ, ◌≤◌, ◌<◌, ◌^◌, List, [], ◌∷◌, ◌++◌, Option, Some, None}
+use Rattle.std.specs.Prelude.{◌≡◌, ℕ, ◌≤◌, ◌<◌, ◌^◌, List, [], ◌∷◌, ◌++◌, Option, Some, None, option_map}
 use Rattle.amqp_session_types.specs.declared.handles.OutputHandle.{OutputHandle}
 use Rattle.amqp_session_performatives.specs.declared.link_flow.LinkFlow.{LinkFlow}
 use Rattle.amqp_link_flow.specs.declared.inner.LinkFlowStateInner.{LinkFlowStateInner}
@@ -50,13 +50,9 @@ Shows s flow =
     (flow.delivery_count ≡ Some s.delivery_count) × (flow.link_credit ≡ Some s.link_credit) × (flow.drain ≡ s.drain)
 
 -- an answer goes behind what is on its way
-abbrev pub with_flow : List LinkFlow → Option LinkFlow → List LinkFlow
-with_flow flows None = flows
-with_flow flows (Some flow) = flows ++ flow ∷ []
-
-abbrev pub with_told : List FromSender → Option LinkFlow → List FromSender
-with_told items None = items
-with_told items (Some flow) = items ++ Tells flow ∷ []
+abbrev pub behind : {A : Type 0} → List A → Option A → List A
+behind items None = items
+behind items (Some item) = items ++ item ∷ []
 
 -- the sender takes the first of these Flows
 abbrev pub SenderTakesOf : List LinkFlow → OutputHandle → World → World → Type 0
@@ -65,7 +61,7 @@ SenderTakesOf (flow ∷ later) handle old new =
     new ≡ record old {
       sender = sender_flowed old.sender flow;
       to_sender = later;
-      to_receiver = with_told old.to_receiver (sender_answer flow handle (sender_flowed old.sender flow));
+      to_receiver = behind old.to_receiver (option_map Tells (sender_answer flow handle (sender_flowed old.sender flow)));
     }
 
 -- the receiver takes the first of these: a message where it has credit for it, since else it refuses the link
@@ -77,7 +73,7 @@ ReceiverTakesOf (Tells flow ∷ later) handle old new =
     new ≡ record old {
       receiver = receiver_flowed old.receiver flow;
       to_receiver = later;
-      to_sender = with_flow old.to_sender (receiver_answer flow handle (receiver_flowed old.receiver flow));
+      to_sender = behind old.to_sender (receiver_answer flow handle (receiver_flowed old.receiver flow));
     }
 
 -- a sender sends where it has credit, and a receiver takes no credit back and gives less than 2^31
