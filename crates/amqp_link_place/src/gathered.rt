@@ -116,12 +116,7 @@ impl Gathered {
 }
 
 /// The first bytes of the pieces, and a last piece behind them.
-fn joined(
-    alloc: Global,
-    pieces: &[Bytes],
-    kept: usize,
-    last: &Bytes,
-) -> Result<Bytes, AllocError>
+fn joined(alloc: Global, pieces: &[Bytes], kept: usize, last: &Bytes) -> Result<Bytes, AllocError>
     ensures { IfOk result (λ all. all ≡ take kept (concat pieces.now) ++ last.now) }
 {
     let mut all = BytesMut::new(alloc);
