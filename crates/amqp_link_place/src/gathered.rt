@@ -54,16 +54,16 @@ impl Gathered {
     }
 
     /// The first bytes alone, and one piece more. Where there is no memory nothing changes.
-    pub(crate) fn push_behind(&mut self, kept: usize, piece: Bytes) -> Result<(), AllocError>
-        requires { length (take kept self.old) + length piece < 2 ^ 32 }
-        ensures ok { OnOk result (self.new ≡ take kept self.old ++ piece) }
+    pub(crate) fn push_behind(&mut self, kept: usize, next: Bytes) -> Result<(), AllocError>
+        requires { length (take kept self.old) + length next < 2 ^ 32 }
+        ensures ok { OnOk result (self.new ≡ take kept self.old ++ next) }
         ensures err { OnErr result (self.new ≡ self.old) }
     {
         self.pieces.reserve(1)?;
         cut(&mut self.pieces, kept);
         self.scan = scan_of(&self.pieces);
-        self.scan.take(&piece);
-        self.pieces.push_reserved(piece);
+        self.scan.take(&next);
+        self.pieces.push_reserved(next);
         Ok(())
     }
 

@@ -87,8 +87,11 @@ impl IncompleteTransfer {
         ensures ok { OnOk result (self.new ≡ continued self.old transfer payload) }
         ensures err { OnErr result (self.new ≡ self.old) }
         ensures agrees { OnOk result (agrees self.old.performative transfer ≡ true) }
-        ensures differs { agrees self.old.performative transfer ≡ false → result ≡ Err ReceiverTransferError.InconsistentFieldInMultiFrameDelivery }
-        ensures only { IfErr result (λ e. (e ≡ ReceiverTransferError.Memory) ⊎ ((e ≡ ReceiverTransferError.InconsistentFieldInMultiFrameDelivery) × (agrees self.old.performative transfer ≡ false))) }
+        ensures differs { agrees self.old.performative transfer ≡ false →
+            result ≡ Err ReceiverTransferError.InconsistentFieldInMultiFrameDelivery }
+        ensures only { IfErr result (λ e. (e ≡ ReceiverTransferError.Memory)
+            ⊎ ((e ≡ ReceiverTransferError.InconsistentFieldInMultiFrameDelivery)
+            × (agrees self.old.performative transfer ≡ false))) }
     {
         if !agrees(&self.performative, &transfer) {
             return Err(ReceiverTransferError::InconsistentFieldInMultiFrameDelivery);
@@ -114,8 +117,8 @@ impl IncompleteTransfer {
         Ok(())
     }
 
-    /// Goes on under a new first transfer behind the first `kept` bytes, as a delivery is resumed (part 2, 2.6.13), with
-    /// the bytes that the transfer carries behind them.
+    /// Goes on under a new first transfer behind the first `kept` bytes, as a delivery is resumed (part 2, 2.6.13). The
+    /// bytes that the transfer carries come behind them.
     ///
     /// It is refused as by `start`, and nothing changes then.
     pub fn resume_behind(
@@ -210,7 +213,10 @@ impl IncompleteTransfer {
         section_number: u32,
         section_offset: u64,
     )
-        ensures { self.new ≡ record self.old { payload = kept_till self.old.payload (record { section_number = section_number; section_offset = section_offset }) } }
+        ensures { self.new ≡ record self.old {
+          payload = kept_till self.old.payload
+              (record { section_number = section_number; section_offset = section_offset });
+        } }
     {
         let place = Received {
             section_number,

@@ -116,9 +116,11 @@ impl Scan {
     pub(crate) fn seek(&mut self, bytes: &[u8], number: u32) -> Option<u64>
         requires short { self.old.size + length bytes.now < 2 ^ 32 }
         requires before { self.old.section ≤ number }
-        ensures found { IfSome result (λ start. (xs rest : List ℕ) → Scanned self.old xs → start_of ((xs ++ bytes.now) ++ rest) number ≡ Some start) }
+        ensures found { IfSome result (λ start. (xs rest : List ℕ) → Scanned self.old xs →
+            start_of ((xs ++ bytes.now) ++ rest) number ≡ Some start) }
         ensures within { IfSome result (λ start. start ≤ self.old.size + length bytes.now) }
-        ensures scanned { IfNone result ((xs : List ℕ) → Scanned self.old xs → Scanned self.new (xs ++ bytes.now)) }
+        ensures scanned { IfNone result ((xs : List ℕ) → Scanned self.old xs →
+            Scanned self.new (xs ++ bytes.now)) }
         ensures size { IfNone result (self.new.size ≡ self.old.size + length bytes.now) }
         ensures before { IfNone result (self.new.section ≤ number) }
     {

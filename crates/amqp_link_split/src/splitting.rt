@@ -31,7 +31,8 @@ pub fn split(
 ) -> Result<Batch, LinkStateError>
     ensures ok { IfOk result (λ batch. IsSomeAnd (room_of first limit) (λ room. Splits first payload room batch)) }
     ensures refused { room_of first limit ≡ None → result ≡ Err LinkStateError.IllegalState }
-    ensures only { IfErr result (λ e. (e ≡ LinkStateError.Memory) ⊎ ((e ≡ LinkStateError.IllegalState) × (room_of first limit ≡ None))) }
+    ensures only { IfErr result (λ e. (e ≡ LinkStateError.Memory)
+        ⊎ ((e ≡ LinkStateError.IllegalState) × (room_of first limit ≡ None))) }
 {
     let mut first = first;
     let Some(room) = payload_room(&mut first, limit) else {
@@ -96,7 +97,8 @@ fn push_rest(
     room: usize,
 ) -> Result<(), AllocError>
     requires { 0 < room }
-    ensures { OnOk result ((added : Transfers) × (batch.new ≡ batch.old ++ added) × Rest handle payload room added) }
+    ensures { OnOk result ((added : Transfers) × (batch.new ≡ batch.old ++ added)
+        × Rest handle payload room added) }
 {
     let mut rest = payload;
     while is_left(&rest) {

@@ -10,7 +10,7 @@ push_reserved-requires c = c.cut.ensures.room (omega (arith, c.in_ok-reserve.ens
 pub invariant_of-self-2 : goal.invariant_of-self-2
 invariant_of-self-2 c =
     let e : concat c.cut.new.pieces.items ++ c.deref-2.result.now ≡ concat c.push_reserved.new.self.items =
-    ap (λ (l : List ℕ). concat c.cut.new.pieces.items ++ l) c.deref-2.ensures ∙ sym (concat-push c.cut.new.pieces.items c.args.piece) ∙ ap (λ (l : List (List ℕ)). concat l) (sym c.push_reserved.ensures.items) in
+    ap (λ (l : List ℕ). concat c.cut.new.pieces.items ++ l) c.deref-2.ensures ∙ sym (concat-push c.cut.new.pieces.items c.args.next) ∙ ap (λ (l : List (List ℕ)). concat l) (sym c.push_reserved.ensures.items) in
     let now : Scanned c.scan_of-self-inside.result (concat c.cut.new.pieces.items) =
     let Q : List (List ℕ) → Type 0 = λ l. Scanned c.scan_of-self-inside.result (concat l) in subst Q c.deref.ensures.value c.scan_of-self-inside.ensures in
     let P : List ℕ → Type 0 = λ l. Scanned c.take.new.self l in
@@ -18,5 +18,5 @@ invariant_of-self-2 c =
 
 pub returns-clause-ok : goal.returns-clause-ok
 returns-clause-ok c =
-    ap (λ (l : List (List ℕ)). concat l) c.push_reserved.ensures.items ∙ concat-push c.cut.new.pieces.items c.args.piece
-    ∙ ap (λ (l : List ℕ). l ++ c.args.piece) (c.cut.ensures.bytes ∙ ap (λ (l : List (List ℕ)). take c.args.kept (concat l)) c.in_ok-reserve.ensures.items ∙ ap (λ (l : List ℕ). take c.args.kept l) c.self.view_is)
+    ap (λ (l : List (List ℕ)). concat l) c.push_reserved.ensures.items ∙ concat-push c.cut.new.pieces.items c.args.next
+    ∙ ap (λ (l : List ℕ). l ++ c.args.next) (c.cut.ensures.bytes ∙ ap (λ (l : List (List ℕ)). take c.args.kept (concat l)) c.in_ok-reserve.ensures.items ∙ ap (λ (l : List ℕ). take c.args.kept l) c.self.view_is)
