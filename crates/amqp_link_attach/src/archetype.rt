@@ -151,7 +151,8 @@ pub trait TargetArchetypeCapabilities {
 
     /// The capabilities, which can be changed. All else of it stays (part 3, 3.5.4).
     fn capabilities_mut(&mut self) -> &mut Array<Self::Capability>
-        ensures* writes_back { sem 𝓛 (Lends Self.row (array_row Self.Capability.row) self.entry result (with_capabilities self.old)) }
+        ensures* writes_back { sem 𝓛 (Lends Self.row (array_row Self.Capability.row) self.entry result
+            (with_capabilities self.old)) }
         ensures value { result.now ≡ capabilities self.old };
 }
 

@@ -1,6 +1,5 @@
 //! The filters that a receiver wants, and those that its peer applies (part 3, 3.5.3 and 3.5.8).
-ghost use Rattle.std.specs.Prelude.{◌≡◌, ◌≢◌, ◌++◌, not, IfOk, OnOk, OnErr, IsTrue, is_none, unwrap_or, []};
-ghost use Rattle.std.specs.Map.{keys_of};
+ghost use Rattle.std.specs.Prelude.{◌≡◌, ◌≢◌, ◌++◌, [], IfOk, OnOk, OnErr};
 ghost use Rattle.amqp_link_attach.specs.Tests.{JudgedBy, first_of};
 ghost use Rattle.amqp_link_attach.specs.Source.{filter_tests, is_in_place, unsupported, filters_of};
 
