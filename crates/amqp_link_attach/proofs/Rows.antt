@@ -185,8 +185,8 @@ nothing_listed = refl
 pub empty_list : exchange AttachSent (lists_none {X = ℕ} (Some [])) ≡ Complete
 empty_list = refl
 
-pub part_listed : exchange IncompleteAttachReceived (lists_none (Some (1 ∷ []))) ≡ IncompleteUnsettled
+pub part_listed : exchange IncompleteAttachReceived (lists_none {X = ℕ} (Some (1 ∷ []))) ≡ IncompleteUnsettled
 part_listed = refl
 
-pub all_listed : exchange Attached (lists_none (Some (1 ∷ []))) ≡ Resume
+pub all_listed : exchange Attached (lists_none {X = ℕ} (Some (1 ∷ []))) ≡ Resume
 all_listed = refl
