@@ -1,6 +1,6 @@
 //! What comes of the Attach frames that a sending link and its peer exchange (part 2, 2.6.13).
-ghost use Rattle.std.specs.Prelude.{◌≡◌, ◌↔◌, IsOk};
-ghost use Rattle.amqp_link_unsettled.specs.Resumption.{completed};
+ghost use Rattle.std.specs.Prelude.{◌≡◌};
+ghost use Rattle.amqp_link_unsettled.specs.Exchange.{completed};
 
 use crate::resumption::ResumingDelivery;
 use amqp_session_types::DeliveryTag;

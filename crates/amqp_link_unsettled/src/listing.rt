@@ -1,8 +1,11 @@
 //! How an Attach lists the unsettled deliveries of its sender (part 2, 2.7.3).
-ghost use Rattle.std.specs.Prelude.{◌≡◌, ◌↔◌, ◌≤◌, take, length, if◌then◌else◌, IsTrue, IfOk, OnOk, OnErr, IfErr};
+ghost use Rattle.std.specs.Prelude.{◌≡◌, ◌↔◌, ◌≤◌, ◌++◌, ◌∷◌, [], take, length, true, false, Option, None, IsTrue, IfOk, OnOk, OnErr, IfErr};
+ghost use Rattle.std.specs.Map.{lookup};
+ghost use Rattle.std.specs.Str.{bytes_eq};
 ghost use Rattle.serde_amqp_item.specs.Canon.{canon};
 ghost use Rattle.amqp_link_unsettled.specs.Listing.{entries_listed, or_null, or_empty, with_first, FitsText, FitsFrame, Lists, FitsNowhere};
-ghost use Rattle.amqp_link_unsettled.specs.declared.listing.ListError.TheVariants.{TooLarge, Memory};
+ghost use Rattle.amqp_link_unsettled.specs.declared.listing.ListError.TheVariants.{TooLarge};
+ghost use Rattle.amqp_session_states.specs.declared.delivery_state.DeliveryState.{DeliveryState};
 
 use crate::map::UnsettledMap;
 use crate::message::UnsettledMessage;

@@ -1,5 +1,6 @@
 //! What a sending link keeps of a message that isn't settled (part 2, 2.6.12).
-ghost use Rattle.std.specs.Prelude.{◌≡◌, Ok, Err};
+ghost use Rattle.std.specs.Prelude.{◌≡◌, Option, Ok, Err};
+ghost use Rattle.amqp_session_states.specs.declared.delivery_state.DeliveryState.{DeliveryState};
 
 use amqp_link_types::LinkStateError;
 use amqp_session_states::DeliveryState;
