@@ -1,3 +1,5 @@
 pub mod Live
+pub mod Listed
 pub mod Halving
 pub mod Shortening
+pub mod Rows

@@ -50,8 +50,8 @@ module _ {M : Type 0} where
       ap (λ (b : Bool). cond b (live es) ((t, m) ∷ remove_entry test (live es))) none.0
       ∙ ap (λ (l : List (List ℕ × M)). (t, m) ∷ l) (none_removed test es none.1)
 
-  pub gone-removed : (test : List ℕ → Bool) (es : List (List ℕ × Option M)) → lookup test es ≡ None → remove_entry test (live es) ≡ live es
-  gone-removed test es none = none_removed test es (none_passes_from_lookup test es none)
+  pub gone-removed : (test : List ℕ → Bool) (es : List (List ℕ × Option M)) → lookup test es ≡ None → live es ≡ remove_entry test (live es)
+  gone-removed test es none = sym (none_removed test es (none_passes_from_lookup test es none))
 
   -- one less, where there was one
   pub removed-count : (test : List ℕ → Bool) (xs : List (List ℕ × M)) → length (remove_entry test xs) + length (option_to_list (lookup test xs)) ≡ length xs
@@ -128,4 +128,4 @@ module _ {M : Type 0} where
       ∙ ap (λ (l : List (List ℕ × M)). l ++ (t, m) ∷ []) (live-reverse es)
       ∙ sym (reverse-append ((t, m) ∷ []) (live es))
 
-pub ruleset rules = (lookup-live, live-taken, live-exchanged, live-apart, live-append, live-short, live-swept, swept-absent, live-reverse)
+pub ruleset rules = (lookup-live, gone-removed, live-taken, live-exchanged, live-apart, live-append, live-short, live-swept, swept-absent, live-reverse)

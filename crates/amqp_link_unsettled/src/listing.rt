@@ -171,16 +171,16 @@ fn shorten(attach: &mut Attach, count: usize)
 }
 
 /// Leaves so many entries of a list, which is null without any.
-fn shorten_list(unsettled: &mut Option<UnsettledList>, count: usize)
-    requires { count ≤ length (or_empty unsettled.old) }
-    ensures { unsettled.new ≡ or_null (take count (or_empty unsettled.old)) }
+fn shorten_list(unsettled: &mut Option<UnsettledList>, left: usize)
+    requires { left ≤ length (or_empty unsettled.old) }
+    ensures { unsettled.new ≡ or_null (take left (or_empty unsettled.old)) }
 {
-    if count == 0 {
+    if left == 0 {
         *unsettled = None;
         return;
     }
     if let Some(list) = unsettled {
-        list.as_inner_mut().truncate(count);
+        list.as_inner_mut().truncate(left);
     }
 }
 
