@@ -84,7 +84,11 @@ impl<M: Listed + Drop> UnsettledMap<M> {
 }
 
 /// Adds a delivery to a list.
-fn add<M: Listed>(list: &mut UnsettledList, tag: &DeliveryTag, message: &M) -> Result<(), AllocError>
+fn add<M: Listed>(
+    list: &mut UnsettledList,
+    tag: &DeliveryTag,
+    message: &M,
+) -> Result<(), AllocError>
     requires { lookup (bytes_eq tag.now) list.old ≡ None }
     ensures { OnOk result (list.new ≡ list.old ++ (tag.now, M.listed message.now) ∷ []) }
 {
@@ -94,12 +98,12 @@ fn add<M: Listed>(list: &mut UnsettledList, tag: &DeliveryTag, message: &M) -> R
     Ok(())
 }
 
-/// Lists the deliveries of a map in an Attach: all of them, or where that doesn't fit a frame of so many bytes the first
-/// half of them, or the first quarter, and so on. Where some are left off the Attach says that its list is incomplete;
-/// where none are listed the list is null.
+/// Lists the deliveries of a map in an Attach: all of them, or where that doesn't fit a frame of so many bytes
+/// the first half of them, or the first quarter, and so on. Where some are left off the Attach says that its list
+/// is incomplete; where none are listed the list is null.
 ///
-/// Errors: `TooLarge` exactly where the Attach doesn't fit even without any of them, and `Memory`. The Attach is as before
-/// after each of them.
+/// Errors: `TooLarge` exactly where the Attach doesn't fit even without any of them, and `Memory`. The Attach is as
+/// before after each of them.
 pub fn list_unsettled<M: Listed + Drop>(
     alloc: Global,
     attach: &mut Attach,
@@ -107,7 +111,8 @@ pub fn list_unsettled<M: Listed + Drop>(
     limit: u32,
 ) -> Result<(), ListError>
     ensures ok { OnOk result (Lists limit attach.old (entries_listed M.listed map.now.entries) attach.new) }
-    ensures too_large { IfErr result (λ e. e ≡ TooLarge → FitsNowhere limit attach.old (entries_listed M.listed map.now.entries)) }
+    ensures too_large { IfErr result (λ e. e ≡ TooLarge
+        → FitsNowhere limit attach.old (entries_listed M.listed map.now.entries)) }
     ensures err { OnErr result (attach.new ≡ attach.old) }
 {
     let list = map.list(alloc)?;
@@ -132,12 +137,13 @@ pub fn list_entries(attach: &mut Attach, list: UnsettledList, limit: u32) -> Res
     Err(ListError::TooLarge)
 }
 
-/// Lists all entries, or half, a quarter, and so on of them, and tells whether the Attach fits so. Where it never does
-/// the list is left empty.
+/// Lists all entries, or half, a quarter, and so on of them, and tells whether the Attach fits so. Where it never
+/// does the list is left empty.
 fn list_first(attach: &mut Attach, list: UnsettledList, limit: u32) -> bool
     ensures fits { IsTrue result → Lists limit attach.old list attach.new }
     ensures none { result ≡ false → FitsNowhere limit attach.old list }
-    ensures others { result ≡ false → attach.new ≡ record attach.old { unsettled = None; incomplete_unsettled = (attach.new).incomplete_unsettled } }
+    ensures others { result ≡ false → attach.new
+        ≡ record attach.old { unsettled = None; incomplete_unsettled = (attach.new).incomplete_unsettled } }
 {
     let mut count = list.len();
     list_all(attach, list);
@@ -164,7 +170,10 @@ fn list_all(attach: &mut Attach, list: UnsettledList)
 /// Leaves so many of the entries that are listed, and tells that the list is incomplete.
 fn shorten(attach: &mut Attach, count: usize)
     requires { count ≤ length (or_empty (attach.old).unsettled) }
-    ensures { attach.new ≡ record attach.old { unsettled = or_null (take count (or_empty (attach.old).unsettled)); incomplete_unsettled = true } }
+    ensures { attach.new ≡ record attach.old {
+      unsettled = or_null (take count (or_empty (attach.old).unsettled));
+      incomplete_unsettled = true;
+    } }
 {
     shorten_list(&mut attach.unsettled, count);
     attach.incomplete_unsettled = true;

@@ -91,7 +91,8 @@ impl<M: Drop> UnsettledMap<M> {
     pub fn replace(&mut self, tag: &DeliveryTag, message: M) -> M
         requires { IsSome (lookup (bytes_eq tag.now) self.old.entries) }
         ensures earlier { lookup (bytes_eq tag.now) self.old.entries ≡ Some result }
-        ensures entries { self.new ≡ record self.old { entries = set_value (bytes_eq tag.now) self.old.entries message } }
+        ensures entries { self.new
+            ≡ record self.old { entries = set_value (bytes_eq tag.now) self.old.entries message } }
     {
         exchange(&mut self.slots, tag, message)
     }

@@ -47,8 +47,8 @@ const START: Received = Received {
     section_offset: 0,
 };
 
-/// What becomes of a delivery by the state that was told of it last, and by what the peer's list of unsettled deliveries
-/// says of it: nothing where it isn't in that list, or else a state or null.
+/// What becomes of a delivery by the state that was told of it last, and by what the peer's list of unsettled
+/// deliveries says of it: nothing where it isn't in that list, or else a state or null.
 pub fn decide(told: &Option<DeliveryState>, listed: &Option<Option<DeliveryState>>) -> Decision
     ensures { result ≡ decision told.now listed.now }
 {

@@ -16,15 +16,14 @@ add-requires g c =
 pub loop-tag-preserved : goal.loop-tag-preserved
 loop-tag-preserved g c =
     let before = c.loop-tag.invariant in
-    let step : c.loop-tag.tag-iterator ≡ (c.in-Some.tag.now, c.in-Some.message.now) ∷ c.next.new.self = search rules in
-    (
+    let step : c.loop-tag.tag-iterator ≡ (c.in-Some.tag.now, c.in-Some.message.now) ∷ c.next.new.self = search rules in (
       tt,
       tt,
       before.2 ++ (c.in-Some.tag.now, c.in-Some.message.now) ∷ [],
       before.3
-      ∙ ap (λ (xs : List (List ℕ × g.row.M.Denot)). before.2 ++ xs) step
-      ∙ sym (append_assoc before.2 ((c.in-Some.tag.now, c.in-Some.message.now) ∷ []) c.next.new.self),
+          ∙ ap (λ (xs : List (List ℕ × g.row.M.Denot)). before.2 ++ xs) step
+          ∙ sym (append_assoc before.2 ((c.in-Some.tag.now, c.in-Some.message.now) ∷ []) c.next.new.self),
       c.in_ok-add.ensures
-      ∙ ap (λ (es : Entries). es ++ (c.in-Some.tag.now, g.M.Listed.listed c.in-Some.message.now) ∷ []) before.4
-      ∙ sym (listed-more g.M.Listed.listed before.2 c.in-Some.tag.now c.in-Some.message.now),
+          ∙ ap (λ (es : Entries). es ++ (c.in-Some.tag.now, g.M.Listed.listed c.in-Some.message.now) ∷ []) before.4
+          ∙ sym (listed-more g.M.Listed.listed before.2 c.in-Some.tag.now c.in-Some.message.now),
     )
