@@ -1,5 +1,5 @@
 pub mod Live
-pub mod Listed
+pub mod Adding
 pub mod Halving
 pub mod Shortening
 pub mod Places

@@ -2,7 +2,7 @@ use Rattle.std.proofs.Common.{◌≡◌, ◌∙◌, ℕ, List, [], ◌∷◌, �
 use Rattle.std.specs.Map.{lookup}
 use Rattle.std.specs.Str.{bytes_eq}
 use Rattle.amqp_link_unsettled.specs.Listing.{Entries}
-use Rattle.amqp_link_unsettled.proofs.Listed.{tag-is-new, listed-more}
+use Rattle.amqp_link_unsettled.proofs.Adding.{tag-is-new, listed-more}
 use Rattle.amqp_link_unsettled.proofs.map.UnsettledMap.list.Goals as goal
 
 pub add-requires : goal.add-requires
