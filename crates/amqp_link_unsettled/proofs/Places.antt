@@ -46,8 +46,8 @@ module _ (a b : Received) where
 
 -- a test that is known not to hold doesn't
 not-true : (x : Bool) → (x ≡ true → ⊥) → x ≡ false
-not-true true no = absurd (no refl)
-not-true false no = refl
+not-true true never = absurd (never refl)
+not-true false never = refl
 
 module _ (a b c : Received) where
   pub past-one-way : is_past a b ≡ true → is_past b a ≡ false
@@ -74,18 +74,18 @@ module _ (a b c : Received) where
   pub past-neither : is_past a b ≡ false → is_past b a ≡ false → a ≡ b
   past-neither none back = by (cases_lt b.section_number a.section_number) (cases_lt a.section_number b.section_number) (cases_lt b.section_offset a.section_offset) (cases_lt a.section_offset b.section_offset)
     where
-      no : is_past a b ≡ true → ⊥
-      no p = true≢false (sym p ∙ none)
+      ahead : is_past a b ≡ true → ⊥
+      ahead p = true≢false (sym p ∙ none)
 
-      no-back : is_past b a ≡ true → ⊥
-      no-back p = true≢false (sym p ∙ back)
+      behind : is_past b a ≡ true → ⊥
+      behind p = true≢false (sym p ∙ back)
 
       by : (b.section_number < a.section_number) ⊎ (a.section_number ≤ b.section_number) → (a.section_number < b.section_number) ⊎ (b.section_number ≤ a.section_number)
           → (b.section_offset < a.section_offset) ⊎ (a.section_offset ≤ b.section_offset) → (a.section_offset < b.section_offset) ⊎ (b.section_offset ≤ a.section_offset) → a ≡ b
-      by (inl p) q r s = absurd (no (past-if a b (inl p)))
-      by (inr p) (inl q) r s = absurd (no-back (past-if b a (inl q)))
-      by (inr p) (inr q) (inl r) s = absurd (no (past-if a b (inr (omega (arith, p, q), r))))
-      by (inr p) (inr q) (inr r) (inl s) = absurd (no-back (past-if b a (inr (omega (arith, p, q), s))))
+      by (inl p) q r s = absurd (ahead (past-if a b (inl p)))
+      by (inr p) (inl q) r s = absurd (behind (past-if b a (inl q)))
+      by (inr p) (inr q) (inl r) s = absurd (ahead (past-if a b (inr (omega (arith, p, q), r))))
+      by (inr p) (inr q) (inr r) (inl s) = absurd (behind (past-if b a (inr (omega (arith, p, q), s))))
       by (inr p) (inr q) (inr r) (inr s) =
           let sections : a.section_number ≡ b.section_number = omega (arith, p, q) in
           let offsets : a.section_offset ≡ b.section_offset = omega (arith, r, s) in
