@@ -1,6 +1,8 @@
 //! A link as both of its ends keep it.
 ghost use Rattle.std.specs.Prelude.{◌≡◌, None, IfOk};
 ghost use Rattle.amqp_link_attach.specs.declared.state.LinkState.TheVariants.{Unattached};
+ghost use Rattle.amqp_link_attach.specs.State.{is_attached};
+ghost use Rattle.amqp_link_base.specs.Moves.{Moves, sent_attach, took_attach, sent_detach, took_detach, broken_off};
 ghost use Rattle.amqp_link_base.specs.Own.{own_attach, bound};
 
 use crate::both::both;
@@ -12,6 +14,7 @@ use amqp_session_types::{
 };
 use serde_amqp_types::{Array, Text};
 use std::alloc::{AllocError, Global};
+use thiserror::Error;
 
 /// What both ends of a link keep of it (part 2, 2.6).
 #[derive(Debug, Drop)]
@@ -31,6 +34,11 @@ pub struct LinkBase {
     /// Why the link's session stopped, once it did.
     pub session_stop_reason: Option<Boxed<SessionStopReason>>,
 }
+
+/// The state of a link doesn't allow a frame.
+#[derive(Debug, Clone, Copy, PartialEq, Eq, Error)]
+#[error("illegal state of the link")]
+pub struct IllegalState;
 
 /// A name, properties, and the termini of a link.
 type Parts = (
@@ -89,6 +97,79 @@ impl LinkBase {
             desired_capabilities: Array::new(alloc),
             properties,
         })
+    }
+
+    /// Whether both Attach were exchanged, and neither Detach was.
+    pub fn is_attached(&self) -> bool
+        ensures { result ≡ is_attached self.now.local_state }
+    {
+        self.local_state.is_attached()
+    }
+
+    /// The own Attach is sent, which lists all unsettled deliveries or only a part of them (part 2, 2.6.3).
+    ///
+    /// Errors: `IllegalState` exactly where the state doesn't allow it. Nothing changes then.
+    pub fn send_attach(&mut self, incomplete: bool) -> Result<(), IllegalState>
+        ensures { Moves (sent_attach self.old incomplete) self.old result self.new }
+    {
+        let Some(state) = self.local_state.send_attach(incomplete) else {
+            return Err(IllegalState);
+        };
+        self.local_state = state;
+        Ok(())
+    }
+
+    /// The peer's Attach comes: its handle stands for the link in the peer's frames from now on (part 2, 2.6.3).
+    ///
+    /// Errors: `IllegalState` exactly where the state doesn't allow it. Nothing changes then.
+    pub fn on_incoming_attach(&mut self, attach: &Attach) -> Result<(), IllegalState>
+        ensures { Moves (took_attach self.old attach.now) self.old result self.new }
+    {
+        let incomplete = attach.incomplete_unsettled;
+        let Some(state) = self.local_state.on_incoming_attach(incomplete) else {
+            return Err(IllegalState);
+        };
+        self.local_state = state;
+        self.input_handle = Some(InputHandle(attach.handle.0));
+        Ok(())
+    }
+
+    /// The own Detach is sent, which closes the link or doesn't (part 2, 2.6.5 and 2.6.6).
+    ///
+    /// Errors: `IllegalState` exactly where the state doesn't allow it. Nothing changes then.
+    pub fn send_detach(&mut self, closed: bool) -> Result<(), IllegalState>
+        ensures { Moves (sent_detach self.old closed) self.old result self.new }
+    {
+        let Some(state) = self.local_state.send_detach(closed) else {
+            return Err(IllegalState);
+        };
+        self.local_state = state;
+        Ok(())
+    }
+
+    /// The peer's Detach comes, which closes the link or doesn't, by itself or across the own one: its handle stands for
+    /// the link no longer (part 2, 2.6.5 and 2.6.6).
+    ///
+    /// Errors: `IllegalState` exactly where the state doesn't allow it. Nothing changes then.
+    pub fn on_incoming_detach(&mut self, closed: bool) -> Result<(), IllegalState>
+        ensures { Moves (took_detach self.old closed) self.old result self.new }
+    {
+        let Some(state) = self.local_state.apply_remote_detach(closed) else {
+            return Err(IllegalState);
+        };
+        self.local_state = state;
+        self.input_handle = None;
+        Ok(())
+    }
+
+    /// The connection or the session is over: no handle stands for the link any more, and it is detached, or closed where
+    /// its closing Detach was sent (part 2, 2.6.5).
+    pub fn break_off(&mut self)
+        ensures { self.new ≡ broken_off self.old }
+    {
+        self.local_state = self.local_state.after_break();
+        self.input_handle = None;
+        self.output_handle = None;
     }
 
     /// Clones of what isn't copied.

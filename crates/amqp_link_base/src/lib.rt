@@ -5,4 +5,4 @@
 mod base;
 mod both;
 
-pub use base::LinkBase;
+pub use base::{IllegalState, LinkBase};
