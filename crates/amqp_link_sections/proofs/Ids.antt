@@ -1,5 +1,5 @@
 -- Reading a message-id by its constructor.
-use Rattle.std.proofs.Common.{◌≡◌, ◌≢◌, ℕ, List, ◌++◌, Option, Some, None, sym, ◌∙◌, ap, subst, refl}
+use Rattle.std.proofs.Common.{◌≡◌, ◌≢◌, ℕ, Option, Some, None, ◌∙◌, ap, subst, refl}
 use Rattle.serde_amqp_item.specs.declared.codes.EncodingCodes.{EncodingCodes}
 use Rattle.serde_amqp_item.specs.declared.codes.EncodingCodes.TheVariants as codes
 use Rattle.serde_amqp_item.specs.Item.{Item, scalar, ulong, uuid, binary, string}

@@ -1,19 +1,19 @@
 -- Sections as bytes, and bytes as sections, computed from the definitions.
-use Rattle.std.proofs.Common.{◌≡◌, ℕ, List, [], ◌∷◌, Option, Some, None, refl}
+use Rattle.std.proofs.Common.{◌≡◌, ℕ, List, [], ◌∷◌, Some, None, refl}
 use Rattle.std.specs.Char.{encode_utf8}
 use Rattle.std.specs.Str.{is_utf8, chars}
-use Rattle.serde_amqp_item.specs.Item.{Item, scalar, null, uint, ulong, binary, string, symbol, list, map, described, no_items, no_pairs}
+use Rattle.serde_amqp_item.specs.Item.{scalar, uint, ulong, binary, string, symbol, list, described, no_items}
 use Rattle.serde_amqp_item.specs.Canon.{canon}
-use Rattle.serde_amqp_de.specs.Takes.{descriptor_taken, items_taken, option_taken, string_taken, uint_taken, record_taken}
+use Rattle.serde_amqp_de.specs.Takes.{descriptor_taken}
 use Rattle.serde_amqp_de.specs.Maps.{pairs_taken}
 use Rattle.serde_amqp_map.specs.Items.{ordered_item}
 use Rattle.serde_amqp_map.specs.Takes.{ordered_taken}
 use Rattle.amqp_link_sections.specs.Described.{described_as}
-use Rattle.amqp_link_sections.specs.Header.{default_header, header_item, header_taken, header_name}
+use Rattle.amqp_link_sections.specs.Header.{default_header, header_item}
 use Rattle.amqp_link_sections.specs.Annotations.{application_properties_item, footer_item, footer_taken}
 use Rattle.amqp_link_sections.specs.MessageId.{message_id_taken}
 use Rattle.amqp_link_sections.specs.Properties.{properties_item}
-use Rattle.amqp_link_sections.specs.Body.{data_name, data_item, data_taken, amqp_sequence_item, amqp_value_item, amqp_value_taken}
+use Rattle.amqp_link_sections.specs.Body.{data_name, data_item, data_taken, amqp_sequence_item, amqp_value_item}
 use Rattle.amqp_link_sections.specs.declared.message_id.MessageId.TheVariants as id
 
 -- "hi"

@@ -1,5 +1,5 @@
 -- Bytes give one section of a body, it is read as it is written, and its item says which it is.
-use Rattle.std.proofs.Common.{◌≡◌, ℕ, List, map, Option, Some, ◌∙◌, ap, refl}
+use Rattle.std.proofs.Common.{◌≡◌, ℕ, List, map, Option, Some, ap, refl}
 use Rattle.serde_amqp_item.specs.Item.{Item, scalar, binary, list, items_of}
 use Rattle.serde_amqp_item.specs.Canon.{◌>>=◌}
 use Rattle.serde_amqp_de.specs.Again.{each_again, list_faithful, list_same_item}
