@@ -51,13 +51,84 @@ optional_uint_same : (o p : Option ℕ) → option_item (λ n. scalar (uint n)) 
 optional_uint_same = option_faithful (λ n. scalar (uint n)) uint_faithful (λ _. refl)
 
 pub properties_decided : Decided properties_taken
-properties_decided = record_decided 0x73 properties_name properties_takes (option_decided message_id_taken message_id_decided, (option_decided binary_taken binary_decided, (option_decided string_taken string_decided, (option_decided string_taken string_decided, (option_decided string_taken string_decided, (option_decided message_id_taken message_id_decided, (option_decided symbol_taken symbol_decided, (option_decided symbol_taken symbol_decided, (option_decided timestamp_taken timestamp_decided, (option_decided timestamp_taken timestamp_decided, (option_decided string_taken string_decided, (option_decided uint_taken uint_decided, (option_decided string_taken string_decided, tt)))))))))))))
+properties_decided = record_decided 0x73 properties_name properties_takes (
+  option_decided message_id_taken message_id_decided,
+  (
+    option_decided binary_taken binary_decided,
+    (
+      option_decided string_taken string_decided,
+      (
+        option_decided string_taken string_decided,
+        (
+          option_decided string_taken string_decided,
+          (
+            option_decided message_id_taken message_id_decided,
+            (
+              option_decided symbol_taken symbol_decided,
+              (
+                option_decided symbol_taken symbol_decided,
+                (
+                  option_decided timestamp_taken timestamp_decided,
+                  (
+                    option_decided timestamp_taken timestamp_decided,
+                    (
+                      option_decided string_taken string_decided,
+                      (option_decided uint_taken uint_decided, (option_decided string_taken string_decided, tt)),
+                    ),
+                  ),
+                ),
+              ),
+            ),
+          ),
+        ),
+      ),
+    ),
+  ),
+)
 
 pub properties_again : (p : Properties) → properties_taken (properties_item p) ≡ Some (properties_item p)
-properties_again p = record_again 0x73 properties_name properties_takes (properties_fields p) (optional_message_id_again p.message_id, (optional_binary_again p.user_id, (optional_string_again p.to, (optional_string_again p.subject, (optional_string_again p.reply_to, (optional_message_id_again p.correlation_id, (optional_symbol_again p.content_type, (optional_symbol_again p.content_encoding, (optional_timestamp_again p.absolute_expiry_time, (optional_timestamp_again p.creation_time, (optional_string_again p.group_id, (optional_uint_again p.group_sequence, (optional_string_again p.reply_to_group_id, tt)))))))))))))
+properties_again p = record_again 0x73 properties_name properties_takes (properties_fields p) (
+  optional_message_id_again p.message_id,
+  (
+    optional_binary_again p.user_id,
+    (
+      optional_string_again p.to,
+      (
+        optional_string_again p.subject,
+        (
+          optional_string_again p.reply_to,
+          (
+            optional_message_id_again p.correlation_id,
+            (
+              optional_symbol_again p.content_type,
+              (
+                optional_symbol_again p.content_encoding,
+                (
+                  optional_timestamp_again p.absolute_expiry_time,
+                  (
+                    optional_timestamp_again p.creation_time,
+                    (
+                      optional_string_again p.group_id,
+                      (optional_uint_again p.group_sequence, (optional_string_again p.reply_to_group_id, tt)),
+                    ),
+                  ),
+                ),
+              ),
+            ),
+          ),
+        ),
+      ),
+    ),
+  ),
+)
 
 -- properties with the same fields are the same
-pub properties_parts : (p q : Properties) → p.message_id ≡ q.message_id → p.user_id ≡ q.user_id → p.to ≡ q.to → p.subject ≡ q.subject → p.reply_to ≡ q.reply_to → p.correlation_id ≡ q.correlation_id → p.content_type ≡ q.content_type → p.content_encoding ≡ q.content_encoding → p.absolute_expiry_time ≡ q.absolute_expiry_time → p.creation_time ≡ q.creation_time → p.group_id ≡ q.group_id → p.group_sequence ≡ q.group_sequence → p.reply_to_group_id ≡ q.reply_to_group_id → p ≡ q
+pub properties_parts : (p q : Properties) → p.message_id ≡ q.message_id → p.user_id ≡ q.user_id → p.to ≡ q.to
+    → p.subject ≡ q.subject → p.reply_to ≡ q.reply_to → p.correlation_id ≡ q.correlation_id
+    → p.content_type ≡ q.content_type → p.content_encoding ≡ q.content_encoding
+    → p.absolute_expiry_time ≡ q.absolute_expiry_time → p.creation_time ≡ q.creation_time
+    → p.group_id ≡ q.group_id → p.group_sequence ≡ q.group_sequence
+    → p.reply_to_group_id ≡ q.reply_to_group_id → p ≡ q
 properties_parts p q e0 e1 e2 e3 e4 e5 e6 e7 e8 e9 e10 e11 e12 =
     ap (λ x. record p { message_id = x }) e0
     ∙ (ap (λ x. record p { message_id = q.message_id; user_id = x }) e1

@@ -19,9 +19,11 @@ pub(crate) fn read_described<T: Deserialize, R: Read>(
     code: u64,
     name: &[u8],
 ) -> Result<T, Error>
-    ensures ok { IfOk result (λ v. Took (described_as code name.now T.take) de.old.element (at_of R.rest de.old) (at_of R.rest de.new) (described_item code (T.item v))) }
+    ensures ok { IfOk result (λ v. Took (described_as code name.now T.take)
+        de.old.element (at_of R.rest de.old) (at_of R.rest de.new) (described_item code (T.item v))) }
     ensures element { OnOk result (de.new.element ≡ de.old.element) }
-    ensures refused { Unless R.faulty result (Refuses (described_as code name.now T.take) de.old.element (at_of R.rest de.old)) }
+    ensures refused { Unless R.faulty result
+        (Refuses (described_as code name.now T.take) de.old.element (at_of R.rest de.old)) }
 {
     let outer = de.element;
     de.described()?;

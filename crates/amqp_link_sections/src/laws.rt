@@ -32,16 +32,21 @@ pub fn header_is_its_item()
 /// What delivery annotations are written as is read as them, and two values of delivery annotations are written as two
 /// items. What is read as them says by its descriptor that it is that section.
 pub fn delivery_annotations_is_its_item()
-    ensures read_back { (x : DeliveryAnnotations) → delivery_annotations_taken (delivery_annotations_item x) ≡ Some (delivery_annotations_item x) }
-    ensures told_apart { (x y : DeliveryAnnotations) → delivery_annotations_item x ≡ delivery_annotations_item y → x ≡ y }
-    ensures said { (x u : Item) → delivery_annotations_taken x ≡ Some u → section_said x ≡ Some is.DeliveryAnnotations }
+    ensures read_back { (x : DeliveryAnnotations) → delivery_annotations_taken (delivery_annotations_item x)
+        ≡ Some (delivery_annotations_item x) }
+    ensures told_apart { (x y : DeliveryAnnotations) → delivery_annotations_item x ≡ delivery_annotations_item y
+        → x ≡ y }
+    ensures said { (x u : Item) → delivery_annotations_taken x ≡ Some u
+        → section_said x ≡ Some is.DeliveryAnnotations }
 {}
 
 /// What message annotations are written as is read as them, and two values of message annotations are written as two
 /// items. What is read as them says by its descriptor that it is that section.
 pub fn message_annotations_is_its_item()
-    ensures read_back { (x : MessageAnnotations) → message_annotations_taken (message_annotations_item x) ≡ Some (message_annotations_item x) }
-    ensures told_apart { (x y : MessageAnnotations) → message_annotations_item x ≡ message_annotations_item y → x ≡ y }
+    ensures read_back { (x : MessageAnnotations) → message_annotations_taken (message_annotations_item x)
+        ≡ Some (message_annotations_item x) }
+    ensures told_apart { (x y : MessageAnnotations) → message_annotations_item x ≡ message_annotations_item y
+        → x ≡ y }
     ensures said { (x u : Item) → message_annotations_taken x ≡ Some u → section_said x ≡ Some is.MessageAnnotations }
 {}
 
@@ -62,9 +67,12 @@ pub fn properties_is_its_item()
 /// What application properties are written as is read as them, and two values of application properties are written as
 /// two items. What is read as them says by its descriptor that it is that section.
 pub fn application_properties_is_its_item()
-    ensures read_back { (x : ApplicationProperties) → application_properties_taken (application_properties_item x) ≡ Some (application_properties_item x) }
-    ensures told_apart { (x y : ApplicationProperties) → application_properties_item x ≡ application_properties_item y → x ≡ y }
-    ensures said { (x u : Item) → application_properties_taken x ≡ Some u → section_said x ≡ Some is.ApplicationProperties }
+    ensures read_back { (x : ApplicationProperties) → application_properties_taken (application_properties_item x)
+        ≡ Some (application_properties_item x) }
+    ensures told_apart { (x y : ApplicationProperties) → application_properties_item x ≡ application_properties_item y
+        → x ≡ y }
+    ensures said { (x u : Item) → application_properties_taken x ≡ Some u
+        → section_said x ≡ Some is.ApplicationProperties }
 {}
 
 /// What data are written as is read as them, and two values of data are written as two items. What is read as them says
@@ -78,16 +86,22 @@ pub fn data_is_its_item()
 /// What a sequence is written as is read as it, and two sequences are written as two items. What is read as it says by
 /// its descriptor that it is that section.
 pub fn amqp_sequence_is_its_item<T: Faithful>()
-    ensures read_back { (xs : List T) → amqp_sequence_taken T.take (amqp_sequence_item T.Deserialize.item xs) ≡ Some (amqp_sequence_item T.Deserialize.item xs) }
-    ensures told_apart { (xs ys : List T) → amqp_sequence_item T.Deserialize.item xs ≡ amqp_sequence_item T.Deserialize.item ys → xs ≡ ys }
+    ensures read_back { (xs : List T) → amqp_sequence_taken T.take (amqp_sequence_item T.Deserialize.item xs)
+        ≡ Some (amqp_sequence_item T.Deserialize.item xs) }
+    ensures told_apart { (xs ys : List T)
+        → amqp_sequence_item T.Deserialize.item xs ≡ amqp_sequence_item T.Deserialize.item ys
+        → xs ≡ ys }
     ensures said { (x u : Item) → amqp_sequence_taken T.take x ≡ Some u → section_said x ≡ Some is.AmqpSequence }
 {}
 
 /// What a value is written as is read as it, and two values are written as two items. What is read as it says by its
 /// descriptor that it is that section.
 pub fn amqp_value_is_its_item<T: Faithful>()
-    ensures read_back { (v : AmqpValue T) → amqp_value_taken T.take (amqp_value_item T.Deserialize.item v) ≡ Some (amqp_value_item T.Deserialize.item v) }
-    ensures told_apart { (v w : AmqpValue T) → amqp_value_item T.Deserialize.item v ≡ amqp_value_item T.Deserialize.item w → v ≡ w }
+    ensures read_back { (v : AmqpValue T) → amqp_value_taken T.take (amqp_value_item T.Deserialize.item v)
+        ≡ Some (amqp_value_item T.Deserialize.item v) }
+    ensures told_apart { (v w : AmqpValue T)
+        → amqp_value_item T.Deserialize.item v ≡ amqp_value_item T.Deserialize.item w
+        → v ≡ w }
     ensures said { (x u : Item) → amqp_value_taken T.take x ≡ Some u → section_said x ≡ Some is.AmqpValue }
 {}
 

@@ -104,8 +104,8 @@ impl Clone for Properties {
     }
 }
 
-/// What of properties isn't copied: what names messages, the user and the subject, the addresses, the types of the data and
-/// the groups.
+/// What of properties isn't copied: what names messages, the user and the subject, the addresses, the types of the
+/// data and the groups.
 type Parts = (
     (
         (Option<MessageId>, Option<MessageId>),
@@ -123,8 +123,12 @@ type Parts = (
 impl Properties {
     /// Clones of what isn't copied.
     fn clone_parts(&self) -> Result<Parts, AllocError>
-        ensures { IfOk result (λ c. (((c.0.0.0 ≡ self.now.message_id) × (c.0.0.1 ≡ self.now.correlation_id)) × ((c.0.1.0 ≡ self.now.user_id) × (c.0.1.1 ≡ self.now.subject)))
-            × (((c.1.0.0 ≡ self.now.to) × (c.1.0.1 ≡ self.now.reply_to)) × (((c.1.1.0.0 ≡ self.now.content_type) × (c.1.1.0.1 ≡ self.now.content_encoding)) × ((c.1.1.1.0 ≡ self.now.group_id) × (c.1.1.1.1 ≡ self.now.reply_to_group_id))))) }
+        ensures { IfOk result (λ c.
+            (((c.0.0.0 ≡ self.now.message_id) × (c.0.0.1 ≡ self.now.correlation_id))
+            × ((c.0.1.0 ≡ self.now.user_id) × (c.0.1.1 ≡ self.now.subject)))
+            × (((c.1.0.0 ≡ self.now.to) × (c.1.0.1 ≡ self.now.reply_to))
+            × (((c.1.1.0.0 ≡ self.now.content_type) × (c.1.1.0.1 ≡ self.now.content_encoding))
+            × ((c.1.1.1.0 ≡ self.now.group_id) × (c.1.1.1.1 ≡ self.now.reply_to_group_id))))) }
     {
         both(
             both(self.clone_ids(), self.clone_user()),
