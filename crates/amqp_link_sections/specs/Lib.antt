@@ -1,0 +1,13 @@
+pub mod Described
+pub mod DescribedLaws
+pub mod Header
+pub mod HeaderLaws
+pub mod Annotations
+pub mod AnnotationLaws
+pub mod MessageId
+pub mod MessageIdLaws
+pub mod Properties
+pub mod PropertiesLaws
+pub mod Body
+pub mod BodyLaws
+pub mod Section
