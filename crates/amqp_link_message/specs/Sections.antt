@@ -1,20 +1,24 @@
 -- The sections of a message, by the descriptors that say which each is (part 3, 3.2.1 to 3.2.9).
-use Rattle.std.specs.Prelude.{◌≡◌, ◌≤◌, ◌<◌, ℕ, List, [], ◌∷◌, ◌++◌, Option, Some, None, if◌then◌else◌, bytes_eq, codes}
+use Rattle.std.specs.Prelude.{◌≡◌, ◌≤◌, ℕ, List, [], ◌∷◌, ◌++◌, Option, Some, None, if◌then◌else◌, bytes_eq}
 use Rattle.serde_amqp_item.specs.Item.{Item, scalar, ulong, symbol, described}
 use Rattle.serde_amqp_item.specs.Wire.{Wire}
+use Rattle.amqp_link_sections.specs.Header.{header_name}
+use Rattle.amqp_link_sections.specs.Annotations.{delivery_annotations_name, message_annotations_name, application_properties_name, footer_name}
+use Rattle.amqp_link_sections.specs.Properties.{properties_name}
+use Rattle.amqp_link_sections.specs.Body.{data_name, amqp_sequence_name, amqp_value_name}
 
 -- the code of the section with this name
 abbrev pub code_named : List ℕ → Option ℕ
 code_named name =
-    if bytes_eq name (codes "amqp:header:list") then Some 0x70 else
-    if bytes_eq name (codes "amqp:delivery-annotations:map") then Some 0x71 else
-    if bytes_eq name (codes "amqp:message-annotations:map") then Some 0x72 else
-    if bytes_eq name (codes "amqp:properties:list") then Some 0x73 else
-    if bytes_eq name (codes "amqp:application-properties:map") then Some 0x74 else
-    if bytes_eq name (codes "amqp:data:binary") then Some 0x75 else
-    if bytes_eq name (codes "amqp:amqp-sequence:list") then Some 0x76 else
-    if bytes_eq name (codes "amqp:amqp-value:*") then Some 0x77 else
-    if bytes_eq name (codes "amqp:footer:map") then Some 0x78 else
+    if bytes_eq name header_name then Some 0x70 else
+    if bytes_eq name delivery_annotations_name then Some 0x71 else
+    if bytes_eq name message_annotations_name then Some 0x72 else
+    if bytes_eq name properties_name then Some 0x73 else
+    if bytes_eq name application_properties_name then Some 0x74 else
+    if bytes_eq name data_name then Some 0x75 else
+    if bytes_eq name amqp_sequence_name then Some 0x76 else
+    if bytes_eq name amqp_value_name then Some 0x77 else
+    if bytes_eq name footer_name then Some 0x78 else
     None
 
 -- the code that a descriptor says, as a number or as a name
@@ -38,6 +42,15 @@ pub record IsOfBody (x : Item) : Type 0 where
   pub coded : section_code x ≡ Some code
   pub from_data : 0x75 ≤ code
   pub to_value : code ≤ 0x77
+
+abbrev pub EachOfBody : List Item → Type 0
+EachOfBody [] = Unit {0}
+EachOfBody (x ∷ xs) = IsOfBody x × EachOfBody xs
+
+-- sections of a body, and at least one of them
+abbrev pub IsBody : List Item → Type 0
+IsBody [] = ⊥
+IsBody (x ∷ xs) = IsOfBody x × EachOfBody xs
 
 -- the bytes begin with a section of this code or a higher one
 pub record BeginsFrom (least : ℕ) (bytes : List ℕ) : Type 0 where

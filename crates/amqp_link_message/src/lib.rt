@@ -2,5 +2,22 @@
 //! (part 3, 3.2; part 2, 2.6.12 and 2.8.11).
 #![tactic(auto)]
 
+mod body;
+mod delivery;
 mod front;
+mod making;
+mod message;
 mod parts;
+mod payload;
+mod raw;
+mod sections;
+mod sendable;
+mod writing;
+
+pub use body::{ReadBody, WriteBody};
+pub use delivery::{Delivery, DeliveryInfo};
+pub use message::Message;
+pub use payload::read_payload;
+pub use raw::Raw;
+pub use sendable::{Builder, MESSAGE_FORMAT, NoMessage, Sendable};
+
