@@ -1,3 +1,4 @@
 pub mod Descriptions
 pub mod Clones
 pub mod Ids
+pub mod Rows

@@ -11,3 +11,4 @@ pub mod PropertiesLaws
 pub mod Body
 pub mod BodyLaws
 pub mod Section
+pub mod SectionLaws

@@ -1,5 +1,10 @@
--- The sections of a message in their order, and the codes of their descriptors (part 3, 3.2).
-use Rattle.std.specs.Prelude.{ℕ, ◌==◌, List, [], ◌∷◌, Option, Some, None, if◌then◌else◌}
+-- The sections of a message in their order, and the codes and names of their descriptors (part 3, 3.2).
+use Rattle.std.specs.Prelude.{ℕ, ◌==◌, List, Option, Some, None, if◌then◌else◌, bytes_eq}
+use Rattle.serde_amqp_item.specs.Item.{Item, scalar, ulong, symbol, described}
+use Rattle.amqp_link_sections.specs.Header.{header_name}
+use Rattle.amqp_link_sections.specs.Annotations.{delivery_annotations_name, message_annotations_name, application_properties_name, footer_name}
+use Rattle.amqp_link_sections.specs.Properties.{properties_name}
+use Rattle.amqp_link_sections.specs.Body.{data_name, amqp_sequence_name, amqp_value_name}
 use Rattle.amqp_link_sections.specs.declared.section.Section.{Section}
 use Rattle.amqp_link_sections.specs.declared.section.Section.TheVariants as is
 
@@ -27,3 +32,28 @@ section_of code =
     if code == 0x77 then Some is.AmqpValue else
     if code == 0x78 then Some is.Footer else
     None
+
+-- the section whose descriptor has this name
+abbrev pub section_named : List ℕ → Option Section
+section_named name =
+    if bytes_eq name header_name then Some is.Header else
+    if bytes_eq name delivery_annotations_name then Some is.DeliveryAnnotations else
+    if bytes_eq name message_annotations_name then Some is.MessageAnnotations else
+    if bytes_eq name properties_name then Some is.Properties else
+    if bytes_eq name application_properties_name then Some is.ApplicationProperties else
+    if bytes_eq name data_name then Some is.Data else
+    if bytes_eq name amqp_sequence_name then Some is.AmqpSequence else
+    if bytes_eq name amqp_value_name then Some is.AmqpValue else
+    if bytes_eq name footer_name then Some is.Footer else
+    None
+
+-- the section that a descriptor says, as its code or as its name (part 1, 1.5)
+unfoldable pub section_by : Item → Option Section
+section_by (scalar (ulong code)) = section_of code
+section_by (scalar (symbol name)) = section_named name
+section_by _ = None
+
+-- the section that an item says it is, by its descriptor alone
+unfoldable pub section_said : Item → Option Section
+section_said (described d v) = section_by d
+section_said _ = None
