@@ -11,3 +11,4 @@ pub mod RunLaws
 pub mod CodeLaws
 pub mod BodyLaws
 pub mod Making
+pub mod RoundLaws

@@ -9,12 +9,15 @@ ghost use Rattle.amqp_link_sections.specs.Body.{data_item, data_taken, amqp_sequ
 ghost use Rattle.amqp_link_message.specs.Payload.{payload_text};
 ghost use Rattle.amqp_link_message.specs.Sections.{IsBody};
 ghost use Rattle.amqp_link_message.specs.Parts.{at_most_one, exactly_one, if_there, ReadsParts, NoParts};
+ghost use Rattle.amqp_link_sections.specs.BodyLaws.{data_again, amqp_sequence_again, amqp_sequence_same_item, amqp_value_again, amqp_value_same_item};
+ghost use Rattle.std.proofs.Common.{ap};
+ghost use Rattle.amqp_link_message.specs.RoundLaws.{one_again};
 ghost use Rattle.amqp_link_message.specs.CodeLaws.{one_of_body, data_coded, amqp_sequence_coded, amqp_value_coded};
 
 use crate::parts::read_one;
 use amqp_link_sections::{AmqpSequence, AmqpValue, Data, Footer};
 use bytes::Bytes;
-use serde_amqp_de::Deserialize;
+use serde_amqp_de::{Deserialize, RoundTrip};
 use serde_amqp_item::Error;
 use serde_amqp_ser::{Serialize, Serializer, Sink};
 use std::alloc::Global;
@@ -59,6 +62,15 @@ pub trait ReadBody: Sized {
 
     /// A body has one section of a body or more, and no other sections.
     ghost of_body: { (xs ys : List Item) → takes xs ≡ Some ys → IsBody xs };
+}
+
+/// A body that is written is read back.
+pub trait RoundTripBody: WriteBody + ReadBody {
+    /// What is written are the items that the body is.
+    ghost same: { (b : Self) → Self.WriteBody.items b ≡ Self.ReadBody.items b };
+
+    /// The items of a body are taken as they are.
+    ghost again: { (b : Self) → Self.takes (Self.ReadBody.items b) ≡ Some (Self.ReadBody.items b) };
 }
 
 /// One data section.
@@ -133,4 +145,22 @@ impl<T: Deserialize + Drop> ReadBody for AmqpValue<T> {
     }
 
     ghost of_body = { one_of_body (amqp_value_taken T.take) 0x77 (amqp_value_coded T.take) refl refl };
+}
+
+impl RoundTripBody for Data {
+    ghost same = { λ _. refl };
+
+    ghost again = { λ d. one_again data_taken (data_item d) (data_again d) };
+}
+
+impl<T: RoundTrip + Drop> RoundTripBody for AmqpSequence<T> {
+    ghost same = { λ s. ap (λ x. x ∷ []) (amqp_sequence_same_item T.Serialize.item T.Deserialize.item T.same s) };
+
+    ghost again = { λ s. one_again (amqp_sequence_taken T.take) (amqp_sequence_item T.Deserialize.item s) (amqp_sequence_again T.take T.Deserialize.item T.again s) };
+}
+
+impl<T: RoundTrip + Drop> RoundTripBody for AmqpValue<T> {
+    ghost same = { λ v. ap (λ x. x ∷ []) (amqp_value_same_item T.Serialize.item T.Deserialize.item T.same v) };
+
+    ghost again = { λ v. one_again (amqp_value_taken T.take) (amqp_value_item T.Deserialize.item v) (amqp_value_again T.take T.Deserialize.item T.again v) };
 }

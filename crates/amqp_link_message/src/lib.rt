@@ -5,6 +5,7 @@
 mod body;
 mod delivery;
 mod front;
+pub mod laws;
 mod making;
 mod message;
 mod parts;
@@ -14,7 +15,7 @@ mod sections;
 mod sendable;
 mod writing;
 
-pub use body::{ReadBody, WriteBody};
+pub use body::{ReadBody, RoundTripBody, WriteBody};
 pub use delivery::{Delivery, DeliveryInfo};
 pub use message::Message;
 pub use payload::read_payload;

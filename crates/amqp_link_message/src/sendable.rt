@@ -58,7 +58,7 @@ impl Builder<NoMessage> {
 
 /// As [`Builder::new`].
 impl Default for Builder<NoMessage> {
-    ghost is_default = { λ b. b ≡ record { message = record {}; message_format = MESSAGE_FORMAT; settled = None } };
+    ghost is_default = { λ b. b ≡ record { message = record {}; message_format = 0; settled = None } };
 
     fn default() -> Self {
         Builder::new()
