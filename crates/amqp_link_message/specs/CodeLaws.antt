@@ -101,3 +101,12 @@ each_of_body take code c l h (x ∷ xs) ys e =
 pub some_of_body : (take : Item → Option Item) (code : ℕ) → TakesCode take code → 0x75 ≤ code → code ≤ 0x77 → (xs ys : List Item) → one_or_more take xs ≡ Some ys → IsBody xs
 some_of_body take code c l h [] ys e = absurd cc
 some_of_body take code c l h (x ∷ xs) ys e = each_of_body take code c l h (x ∷ xs) ys e
+
+pub data_of_body : (xs ys : List Item) → exactly_one data_taken xs ≡ Some ys → IsBody xs
+data_of_body = one_of_body data_taken 0x75 data_coded (omega arith) (omega arith)
+
+pub amqp_sequence_of_body : (take : Item → Option Item) (xs ys : List Item) → exactly_one (amqp_sequence_taken take) xs ≡ Some ys → IsBody xs
+amqp_sequence_of_body take = one_of_body (amqp_sequence_taken take) 0x76 (amqp_sequence_coded take) (omega arith) (omega arith)
+
+pub amqp_value_of_body : (take : Item → Option Item) (xs ys : List Item) → exactly_one (amqp_value_taken take) xs ≡ Some ys → IsBody xs
+amqp_value_of_body take = one_of_body (amqp_value_taken take) 0x77 (amqp_value_coded take) (omega arith) (omega arith)

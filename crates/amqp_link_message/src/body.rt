@@ -12,7 +12,7 @@ ghost use Rattle.amqp_link_message.specs.Parts.{at_most_one, exactly_one, if_the
 ghost use Rattle.amqp_link_sections.specs.BodyLaws.{data_again, amqp_sequence_again, amqp_sequence_same_item, amqp_value_again, amqp_value_same_item};
 ghost use Rattle.std.proofs.Common.{ap};
 ghost use Rattle.amqp_link_message.specs.RoundLaws.{one_again};
-ghost use Rattle.amqp_link_message.specs.CodeLaws.{one_of_body, data_coded, amqp_sequence_coded, amqp_value_coded};
+ghost use Rattle.amqp_link_message.specs.CodeLaws.{data_of_body, amqp_sequence_of_body, amqp_value_of_body};
 
 use crate::parts::read_one;
 use amqp_link_sections::{AmqpSequence, AmqpValue, Data, Footer};
@@ -94,7 +94,7 @@ impl ReadBody for Data {
         Ok((data, footer))
     }
 
-    ghost of_body = { one_of_body data_taken 0x75 data_coded refl refl };
+    ghost of_body = { data_of_body };
 }
 
 /// One amqp-sequence section.
@@ -119,7 +119,7 @@ impl<T: Deserialize + Drop> ReadBody for AmqpSequence<T> {
         Ok((sequence, footer))
     }
 
-    ghost of_body = { one_of_body (amqp_sequence_taken T.take) 0x76 (amqp_sequence_coded T.take) refl refl };
+    ghost of_body = { amqp_sequence_of_body T.take };
 }
 
 /// One amqp-value section.
@@ -144,7 +144,7 @@ impl<T: Deserialize + Drop> ReadBody for AmqpValue<T> {
         Ok((value, footer))
     }
 
-    ghost of_body = { one_of_body (amqp_value_taken T.take) 0x77 (amqp_value_coded T.take) refl refl };
+    ghost of_body = { amqp_value_of_body T.take };
 }
 
 impl RoundTripBody for Data {

@@ -17,6 +17,8 @@ pub struct ReceiverMarker;
 
 /// What marks an end of a link.
 pub trait IntoRole {
+    ghost use Rattle.amqp_session_types.specs.declared.modes.Role.{Role};
+
     /// Which end it is.
     ghost role: { Role };
 
