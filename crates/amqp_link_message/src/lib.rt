@@ -12,6 +12,7 @@ mod parts;
 mod payload;
 mod raw;
 mod sections;
+mod send_result;
 mod sendable;
 mod writing;
 
@@ -20,5 +21,6 @@ pub use delivery::{Delivery, DeliveryInfo};
 pub use message::Message;
 pub use payload::read_payload;
 pub use raw::Raw;
+pub use send_result::{FromDeliveryFailure, FromDeliveryState, FromPreSettled, SendResult};
 pub use sendable::{Builder, MESSAGE_FORMAT, NoMessage, Sendable};
 
