@@ -1,0 +1,14 @@
+pub mod Payload
+pub mod Sections
+pub mod Parts
+pub mod Front
+pub mod Message
+pub mod Raw
+pub mod SayingLaws
+pub mod SectionLaws
+pub mod PartLaws
+pub mod RunLaws
+pub mod CodeLaws
+pub mod BodyLaws
+pub mod Making
+pub mod RoundLaws
