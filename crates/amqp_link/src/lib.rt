@@ -9,6 +9,11 @@ pub use amqp_link_attach::{
     verify_attach_as_sender,
 };
 pub use amqp_link_flow::{LinkFlowState, LinkFlowStateInner};
+pub use amqp_link_message::{
+    Builder, Delivery, DeliveryInfo, FromDeliveryFailure, FromDeliveryState, FromPreSettled,
+    MESSAGE_FORMAT, Message, NoMessage, Raw, ReadBody, RoundTripBody, SendResult, Sendable,
+    WriteBody, read_payload,
+};
 pub use amqp_link_place::{IncompleteTransfer, place, read_place};
 pub use amqp_link_sections::{
     AmqpSequence, AmqpValue, Annotations, ApplicationProperties, Data, DeliveryAnnotations, Footer,

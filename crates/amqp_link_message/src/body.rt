@@ -114,8 +114,9 @@ impl<T: Deserialize + Drop> ReadBody for AmqpSequence<T> {
     ghost takes = { exactly_one (amqp_sequence_taken T.take) };
 
     fn read(alloc: Global, bytes: &[u8]) -> Result<(AmqpSequence<T>, Option<Footer>), Error> {
-        let (sequence, (footer, ())) =
-            read_one::<AmqpSequence<T>, (Option<Footer>, ())>(alloc, bytes)?;
+        let (sequence, (footer, ())) = read_one::<AmqpSequence<T>, (Option<Footer>, ())>(
+            alloc, bytes,
+        )?;
         Ok((sequence, footer))
     }
 
@@ -139,8 +140,7 @@ impl<T: Deserialize + Drop> ReadBody for AmqpValue<T> {
     ghost takes = { exactly_one (amqp_value_taken T.take) };
 
     fn read(alloc: Global, bytes: &[u8]) -> Result<(AmqpValue<T>, Option<Footer>), Error> {
-        let (value, (footer, ())) =
-            read_one::<AmqpValue<T>, (Option<Footer>, ())>(alloc, bytes)?;
+        let (value, (footer, ())) = read_one::<AmqpValue<T>, (Option<Footer>, ())>(alloc, bytes)?;
         Ok((value, footer))
     }
 

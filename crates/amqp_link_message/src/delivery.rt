@@ -102,8 +102,9 @@ impl<B> Delivery<B> {
     /// What is said to settle the delivery, and its message. The format is dropped.
     pub fn into_parts(self) -> (DeliveryInfo, Message<B>)
         ensures { result ≡ record {
-            0 = record { delivery_id = self.delivery_id; delivery_tag = self.delivery_tag; rcv_settle_mode = self.rcv_settle_mode };
-            1 = self.message } }
+          0 = record { delivery_id = self.delivery_id; delivery_tag = self.delivery_tag; rcv_settle_mode = self.rcv_settle_mode };
+          1 = self.message;
+        } }
     {
         let Delivery {
             handle: _,
@@ -157,7 +158,10 @@ impl DeliveryInfo {
     /// What is said to settle a delivery that is kept. It is refused where there is no memory for the tag.
     pub fn from_ref<B>(delivery: &Delivery<B>) -> Result<Self, AllocError>
         ensures { IfOk result (λ i. i ≡ record {
-            delivery_id = delivery.now.delivery_id; delivery_tag = delivery.now.delivery_tag; rcv_settle_mode = delivery.now.rcv_settle_mode }) }
+          delivery_id = delivery.now.delivery_id;
+          delivery_tag = delivery.now.delivery_tag;
+          rcv_settle_mode = delivery.now.rcv_settle_mode;
+        }) }
     {
         Ok(DeliveryInfo {
             delivery_id: delivery.delivery_id,

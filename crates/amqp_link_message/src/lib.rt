@@ -23,4 +23,3 @@ pub use payload::read_payload;
 pub use raw::Raw;
 pub use send_result::{FromDeliveryFailure, FromDeliveryState, FromPreSettled, SendResult};
 pub use sendable::{Builder, MESSAGE_FORMAT, NoMessage, Sendable};
-

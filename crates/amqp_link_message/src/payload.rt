@@ -55,7 +55,10 @@ impl<B: WriteBody> WriteParts for Message<B> {
     fn put<W: Sink>(&self, s: &mut Serializer<W>) -> Result<(), Error> {
         let ending = (BodyPart { body: &self.body }, (&self.footer, ()));
         let behind = (&self.properties, (&self.application_properties, ending));
-        let annotations = (&self.delivery_annotations, (&self.message_annotations, behind));
+        let annotations = (
+            &self.delivery_annotations,
+            (&self.message_annotations, behind),
+        );
         (&self.header, annotations).put(s)
     }
 }
@@ -175,8 +178,10 @@ type FromApplicationProperties<B> = (Option<ApplicationProperties>, Ending<B>);
 type FromProperties<B> = (Option<Properties>, FromApplicationProperties<B>);
 
 /// The annotations, and what stands behind them.
-type FromAnnotations<B> =
-    (Option<DeliveryAnnotations>, (Option<MessageAnnotations>, FromProperties<B>));
+type FromAnnotations<B> = (
+    Option<DeliveryAnnotations>,
+    (Option<MessageAnnotations>, FromProperties<B>),
+);
 
 /// Reads a message from its payload: the bytes are wire forms of its sections in order, one behind the other to their
 /// end (part 3, 3.2).
@@ -187,8 +192,9 @@ pub fn read_payload<B: ReadBody>(alloc: Global, bytes: &[u8]) -> Result<Message<
     ensures ok { IfOk result (λ m. ReadsParts (message_takes B.takes) bytes.now (message_parts B.items m)) }
     ensures refused { Unless faultless result (NoParts (message_takes B.takes) bytes.now) }
 {
-    let (header, annotations) =
-        <(Option<Header>, FromAnnotations<B>) as ReadParts>::read(alloc, bytes)?;
+    let (header, annotations) = <(Option<Header>, FromAnnotations<B>) as ReadParts>::read(
+        alloc, bytes,
+    )?;
     let (delivery_annotations, (message_annotations, behind)) = annotations;
     let (properties, (application_properties, Ending { body, footer })) = behind;
     Ok(Message {
