@@ -112,5 +112,5 @@ cut-to-none : (es : Entries) → or_null (take 0 es) ≡ None
 cut-to-none es = refl
 
 -- what was taken out is not among the deliveries
-taken-out : live ((0x61 ∷ [], Some 1) ∷ (0x62 ∷ [], None) ∷ (0x63 ∷ [], Some 3) ∷ []) ≡ (0x61 ∷ [], 1) ∷ (0x63 ∷ [], 3) ∷ []
+taken-out : live {M = ℕ} ((0x61 ∷ [], Some 1) ∷ (0x62 ∷ [], None) ∷ (0x63 ∷ [], Some 3) ∷ []) ≡ (0x61 ∷ [], 1) ∷ (0x63 ∷ [], 3) ∷ []
 taken-out = refl

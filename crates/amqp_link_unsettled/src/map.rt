@@ -1,5 +1,5 @@
 //! The unsettled deliveries of a link, in the order in which they were registered (part 2, 2.6.12).
-ghost use Rattle.std.specs.Prelude.{◌≡◌, ℕ, ◌==◌, ◌+◌, ◌-◌, ◌<◌, ◌≤◌, ◌^◌, List, [], ◌∷◌, ◌++◌, length, max, is_some, None, Some, IsSome, IsOk, OnOk, OnErr, option_copied, filter, reverse};
+ghost use Rattle.std.specs.Prelude.{◌≡◌, ℕ, ◌==◌, ◌+◌, ◌-◌, ◌<◌, ◌≤◌, ◌^◌, List, [], ◌∷◌, ◌++◌, length, max, is_some, None, Some, IsSome, IfNone, IsOk, OnOk, OnErr, option_copied, filter, reverse};
 ghost use Rattle.std.specs.List.{IsDistinct};
 ghost use Rattle.std.specs.Map.{keys_of, lookup, remove_entry, set_value};
 ghost use Rattle.std.specs.Map.Iter.{ShowsInOrder, deref_pair};
@@ -163,6 +163,7 @@ impl<M: Drop> UnsettledMap<M> {
     /// Takes the last delivery out, if there is one. It takes no memory.
     pub fn pop_last(&mut self) -> Option<(DeliveryTag, M)>
         ensures entries { self.old.entries ≡ self.new.entries ++ option_to_list result }
+        ensures none { IfNone result (self.new.entries ≡ []) }
         ensures room { self.new.room ≡ self.old.room }
     {
         let last = pop_live(&mut self.slots)?;
@@ -266,6 +267,7 @@ fn sweep<M: Drop>(slots: &mut IndexMap<DeliveryTag, Option<M>>)
 /// Takes the last value out with its tag, and the tags without a value behind it.
 fn pop_live<M: Drop>(slots: &mut IndexMap<DeliveryTag, Option<M>>) -> Option<(DeliveryTag, M)>
     ensures entries { live slots.old.entries ≡ live slots.new.entries ++ option_to_list result }
+    ensures none { IfNone result (live slots.new.entries ≡ []) }
     ensures room { spare slots.old ≤ spare slots.new }
 {
     while let Some((tag, slot)) = slots.pop() {
