@@ -2,3 +2,4 @@ pub mod Counting
 pub mod Pushing
 pub mod Splits
 pub mod SayingLemmas
+pub mod Rooming

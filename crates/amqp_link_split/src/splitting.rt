@@ -1,7 +1,8 @@
 //! Messages cut into transfers (part 2, 2.6.14 and 2.7.5).
 ghost use Rattle.std.specs.Prelude.{◌≡◌, ◌-◌, ◌<◌, ◌⊎◌, ◌++◌, length, OnOk, IfOk, IfErr, IfSome, IsSomeAnd, Some, None, Err};
 ghost use Rattle.amqp_session_core.specs.Batch.{Transfers};
-ghost use Rattle.amqp_link_split.specs.Room.{room_of, some_bytes};
+ghost use Rattle.serde_amqp_item.specs.Canon.{canon};
+ghost use Rattle.amqp_link_split.specs.Room.{room_behind, room_of, some_bytes};
 ghost use Rattle.amqp_link_split.specs.Splitting.{Splits, Rest, later, some_left};
 
 use amqp_link_types::LinkStateError;
@@ -9,7 +10,7 @@ use amqp_session_core::Batch;
 use amqp_session_performatives::Transfer;
 use amqp_session_types::Handle;
 use bytes::Bytes;
-use serde_amqp_ser::serialized_size;
+use serde_amqp_ser::{Serialize, serialized_size};
 use std::alloc::{AllocError, Global};
 
 /// How many bytes stand before a frame's performative (part 2, 2.3.1).
@@ -51,10 +52,18 @@ fn payload_room(first: &mut Transfer, limit: usize) -> Option<usize>
     let more = first.more;
     first.delivery_id = Some(u32::MAX);
     first.more = true;
-    let size = serialized_size(first);
+    let room = room_behind(first, limit);
     first.delivery_id = delivery_id;
     first.more = more;
-    match size {
+    room
+}
+
+/// What a frame leaves behind its header and a performative, unless that is nothing.
+fn room_behind<T: Serialize>(performative: &T, limit: usize) -> Option<usize>
+    ensures value { result ≡ room_behind (canon (T.item performative.now)) limit }
+    ensures some { IfSome result (λ room. 0 < room) }
+{
+    match serialized_size(performative) {
         Ok(size) => left(limit, size),
         Err(_) => None,
     }
