@@ -134,7 +134,7 @@ fn read_step<'a>(words: &mut Words<'a>) -> Option<Step<'a>> {
 
 impl Sending {
     /// One whose first transfer gets the number `next-outgoing-id`.
-    pub(crate) fn read(alloc: Global, words: Words<'_>) -> Option<Sending> {
+    pub fn read(alloc: Global, words: Words<'_>) -> Option<Sending> {
         let mut words = words;
         let first = words.field("next-outgoing-id")?;
         if !words.is_empty() {

@@ -13,7 +13,7 @@ pub trait Subject {
 }
 
 /// What a script answers: `ok` and the answers of its steps, or `unreadable` where one can't be read.
-pub(crate) fn answer(alloc: Global, line: &str) -> Result<String, AllocError> {
+pub fn answer(alloc: Global, line: &str) -> Result<String, AllocError> {
     match answer_of(alloc, line)? {
         Some(text) => Ok(text),
         None => String::from_str(alloc, "unreadable"),

@@ -31,7 +31,7 @@ pub struct Peer {
 impl Peer {
     /// One that gives its first transfer the number `next-outgoing-id` and tells the window `incoming-window`. With the
     /// word `full` each of its frames is shown with all its fields.
-    pub(crate) fn read(alloc: Global, words: Words<'_>) -> Option<Peer> {
+    pub fn read(alloc: Global, words: Words<'_>) -> Option<Peer> {
         let mut words = words;
         let first = words.field("next-outgoing-id")?;
         let window = words.field("incoming-window")?;

@@ -6,22 +6,22 @@ use std::alloc::{AllocError, Global};
 pub const BETWEEN_STEPS: &str = " ; ";
 
 /// A call that is answered with nothing.
-pub(crate) fn ok(alloc: Global) -> Result<String, AllocError> {
+pub fn ok(alloc: Global) -> Result<String, AllocError> {
     String::from_str(alloc, "ok")
 }
 
 /// What isn't there.
-pub(crate) fn none(alloc: Global) -> Result<String, AllocError> {
+pub fn none(alloc: Global) -> Result<String, AllocError> {
     String::from_str(alloc, "none")
 }
 
 /// A refused call.
-pub(crate) fn refused(alloc: Global, why: &str) -> Result<String, AllocError> {
+pub fn refused(alloc: Global, why: &str) -> Result<String, AllocError> {
     format!(in alloc; "refused {why}")
 }
 
 /// A number, if there is one.
-pub(crate) fn number(alloc: Global, number: Option<u32>) -> Result<String, AllocError> {
+pub fn number(alloc: Global, number: Option<u32>) -> Result<String, AllocError> {
     match number {
         Some(number) => format!(in alloc; "{number}"),
         None => none(alloc),
@@ -29,12 +29,12 @@ pub(crate) fn number(alloc: Global, number: Option<u32>) -> Result<String, Alloc
 }
 
 /// `true` or `false`.
-pub(crate) fn truth(alloc: Global, is_so: bool) -> Result<String, AllocError> {
+pub fn truth(alloc: Global, is_so: bool) -> Result<String, AllocError> {
     format!(in alloc; "{is_so}")
 }
 
 /// What a call answers that is refused for want of memory alone, and answers nothing else.
-pub(crate) fn done(alloc: Global, answer: Result<(), AllocError>) -> Result<String, AllocError> {
+pub fn done(alloc: Global, answer: Result<(), AllocError>) -> Result<String, AllocError> {
     match answer {
         Ok(()) => ok(alloc),
         Err(_) => refused(alloc, "memory"),
@@ -42,7 +42,7 @@ pub(crate) fn done(alloc: Global, answer: Result<(), AllocError>) -> Result<Stri
 }
 
 /// Numbers in order.
-pub(crate) fn numbers(alloc: Global, numbers: &[u32]) -> Result<String, AllocError> {
+pub fn numbers(alloc: Global, numbers: &[u32]) -> Result<String, AllocError> {
     let mut list = List::new(alloc);
     for number in numbers {
         list.begin_item()?;
@@ -52,10 +52,7 @@ pub(crate) fn numbers(alloc: Global, numbers: &[u32]) -> Result<String, AllocErr
 }
 
 /// Fields that are there, each behind a space as `name=value`.
-pub(crate) fn write_fields(
-    text: &mut String,
-    fields: &[(&str, Option<u32>)],
-) -> Result<(), AllocError> {
+pub fn write_fields(text: &mut String, fields: &[(&str, Option<u32>)]) -> Result<(), AllocError> {
     for (name, value) in fields {
         if let Some(value) = value {
             write!(text, " {name}={value}")?;
@@ -65,7 +62,7 @@ pub(crate) fn write_fields(
 }
 
 /// Fields that are true, each behind a space as `name=true`.
-pub(crate) fn write_flags(text: &mut String, flags: &[(&str, bool)]) -> Result<(), AllocError> {
+pub fn write_flags(text: &mut String, flags: &[(&str, bool)]) -> Result<(), AllocError> {
     for (name, is_set) in flags {
         if *is_set {
             write!(text, " {name}=true")?;
@@ -83,14 +80,14 @@ pub struct List {
 
 impl List {
     /// No items.
-    pub(crate) fn new(alloc: Global) -> Self {
+    pub fn new(alloc: Global) -> Self {
         List {
             text: String::new(alloc),
         }
     }
 
     /// An item is to be written into `text` next.
-    pub(crate) fn begin_item(&mut self) -> Result<(), AllocError> {
+    pub fn begin_item(&mut self) -> Result<(), AllocError> {
         if self.text.is_empty() {
             return Ok(());
         }
@@ -98,7 +95,7 @@ impl List {
     }
 
     /// The items, or `none`.
-    pub(crate) fn into_text(self) -> Result<String, AllocError> {
+    pub fn into_text(self) -> Result<String, AllocError> {
         if self.text.is_empty() {
             return none(*self.text.allocator());
         }
@@ -107,7 +104,7 @@ impl List {
 }
 
 /// Links that wait, in turn, each with how many of its transfers.
-pub(crate) fn turn(alloc: Global, waiting: &[(OutputHandle, usize)]) -> Result<String, AllocError> {
+pub fn turn(alloc: Global, waiting: &[(OutputHandle, usize)]) -> Result<String, AllocError> {
     let mut list = List::new(alloc);
     for (handle, count) in waiting {
         list.begin_item()?;

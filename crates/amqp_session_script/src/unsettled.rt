@@ -47,7 +47,7 @@ enum Look {
 }
 
 /// The range of the fields `first` and `last`, of which the second may be left out.
-pub(crate) fn read_range(words: &mut Words<'_>) -> Option<DeliveryRange> {
+pub fn read_range(words: &mut Words<'_>) -> Option<DeliveryRange> {
     let first = words.field("first")?;
     Some(DeliveryRange::new(first, words.field("last")))
 }
@@ -87,7 +87,7 @@ fn read_step<'a>(words: &mut Words<'a>) -> Option<Step<'a>> {
 
 impl Table {
     /// An empty one, where no words are left.
-    pub(crate) fn read(alloc: Global, words: Words<'_>) -> Option<Table> {
+    pub fn read(alloc: Global, words: Words<'_>) -> Option<Table> {
         if !words.is_empty() {
             return None;
         }

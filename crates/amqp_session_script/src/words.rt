@@ -9,12 +9,12 @@ pub struct Words<'a> {
 }
 
 /// The words of a text, which are parted by one space each.
-pub(crate) fn words_of(alloc: Global, text: &str) -> Result<Vec<&str>, AllocError> {
+pub fn words_of(alloc: Global, text: &str) -> Result<Vec<&str>, AllocError> {
     text.split(' ').collect(alloc)
 }
 
 /// A number in decimal digits alone: a sign is none.
-pub(crate) fn number_of(word: &str) -> Option<u32> {
+pub fn number_of(word: &str) -> Option<u32> {
     if word.starts_with('+') {
         return None;
     }
@@ -22,7 +22,7 @@ pub(crate) fn number_of(word: &str) -> Option<u32> {
 }
 
 /// A byte in decimal digits.
-pub(crate) fn byte_of(word: &str) -> Option<u8> {
+pub fn byte_of(word: &str) -> Option<u8> {
     u8::try_from(number_of(word)?).ok()
 }
 
@@ -37,7 +37,7 @@ fn truth_of(word: &str) -> Option<bool> {
 
 impl<'a> Words<'a> {
     /// All of these are still to be read.
-    pub(crate) fn new(words: &'a [&'a str]) -> Self {
+    pub fn new(words: &'a [&'a str]) -> Self {
         Words {
             all: words,
             read: 0,
@@ -45,7 +45,7 @@ impl<'a> Words<'a> {
     }
 
     /// Whether all were read.
-    pub(crate) fn is_empty(&self) -> bool {
+    pub fn is_empty(&self) -> bool {
         self.read >= self.all.len()
     }
 
@@ -55,21 +55,21 @@ impl<'a> Words<'a> {
     }
 
     /// Reads the next word.
-    pub(crate) fn word(&mut self) -> Option<&'a str> {
+    pub fn word(&mut self) -> Option<&'a str> {
         let word = self.next()?;
         self.read = self.read.saturating_add(1);
         Some(word)
     }
 
     /// Reads all that are left.
-    pub(crate) fn take_all(&mut self) -> &'a [&'a str] {
+    pub fn take_all(&mut self) -> &'a [&'a str] {
         let read = self.read;
         self.read = self.all.len();
         self.all.get(read..).unwrap_or(&[])
     }
 
     /// Reads the next word where it is this one, and says whether it was.
-    pub(crate) fn takes(&mut self, word: &str) -> bool {
+    pub fn takes(&mut self, word: &str) -> bool {
         if self.next() != Some(word) {
             return false;
         }
@@ -78,7 +78,7 @@ impl<'a> Words<'a> {
     }
 
     /// Reads the next word where it is a field of this name, `name=value`, and answers the value.
-    pub(crate) fn value(&mut self, name: &str) -> Option<&'a str> {
+    pub fn value(&mut self, name: &str) -> Option<&'a str> {
         let (found, value) = self.next()?.split_once('=')?;
         if found != name {
             return None;
@@ -88,17 +88,17 @@ impl<'a> Words<'a> {
     }
 
     /// Reads the next word, which is a number.
-    pub(crate) fn number(&mut self) -> Option<u32> {
+    pub fn number(&mut self) -> Option<u32> {
         number_of(self.word()?)
     }
 
     /// Reads a field whose value is a number.
-    pub(crate) fn field(&mut self, name: &str) -> Option<u32> {
+    pub fn field(&mut self, name: &str) -> Option<u32> {
         number_of(self.value(name)?)
     }
 
     /// Reads a field whose value is `true` or `false`.
-    pub(crate) fn truth(&mut self, name: &str) -> Option<bool> {
+    pub fn truth(&mut self, name: &str) -> Option<bool> {
         truth_of(self.value(name)?)
     }
 }

@@ -12,7 +12,7 @@ use std::alloc::{AllocError, Global};
 const ENDS_EARLY: &str = "refused Io(UnexpectedEof)";
 
 /// Answers a question about a type.
-pub(crate) fn typed<T: Serialize + Deserialize + Shown + Drop>(
+pub fn typed<T: Serialize + Deserialize + Shown + Drop>(
     alloc: Global,
     question: &Question<'_>,
 ) -> Result<Option<String>, AllocError> {
@@ -68,7 +68,7 @@ fn read_from_reader<T: Serialize + Deserialize + Shown + Drop>(
 }
 
 /// The text of an error.
-pub(crate) fn refused(alloc: Global, error: Error) -> Result<String, AllocError> {
+pub fn refused(alloc: Global, error: Error) -> Result<String, AllocError> {
     match error {
         Error::Memory => Err(AllocError),
         error => format!(in alloc; "refused {error:?}"),
@@ -181,7 +181,7 @@ fn size_of_front<T: Deserialize + Drop>(
 }
 
 /// Answers a question about a type whose values are lent from a slice.
-pub(crate) fn lent<'a, T: BorrowDeserialize<'a> + Serialize + Shown + Drop>(
+pub fn lent<'a, T: BorrowDeserialize<'a> + Serialize + Shown + Drop>(
     alloc: Global,
     question: &'a Question<'_>,
 ) -> Result<Option<String>, AllocError> {

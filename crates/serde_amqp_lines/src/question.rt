@@ -34,7 +34,7 @@ pub struct NamedBytes<'a> {
 }
 
 /// What a line asks whose first word is this one; none where it can't be read.
-pub(crate) fn question_of<'a>(
+pub fn question_of<'a>(
     alloc: Global,
     word: &str,
     behind: &'a str,
@@ -47,10 +47,7 @@ pub(crate) fn question_of<'a>(
 }
 
 /// The words' name and bytes; none where they can't be read.
-pub(crate) fn named_bytes(
-    alloc: Global,
-    words: &str,
-) -> Result<Option<NamedBytes<'_>>, AllocError> {
+pub fn named_bytes(alloc: Global, words: &str) -> Result<Option<NamedBytes<'_>>, AllocError> {
     let Some((name, words)) = words.split_once(' ') else {
         return Ok(None);
     };

@@ -14,7 +14,7 @@ pub struct Runs {
 
 impl Runs {
     /// No parts.
-    pub(crate) fn new(alloc: Global) -> Runs {
+    pub fn new(alloc: Global) -> Runs {
         Runs {
             text: String::new(alloc),
             last: None,
@@ -23,7 +23,7 @@ impl Runs {
     }
 
     /// Puts a part last.
-    pub(crate) fn push(&mut self, part: String) -> Result<(), AllocError> {
+    pub fn push(&mut self, part: String) -> Result<(), AllocError> {
         if self.is_last(part.as_str()) {
             self.count = self.count.saturating_add(1);
             return Ok(());
@@ -49,7 +49,7 @@ impl Runs {
     }
 
     /// The text of all parts, with a comma between two.
-    pub(crate) fn into_text(mut self) -> Result<String, AllocError> {
+    pub fn into_text(mut self) -> Result<String, AllocError> {
         self.end_run()?;
         Ok(self.text)
     }
@@ -75,7 +75,7 @@ fn part_from_last(text: &mut String) -> Result<(), AllocError> {
 }
 
 /// The parts between two brackets.
-pub(crate) fn bracketed(
+pub fn bracketed(
     alloc: Global,
     open: char,
     parts: Runs,
@@ -134,7 +134,7 @@ fn append_bytes(text: &mut String, byte: u8, count: usize) -> Result<(), AllocEr
 }
 
 /// The text of bytes, as a line has them.
-pub(crate) fn hex_of(alloc: Global, bytes: &[u8]) -> Result<String, AllocError> {
+pub fn hex_of(alloc: Global, bytes: &[u8]) -> Result<String, AllocError> {
     if bytes.is_empty() {
         return String::from_str(alloc, "-");
     }
@@ -152,7 +152,7 @@ pub(crate) fn hex_of(alloc: Global, bytes: &[u8]) -> Result<String, AllocError> 
 }
 
 /// A text in quotes. One that has a character twenty times and more, and no other, has it once, with its number.
-pub(crate) fn quoted(alloc: Global, text: &str) -> Result<String, AllocError> {
+pub fn quoted(alloc: Global, text: &str) -> Result<String, AllocError> {
     match text.chars().next() {
         Some(first) if is_long_run(text, first) => {
             let count = text.chars().count();

@@ -19,6 +19,6 @@ use crate::question::Question;
 use std::alloc::{AllocError, Global};
 
 /// Answers the question; none where there is no such type.
-pub(crate) fn ask(alloc: Global, question: &Question<'_>) -> Result<Option<String>, AllocError> {
+pub fn ask(alloc: Global, question: &Question<'_>) -> Result<Option<String>, AllocError> {
     numbers::ask(alloc, question)
 }

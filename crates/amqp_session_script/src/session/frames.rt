@@ -8,12 +8,7 @@ use serde_amqp_types::{Array, Text};
 use std::alloc::{AllocError, Global};
 
 /// The peer's Begin.
-pub(crate) fn begin(
-    alloc: Global,
-    next_outgoing_id: u32,
-    incoming_window: u32,
-    handle_max: u32,
-) -> Begin {
+pub fn begin(alloc: Global, next_outgoing_id: u32, incoming_window: u32, handle_max: u32) -> Begin {
     Begin {
         remote_channel: None,
         next_outgoing_id,
@@ -27,7 +22,7 @@ pub(crate) fn begin(
 }
 
 /// A Flow of the peer, whose next transfer has the number 0. A link that it names gets a credit of ten.
-pub(crate) fn flow(said: FlowOf) -> Flow {
+pub fn flow(said: FlowOf) -> Flow {
     Flow {
         next_incoming_id: said.next_incoming_id,
         incoming_window: said.incoming_window,
@@ -44,7 +39,7 @@ pub(crate) fn flow(said: FlowOf) -> Flow {
 }
 
 /// A Flow of a link, with a handle that isn't the link's.
-pub(crate) fn link_flow() -> LinkFlow {
+pub fn link_flow() -> LinkFlow {
     LinkFlow {
         handle: Handle(99),
         delivery_count: Some(3),
@@ -57,7 +52,7 @@ pub(crate) fn link_flow() -> LinkFlow {
 }
 
 /// A Detach of the link with this handle.
-pub(crate) fn detach(handle: u32) -> Detach {
+pub fn detach(handle: u32) -> Detach {
     Detach {
         handle: Handle(handle),
         closed: true,
@@ -66,12 +61,12 @@ pub(crate) fn detach(handle: u32) -> Detach {
 }
 
 /// A tag of one byte.
-pub(crate) fn tag(alloc: Global, byte: u8) -> Result<DeliveryTag, AllocError> {
+pub fn tag(alloc: Global, byte: u8) -> Result<DeliveryTag, AllocError> {
     DeliveryTag::from_slice(alloc, &[byte])
 }
 
 /// A transfer that a link sends, with a handle that isn't the link's.
-pub(crate) fn transfer(delivery_tag: Option<DeliveryTag>, settled: bool) -> Transfer {
+pub fn transfer(delivery_tag: Option<DeliveryTag>, settled: bool) -> Transfer {
     Transfer {
         handle: Handle(99),
         delivery_id: None,
@@ -88,7 +83,7 @@ pub(crate) fn transfer(delivery_tag: Option<DeliveryTag>, settled: bool) -> Tran
 }
 
 /// A transfer of the peer. A delivery that it begins has the tag of its number's last byte.
-pub(crate) fn peers_transfer(alloc: Global, said: TransferOf) -> Result<Transfer, AllocError> {
+pub fn peers_transfer(alloc: Global, said: TransferOf) -> Result<Transfer, AllocError> {
     match said.delivery_id {
         Some(number) => {
             let tag = tag(alloc, number.to_be_bytes()[3])?;
@@ -115,7 +110,7 @@ fn tagged_transfer(delivery_tag: Option<DeliveryTag>, said: TransferOf) -> Trans
 }
 
 /// A disposition with the state accepted.
-pub(crate) fn disposition(said: DispositionOf) -> Disposition {
+pub fn disposition(said: DispositionOf) -> Disposition {
     Disposition {
         role: said.role,
         first: said.first,
@@ -127,7 +122,7 @@ pub(crate) fn disposition(said: DispositionOf) -> Disposition {
 }
 
 /// The Attach of a receiver with this handle.
-pub(crate) fn attach(alloc: Global, handle: u32) -> Result<Attach, AllocError> {
+pub fn attach(alloc: Global, handle: u32) -> Result<Attach, AllocError> {
     let name = Text::from_str(alloc, "link")?;
     Ok(named_attach(alloc, name, handle))
 }

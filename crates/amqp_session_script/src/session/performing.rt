@@ -19,7 +19,7 @@ use std::alloc::{AllocError, Global};
 const PEERS_CHANNEL: IncomingChannel = IncomingChannel(5);
 
 /// Makes the call, and says what it answers.
-pub(crate) fn perform(peer: &mut Peer, alloc: Global, call: &Call) -> Result<String, AllocError> {
+pub fn perform(peer: &mut Peer, alloc: Global, call: &Call) -> Result<String, AllocError> {
     match call {
         Call::Sends(sending) => send(peer, alloc, sending),
         Call::Takes(frame) => take(peer, alloc, *frame),

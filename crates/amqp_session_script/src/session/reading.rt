@@ -7,7 +7,7 @@ use amqp_session::Role;
 use std::alloc::{AllocError, Global};
 
 /// The call that these words say, or `None` where they can't be read.
-pub(crate) fn read_call(alloc: Global, words: Words<'_>) -> Result<Option<Call>, AllocError> {
+pub fn read_call(alloc: Global, words: Words<'_>) -> Result<Option<Call>, AllocError> {
     let mut words = words;
     let call = read_words(alloc, &mut words)?;
     if words.is_empty() {

@@ -43,11 +43,7 @@ impl Refuses for Unallocated<Plain> {
 }
 
 /// What is shown of an answer, or the word of the error that the call is refused with.
-pub(crate) fn told<T, E, F>(
-    alloc: Global,
-    answer: Result<T, E>,
-    show: F,
-) -> Result<String, AllocError>
+pub fn told<T, E, F>(alloc: Global, answer: Result<T, E>, show: F) -> Result<String, AllocError>
 where
     T: Drop,
     E: Refuses + Drop,
@@ -61,7 +57,7 @@ where
 }
 
 /// What is shown of a value.
-pub(crate) fn seen<T, F>(value: T, show: F) -> Result<String, AllocError>
+pub fn seen<T, F>(value: T, show: F) -> Result<String, AllocError>
 where
     T: Drop,
     F: FnOnce(&T) -> Result<String, AllocError>,

@@ -8,7 +8,7 @@ use amqp_session::{InputHandle, OutputHandle, Session, SessionState};
 use std::alloc::{AllocError, Global};
 
 /// What is to be seen of a session. The frames that left are taken away.
-pub(crate) fn see(peer: &mut Peer, alloc: Global, look: Look) -> Result<String, AllocError> {
+pub fn see(peer: &mut Peer, alloc: Global, look: Look) -> Result<String, AllocError> {
     if matches!(look, Look::Left) {
         let frames = show_frames(alloc, &peer.out, peer.detail);
         peer.out.clear();

@@ -16,7 +16,7 @@ pub enum Detail {
 }
 
 /// What is shown of a frame.
-pub(crate) fn show_frame(
+pub fn show_frame(
     alloc: Global,
     frame: &SessionFrame,
     detail: Detail,
@@ -27,7 +27,7 @@ pub(crate) fn show_frame(
 }
 
 /// What is shown of a frame that leaves at once, if one does.
-pub(crate) fn show_left(
+pub fn show_left(
     alloc: Global,
     frame: &Option<SessionFrame>,
     detail: Detail,
@@ -39,7 +39,7 @@ pub(crate) fn show_left(
 }
 
 /// What is shown of these frames.
-pub(crate) fn show_frames(
+pub fn show_frames(
     alloc: Global,
     frames: &VecDeque<SessionFrame>,
     detail: Detail,
@@ -53,7 +53,7 @@ pub(crate) fn show_frames(
 }
 
 /// What is shown of dispositions that go back.
-pub(crate) fn show_echoes(alloc: Global, echoes: &[Disposition]) -> Result<String, AllocError> {
+pub fn show_echoes(alloc: Global, echoes: &[Disposition]) -> Result<String, AllocError> {
     let mut list = List::new(alloc);
     for echo in echoes {
         list.begin_item()?;

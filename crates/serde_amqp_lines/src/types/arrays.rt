@@ -6,7 +6,7 @@ use serde_amqp::{Array, Multiple};
 use std::alloc::{AllocError, Global};
 
 /// Answers a question about an array of compound values, or another one.
-pub(crate) fn ask(alloc: Global, question: &Question<'_>) -> Result<Option<String>, AllocError> {
+pub fn ask(alloc: Global, question: &Question<'_>) -> Result<Option<String>, AllocError> {
     match question.named.name {
         "array-of-optional-uint" => typed::<Array<Option<u32>>>(alloc, question),
         "array-of-list-of-boolean" => typed::<Array<Vec<bool>>>(alloc, question),

@@ -6,7 +6,7 @@ use serde_amqp::{ByteBuf, RawValue, Symbol, Text};
 use std::alloc::{AllocError, Global};
 
 /// Answers a question about a type with a size, or another one.
-pub(crate) fn ask(alloc: Global, question: &Question<'_>) -> Result<Option<String>, AllocError> {
+pub fn ask(alloc: Global, question: &Question<'_>) -> Result<Option<String>, AllocError> {
     match question.named.name {
         "binary" => typed::<ByteBuf>(alloc, question),
         "string" => typed::<String>(alloc, question),

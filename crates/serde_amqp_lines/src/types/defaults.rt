@@ -6,7 +6,7 @@ use serde_amqp::{BoolOr, UByteOr, UIntOr, UShortOr};
 use std::alloc::{AllocError, Global};
 
 /// Answers a question about a field whose default is null, or another one.
-pub(crate) fn ask(alloc: Global, question: &Question<'_>) -> Result<Option<String>, AllocError> {
+pub fn ask(alloc: Global, question: &Question<'_>) -> Result<Option<String>, AllocError> {
     match question.named.name {
         "ubyte-or-4" => typed::<UByteOr<4>>(alloc, question),
         "ushort-or-1" => typed::<UShortOr<1>>(alloc, question),

@@ -6,7 +6,7 @@ use serde_amqp::{Described, OrderedMap};
 use std::alloc::{AllocError, Global};
 
 /// Answers a question about a described value, or another one.
-pub(crate) fn ask(alloc: Global, question: &Question<'_>) -> Result<Option<String>, AllocError> {
+pub fn ask(alloc: Global, question: &Question<'_>) -> Result<Option<String>, AllocError> {
     match question.named.name {
         "described-boolean" => typed::<Described<bool>>(alloc, question),
         "described-ushort" => typed::<Described<u16>>(alloc, question),

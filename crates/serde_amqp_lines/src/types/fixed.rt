@@ -6,7 +6,7 @@ use serde_amqp::{Dec32, Dec64, Dec128, Double, Float, Timestamp, Uuid};
 use std::alloc::{AllocError, Global};
 
 /// Answers a question about another type of fixed width, or another one.
-pub(crate) fn ask(alloc: Global, question: &Question<'_>) -> Result<Option<String>, AllocError> {
+pub fn ask(alloc: Global, question: &Question<'_>) -> Result<Option<String>, AllocError> {
     match question.named.name {
         "null" => typed::<()>(alloc, question),
         "boolean" => typed::<bool>(alloc, question),

@@ -5,7 +5,7 @@ use serde_amqp::{BinaryRef, SymbolRef};
 use std::alloc::{AllocError, Global};
 
 /// Answers a question about a type whose values are lent; none where there is no such type.
-pub(crate) fn ask(alloc: Global, question: &Question<'_>) -> Result<Option<String>, AllocError> {
+pub fn ask(alloc: Global, question: &Question<'_>) -> Result<Option<String>, AllocError> {
     match question.named.name {
         "lent-string" => lent::<&str>(alloc, question),
         "lent-symbol" => lent::<SymbolRef<'_>>(alloc, question),

@@ -6,7 +6,7 @@ use serde_amqp::{Array, ByteBuf, Described};
 use std::alloc::{AllocError, Global};
 
 /// Answers a question about a list of compound values, or another one.
-pub(crate) fn ask(alloc: Global, question: &Question<'_>) -> Result<Option<String>, AllocError> {
+pub fn ask(alloc: Global, question: &Question<'_>) -> Result<Option<String>, AllocError> {
     match question.named.name {
         "list-of-optional-boolean" => typed::<Vec<Option<bool>>>(alloc, question),
         "list-of-optional-ushort" => typed::<Vec<Option<u16>>>(alloc, question),

@@ -6,7 +6,7 @@ use serde_amqp::{ByteBuf, OrderedMap, RawValue, Symbol};
 use std::alloc::{AllocError, Global};
 
 /// Answers a question about a map in the order of its pairs, or another one.
-pub(crate) fn ask(alloc: Global, question: &Question<'_>) -> Result<Option<String>, AllocError> {
+pub fn ask(alloc: Global, question: &Question<'_>) -> Result<Option<String>, AllocError> {
     match question.named.name {
         "map-of-ubyte-boolean" => typed::<OrderedMap<u8, bool>>(alloc, question),
         "map-of-ubyte-binary" => typed::<OrderedMap<u8, ByteBuf>>(alloc, question),

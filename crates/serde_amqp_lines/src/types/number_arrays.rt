@@ -6,7 +6,7 @@ use serde_amqp::Array;
 use std::alloc::{AllocError, Global};
 
 /// Answers a question about an array of numbers, or another one.
-pub(crate) fn ask(alloc: Global, question: &Question<'_>) -> Result<Option<String>, AllocError> {
+pub fn ask(alloc: Global, question: &Question<'_>) -> Result<Option<String>, AllocError> {
     match question.named.name {
         "array-of-ubyte" => typed::<Array<u8>>(alloc, question),
         "array-of-ushort" => typed::<Array<u16>>(alloc, question),

@@ -5,7 +5,7 @@ use crate::types::fixed;
 use std::alloc::{AllocError, Global};
 
 /// Answers a question about a type of numbers, or another one.
-pub(crate) fn ask(alloc: Global, question: &Question<'_>) -> Result<Option<String>, AllocError> {
+pub fn ask(alloc: Global, question: &Question<'_>) -> Result<Option<String>, AllocError> {
     match question.named.name {
         "ubyte" => typed::<u8>(alloc, question),
         "ushort" => typed::<u16>(alloc, question),

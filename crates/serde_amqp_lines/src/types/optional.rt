@@ -6,7 +6,7 @@ use serde_amqp::RawValue;
 use std::alloc::{AllocError, Global};
 
 /// Answers a question about a value that may be null, or another one.
-pub(crate) fn ask(alloc: Global, question: &Question<'_>) -> Result<Option<String>, AllocError> {
+pub fn ask(alloc: Global, question: &Question<'_>) -> Result<Option<String>, AllocError> {
     match question.named.name {
         "optional-boolean" => typed::<Option<bool>>(alloc, question),
         "optional-uint" => typed::<Option<u32>>(alloc, question),

@@ -8,7 +8,7 @@ use serde_amqp::{
 use std::alloc::{AllocError, Global};
 
 /// Answers a question about an array of values other than numbers, or another one.
-pub(crate) fn ask(alloc: Global, question: &Question<'_>) -> Result<Option<String>, AllocError> {
+pub fn ask(alloc: Global, question: &Question<'_>) -> Result<Option<String>, AllocError> {
     match question.named.name {
         "array-of-boolean" => typed::<Array<bool>>(alloc, question),
         "array-of-float" => typed::<Array<Float>>(alloc, question),

@@ -6,7 +6,7 @@ use serde_amqp::{ByteBuf, RawValue, Symbol, Text, Timestamp, Uuid};
 use std::alloc::{AllocError, Global};
 
 /// Answers a question about a list, or another one.
-pub(crate) fn ask(alloc: Global, question: &Question<'_>) -> Result<Option<String>, AllocError> {
+pub fn ask(alloc: Global, question: &Question<'_>) -> Result<Option<String>, AllocError> {
     match question.named.name {
         "list-of-null" => typed::<Vec<()>>(alloc, question),
         "list-of-boolean" => typed::<Vec<bool>>(alloc, question),

@@ -6,7 +6,7 @@ use std::alloc::{AllocError, Global};
 use std::collections::BTreeMap;
 
 /// Answers a question about a map in the order of its keys, or another one.
-pub(crate) fn ask(alloc: Global, question: &Question<'_>) -> Result<Option<String>, AllocError> {
+pub fn ask(alloc: Global, question: &Question<'_>) -> Result<Option<String>, AllocError> {
     match question.named.name {
         "sorted-map-of-ubyte-boolean" => typed::<BTreeMap<u8, bool>>(alloc, question),
         "sorted-map-of-uint-boolean" => typed::<BTreeMap<u32, bool>>(alloc, question),

@@ -6,7 +6,7 @@ use serde_amqp::Symbol;
 use std::alloc::{AllocError, Global};
 
 /// Answers a question about a tuple, or another one.
-pub(crate) fn ask(alloc: Global, question: &Question<'_>) -> Result<Option<String>, AllocError> {
+pub fn ask(alloc: Global, question: &Question<'_>) -> Result<Option<String>, AllocError> {
     match question.named.name {
         "tuple-of-ubyte" => typed::<(u8,)>(alloc, question),
         "tuple-of-uint" => typed::<(u32,)>(alloc, question),
