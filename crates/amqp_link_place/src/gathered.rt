@@ -13,7 +13,7 @@ use std::marker::Model;
 
 /// Pieces of a payload as they come, and the place to which they reach. A clause sees their bytes.
 #[derive(Drop)]
-pub(crate) struct Gathered {
+pub struct Gathered {
     pieces: Vec<Bytes>,
     scan: Scan,
 }
@@ -32,7 +32,7 @@ impl Model for Gathered {
 
 impl Gathered {
     /// No piece.
-    pub(crate) fn new(alloc: Global) -> Self
+    pub fn new(alloc: Global) -> Self
         ensures { result ≡ [] }
     {
         Gathered {
@@ -42,7 +42,7 @@ impl Gathered {
     }
 
     /// One piece more. Where there is no memory nothing changes.
-    pub(crate) fn push(&mut self, piece: Bytes) -> Result<(), AllocError>
+    pub fn push(&mut self, piece: Bytes) -> Result<(), AllocError>
         requires { length self.old + length piece < 2 ^ 32 }
         ensures ok { OnOk result (self.new ≡ self.old ++ piece) }
         ensures err { OnErr result (self.new ≡ self.old) }
@@ -54,7 +54,7 @@ impl Gathered {
     }
 
     /// The first bytes alone, and one piece more. Where there is no memory nothing changes.
-    pub(crate) fn push_behind(&mut self, kept: usize, next: Bytes) -> Result<(), AllocError>
+    pub fn push_behind(&mut self, kept: usize, next: Bytes) -> Result<(), AllocError>
         requires { length (take kept self.old) + length next < 2 ^ 32 }
         ensures ok { OnOk result (self.new ≡ take kept self.old ++ next) }
         ensures err { OnErr result (self.new ≡ self.old) }
@@ -68,7 +68,7 @@ impl Gathered {
     }
 
     /// Keeps the first bytes alone.
-    pub(crate) fn keep(&mut self, n: usize)
+    pub fn keep(&mut self, n: usize)
         ensures { self.new ≡ take n self.old }
     {
         cut(&mut self.pieces, n);
@@ -76,7 +76,7 @@ impl Gathered {
     }
 
     /// How many bytes have come.
-    pub(crate) fn size(&self) -> usize
+    pub fn size(&self) -> usize
         ensures size { result ≡ length self.now }
         ensures small { result < 2 ^ 32 }
     {
@@ -84,14 +84,14 @@ impl Gathered {
     }
 
     /// The place to which the bytes reach.
-    pub(crate) fn place(&self) -> Received
+    pub fn place(&self) -> Received
         ensures { result ≡ place_at self.now (length self.now) }
     {
         self.scan.place()
     }
 
     /// How many of the bytes stand before a place.
-    pub(crate) fn read_place(&self, place: Received) -> Option<usize>
+    pub fn read_place(&self, place: Received) -> Option<usize>
         ensures { result ≡ read_at self.now place }
     {
         match section_start(&self.pieces, place.section_number) {
@@ -101,14 +101,14 @@ impl Gathered {
     }
 
     /// The first bytes in one piece, with a last piece behind them.
-    pub(crate) fn join(&self, alloc: Global, kept: usize, last: &Bytes) -> Result<Bytes, AllocError>
+    pub fn join(&self, alloc: Global, kept: usize, last: &Bytes) -> Result<Bytes, AllocError>
         ensures { IfOk result (λ all. all ≡ take kept self.now ++ last.now) }
     {
         joined(alloc, &self.pieces, kept, last)
     }
 
     /// The pieces.
-    pub(crate) fn into_pieces(self) -> Vec<Bytes>
+    pub fn into_pieces(self) -> Vec<Bytes>
         ensures { concat result.items ≡ self }
     {
         self.pieces

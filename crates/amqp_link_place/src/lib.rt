@@ -9,5 +9,6 @@ mod incomplete;
 pub mod laws;
 mod scan;
 
+pub use gathered::Gathered;
 pub use incomplete::IncompleteTransfer;
 pub use scan::{place, read_place};
