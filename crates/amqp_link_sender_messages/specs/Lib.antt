@@ -1,0 +1,4 @@
+pub mod Resolutions
+pub mod Told
+pub mod Tagged
+pub mod Messages
