@@ -5,4 +5,4 @@ use Rattle.amqp_link_sender_messages.specs.declared.open.Open.{Open}
 
 -- the message, of which this state was told last
 abbrev pub told : Open → Option DeliveryState → Open
-told open_message state = record open_message { message = record open_message.message { state = state } }
+told message state = record message { state = state }

@@ -4,10 +4,13 @@
 //! What each call makes of them says specs/Messages.antt.
 #![tactic(auto)]
 
+mod entry;
+mod map;
 mod messages;
 mod open;
 mod resolution;
 
+pub use entry::Entry;
 pub use messages::Messages;
 pub use open::{Open, Resumption, Waiting};
 pub use resolution::{Failure, Resolution};

@@ -9,9 +9,10 @@ ghost use Rattle.amqp_link_sender_messages.specs.Messages.{no_messages, first_of
 ghost use Rattle.amqp_link_sender_messages.specs.Tagged.{AreTagged};
 ghost use Rattle.amqp_link_sender_messages.specs.declared.resolution.Resolution.TheVariants.{Failed};
 
+use crate::entry::Entry;
 use crate::open::{Open, Waiting};
 use crate::resolution::{Failure, Resolution, ends};
-use amqp_link_unsettled::UnsettledMap;
+use crate::map::TagMap;
 use amqp_session_states::DeliveryState;
 use amqp_session_types::DeliveryTag;
 use std::alloc::{AllocError, Global};
@@ -24,7 +25,7 @@ use std::marker::Model;
 /// Whatever ends a message takes no memory: as a message is entered, there is room for what becomes of it.
 #[derive(Drop)]
 pub struct Messages {
-    unsettled: UnsettledMap<Open>,
+    unsettled: TagMap<Open>,
     resolved: VecDeque<(DeliveryTag, Resolution)>,
     waiting: VecDeque<Waiting>,
 }
@@ -32,10 +33,10 @@ pub struct Messages {
 impl Model for Messages {
     ghost use Rattle.std.specs.Prelude.{◌+◌, ◌≤◌, length};
     ghost use Rattle.std.specs.VecDeque.{deque_len, deque_capacity};
-    ghost use Rattle.amqp_link_sender_messages.specs.Messages.{Sending};
+    ghost use Rattle.amqp_link_sender_messages.specs.Messages.{MessageLists};
     ghost use Rattle.amqp_link_sender_messages.specs.Tagged.{AreTagged};
 
-    ghost Value = { Sending };
+    ghost Value = { MessageLists };
 
     ghost view = { λ m. record {
       unsettled = m.unsettled.entries;
@@ -54,7 +55,7 @@ impl Messages {
         ensures { result ≡ no_messages }
     {
         Messages {
-            unsettled: UnsettledMap::new(alloc),
+            unsettled: TagMap::new(alloc),
             resolved: VecDeque::new(alloc),
             waiting: VecDeque::new(alloc),
         }
@@ -99,13 +100,13 @@ impl Messages {
 
     /// Enters a message that is open from now on, behind the others. There must be room for it, and no other open
     /// message with its tag.
-    pub fn open_reserved(&mut self, tag: DeliveryTag, message: Open)
+    pub fn open_reserved(&mut self, entry: Entry)
         requires room { 0 < self.old.room }
-        requires absent { open_at self.old tag ≡ None }
-        requires tagged { message.tag ≡ tag }
-        ensures { self.new ≡ opened self.old message }
+        requires absent { open_at self.old entry.tag ≡ None }
+        ensures { self.new ≡ opened self.old entry }
     {
-        self.unsettled.insert_reserved(tag, message);
+        let Entry { key, message } = entry;
+        self.unsettled.insert_reserved(key, message);
     }
 
     /// Takes a disposition of the message with this tag (part 2, 2.7.6): it ends where it is settled or the state is
@@ -177,7 +178,7 @@ impl Messages {
 
 /// Makes room for so many more open messages, and for what becomes of them.
 fn reserve_both(
-    unsettled: &mut UnsettledMap<Open>,
+    unsettled: &mut TagMap<Open>,
     resolved: &mut VecDeque<(DeliveryTag, Resolution)>,
     count: usize,
 ) -> Result<(), AllocError>
@@ -208,7 +209,7 @@ fn stop_waiting(waiting: &mut VecDeque<Waiting>, tag: &DeliveryTag)
 
 /// Takes the message with this tag, which is open, out of those that are, and puts what became of it behind the others.
 fn settle(
-    unsettled: &mut UnsettledMap<Open>,
+    unsettled: &mut TagMap<Open>,
     resolved: &mut VecDeque<(DeliveryTag, Resolution)>,
     tag: &DeliveryTag,
     resolution: Resolution,
@@ -226,7 +227,7 @@ fn settle(
 }
 
 /// Notes the state that the peer told of the message with this tag, if it is open.
-fn note_in(unsettled: &mut UnsettledMap<Open>, tag: &DeliveryTag, state: Option<DeliveryState>)
+fn note_in(unsettled: &mut TagMap<Open>, tag: &DeliveryTag, state: Option<DeliveryState>)
     ensures { unsettled.new ≡ record unsettled.old { entries
       = told_at unsettled.old.entries tag.now (lookup (bytes_eq tag.now) unsettled.old.entries) state } }
 {
@@ -237,7 +238,7 @@ fn note_in(unsettled: &mut UnsettledMap<Open>, tag: &DeliveryTag, state: Option<
 
 /// All open messages end without an outcome, in order.
 fn fail_all(
-    unsettled: &mut UnsettledMap<Open>,
+    unsettled: &mut TagMap<Open>,
     resolved: &mut VecDeque<(DeliveryTag, Resolution)>,
     failure: Failure,
 )
@@ -254,7 +255,7 @@ fn fail_all(
 }
 
 /// Takes the last open message out, and answers its tag.
-fn pop_tag(unsettled: &mut UnsettledMap<Open>) -> Option<DeliveryTag>
+fn pop_tag(unsettled: &mut TagMap<Open>) -> Option<DeliveryTag>
     ensures tags { keys_of unsettled.old.entries ≡ keys_of unsettled.new.entries ++ option_to_list result }
     ensures room { unsettled.new.room ≡ unsettled.old.room }
     ensures none { IfNone result (unsettled.new.entries ≡ []) }

@@ -2,17 +2,21 @@
 ghost use Rattle.std.specs.Prelude.{◌≡◌};
 ghost use Rattle.amqp_link_sender_messages.specs.Told.{told};
 
-use amqp_link_unsettled::UnsettledMessage;
 use amqp_session_states::{DeliveryState, Received};
 use amqp_session_types::DeliveryTag;
+use bytes::Bytes;
 
 /// A message that was sent unsettled, and of which the outcome isn't known yet (part 2, 2.6.12).
 #[derive(Debug, Drop)]
 pub struct Open {
     /// What the link calls the message.
     pub tag: DeliveryTag,
-    /// Its bytes, its format, and the last state that the peer told of it, which isn't terminal.
-    pub message: UnsettledMessage,
+    /// Its bytes.
+    pub payload: Bytes,
+    /// The last state that the peer told of it, which isn't terminal; None where it told none.
+    pub state: Option<DeliveryState>,
+    /// How it is encoded (part 2, 2.8.11).
+    pub message_format: u32,
 }
 
 impl Open {
@@ -27,7 +31,7 @@ impl Open {
     pub(crate) fn tell(&mut self, state: Option<DeliveryState>)
         ensures { self.new ≡ told self.old state }
     {
-        self.message.state = state;
+        self.state = state;
     }
 }
 

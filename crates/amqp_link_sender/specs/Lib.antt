@@ -1,0 +1,5 @@
+pub mod Sending
+pub mod Dispositions
+pub mod Ending
+pub mod Results
+pub mod Sends

@@ -1,0 +1,16 @@
+//! The sending end of a link of AMQP 1.0: what it sends and keeps until it is settled, its credit, and what frames of its
+//! receiver make of it (part 2, 2.6).
+//!
+//! What each call does says specs/: Sending, Sends, Dispositions, Ending.
+#![tactic(auto)]
+
+mod dispositions;
+mod ending;
+mod link;
+mod results;
+mod sending;
+
+pub use ending::{Detached, DetachRefusal};
+pub use link::SenderLink;
+pub use results::SendResult;
+pub use sending::{PreparedSend, SendRefusal};
