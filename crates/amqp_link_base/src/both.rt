@@ -1,0 +1,17 @@
+//! Two values that want memory.
+ghost use Rattle.std.specs.Prelude.{◌≡◌, Ok, IfOk};
+
+use std::alloc::AllocError;
+
+/// Both values, where there was memory for each.
+///
+/// What makes a large value of several others takes them by one `?` so, with none of them in hand where it leaves.
+pub(crate) fn both<A: Drop, B: Drop>(
+    first: Result<A, AllocError>,
+    second: Result<B, AllocError>,
+) -> Result<(A, B), AllocError>
+    ensures { IfOk result (λ c. (first ≡ Ok c.0) × (second ≡ Ok c.1)) }
+{
+    let second = second?;
+    Ok((first?, second))
+}
