@@ -1,5 +1,5 @@
 //! The messages of a sending link (part 2, 2.6.12 and 2.6.13).
-ghost use Rattle.std.specs.Prelude.{◌≡◌, ◌+◌, ◌-◌, ◌<◌, ◌≤◌, [], ◌∷◌, ◌++◌, length, map, max, not, filter, is_some, None, Some, IsSome, IfNone, OnOk, OnErr, option_copied};
+ghost use Rattle.std.specs.Prelude.{◌≡◌, ◌+◌, ◌-◌, ◌<◌, ◌≤◌, [], ◌∷◌, ◌++◌, length, drop, map, max, not, filter, is_some, None, Some, IsSome, IfNone, OnOk, OnErr, option_copied};
 ghost use Rattle.std.specs.List.{IsDistinct};
 ghost use Rattle.std.specs.Map.{keys_of, lookup, remove_entry, set_value};
 ghost use Rattle.std.specs.Option.{option_to_list};
@@ -146,6 +146,13 @@ impl Messages {
         ensures { self.new ≡ interrupted self.old }
     {
         self.waiting.clear();
+    }
+
+    /// The first message that waits was sent on: it waits no more. It takes no memory.
+    pub fn sent_on(&mut self)
+        ensures { self.new ≡ record self.old { waiting = drop 1 self.old.waiting } }
+    {
+        let _ = self.waiting.pop_front();
     }
 
     /// Takes the message out that ended first of those that weren't taken out yet, with what became of it. It takes no
