@@ -5,7 +5,6 @@ use Rattle.amqp_link_attach.specs.State.{after_break, is_attached}
 use Rattle.amqp_link_attach.specs.declared.state.LinkState.{LinkState}
 use Rattle.amqp_link_attach.specs.declared.state.LinkState.TheVariants.{Closed}
 use Rattle.amqp_link_base.specs.Moves.{sent_detach, took_detach, broken_off}
-use Rattle.amqp_link_base.specs.declared.base.IllegalState.{IllegalState}
 use Rattle.amqp_link_base.specs.declared.base.LinkBase.{LinkBase}
 use Rattle.amqp_link_sender_messages.specs.Messages.{MessageLists, failed, interrupted}
 use Rattle.amqp_link_sender_messages.specs.declared.resolution.Failure.{Failure}
@@ -64,11 +63,6 @@ broken s =
       base = broken_off s.base;
       messages = ended s.messages (is_closed (after_break s.base.local_state)) failure.Closed;
     }
-
--- the own Detach is allowed and sent, or it isn't and the link stays
-abbrev pub SendsDetach : Option Sending → Sending → Result (Unit {0}) IllegalState → Sending → Type 0
-SendsDetach None old answer new = (answer ≡ Err (record {})) × (new ≡ old)
-SendsDetach (Some moved) old answer new = (answer ≡ Ok tt) × (new ≡ moved)
 
 -- what is told of the peer's Detach: whether the link is closed, and whether the own Detach is still to be sent
 abbrev pub detached : Sending → Sending → Detached

@@ -1,4 +1,5 @@
 pub mod Sending
+pub mod Attaching
 pub mod Dispositions
 pub mod Ending
 pub mod Results

@@ -48,5 +48,11 @@ fn is_echo_due(settled: bool, state: &Option<DeliveryState>, mode: ReceiverSettl
     let Some(state) = state else {
         return false;
     };
-    state.is_terminal() && mode == ReceiverSettleMode::Second
+    if !state.is_terminal() {
+        return false;
+    }
+    match mode {
+        ReceiverSettleMode::First => false,
+        ReceiverSettleMode::Second => true,
+    }
 }

@@ -1,6 +1,7 @@
 //! How an attachment of a sending link ends (part 2, 2.6.4 to 2.6.6).
 ghost use Rattle.std.specs.Prelude.{◌≡◌, OnOk, OnErr};
-ghost use Rattle.amqp_link_sender.specs.Ending.{broken, SendsDetach, TakesDetach, detach_sent, detach_taken, is_closed, ended, why_closed, given_error, error_kept};
+ghost use Rattle.amqp_link_sender.specs.Sending.{MovesLink};
+ghost use Rattle.amqp_link_sender.specs.Ending.{broken, TakesDetach, detach_sent, detach_taken, is_closed, ended, why_closed, given_error, error_kept};
 
 use crate::link::SenderLink;
 use amqp_link_attach::LinkState;
@@ -53,7 +54,7 @@ impl SenderLink {
     ///
     /// Errors: `IllegalState` exactly where the state doesn't allow it. Nothing changes then.
     pub fn send_detach(&mut self, closed: bool) -> Result<(), IllegalState>
-        ensures { SendsDetach (detach_sent self.old closed) self.old result self.new }
+        ensures { MovesLink (detach_sent self.old closed) self.old result self.new }
     {
         self.base.send_detach(closed)?;
         end(&mut self.messages, closed, Failure::Closed);

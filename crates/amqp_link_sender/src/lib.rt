@@ -4,6 +4,7 @@
 //! What each call does says specs/: Sending, Sends, Dispositions, Ending.
 #![tactic(auto)]
 
+mod attaching;
 mod dispositions;
 mod ending;
 mod link;
