@@ -4,3 +4,4 @@ pub mod Dispositions
 pub mod Ending
 pub mod Results
 pub mod Sends
+pub mod SendsOn

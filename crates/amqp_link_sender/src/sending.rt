@@ -141,7 +141,7 @@ fn entry_unless(
 
 /// What the first transfer of a message says of it. Its session writes its link and its number into it, and who cuts the
 /// message, whether more follow (part 2, 2.7.5).
-fn first_transfer(tag: DeliveryTag, message_format: u32, settled: bool) -> Transfer
+pub(crate) fn first_transfer(tag: DeliveryTag, message_format: u32, settled: bool) -> Transfer
     ensures { result ≡ first_transfer tag message_format settled }
 {
     Transfer {
