@@ -1,5 +1,5 @@
 //! What a disposition makes of a sending link (part 2, 2.7.6).
-ghost use Rattle.std.specs.Prelude.{◌≡◌, ◌++◌};
+ghost use Rattle.std.specs.Prelude.{◌≡◌, ◌++◌, [], IfNone};
 ghost use Rattle.std.specs.Option.{option_to_list};
 ghost use Rattle.amqp_link_sender.specs.Dispositions.{disposed, is_echoed, is_echo_due};
 
@@ -31,8 +31,11 @@ impl SenderLink {
     /// Takes the message out that ended first of those that weren't taken out yet, with what became of it. It takes no
     /// memory.
     pub fn take_resolved(&mut self) -> Option<(DeliveryTag, Resolution)>
-        ensures { self.old ≡ record self.new { messages
-          = record self.new.messages { resolved = option_to_list result ++ self.new.messages.resolved } } }
+        ensures first { self.old ≡ record self.new {
+          messages
+              = record self.new.messages { resolved = option_to_list result ++ self.new.messages.resolved };
+        } }
+        ensures none { IfNone result (self.new.messages.resolved ≡ []) }
     {
         self.messages.take_resolved()
     }

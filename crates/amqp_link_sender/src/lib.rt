@@ -12,7 +12,7 @@ mod results;
 mod sending;
 mod sending_on;
 
-pub use ending::{Detached, DetachRefusal};
+pub use ending::{DetachRefusal, Detached};
 pub use link::SenderLink;
 pub use results::SendResult;
 pub use sending::{PreparedSend, SendRefusal};

@@ -59,8 +59,8 @@ impl SenderLink {
         settled: Option<bool>,
     ) -> Result<PreparedSend, SendRefusal>
         ensures { Prepares (refusal self.old tag (length payload))
-          (prepared tag message_format payload (goes_settled self.old.base.terms.snd_settle_mode settled))
-          self.old result self.new }
+            (prepared tag message_format payload (goes_settled self.old.base.terms.snd_settle_mode settled))
+            self.old result self.new }
     {
         if let Some(refusal) = self.refusal(&tag, payload.len()) {
             return Err(refusal);

@@ -1,5 +1,5 @@
 //! How messages are sent on once their link is attached again (part 2, 2.6.13).
-ghost use Rattle.std.specs.Prelude.{◌≡◌, ◌<◌, drop, true, false, Some, IfOk};
+ghost use Rattle.std.specs.Prelude.{◌≡◌, ◌<◌, drop, true, false, Some, None, IsOk, IfOk};
 ghost use Rattle.amqp_link_sender.specs.Sends.{first_transfer};
 ghost use Rattle.amqp_link_sender.specs.SendsOn.{bytes_before, can_send_on, next_on, prepared_on, resumed_behind, resuming_transfer, sent_on};
 
@@ -35,7 +35,8 @@ impl SenderLink {
     /// A message that its receiver doesn't know is sent anew from its first byte. One that it knows is resumed at the place
     /// that the receiver listed, or at its start where there is no such place in it.
     pub fn prepare_send_on(&self) -> Result<Option<PreparedSendOn>, AllocError>
-        ensures { IfOk result (λ p. p ≡ next_on self.now) }
+        ensures next { IfOk result (λ p. p ≡ next_on self.now) }
+        ensures nothing { next_on self.now ≡ None → IsOk result }
     {
         if !self.can_send_on() {
             return Ok(None);
@@ -117,11 +118,7 @@ fn behind(payload: &Bytes, n: usize) -> Result<Bytes, AllocError>
 }
 
 /// A message of which these bytes are sent behind a place.
-fn resuming(
-    message: &Open,
-    place: Received,
-    payload: Bytes,
-) -> Result<PreparedSendOn, AllocError>
+fn resuming(message: &Open, place: Received, payload: Bytes) -> Result<PreparedSendOn, AllocError>
     ensures { IfOk result (λ p. p ≡ record { transfer = resuming_transfer message.now place; payload = payload }) }
 {
     let tag = message.tag.clone()?;

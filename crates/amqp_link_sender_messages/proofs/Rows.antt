@@ -1,5 +1,5 @@
 -- Worked rows, computed from the definitions.
-use Rattle.std.proofs.Common.{◌≡◌, List, [], ◌∷◌, true, false, Some, None, refl}
+use Rattle.std.proofs.Common.{◌≡◌, [], ◌∷◌, true, false, Some, None, refl}
 use Rattle.amqp_session_states.specs.declared.delivery_state.DeliveryState.TheVariants.{Received, Accepted}
 use Rattle.amqp_session_states.specs.declared.outcome.Outcome.TheVariants as outcome
 use Rattle.amqp_link_sender_messages.specs.declared.open.Open.{Open}

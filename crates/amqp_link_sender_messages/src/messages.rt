@@ -10,9 +10,9 @@ ghost use Rattle.amqp_link_sender_messages.specs.Tagged.{AreTagged};
 ghost use Rattle.amqp_link_sender_messages.specs.declared.resolution.Resolution.TheVariants.{Failed};
 
 use crate::entry::Entry;
+use crate::map::TagMap;
 use crate::open::{Open, Waiting};
 use crate::resolution::{Failure, Resolution, ends};
-use crate::map::TagMap;
 use amqp_session_states::DeliveryState;
 use amqp_session_types::DeliveryTag;
 use std::alloc::{AllocError, Global};
@@ -158,7 +158,8 @@ impl Messages {
     /// Takes the message out that ended first of those that weren't taken out yet, with what became of it. It takes no
     /// memory.
     pub fn take_resolved(&mut self) -> Option<(DeliveryTag, Resolution)>
-        ensures { self.old ≡ record self.new { resolved = option_to_list result ++ self.new.resolved } }
+        ensures first { self.old ≡ record self.new { resolved = option_to_list result ++ self.new.resolved } }
+        ensures none { IfNone result (self.new.resolved ≡ []) }
     {
         self.resolved.pop_front()
     }
@@ -176,8 +177,10 @@ impl Messages {
 
     /// Notes the state that the peer told of the message with this tag, if it is open.
     fn note(&mut self, tag: &DeliveryTag, state: Option<DeliveryState>)
-        ensures { self.new ≡ record self.old { unsettled
-          = told_at self.old.unsettled tag.now (open_at self.old tag.now) state } }
+        ensures { self.new ≡ record self.old {
+          unsettled
+              = told_at self.old.unsettled tag.now (open_at self.old tag.now) state;
+        } }
     {
         note_in(&mut self.unsettled, tag, state);
     }
@@ -235,8 +238,10 @@ fn settle(
 
 /// Notes the state that the peer told of the message with this tag, if it is open.
 fn note_in(unsettled: &mut TagMap<Open>, tag: &DeliveryTag, state: Option<DeliveryState>)
-    ensures { unsettled.new ≡ record unsettled.old { entries
-      = told_at unsettled.old.entries tag.now (lookup (bytes_eq tag.now) unsettled.old.entries) state } }
+    ensures { unsettled.new ≡ record unsettled.old {
+      entries
+          = told_at unsettled.old.entries tag.now (lookup (bytes_eq tag.now) unsettled.old.entries) state;
+    } }
 {
     if let Some(message) = unsettled.get_mut(tag) {
         message.tell(state);

@@ -12,8 +12,8 @@ pub loop-tag-init : goal.loop-tag-init
 loop-tag-init c =
     record {
       handed =
-        ap (λ (k : Kept Open). c.args.resolved.now.items ++ map (λ (tag : List ℕ). (tag, Failed c.args.failure)) (reverse (keys_of k.entries))) c.reverse.ensures
-        ∙ failing-none (λ (tag : List ℕ). (tag, Failed c.args.failure)) c.args.resolved.now.items c.args.unsettled.now.entries;
+          ap (λ (k : Kept Open). c.args.resolved.now.items ++ map (λ (tag : List ℕ). (tag, Failed c.args.failure)) (reverse (keys_of k.entries))) c.reverse.ensures
+          ∙ failing-none (λ (tag : List ℕ). (tag, Failed c.args.failure)) c.args.resolved.now.items c.args.unsettled.now.entries;
       room = ap (λ (k : Kept Open). k.room) c.reverse.ensures;
       capacity = refl;
       count = ap (λ (k : Kept Open). deque_len c.args.resolved.now + length k.entries) c.reverse.ensures ∙ ap (λ n. deque_len c.args.resolved.now + n) (length-reverse c.args.unsettled.now.entries);
