@@ -1,5 +1,5 @@
 -- Worked rows, computed from the definitions.
-use Rattle.std.proofs.Common.{◌≡◌, true, false, Some, None, Ok, Err, refl}
+use Rattle.std.proofs.Common.{◌≡◌, true, false, Some, None, Err, refl}
 use Rattle.amqp_session_types.specs.declared.modes.SenderSettleMode.TheVariants.{Settled, Unsettled, Mixed}
 use Rattle.amqp_link_types.specs.declared.refusals.LinkStateError.TheVariants.{IllegalState, RemoteClosed}
 use Rattle.amqp_link_types.specs.declared.refusals.SendError.TheVariants as send

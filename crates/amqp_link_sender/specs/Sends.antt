@@ -1,5 +1,5 @@
 -- How messages are sent: part 2, 2.6.7, 2.6.12 and 2.7.3.
-use Rattle.std.specs.Prelude.{◌≡◌, ◌⊎◌, max, Result, Ok, Err, ◌==◌, ◌^◌, ◌&&◌, ◌||◌, not, ℕ, Bool, true, false, List, length, nat_lt, nat_le, Option, Some, None, is_some, unwrap_or, if◌then◌else◌}
+use Rattle.std.specs.Prelude.{◌≡◌, ◌⊎◌, max, Result, Ok, Err, ◌==◌, ◌^◌, ◌&&◌, ◌||◌, not, ℕ, Bool, true, false, List, nat_lt, nat_le, Option, Some, None, is_some, unwrap_or, if◌then◌else◌}
 use Rattle.amqp_session_types.specs.declared.modes.SenderSettleMode.{SenderSettleMode}
 use Rattle.amqp_session_types.specs.declared.modes.SenderSettleMode.TheVariants.{Settled, Unsettled, Mixed}
 use Rattle.amqp_session_performatives.specs.declared.transfer.Transfer.{Transfer}
