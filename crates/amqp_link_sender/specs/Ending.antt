@@ -1,0 +1,75 @@
+-- How an attachment of a sending link ends: part 2, 2.6.4 to 2.6.6.
+use Rattle.std.specs.Prelude.{◌≡◌, ◌⊎◌, Bool, true, false, Option, Some, None, option_map, Result, Ok, Err}
+use Rattle.amqp_session_types.specs.declared.error.Error.{Error}
+use Rattle.amqp_link_attach.specs.State.{after_break, is_attached}
+use Rattle.amqp_link_attach.specs.declared.state.LinkState.{LinkState}
+use Rattle.amqp_link_attach.specs.declared.state.LinkState.TheVariants.{Closed}
+use Rattle.amqp_link_base.specs.Moves.{sent_detach, took_detach, broken_off}
+use Rattle.amqp_link_base.specs.declared.base.LinkBase.{LinkBase}
+use Rattle.amqp_link_sender_messages.specs.Messages.{MessageLists, failed, interrupted}
+use Rattle.amqp_link_sender_messages.specs.declared.resolution.Failure.{Failure}
+use Rattle.amqp_link_sender_messages.specs.declared.resolution.Failure.TheVariants as failure
+use Rattle.amqp_link_sender.specs.declared.ending.Detached.{Detached}
+use Rattle.amqp_link_sender.specs.declared.ending.DetachRefusal.{DetachRefusal}
+use Rattle.amqp_link_sender.specs.declared.ending.DetachRefusal.TheVariants as refusal
+use Rattle.amqp_link_sender.specs.Sending.{Sending}
+
+-- the link is closed
+abbrev pub is_closed : LinkState → Bool
+is_closed Closed = true
+is_closed state = false
+
+-- nothing is sent on any more; where the link is gone, its messages end without an outcome
+abbrev pub ended : MessageLists → Bool → Failure → MessageLists
+ended m true why = failed m why
+ended m false why = interrupted m
+
+-- the own Detach is sent, which closes the link or doesn't
+abbrev pub detach_sent : Sending → Bool → Option Sending
+detach_sent s closed =
+    option_map (λ (b : LinkBase). record s { base = b; messages = ended s.messages closed failure.Closed }) (sent_detach s.base closed)
+
+-- why the messages of a link that the peer closes have no outcome
+abbrev pub why_closed : Option Error → Failure
+why_closed None = failure.RemoteClosed
+why_closed (Some error) = failure.RemoteClosedWithError
+
+-- the error of a Detach that closes the link
+abbrev pub given_error : Bool → Option Error → Option Error
+given_error true error = error
+given_error false error = None
+
+-- it is kept
+abbrev pub error_kept : Option Error → Option Error → Option Error
+error_kept None kept = kept
+error_kept (Some error) kept = Some error
+
+-- the peer's Detach comes, which closes the link or doesn't, with an error or without
+abbrev pub detach_taken : Sending → Bool → Option Error → Option Sending
+detach_taken s closed error =
+    option_map
+    (λ (b : LinkBase).
+    record s {
+      base = b;
+      messages = ended s.messages closed (why_closed error);
+      remote_error = error_kept (given_error closed error) s.remote_error;
+    })
+    (took_detach s.base closed)
+
+-- the connection or the session is over
+abbrev pub broken : Sending → Sending
+broken s =
+    record s {
+      base = broken_off s.base;
+      messages = ended s.messages (is_closed (after_break s.base.local_state)) failure.Closed;
+    }
+
+-- what is told of the peer's Detach: whether the link is closed, and whether the own Detach is still to be sent
+abbrev pub detached : Sending → Sending → Detached
+detached old new = record { closed = is_closed new.base.local_state; answer = is_attached old.base.local_state }
+
+-- the peer's Detach is allowed and taken, or there is no memory for its error, or it isn't allowed; in these two cases the
+-- link stays
+abbrev pub TakesDetach : Option Sending → Sending → Result Detached DetachRefusal → Sending → Type 0
+TakesDetach None old answer new = (answer ≡ Err refusal.IllegalState) × (new ≡ old)
+TakesDetach (Some moved) old answer new = ((answer ≡ Err refusal.Memory) × (new ≡ old)) ⊎ ((answer ≡ Ok (detached old moved)) × (new ≡ moved))

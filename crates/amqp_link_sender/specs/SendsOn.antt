@@ -1,0 +1,53 @@
+-- How messages are sent on once their link is attached again: part 2, 2.6.13, and part 3, 3.4.6.
+use Rattle.std.specs.Prelude.{ℕ, ◌==◌, ◌^◌, ◌&&◌, not, Bool, true, false, List, drop, length, nat_lt, Option, Some, None, option_map, if◌then◌else◌}
+use Rattle.amqp_session_performatives.specs.declared.transfer.Transfer.{Transfer}
+use Rattle.amqp_session_states.specs.declared.delivery_state.DeliveryState.TheVariants.{Received as ReceivedState}
+use Rattle.amqp_session_states.specs.declared.received.Received.{Received}
+use Rattle.amqp_link_attach.specs.State.{is_attached}
+use Rattle.amqp_link_place.specs.Starts.{read_at}
+use Rattle.amqp_link_sender_messages.specs.Messages.{first_of, open_at}
+use Rattle.amqp_link_sender_messages.specs.declared.open.Open.{Open}
+use Rattle.amqp_link_sender_messages.specs.declared.open.Resumption.{Resumption}
+use Rattle.amqp_link_sender_messages.specs.declared.open.Resumption.TheVariants.{Resend, Resume}
+use Rattle.amqp_link_sender_messages.specs.declared.open.Waiting.{Waiting}
+use Rattle.amqp_link_sender.specs.declared.sending_on.PreparedSendOn.{PreparedSendOn}
+use Rattle.amqp_link_sender.specs.Sending.{Sending}
+use Rattle.amqp_link_sender.specs.Sends.{first_transfer, spent}
+
+-- the place at which a message starts
+abbrev pub start : Received
+start = record { section_number = 0; section_offset = 0 }
+
+-- how many bytes of a message stand before a place; none where there is no such place in it
+abbrev pub bytes_before : List ℕ → Received → Option ℕ
+bytes_before payload place = if nat_lt (length payload) (2 ^ 32) then read_at payload place else None
+
+-- the first transfer of a message that is resumed at a place, and not sent anew
+abbrev pub resuming_transfer : Open → Received → Transfer
+resuming_transfer m place = record (first_transfer m.tag m.message_format false) { state = Some (ReceivedState place); resume = true }
+
+-- a message that is resumed behind so many bytes, or at its start where its receiver's place can't be read
+abbrev pub resumed_behind : Open → Received → Option ℕ → PreparedSendOn
+resumed_behind m place (Some n) = record { transfer = resuming_transfer m place; payload = drop n m.payload }
+resumed_behind m place None = record { transfer = resuming_transfer m start; payload = m.payload }
+
+-- a message that its receiver doesn't know is sent anew, and one that it knows is resumed where the receiver stands
+abbrev pub prepared_on : Open → Resumption → PreparedSendOn
+prepared_on m Resend = record { transfer = first_transfer m.tag m.message_format false; payload = m.payload }
+prepared_on m (Resume place) = resumed_behind m place (bytes_before m.payload place)
+
+abbrev pub prepared_first : Sending → Option Waiting → Option PreparedSendOn
+prepared_first s None = None
+prepared_first s (Some w) = option_map (λ (m : Open). prepared_on m w.resumption) (open_at s.messages w.tag)
+
+-- the link is attached and has credit
+abbrev pub can_send_on : Sending → Bool
+can_send_on s = is_attached s.base.local_state && not (s.flow.link_credit == 0)
+
+-- what is sent on next: the first message that waits, while the link is attached and has credit
+abbrev pub next_on : Sending → Option PreparedSendOn
+next_on s = if can_send_on s then prepared_first s (first_of s.messages.waiting) else None
+
+-- a message is sent on: it takes one credit, and waits no more
+abbrev pub sent_on : Sending → Sending
+sent_on s = record (spent s) { messages = record s.messages { waiting = drop 1 s.messages.waiting } }

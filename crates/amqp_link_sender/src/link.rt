@@ -1,0 +1,140 @@
+//! A sending link, and its credit (part 2, 2.6.7).
+ghost use Rattle.std.specs.Prelude.{◌≡◌, length, option_copied, false, None, Some};
+ghost use Rattle.amqp_link_sender.specs.Sending.{flowed, flow_answer, handle_of};
+ghost use Rattle.amqp_link_sender_messages.specs.Messages.{no_messages, open_at, first_of};
+
+use amqp_link_attach::LinkState;
+use amqp_link_base::LinkBase;
+use amqp_link_flow::{LinkFlowState, LinkFlowStateInner, SenderMarker};
+use amqp_link_sender_messages::{Messages, Open, Waiting};
+use amqp_session_performatives::LinkFlow;
+use amqp_session_types::{Boxed, DeliveryTag, Fields, OutputHandle, definitions};
+use std::alloc::Global;
+use std::marker::Model;
+
+/// The sending end of a link (part 2, 2.6).
+#[derive(Drop)]
+pub struct SenderLink {
+    pub(crate) base: LinkBase,
+    pub(crate) flow: LinkFlowState<SenderMarker>,
+    pub(crate) messages: Messages,
+    pub(crate) remote_error: Option<Boxed<definitions::Error>>,
+}
+
+impl Model for SenderLink {
+    ghost use Rattle.amqp_link_sender.specs.Sending.{Sending};
+
+    ghost Value = { Sending };
+
+    ghost view = { λ s. record { base = s.base; flow = s.flow; messages = s.messages; remote_error = s.remote_error } };
+}
+
+impl SenderLink {
+    /// A link that was never attached, of which the count of deliveries begins here. It takes no memory.
+    pub fn new(
+        alloc: Global,
+        base: LinkBase,
+        initial_delivery_count: u32,
+        properties: Option<Boxed<Fields>>,
+    ) -> Self
+        ensures { result ≡ record {
+          base = base;
+          flow = record {
+            initial_delivery_count = initial_delivery_count;
+            delivery_count = initial_delivery_count;
+            link_credit = 0;
+            available = 0;
+            drain = false;
+            properties = properties;
+          };
+          messages = no_messages;
+          remote_error = None;
+        } }
+    {
+        SenderLink {
+            base,
+            flow: LinkFlowState::new(LinkFlowStateInner {
+                initial_delivery_count,
+                delivery_count: initial_delivery_count,
+                link_credit: 0,
+                available: 0,
+                drain: false,
+                properties,
+            }),
+            messages: Messages::new(alloc),
+            remote_error: None,
+        }
+    }
+
+    /// Where the link stands between its Attach and its Detach frames (part 2, 2.6.3 to 2.6.6).
+    pub fn local_state(&self) -> LinkState
+        ensures { result ≡ self.now.base.local_state }
+    {
+        self.base.local_state
+    }
+
+    /// What both ends of a link keep of it.
+    pub fn base(&self) -> &LinkBase
+        ensures { result.now ≡ self.now.base }
+    {
+        &self.base
+    }
+
+    /// The state of the credit.
+    pub fn flow_state(&self) -> &LinkFlowState<SenderMarker>
+        ensures { result.now ≡ self.now.flow }
+    {
+        &self.flow
+    }
+
+    /// How many messages are open.
+    pub fn unsettled_len(&self) -> usize
+        ensures { result ≡ length self.now.messages.unsettled }
+    {
+        self.messages.len()
+    }
+
+    /// The open message with this tag, if there is one.
+    pub fn unsettled(&self, tag: &DeliveryTag) -> Option<&Open>
+        ensures { option_copied result ≡ open_at self.now.messages tag.now }
+    {
+        self.messages.get(tag)
+    }
+
+    /// The first message that waits to be sent on, if there is one.
+    pub fn first_waiting(&self) -> Option<&Waiting>
+        ensures { option_copied result ≡ first_of self.now.messages.waiting }
+    {
+        self.messages.first_waiting()
+    }
+
+    /// The own handle is this from now on.
+    pub fn set_output_handle(&mut self, handle: OutputHandle)
+        ensures { self.new ≡ record self.old { base = record self.old.base { output_handle = Some handle } } }
+    {
+        self.base.output_handle = Some(handle);
+    }
+
+    /// Takes a Flow of the receiver, which changes the credit while the link is attached, and answers the Flow that is to
+    /// be sent: where the receiver wants the credit used up, or asks for an echo (part 2, 2.6.7). It takes no memory.
+    pub fn on_incoming_flow(&mut self, flow: LinkFlow) -> Option<LinkFlow>
+        ensures state { self.new ≡ flowed self.old flow }
+        ensures answer { result ≡ flow_answer self.old flow }
+    {
+        if !self.base.is_attached() {
+            return None;
+        }
+        let handle = handle_of(self.base.output_handle);
+        self.flow.on_incoming_flow(flow, handle)
+    }
+}
+
+/// The own handle, which a link has while it is attached.
+fn handle_of(handle: Option<OutputHandle>) -> OutputHandle
+    ensures { result ≡ handle_of handle }
+{
+    match handle {
+        Some(handle) => handle,
+        None => OutputHandle(0),
+    }
+}

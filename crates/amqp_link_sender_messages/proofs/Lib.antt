@@ -1,0 +1,3 @@
+pub mod Tagging
+pub mod Failing
+pub mod Rows
