@@ -9,8 +9,9 @@ use Rattle.amqp_link_receiving.specs.declared.entry.Entry.{Entry}
 use Rattle.amqp_link_receiving.specs.declared.entry.Entry.TheVariants.{Half, Whole}
 use Rattle.amqp_link_receiving.specs.declared.entry.WholeMessage.{WholeMessage}
 use Rattle.amqp_link_receiving.specs.Deliveries.{Delivery, Entries, found}
-use Rattle.amqp_link_receiving.specs.Receiving.{entered, entered_at, renumbered, renumbered_at}
-use Rattle.amqp_link_receiving.specs.Steps.{key_of, numbered, renumbered_as, renumbered_from}
+use Rattle.amqp_session_states.specs.declared.delivery_state.DeliveryState.{DeliveryState}
+use Rattle.amqp_link_receiving.specs.Disposing.{told_of, with_state, with_state_at}
+use Rattle.amqp_link_receiving.specs.Steps.{numbered, renumbered_as, renumbered_from}
 
 -- the last of two values stays
 pub set-twice : (test : List ℕ → Bool) (es : Entries) (v w : Entry) → set_value test (set_value test es v) w ≡ set_value test es w
@@ -32,30 +33,38 @@ lookup-set test (e ∷ es) w some = by (test e.0) refl some (lookup-set test es 
     by true h s rest = ap (λ (c : Bool). cond c (Some w) (lookup test es)) h
     by false h s rest = ap (λ (c : Bool). cond c (Some e.1) (lookup test (set_value test es w))) h ∙ rest s
 
--- a key is one of a delivery without an entry
-pub key-absent : (tag key : List ℕ) (entry : Option Entry) → Some key ≡ key_of false tag entry → entry ≡ None
-key-absent tag key None e = refl
-key-absent tag key (Some x) e = absurd cc
+-- what is put twice
+pub put-found : (test : List ℕ → Bool) (es es' : Entries) (v w : Entry) → lookup test es ≡ Some v → es' ≡ set_value test es w → IsSome (lookup test es')
+put-found test es es' v w e at =
+    let P : Entries → Type 0 = λ l. IsSome (lookup test l) in
+    let Q : Option Entry → Type 0 = λ o. IsSome o in
+    subst P (sym at) (subst Q (sym (lookup-set test es w (subst Q (sym e) refl))) refl)
 
-pub key-is : (tag key : List ℕ) (entry : Option Entry) → Some key ≡ key_of false tag entry → key ≡ tag
-key-is tag key None e = cc
-key-is tag key (Some x) e = absurd cc
+pub put-over : (test : List ℕ → Bool) (es one two : Entries) (v w : Entry) → one ≡ set_value test es v → two ≡ set_value test one w → two ≡ set_value test es w
+put-over test es one two v w a b = b ∙ ap (λ (l : Entries). set_value test l w) a ∙ set-twice test es v w
 
-pub key-present : (tag : List ℕ) (entry : Option Entry) → None ≡ key_of false tag entry → IsSome entry
-key-present tag None e = absurd cc
-key-present tag (Some x) e = refl
+pub renumbers : (att : Attachment) (es one two : Entries) (tag : List ℕ) (number : ℕ) (mode : Option ReceiverSettleMode) (earlier v w : Entry)
+    → lookup (bytes_eq tag) es ≡ Some earlier → one ≡ set_value (bytes_eq tag) es v → w ≡ numbered att earlier number mode → two ≡ set_value (bytes_eq tag) one w
+    → two ≡ renumbered_as att es tag number mode
+renumbers att es one two tag number mode (Whole m) v w e a is b =
+    put-over (bytes_eq tag) es one two v w a b ∙ ap (λ (x : Entry). set_value (bytes_eq tag) es x) is
+    ∙ sym (ap (λ (o : Option Entry). renumbered_from att es tag number mode o) e)
+renumbers att es one two tag number mode (Half kept) v w e a is b =
+    put-over (bytes_eq tag) es one two v w a b ∙ ap (λ (x : Entry). set_value (bytes_eq tag) es x) is
+    ∙ set_value_same (bytes_eq tag) es (Half kept) e
+    ∙ sym (ap (λ (o : Option Entry). renumbered_from att es tag number mode o) e)
 
--- an entry goes last, or takes the place of the one that is there
-pub enters-last : (entries : Entries) (tag key : List ℕ) (entry : Entry) → Some key ≡ key_of false tag (found entries tag)
-    → entries ++ (key, entry) ∷ [] ≡ entered entries tag entry
-enters-last entries tag key entry e =
-    ap (λ (k : List ℕ). entries ++ (k, entry) ∷ []) (key-is tag key (found entries tag) e)
-    ∙ sym (ap (λ (x : Option Entry). entered_at entries tag entry x) (key-absent tag key (found entries tag) e))
+pub tells : (es one two : Entries) (tag : List ℕ) (state : DeliveryState) (earlier v w : Entry)
+    → lookup (bytes_eq tag) es ≡ Some earlier → one ≡ set_value (bytes_eq tag) es v → w ≡ told_of earlier state → two ≡ set_value (bytes_eq tag) one w
+    → two ≡ with_state es tag state
+tells es one two tag state (Whole m) v w e a is b =
+    put-over (bytes_eq tag) es one two v w a b ∙ ap (λ (x : Entry). set_value (bytes_eq tag) es x) is
+    ∙ sym (ap (λ (o : Option Entry). with_state_at es tag state o) e)
+tells es one two tag state (Half kept) v w e a is b =
+    put-over (bytes_eq tag) es one two v w a b ∙ ap (λ (x : Entry). set_value (bytes_eq tag) es x) is
+    ∙ set_value_same (bytes_eq tag) es (Half kept) e
+    ∙ sym (ap (λ (o : Option Entry). with_state_at es tag state o) e)
 
-enters-at : (entries : Entries) (tag : List ℕ) (entry : Entry) (x : Option Entry) → IsSome x → set_value (bytes_eq tag) entries entry ≡ entered_at entries tag entry x
-enters-at entries tag entry None s = absurd cc
-enters-at entries tag entry (Some x) s = refl
-
-pub enters-place : (entries : Entries) (tag : List ℕ) (entry : Entry) → None ≡ key_of false tag (found entries tag)
-    → set_value (bytes_eq tag) entries entry ≡ entered entries tag entry
-enters-place entries tag entry e = enters-at entries tag entry (found entries tag) (key-present tag (found entries tag) e)
+-- a value that was taken out is put back
+pub set_value_back : (test : List ℕ → Bool) (es one two : Entries) (v w : Entry) → lookup test es ≡ Some w → one ≡ set_value test es v → two ≡ set_value test one w → two ≡ es
+set_value_back test es one two v w e a b = put-over test es one two v w a b ∙ set_value_same test es w e

@@ -108,7 +108,10 @@ abbrev outcome : Attachment → Bool → Bool → Bool → Outcome → Result De
 outcome attachment gives_up more none gone part last s =
     if gives_up then gone else (if more then kept_on attachment s part else (if none then refusal refused.TransferLimitExceeded s else completed attachment (spent s) last))
 
-ok-is : (x y : Answer) → Ok x ≡ Ok {E = AllocError} y → x ≡ y
+abbrev answered : Answer → Result Answer AllocError
+answered a = Ok a
+
+ok-is : (x y : Answer) → answered x ≡ answered y → x ≡ y
 ok-is x y e = cc
 
 map-append : (xs ys : List Said) → map message_said (xs ++ ys) ≡ map message_said xs ++ map message_said ys

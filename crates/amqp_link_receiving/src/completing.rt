@@ -13,7 +13,7 @@ use crate::head::{Head, Start, start_of};
 use crate::incoming::Incoming;
 use crate::message_bytes::MessageBytes;
 use crate::noting::{enter, make_room, renumber};
-use crate::resuming::{Resumption, how_resumed, joined_from};
+use crate::resuming::{Resumption, front_size, how_resumed, joined_from};
 use amqp_link_place::Gathered;
 use amqp_link_types::ReceiverTransferError;
 use amqp_link_unsettled::UnsettledMap;
@@ -130,7 +130,8 @@ fn resume_whole(
             start.with_bytes(Bytes::new(), true),
         ),
         Resumption::From(at) => {
-            if attachment.is_passed(at as u64, payload.len() as u64) {
+            let size = front_size(unsettled, &start.delivery_tag, at);
+            if attachment.is_passed(size, payload.len() as u64) {
                 return Err(ReceiverTransferError::MessageSizeExceeded);
             }
             let whole = joined_from(alloc, unsettled, &start.delivery_tag, at, &payload)?;

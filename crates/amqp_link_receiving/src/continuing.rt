@@ -2,6 +2,7 @@
 ghost use Rattle.std.specs.Prelude.{◌≡◌, ◌+◌, ◌^◌, ◌<◌, length, take, Some, None, IfOk, Ok};
 ghost use Rattle.amqp_link_types.specs.declared.refusals.ReceiverTransferError.TheVariants.{Memory};
 ghost use Rattle.amqp_link_receiving.specs.Deliveries.{begun, delivery_of, fresh, found, grown, kept_bytes, resumed, resumption, with_part};
+ghost use Rattle.amqp_link_receiving.specs.declared.resuming.Resumption.TheVariants.{From};
 ghost use Rattle.amqp_link_receiving.specs.Steps.{Continues, Begins, registered, settled_by};
 
 use crate::answer::Registering;
@@ -9,8 +10,8 @@ use crate::attachment::Attachment;
 use crate::entry::Entry;
 use crate::head::{Head, Start, start_of};
 use crate::incoming::Incoming;
-use crate::noting::{make_room, note};
-use crate::resuming::{Resumption, how_resumed, put_half, take_half};
+use crate::noting::{forget_settled, make_room, note};
+use crate::resuming::{Resumption, front_size, how_resumed, push_half, take_half};
 use amqp_link_place::Gathered;
 use amqp_link_types::ReceiverTransferError;
 use amqp_link_unsettled::UnsettledMap;
@@ -153,7 +154,8 @@ fn resume(
             start.with_bytes(Gathered::new(alloc), true),
         ),
         Resumption::From(at) => {
-            if attachment.is_passed(at as u64, payload.len() as u64) {
+            let size = front_size(unsettled, &start.delivery_tag, at);
+            if attachment.is_passed(size, payload.len() as u64) {
                 return Err(ReceiverTransferError::MessageSizeExceeded);
             }
             resume_half(alloc, attachment, unsettled, start, at, payload)
@@ -171,18 +173,13 @@ fn resume_half(
     payload: Bytes,
 ) -> Result<(Incoming<Gathered>, Registering), ReceiverTransferError>
     requires from { resumption (found unsettled.old.entries start.delivery_tag) start.place ≡ Ok (From at) }
-    requires short { at + length payload < 2 ^ 32 }
+    requires short { length (take at (kept_bytes (found unsettled.old.entries start.delivery_tag))) + length payload < 2 ^ 32 }
     ensures { Begins attachment unsettled.old.entries (Ok (grown (begun start (take at (kept_bytes (found unsettled.old.entries start.delivery_tag)))) payload)) result unsettled.new.entries }
 {
     let registering = registered(start.settled, start.delivery_id, &start.delivery_tag)?;
-    let mut kept = take_half(alloc, unsettled, &start.delivery_tag);
-    if kept.push_behind(at, payload).is_err() {
-        put_half(unsettled, &start.delivery_tag, kept);
-        return Err(ReceiverTransferError::Memory);
-    }
-    let delivery = start.with_bytes(kept, false);
-    if delivery.settled {
-        let _ = unsettled.remove(&delivery.delivery_tag);
-    }
+    let kept = take_half(alloc, unsettled, &start.delivery_tag);
+    let bytes = push_half(unsettled, &start.delivery_tag, kept, at, payload)?;
+    let delivery = start.with_bytes(bytes, false);
+    forget_settled(unsettled, &delivery);
     Ok((delivery, registering))
 }

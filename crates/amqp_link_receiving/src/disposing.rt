@@ -1,9 +1,11 @@
 //! How a receiving end disposes of a delivery (part 2, 2.7.6).
-ghost use Rattle.std.specs.Prelude.{◌≡◌, option_copied, if◌then◌else◌};
+ghost use Rattle.std.specs.Prelude.{◌≡◌, if◌then◌else◌};
 ghost use Rattle.amqp_link_receiving.specs.declared.disposing.DisposeRefusal.TheVariants.{AlreadyDisposed};
+ghost use Rattle.amqp_link_receiving.specs.Deliveries.{found};
 ghost use Rattle.amqp_link_receiving.specs.Disposing.{disposable, is_final, numbered_in, told_of, with_state};
 
 use crate::entry::{Entry, WholeMessage};
+use crate::noting::put;
 use amqp_link_place::Gathered;
 use amqp_link_unsettled::UnsettledMap;
 use amqp_session_states::DeliveryState;
@@ -34,14 +36,15 @@ pub struct Disposable {
     pub rcv_settle_mode: Option<ReceiverSettleMode>,
 }
 
-/// What a delivery of which this is kept is disposed of by.
-pub(crate) fn disposable_entry(
+/// What the delivery with a tag is disposed of by, in an attachment.
+pub(crate) fn disposable_in(
     count: u64,
-    entry: Option<&Entry>,
+    unsettled: &UnsettledMap<Entry>,
+    tag: &DeliveryTag,
 ) -> Result<Disposable, DisposeRefusal>
-    ensures { result ≡ disposable count (option_copied entry) }
+    ensures { result ≡ disposable count (found unsettled.now.entries tag.now) }
 {
-    match entry {
+    match unsettled.get(tag) {
         None => Err(DisposeRefusal::NotKept),
         Some(Entry::Half(_)) => Err(DisposeRefusal::NotAssociated),
         Some(Entry::Whole(message)) => disposable_message(count, message),
@@ -89,7 +92,7 @@ pub(crate) fn tell(
     }
     let earlier = unsettled.replace(tag, Entry::Half(Gathered::new(alloc)));
     let entry = told(earlier, state);
-    let _ = unsettled.replace(tag, entry);
+    put(unsettled, tag, entry);
 }
 
 /// A message with the state that is told of it.

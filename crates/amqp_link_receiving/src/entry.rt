@@ -5,7 +5,7 @@ use amqp_session_states::DeliveryState;
 use amqp_session_types::ReceiverSettleMode;
 
 /// What a receiving end keeps of an unsettled delivery (part 2, 2.6.12).
-#[derive(Debug, Drop)]
+#[derive(Drop)]
 pub enum Entry {
     /// Not all of its message has come: the bytes that came in earlier attachments.
     Half(Gathered),
@@ -14,7 +14,7 @@ pub enum Entry {
 }
 
 /// An unsettled message that has come whole.
-#[derive(Debug, Drop)]
+#[derive(Drop)]
 pub struct WholeMessage {
     /// Its bytes.
     pub payload: MessageBytes,

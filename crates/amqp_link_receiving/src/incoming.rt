@@ -10,7 +10,7 @@ use bytes::Bytes;
 use std::alloc::{AllocError, Global};
 
 /// A delivery that is coming in, with its bytes as they are kept (part 2, 2.6.14).
-#[derive(Debug, Drop)]
+#[derive(Drop)]
 pub struct Incoming<P> {
     /// Its number, as its first transfer told it.
     pub delivery_id: u32,
@@ -62,7 +62,9 @@ impl Incoming<Gathered> {
         head: &Head,
         last: &Bytes,
     ) -> Result<Incoming<Bytes>, AllocError>
-        ensures { IfOk result (λ d. d ≡ grown (continued self.now head.now) last.now) }
+        requires { self.now.joins ≡ false → length self.now.payload + length last.now < 2 ^ 32 }
+        ensures all { IfOk result (λ d. d ≡ grown (continued self.now head.now) last.now) }
+        ensures short { IfOk result (λ d. length d.payload < 2 ^ 32) }
     {
         Ok(Incoming {
             delivery_id: self.delivery_id,
@@ -77,7 +79,9 @@ impl Incoming<Gathered> {
 
     /// The bytes that have come with the last ones. What is passed over is left off.
     fn all_with(&self, alloc: Global, last: &Bytes) -> Result<Bytes, AllocError>
-        ensures { IfOk result (λ all. all ≡ (grown self.now last.now).payload) }
+        requires { self.now.joins ≡ false → length self.now.payload + length last.now < 2 ^ 32 }
+        ensures all { IfOk result (λ all. all ≡ (grown self.now last.now).payload) }
+        ensures short { IfOk result (λ all. length all < 2 ^ 32) }
     {
         let size = self.payload.size();
         if self.joins {

@@ -37,10 +37,3 @@ impl MessageBytes {
         &self.bytes
     }
 }
-
-impl std::fmt::Debug for MessageBytes {
-    fn fmt<W: std::fmt::Write>(&self, f: &mut std::fmt::Formatter<W>) -> std::fmt::Result {
-        let bytes = self.bytes.as_slice();
-        write!(f, "{bytes:?}")
-    }
-}

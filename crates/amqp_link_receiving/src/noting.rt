@@ -1,8 +1,10 @@
 //! How deliveries are entered among the unsettled ones (part 2, 2.6.12).
-ghost use Rattle.std.specs.Prelude.{◌≡◌, ◌<◌, ◌||◌, [], IsSome, IfOk, false};
+ghost use Rattle.std.specs.Prelude.{◌≡◌, ◌<◌, ◌||◌, [], IsSome, IfOk, false, if◌then◌else◌};
+ghost use Rattle.std.specs.Map.{set_value};
+ghost use Rattle.std.specs.Str.{bytes_eq};
 ghost use Rattle.amqp_link_receiving.specs.Deliveries.{found};
 ghost use Rattle.amqp_link_receiving.specs.declared.entry.Entry.TheVariants.{Half};
-ghost use Rattle.amqp_link_receiving.specs.Receiving.{entered, noted};
+ghost use Rattle.amqp_link_receiving.specs.Receiving.{entered, noted, without};
 ghost use Rattle.amqp_link_receiving.specs.Steps.{key_of, numbered, renumbered_as};
 
 use crate::attachment::Attachment;
@@ -47,10 +49,16 @@ pub(crate) fn enter(
 {
     match key {
         Some(key) => unsettled.insert_reserved(key, entry),
-        None => {
-            let _ = unsettled.replace(tag, entry);
-        }
+        None => put(unsettled, tag, entry),
     }
+}
+
+/// Puts an entry in the place of the one that a delivery has.
+pub(crate) fn put(unsettled: &mut UnsettledMap<Entry>, tag: &DeliveryTag, entry: Entry)
+    requires { IsSome (found unsettled.old.entries tag.now) }
+    ensures { unsettled.new.entries ≡ set_value (bytes_eq tag.now) unsettled.old.entries entry }
+{
+    let _ = unsettled.replace(tag, entry);
 }
 
 /// Gives a message that is there whole the number of its delivery in the present attachment.
@@ -70,7 +78,7 @@ pub(crate) fn renumber(
     }
     let earlier = unsettled.replace(tag, Entry::Half(Gathered::new(alloc)));
     let entry = numbered(attachment, earlier, number, rcv_settle_mode);
-    let _ = unsettled.replace(tag, entry);
+    put(unsettled, tag, entry);
 }
 
 /// A message under this number.
@@ -117,4 +125,13 @@ pub(crate) fn note(
         return;
     }
     enter(unsettled, key, tag, Entry::Half(Gathered::new(alloc)));
+}
+
+/// Keeps nothing of a delivery that is settled.
+pub(crate) fn forget_settled(unsettled: &mut UnsettledMap<Entry>, delivery: &Incoming<Gathered>)
+    ensures { unsettled.new.entries ≡ (if delivery.now.settled then without unsettled.old.entries delivery.now.delivery_tag else unsettled.old.entries) }
+{
+    if delivery.settled {
+        let _ = unsettled.remove(&delivery.delivery_tag);
+    }
 }

@@ -1,5 +1,5 @@
 //! How a delivery is resumed (part 2, 2.6.13).
-ghost use Rattle.std.specs.Prelude.{◌≡◌, ◌≤◌, ◌++◌, [], length, take, IfOk, Some};
+ghost use Rattle.std.specs.Prelude.{◌≡◌, ◌+◌, ◌^◌, ◌<◌, ◌++◌, [], length, take, IfOk, OnErr, OnOk, Some};
 ghost use Rattle.std.specs.Map.{set_value};
 ghost use Rattle.std.specs.Str.{bytes_eq};
 ghost use Rattle.amqp_link_receiving.specs.Deliveries.{found, kept_bytes, resumed_from, resumption};
@@ -66,6 +66,17 @@ fn whole_from(payload: &MessageBytes, place: Option<Received>) -> Option<usize>
     }
 }
 
+/// How many bytes the first ones are that are kept of a delivery.
+pub(crate) fn front_size(unsettled: &UnsettledMap<Entry>, tag: &DeliveryTag, at: usize) -> u64
+    requires { IsHalf (found unsettled.now.entries tag.now) }
+    ensures { result ≡ length (take at (kept_bytes (found unsettled.now.entries tag.now))) }
+{
+    match unsettled.get(tag) {
+        Some(Entry::Half(kept)) => at.min(kept.size()) as u64,
+        _ => unreachable!(),
+    }
+}
+
 /// Takes the bytes that are kept of a delivery out, and leaves none.
 pub(crate) fn take_half(
     alloc: Global,
@@ -79,6 +90,29 @@ pub(crate) fn take_half(
     match unsettled.replace(tag, Entry::Half(Gathered::new(alloc))) {
         Entry::Half(kept) => kept,
         Entry::Whole(_) => unreachable!(),
+    }
+}
+
+/// The first of the bytes that were taken out, with these behind them. Where there is no memory the bytes are put back.
+pub(crate) fn push_half(
+    unsettled: &mut UnsettledMap<Entry>,
+    tag: &DeliveryTag,
+    mut kept: Gathered,
+    at: usize,
+    payload: Bytes,
+) -> Result<Gathered, AllocError>
+    requires half { IsHalf (found unsettled.old.entries tag.now) }
+    requires short { length (take at kept) + length payload < 2 ^ 32 }
+    ensures bytes { IfOk result (λ bytes. bytes ≡ take at kept ++ payload) }
+    ensures ok { OnOk result (unsettled.new.entries ≡ unsettled.old.entries) }
+    ensures err { OnErr result (unsettled.new.entries ≡ set_value (bytes_eq tag.now) unsettled.old.entries (Half kept)) }
+{
+    match kept.push_behind(at, payload) {
+        Ok(()) => Ok(kept),
+        Err(error) => {
+            put_half(unsettled, tag, kept);
+            Err(error)
+        }
     }
 }
 

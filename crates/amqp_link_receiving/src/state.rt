@@ -7,13 +7,13 @@ ghost use Rattle.amqp_link_receiving.specs.declared.answer.Registering.TheVarian
 ghost use Rattle.amqp_link_receiving.specs.declared.answer.Told.TheVariants.{Dropped, Refused};
 ghost use Rattle.amqp_link_receiving.specs.Deliveries.{delivery_of, found, with_last, with_part};
 ghost use Rattle.amqp_link_receiving.specs.Disposing.{disposable, disposed_with};
-ghost use Rattle.amqp_link_flow.specs.Flows.{draining, granted, receiver_answer, receiver_attached, receiver_flowed};
+ghost use Rattle.amqp_link_flow.specs.Flows.{draining, granted, receiver_answer, attached, receiver_flowed};
 
 use crate::answer::{Answer, Registering, Told};
 use crate::attachment::Attachment;
 use crate::completing::{finish, take_whole};
 use crate::continuing::{begin, go_on};
-use crate::disposing::{Disposable, DisposeRefusal, disposable_entry, tell};
+use crate::disposing::{Disposable, DisposeRefusal, disposable_in, tell};
 use crate::entry::Entry;
 use crate::head::{Head, head_of, start_of};
 use crate::incoming::Incoming;
@@ -193,7 +193,7 @@ impl ReceivingEnd {
 
     /// Begins an attachment by the count that the sender's Attach tells (part 2, 2.6.3).
     pub fn attach(&mut self, initial_delivery_count: u32)
-        ensures { self.new ≡ record self.old { flow = receiver_attached self.old.flow initial_delivery_count } }
+        ensures { self.new ≡ record self.old { flow = attached self.old.flow initial_delivery_count } }
     {
         self.flow.attach(initial_delivery_count);
     }
@@ -216,7 +216,7 @@ impl ReceivingEnd {
     ) -> Result<Disposable, DisposeRefusal>
         ensures { result ≡ disposable attachment.count (found self.now.unsettled tag.now) }
     {
-        disposable_entry(attachment.count, self.unsettled.get(tag))
+        disposable_in(attachment.count, &self.unsettled, tag)
     }
 
     /// Disposes of the delivery with a tag: where it is settled nothing of it is kept any more, and else its state is
