@@ -1,0 +1,5 @@
+pub mod Starting
+pub mod Scanning
+pub mod Pieces
+pub mod Taking
+pub mod Rows

@@ -1,0 +1,5 @@
+pub mod Starts
+pub mod Followed
+pub mod Scans
+pub mod Said
+pub mod Readings

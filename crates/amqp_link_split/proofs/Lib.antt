@@ -1,0 +1,4 @@
+pub mod Counting
+pub mod Pushing
+pub mod Splits
+pub mod SayingLemmas

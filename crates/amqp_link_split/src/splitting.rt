@@ -1,0 +1,137 @@
+//! Messages cut into transfers (part 2, 2.6.14 and 2.7.5).
+ghost use Rattle.std.specs.Prelude.{◌≡◌, ◌-◌, ◌<◌, ◌⊎◌, ◌++◌, length, OnOk, IfOk, IfErr, IfSome, IsSomeAnd, Some, None, Err};
+ghost use Rattle.amqp_session_core.specs.Batch.{Transfers};
+ghost use Rattle.amqp_link_split.specs.Room.{room_of, some_bytes};
+ghost use Rattle.amqp_link_split.specs.Splitting.{Splits, Rest, later, some_left};
+
+use amqp_link_types::LinkStateError;
+use amqp_session_core::Batch;
+use amqp_session_performatives::Transfer;
+use amqp_session_types::Handle;
+use bytes::Bytes;
+use serde_amqp_ser::serialized_size;
+use std::alloc::{AllocError, Global};
+
+/// How many bytes stand before a frame's performative (part 2, 2.3.1).
+const HEADER: usize = 8;
+
+/// Cuts a message into the transfers of a delivery, each of which fits in a frame of at most `limit` bytes, the frame's
+/// header among them (part 2, 2.6.14 and 2.7.5). They share the payload's buffer.
+///
+/// `first` is what the first transfer says, but for `more`: that is told by the cut. It is measured with a delivery-id
+/// of four bytes, since its session is still to write that. Each transfer carries as much as one of that size leaves,
+/// and only the last one less; an empty payload is one transfer. Later transfers carry the handle and `more` alone.
+///
+/// It is refused with `IllegalState` where a frame has no room for a byte of the payload, and with `Memory`.
+pub fn split(
+    alloc: Global,
+    first: Transfer,
+    payload: Bytes,
+    limit: usize,
+) -> Result<Batch, LinkStateError>
+    ensures ok { IfOk result (λ batch. IsSomeAnd (room_of first limit) (λ room. Splits first payload room batch)) }
+    ensures refused { room_of first limit ≡ None → result ≡ Err LinkStateError.IllegalState }
+    ensures only { IfErr result (λ e. (e ≡ LinkStateError.Memory)
+        ⊎ ((e ≡ LinkStateError.IllegalState) × (room_of first limit ≡ None))) }
+{
+    let mut first = first;
+    let Some(room) = payload_room(&mut first, limit) else {
+        return Err(LinkStateError::IllegalState);
+    };
+    Ok(cut(alloc, first, payload, room)?)
+}
+
+/// How many bytes of the payload each transfer may carry. None where there is no room for one.
+fn payload_room(first: &mut Transfer, limit: usize) -> Option<usize>
+    ensures same { first.new ≡ first.old }
+    ensures room { result ≡ room_of first.old limit }
+    ensures some { IfSome result (λ room. 0 < room) }
+{
+    let delivery_id = first.delivery_id;
+    let more = first.more;
+    first.delivery_id = Some(u32::MAX);
+    first.more = true;
+    let size = serialized_size(first);
+    first.delivery_id = delivery_id;
+    first.more = more;
+    match size {
+        Ok(size) => left(limit, size),
+        Err(_) => None,
+    }
+}
+
+/// What a frame leaves behind its header and a performative of so many bytes, unless that is nothing.
+fn left(limit: usize, size: usize) -> Option<usize>
+    ensures value { result ≡ some_bytes (limit - 8 - size) }
+    ensures some { IfSome result (λ room. 0 < room) }
+{
+    let room = limit.saturating_sub(HEADER).saturating_sub(size);
+    if room == 0 {
+        return None;
+    }
+    Some(room)
+}
+
+/// Cuts a payload into transfers of at most so many bytes.
+fn cut(alloc: Global, first: Transfer, payload: Bytes, room: usize) -> Result<Batch, AllocError>
+    requires { 0 < room }
+    ensures { IfOk result (λ batch. Splits first payload room batch) }
+{
+    let mut first = first;
+    let mut rest = payload;
+    let handle = first.handle;
+    let front = rest.split_to(rest.len().min(room))?;
+    first.more = is_left(&rest);
+    let mut batch = Batch::new(alloc);
+    batch.push_first(alloc, first, front)?;
+    push_rest(alloc, &mut batch, handle, rest, room)?;
+    Ok(batch)
+}
+
+/// Puts what is left of a payload behind the first transfer.
+fn push_rest(
+    alloc: Global,
+    batch: &mut Batch,
+    handle: Handle,
+    payload: Bytes,
+    room: usize,
+) -> Result<(), AllocError>
+    requires { 0 < room }
+    ensures { OnOk result ((added : Transfers) × (batch.new ≡ batch.old ++ added)
+        × Rest handle payload room added) }
+{
+    let mut rest = payload;
+    while is_left(&rest) {
+        let piece = rest.split_to(rest.len().min(room))?;
+        let more = is_left(&rest);
+        batch.push_continuation(alloc, later(handle, more), piece)?;
+    }
+    Ok(())
+}
+
+/// Whether any bytes are left.
+#[tactic(auto, using(crate::proofs::Pushing::left_tests))]
+fn is_left(bytes: &Bytes) -> bool
+    ensures { result ≡ some_left bytes.now }
+{
+    !bytes.is_empty()
+}
+
+/// A later transfer of a delivery.
+fn later(handle: Handle, more: bool) -> Transfer
+    ensures { result ≡ later handle more }
+{
+    Transfer {
+        handle,
+        delivery_id: None,
+        delivery_tag: None,
+        message_format: None,
+        settled: None,
+        more,
+        rcv_settle_mode: None,
+        state: None,
+        resume: false,
+        aborted: false,
+        batchable: false,
+    }
+}
