@@ -1,0 +1,6 @@
+pub mod Live
+pub mod Adding
+pub mod Halving
+pub mod Shortening
+pub mod Places
+pub mod Rows

@@ -1,0 +1,4 @@
+pub mod Entries
+pub mod Resumption
+pub mod Exchange
+pub mod Listing

@@ -1,0 +1,277 @@
+//! The unsettled deliveries of a link, in the order in which they were registered (part 2, 2.6.12).
+ghost use Rattle.std.specs.Prelude.{◌≡◌, ℕ, ◌==◌, ◌+◌, ◌-◌, ◌<◌, ◌≤◌, ◌^◌, List, [], ◌∷◌, ◌++◌, length, max, is_some, None, Some, IsSome, IsOk, OnOk, OnErr, option_copied, filter, reverse};
+ghost use Rattle.std.specs.List.{IsDistinct};
+ghost use Rattle.std.specs.Map.{keys_of, lookup, remove_entry, set_value};
+ghost use Rattle.std.specs.Map.Iter.{ShowsInOrder, deref_pair};
+ghost use Rattle.std.specs.Option.{option_to_list};
+ghost use Rattle.std.specs.Str.{bytes_eq};
+ghost use Rattle.indexmap.specs.IndexMap.{index_map_len, spare};
+ghost use Rattle.amqp_link_unsettled.specs.Entries.{live};
+
+use crate::iter::Iter;
+use amqp_session_types::DeliveryTag;
+use indexmap::IndexMap;
+use std::alloc::{AllocError, Global};
+use std::marker::Model;
+
+/// What a link keeps of its unsettled deliveries, by their tags, in the order in which they were registered
+/// (part 2, 2.6.12).
+///
+/// A delivery is taken out without memory, and the others keep their order. Registering deliveries and taking them out
+/// again, in whatever order, takes time by their number.
+///
+/// A clause sees the record `Kept`: the deliveries in order, no two of one tag, and for how many more there is room.
+#[derive(Drop)]
+pub struct UnsettledMap<M> {
+    /// A delivery that was taken out leaves its tag, without a value, until such tags are swept out.
+    slots: IndexMap<DeliveryTag, Option<M>>,
+    /// How many of them have a value.
+    count: usize,
+    room: usize,
+}
+
+impl<M> Model for UnsettledMap<M> {
+    ghost use Rattle.std.specs.Prelude.{◌≡◌, ◌≤◌, length};
+    ghost use Rattle.indexmap.specs.IndexMap.{spare};
+    ghost use Rattle.amqp_link_unsettled.specs.Entries.{Kept, live};
+
+    ghost Value = { Kept M };
+
+    ghost view = { λ u. record { entries = live u.slots.entries; room = u.room } };
+
+    ghost invariant = { λ u. (u.count ≡ length (live u.slots.entries)) × (u.room ≤ spare u.slots) };
+}
+
+impl<M: Drop> UnsettledMap<M> {
+    /// No deliveries. It takes no memory.
+    pub fn new(alloc: Global) -> Self
+        ensures { result ≡ record { entries = []; room = 0 } }
+    {
+        UnsettledMap {
+            slots: IndexMap::new(alloc),
+            count: 0,
+            room: 0,
+        }
+    }
+
+    /// How many deliveries there are. No two of them have one tag.
+    #[tactic(auto, using(crate::proofs::Live::rules))]
+    pub fn len(&self) -> usize
+        ensures len { result ≡ length self.now.entries }
+        ensures apart { IsDistinct bytes_eq (keys_of self.now.entries) }
+    {
+        let _ = self.slots.len();
+        self.count
+    }
+
+    /// Whether there are none.
+    pub fn is_empty(&self) -> bool
+        ensures { result ≡ (length self.now.entries == 0) }
+    {
+        self.count == 0
+    }
+
+    /// Whether there is a delivery with this tag.
+    pub fn contains(&self, tag: &DeliveryTag) -> bool
+        ensures { result ≡ is_some (lookup (bytes_eq tag.now) self.now.entries) }
+    {
+        self.get(tag).is_some()
+    }
+
+    /// What is kept of the delivery with this tag, if there is one.
+    #[tactic(auto, using(crate::proofs::Live::rules))]
+    pub fn get(&self, tag: &DeliveryTag) -> Option<&M>
+        ensures { option_copied result ≡ lookup (bytes_eq tag.now) self.now.entries }
+    {
+        let _ = self.slots.len();
+        self.slots.get(tag)?.as_ref()
+    }
+
+    /// Keeps something else of the delivery with this tag, which there must be, and hands back what was kept.
+    pub fn replace(&mut self, tag: &DeliveryTag, message: M) -> M
+        requires { IsSome (lookup (bytes_eq tag.now) self.old.entries) }
+        ensures earlier { lookup (bytes_eq tag.now) self.old.entries ≡ Some result }
+        ensures entries { self.new
+            ≡ record self.old { entries = set_value (bytes_eq tag.now) self.old.entries message } }
+    {
+        exchange(&mut self.slots, tag, message)
+    }
+
+    /// Makes room, so that so many more deliveries are registered without memory. Where there is none nothing changes.
+    pub fn reserve(&mut self, count: usize) -> Result<(), AllocError>
+        ensures ok { OnOk result (self.new ≡ record self.old { room = max self.old.room count }) }
+        ensures err { OnErr result (self.new ≡ self.old) }
+        ensures room { count ≤ self.old.room → IsOk result }
+    {
+        let room = self.room.max(count);
+        self.slots.reserve(room)?;
+        self.room = room;
+        Ok(())
+    }
+
+    /// Registers a delivery behind the others. There must be room for it, and no other delivery with its tag.
+    pub fn insert_reserved(&mut self, tag: DeliveryTag, message: M)
+        requires room { 0 < self.old.room }
+        requires absent { lookup (bytes_eq tag) self.old.entries ≡ None }
+        ensures { self.new ≡ record { entries = self.old.entries ++ (tag, message) ∷ []; room = self.old.room - 1 } }
+    {
+        enter(&mut self.slots, tag, message);
+        self.count += 1;
+        self.room -= 1;
+    }
+
+    /// Takes a delivery out, if there is one with this tag. The others keep their order. It takes no memory.
+    pub fn remove(&mut self, tag: &DeliveryTag) -> Option<M>
+        ensures value { result ≡ lookup (bytes_eq tag.now) self.old.entries }
+        ensures others { self.new ≡ record self.old { entries = remove_entry (bytes_eq tag.now) self.old.entries } }
+    {
+        let message = take_out(&mut self.slots, tag)?;
+        self.count -= 1;
+        sweep_where_due(&mut self.slots, self.count);
+        Some(message)
+    }
+
+    /// Takes all deliveries out. The room stays.
+    pub fn clear(&mut self)
+        ensures { self.new ≡ record self.old { entries = [] } }
+    {
+        self.slots.clear();
+        self.count = 0;
+    }
+
+    /// The deliveries in the order in which they were registered.
+    #[tactic(auto, using(crate::proofs::Live::rules))]
+    pub fn iter(&self) -> Iter<'_, M>
+        ensures rest { result ≡ self.now.entries }
+        ensures runs { ShowsInOrder (deref_pair {K = List ℕ} {X = M}) }
+        ensures fits { length self.now.entries < 2 ^ 63 }
+        ensures apart { IsDistinct bytes_eq (keys_of self.now.entries) }
+    {
+        Iter {
+            slots: self.slots.iter(),
+        }
+    }
+
+    /// Turns the order of the deliveries round.
+    #[tactic(auto, using(crate::proofs::Live::rules))]
+    pub fn reverse(&mut self)
+        ensures { self.new ≡ record self.old { entries = reverse self.old.entries } }
+    {
+        self.slots.reverse();
+    }
+
+    /// Takes the last delivery out, if there is one. It takes no memory.
+    pub fn pop_last(&mut self) -> Option<(DeliveryTag, M)>
+        ensures entries { self.old.entries ≡ self.new.entries ++ option_to_list result }
+        ensures room { self.new.room ≡ self.old.room }
+    {
+        let last = pop_live(&mut self.slots)?;
+        self.count -= 1;
+        Some(last)
+    }
+}
+
+/// Enters a delivery behind the others.
+fn enter<M: Drop>(slots: &mut IndexMap<DeliveryTag, Option<M>>, tag: DeliveryTag, message: M)
+    requires room { 0 < spare slots.old }
+    requires absent { lookup (bytes_eq tag) (live slots.old.entries) ≡ None }
+    ensures entries { live slots.new.entries ≡ live slots.old.entries ++ (tag, message) ∷ [] }
+    ensures room { spare slots.old ≤ spare slots.new + 1 }
+    ensures fits { length (live slots.new.entries) < 2 ^ 63 }
+{
+    forget(slots, &tag);
+    push(slots, tag, message);
+}
+
+/// Sees to it that a tag without a value isn't there at all.
+fn forget<M: Drop>(slots: &mut IndexMap<DeliveryTag, Option<M>>, tag: &DeliveryTag)
+    requires absent { lookup (bytes_eq tag.now) (live slots.old.entries) ≡ None }
+    ensures entries { live slots.new.entries ≡ live slots.old.entries }
+    ensures gone { lookup (bytes_eq tag.now) slots.new.entries ≡ None }
+    ensures room { spare slots.old ≤ spare slots.new }
+{
+    if !slots.contains_key(tag) {
+        return;
+    }
+    sweep(slots);
+}
+
+/// Enters a delivery whose tag isn't there at all.
+#[tactic(auto, using(crate::proofs::Live::rules))]
+fn push<M: Drop>(slots: &mut IndexMap<DeliveryTag, Option<M>>, tag: DeliveryTag, message: M)
+    requires room { 0 < spare slots.old }
+    requires absent { lookup (bytes_eq tag) slots.old.entries ≡ None }
+    ensures entries { live slots.new.entries ≡ live slots.old.entries ++ (tag, message) ∷ [] }
+    ensures room { spare slots.old ≤ spare slots.new + 1 }
+    ensures fits { length (live slots.new.entries) < 2 ^ 63 }
+{
+    match slots.insert(tag, Some(message)) {
+        Ok(_) => {}
+        Err(_) => unreachable!(),
+    }
+    let _ = slots.len();
+}
+
+/// Puts another value in the place of that of a tag, which has one.
+#[tactic(auto, using(crate::proofs::Live::rules))]
+fn exchange<M: Drop>(
+    slots: &mut IndexMap<DeliveryTag, Option<M>>,
+    tag: &DeliveryTag,
+    message: M,
+) -> M
+    requires { IsSome (lookup (bytes_eq tag.now) (live slots.old.entries)) }
+    ensures earlier { lookup (bytes_eq tag.now) (live slots.old.entries) ≡ Some result }
+    ensures entries { live slots.new.entries ≡ set_value (bytes_eq tag.now) (live slots.old.entries) message }
+    ensures room { spare slots.new ≡ spare slots.old }
+{
+    let Some(slot) = slots.get_mut(tag) else {
+        unreachable!()
+    };
+    slot.replace(message).unwrap()
+}
+
+/// Takes the value of a tag out, if it has one.
+#[tactic(auto, using(crate::proofs::Live::rules))]
+fn take_out<M>(slots: &mut IndexMap<DeliveryTag, Option<M>>, tag: &DeliveryTag) -> Option<M>
+    ensures value { result ≡ lookup (bytes_eq tag.now) (live slots.old.entries) }
+    ensures others { live slots.new.entries ≡ remove_entry (bytes_eq tag.now) (live slots.old.entries) }
+    ensures room { spare slots.new ≡ spare slots.old }
+{
+    slots.get_mut(tag)?.take()
+}
+
+/// Takes the tags without a value out where they are more than so many.
+fn sweep_where_due<M: Drop>(slots: &mut IndexMap<DeliveryTag, Option<M>>, count: usize)
+    ensures entries { live slots.new.entries ≡ live slots.old.entries }
+    ensures room { spare slots.old ≤ spare slots.new }
+{
+    if slots.len() / 2 <= count {
+        return;
+    }
+    sweep(slots);
+}
+
+/// Takes the tags without a value out.
+fn sweep<M: Drop>(slots: &mut IndexMap<DeliveryTag, Option<M>>)
+    ensures entries { slots.new.entries ≡ filter (λ e. is_some e.1) slots.old.entries }
+    ensures room { spare slots.old ≤ spare slots.new }
+{
+    slots.retain(
+        |_tag: &DeliveryTag, message: &mut Option<M>| -> bool
+            ensures { (result ≡ is_some message.old) × (message.new ≡ message.old) }
+        { message.is_some() },
+    );
+}
+
+/// Takes the last value out with its tag, and the tags without a value behind it.
+fn pop_live<M: Drop>(slots: &mut IndexMap<DeliveryTag, Option<M>>) -> Option<(DeliveryTag, M)>
+    ensures entries { live slots.old.entries ≡ live slots.new.entries ++ option_to_list result }
+    ensures room { spare slots.old ≤ spare slots.new }
+{
+    while let Some((tag, slot)) = slots.pop() {
+        if let Some(message) = slot {
+            return Some((tag, message));
+        }
+    }
+    None
+}
