@@ -1,0 +1,4 @@
+pub mod Entering
+pub mod Handing
+pub mod Resumptions
+pub mod Rows

@@ -1,0 +1,6 @@
+pub mod Reading
+pub mod Deliveries
+pub mod Receiving
+pub mod Steps
+pub mod Readings
+pub mod Disposing

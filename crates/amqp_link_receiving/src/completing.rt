@@ -1,0 +1,232 @@
+//! The last transfers of deliveries (part 2, 2.6.14).
+ghost use Rattle.std.specs.Prelude.{◌≡◌, ◌^◌, ◌<◌, length, take, Some, None, IfOk, Ok, Err, OnErr};
+ghost use Rattle.amqp_link_types.specs.declared.refusals.ReceiverTransferError.TheVariants.{Memory};
+ghost use Rattle.amqp_link_receiving.specs.Deliveries.{begun, delivery_of, fresh, found, joined, kept_bytes, resumed, resumption, with_last};
+ghost use Rattle.amqp_link_receiving.specs.Receiving.{completion, message_of, noted, whole_of};
+ghost use Rattle.amqp_link_receiving.specs.Steps.{CompletedAs, Completes};
+
+use crate::answer::{Answer, Message, Registering, Told};
+use crate::attachment::Attachment;
+use crate::continuing::{registered, settled_by};
+use crate::entry::{Entry, WholeMessage};
+use crate::head::{Head, Start, start_of};
+use crate::incoming::Incoming;
+use crate::message_bytes::MessageBytes;
+use crate::noting::{enter, make_room, renumber};
+use crate::resuming::{Resumption, front_size, how_resumed, joined_from};
+use amqp_link_place::Gathered;
+use amqp_link_types::ReceiverTransferError;
+use amqp_link_unsettled::UnsettledMap;
+use bytes::Bytes;
+use std::alloc::{AllocError, Global};
+
+/// Completes the delivery that is coming in.
+pub(crate) fn finish(
+    alloc: Global,
+    attachment: Attachment,
+    held: &Incoming<Gathered>,
+    unsettled: &mut UnsettledMap<Entry>,
+    head: &Head,
+    payload: &Bytes,
+) -> Result<Answer, ReceiverTransferError>
+    ensures { Completes attachment (Some held.now) unsettled.old.entries (with_last attachment payload.now (delivery_of (Some held.now) unsettled.old.entries head.now)) result unsettled.new.entries }
+{
+    if !held.agrees(head) {
+        return Err(ReceiverTransferError::InconsistentFieldInMultiFrameDelivery);
+    }
+    let settled = held.settled || head.settled;
+    if attachment.is_other(settled, held.rcv_settle_mode) {
+        return Err(ReceiverTransferError::IllegalRcvSettleModeInTransfer);
+    }
+    if held.is_too_large(attachment, payload) {
+        return Err(ReceiverTransferError::MessageSizeExceeded);
+    }
+    let registering = settled_by(held.settled, settled, held.delivery_id);
+    let whole = held.completed_with(alloc, head, payload)?;
+    complete(alloc, attachment, unsettled, registering, whole)
+}
+
+/// Takes a delivery of one transfer.
+pub(crate) fn take_whole(
+    alloc: Global,
+    attachment: Attachment,
+    unsettled: &mut UnsettledMap<Entry>,
+    head: Head,
+    payload: Bytes,
+) -> Result<Answer, ReceiverTransferError>
+    ensures { Completes attachment None unsettled.old.entries (with_last attachment payload (delivery_of None unsettled.old.entries head)) result unsettled.new.entries }
+{
+    let start = start_of(head)?;
+    if start.resume {
+        return resume_whole(alloc, attachment, unsettled, start, payload);
+    }
+    take_fresh(alloc, attachment, unsettled, start, payload)
+}
+
+/// Takes a delivery of one transfer that isn't known.
+fn take_fresh(
+    alloc: Global,
+    attachment: Attachment,
+    unsettled: &mut UnsettledMap<Entry>,
+    start: Start,
+    payload: Bytes,
+) -> Result<Answer, ReceiverTransferError>
+    ensures { Completes attachment None unsettled.old.entries (with_last attachment payload (fresh start (found unsettled.old.entries start.delivery_tag))) result unsettled.new.entries }
+{
+    if unsettled.contains(&start.delivery_tag) {
+        return Err(ReceiverTransferError::IllegalState);
+    }
+    if attachment.is_other(start.settled, start.rcv_settle_mode) {
+        return Err(ReceiverTransferError::IllegalRcvSettleModeInTransfer);
+    }
+    if attachment.is_passed(0, payload.len() as u64) {
+        return Err(ReceiverTransferError::MessageSizeExceeded);
+    }
+    file(
+        alloc,
+        attachment,
+        unsettled,
+        start.with_bytes(payload, false),
+    )
+}
+
+/// Takes a delivery that begins and is complete at once.
+fn file(
+    alloc: Global,
+    attachment: Attachment,
+    unsettled: &mut UnsettledMap<Entry>,
+    delivery: Incoming<Bytes>,
+) -> Result<Answer, ReceiverTransferError>
+    requires { length delivery.payload < 2 ^ 32 }
+    ensures { Completes attachment None unsettled.old.entries (Ok delivery) result unsettled.new.entries }
+{
+    let registering = registered(
+        delivery.settled,
+        delivery.delivery_id,
+        &delivery.delivery_tag,
+    )?;
+    complete(alloc, attachment, unsettled, registering, delivery)
+}
+
+/// Resumes a delivery whose last transfer this is.
+fn resume_whole(
+    alloc: Global,
+    attachment: Attachment,
+    unsettled: &mut UnsettledMap<Entry>,
+    start: Start,
+    payload: Bytes,
+) -> Result<Answer, ReceiverTransferError>
+    ensures { Completes attachment None unsettled.old.entries (with_last attachment payload (resumed start (found unsettled.old.entries start.delivery_tag))) result unsettled.new.entries }
+{
+    let how = how_resumed(unsettled, &start.delivery_tag, start.place)?;
+    if attachment.is_other(start.settled, start.rcv_settle_mode) {
+        return Err(ReceiverTransferError::IllegalRcvSettleModeInTransfer);
+    }
+    match how {
+        Resumption::Joins => file(
+            alloc,
+            attachment,
+            unsettled,
+            start.with_bytes(Bytes::new(), true),
+        ),
+        Resumption::From(at) => {
+            let size = front_size(unsettled, &start.delivery_tag, at);
+            if attachment.is_passed(size, payload.len() as u64) {
+                return Err(ReceiverTransferError::MessageSizeExceeded);
+            }
+            let whole = joined_from(alloc, unsettled, &start.delivery_tag, at, &payload)?;
+            file(alloc, attachment, unsettled, start.with_bytes(whole, false))
+        }
+    }
+}
+
+/// A delivery is complete: its message is handed out, and kept where it isn't settled.
+fn complete(
+    alloc: Global,
+    attachment: Attachment,
+    unsettled: &mut UnsettledMap<Entry>,
+    registering: Registering,
+    delivery: Incoming<Bytes>,
+) -> Result<Answer, ReceiverTransferError>
+    requires { length delivery.payload < 2 ^ 32 }
+    ensures { CompletedAs attachment registering unsettled.old.entries delivery result unsettled.new.entries }
+{
+    if delivery.settled {
+        let _ = unsettled.remove(&delivery.delivery_tag);
+        return Ok(handed_out(registering, delivery));
+    }
+    if delivery.joins {
+        let number = delivery.delivery_id;
+        let mode = delivery.rcv_settle_mode;
+        renumber(
+            alloc,
+            attachment,
+            unsettled,
+            &delivery.delivery_tag,
+            number,
+            mode,
+        );
+        return Ok(handed_out(registering, delivery));
+    }
+    let key = make_room(unsettled, &delivery.delivery_tag, false)?;
+    let whole = whole_of(attachment, &delivery)?;
+    enter(unsettled, key, &delivery.delivery_tag, Entry::Whole(whole));
+    Ok(handed_out(registering, delivery))
+}
+
+/// What is kept of a message that isn't settled.
+fn whole_of(attachment: Attachment, delivery: &Incoming<Bytes>) -> Result<WholeMessage, AllocError>
+    requires { length delivery.now.payload < 2 ^ 32 }
+    ensures { IfOk result (λ m. m ≡ whole_of attachment delivery.now) }
+{
+    let payload = delivery.payload.clone()?;
+    Ok(WholeMessage {
+        payload: MessageBytes::new(payload),
+        state: None,
+        number: delivery.delivery_id,
+        attachment: attachment.count,
+        rcv_settle_mode: delivery.rcv_settle_mode,
+    })
+}
+
+/// What comes of the last transfer of a delivery.
+fn handed_out(registering: Registering, delivery: Incoming<Bytes>) -> Answer
+    ensures { result ≡ record { registering = registering; told = completion delivery } }
+{
+    Answer {
+        registering,
+        told: completion(delivery),
+    }
+}
+
+/// The message of a delivery that is complete, or that it was handed out before.
+fn completion(delivery: Incoming<Bytes>) -> Told
+    ensures { result ≡ completion delivery }
+{
+    if delivery.joins {
+        return Told::Joined {
+            number: delivery.delivery_id,
+            tag: delivery.delivery_tag,
+        };
+    }
+    Told::Message(message_of(delivery))
+}
+
+/// The message of a delivery.
+fn message_of(delivery: Incoming<Bytes>) -> Message
+    ensures { result ≡ message_of delivery }
+{
+    let rcv_settle_mode = if delivery.settled {
+        None
+    } else {
+        delivery.rcv_settle_mode
+    };
+    Message {
+        delivery_id: delivery.delivery_id,
+        delivery_tag: delivery.delivery_tag,
+        message_format: delivery.message_format,
+        rcv_settle_mode,
+        settled: delivery.settled,
+        payload: delivery.payload,
+    }
+}
