@@ -2,33 +2,105 @@
 //! messages, places in them, cutting and joining, credit, attaching and detaching, and unsettled deliveries.
 #![tactic(auto)]
 
-pub use amqp_link_attach::{
-    AttachExchange, DynamicTarget, LinkState, ReceiverAttachExchange, TargetArchetypeCapabilities,
-    TargetArchetypeExt, Terms, VariantOfTargetArchetype, VerifySource, VerifyTargetArchetype,
-    get_max_message_size, merge_properties, merged_properties, verify_attach_as_receiver,
-    verify_attach_as_sender,
-};
-pub use amqp_link_flow::{LinkFlowState, LinkFlowStateInner};
-pub use amqp_link_message::{
-    Builder, Delivery, DeliveryInfo, FromDeliveryFailure, FromDeliveryState, FromPreSettled,
-    MESSAGE_FORMAT, Message, NoMessage, Raw, ReadBody, RoundTripBody, SendResult, Sendable,
-    WriteBody, read_payload,
-};
-pub use amqp_link_place::{IncompleteTransfer, place, read_place};
-pub use amqp_link_sections::{
-    AmqpSequence, AmqpValue, Annotations, ApplicationProperties, Data, DeliveryAnnotations, Footer,
-    Header, MessageAnnotations, MessageId, Properties, Section,
-};
+pub use amqp_link_attach::AttachExchange;
+pub use amqp_link_attach::DynamicTarget;
+pub use amqp_link_attach::LinkState;
+pub use amqp_link_attach::ReceiverAttachExchange;
+pub use amqp_link_attach::TargetArchetypeCapabilities;
+pub use amqp_link_attach::TargetArchetypeExt;
+pub use amqp_link_attach::Terms;
+pub use amqp_link_attach::VariantOfTargetArchetype;
+pub use amqp_link_attach::VerifySource;
+pub use amqp_link_attach::VerifyTargetArchetype;
+pub use amqp_link_attach::get_max_message_size;
+pub use amqp_link_attach::merge_properties;
+pub use amqp_link_attach::merged_properties;
+pub use amqp_link_attach::verify_attach_as_receiver;
+pub use amqp_link_attach::verify_attach_as_sender;
+pub use amqp_link_flow::LinkFlowState;
+pub use amqp_link_flow::LinkFlowStateInner;
+pub use amqp_link_message::Builder;
+pub use amqp_link_message::Delivery;
+pub use amqp_link_message::DeliveryInfo;
+pub use amqp_link_message::FromDeliveryFailure;
+pub use amqp_link_message::FromDeliveryState;
+pub use amqp_link_message::FromPreSettled;
+pub use amqp_link_message::MESSAGE_FORMAT;
+pub use amqp_link_message::Message;
+pub use amqp_link_message::NoMessage;
+pub use amqp_link_message::Raw;
+pub use amqp_link_message::ReadBody;
+pub use amqp_link_message::RoundTripBody;
+pub use amqp_link_message::SendResult;
+pub use amqp_link_message::Sendable;
+pub use amqp_link_message::WriteBody;
+pub use amqp_link_message::read_payload;
+pub use amqp_link_place::IncompleteTransfer;
+pub use amqp_link_place::place;
+pub use amqp_link_place::read_place;
+pub use amqp_link_receiving::Answer;
+pub use amqp_link_receiving::Attachment;
+pub use amqp_link_receiving::Disposable;
+pub use amqp_link_receiving::DisposeRefusal;
+pub use amqp_link_receiving::Entry;
+pub use amqp_link_receiving::ReceivingEnd;
+pub use amqp_link_receiving::Registering;
+pub use amqp_link_receiving::Told;
+pub use amqp_link_receiving::WholeMessage;
+pub use amqp_link_sections::AmqpSequence;
+pub use amqp_link_sections::AmqpValue;
+pub use amqp_link_sections::Annotations;
+pub use amqp_link_sections::ApplicationProperties;
+pub use amqp_link_sections::Data;
+pub use amqp_link_sections::DeliveryAnnotations;
+pub use amqp_link_sections::Footer;
+pub use amqp_link_sections::Header;
+pub use amqp_link_sections::MessageAnnotations;
+pub use amqp_link_sections::MessageId;
+pub use amqp_link_sections::Properties;
+pub use amqp_link_sections::Section;
+pub use amqp_link_sender::DetachRefusal;
+pub use amqp_link_sender::Detached;
+pub use amqp_link_sender::PreparedSend;
+pub use amqp_link_sender::PreparedSendOn;
+pub use amqp_link_sender::SendRefusal;
+pub use amqp_link_sender::SenderLink;
+pub use amqp_link_sender_messages::Failure;
+pub use amqp_link_sender_messages::Open;
+pub use amqp_link_sender_messages::Resolution;
 pub use amqp_link_split::split;
-pub use amqp_link_types::{
-    ApplyRemoteDetachError, DEFAULT_CREDIT, DesiredFilterNotSupported, DetachError,
-    DispositionError, FlowError, IllegalLinkStateError, InsufficientCredit, IntoRole, LinkError,
-    LinkStateError, ReceiverAttachError, ReceiverMarker, ReceiverTransferError, RecvError,
-    SendError, SenderAttachError, SenderMarker,
-};
-pub use amqp_link_unsettled::{
-    AsDeliveryState, Decision, ListError, Listed, ResumingDelivery, SenderAttachExchange,
-    UnsettledList, UnsettledMap, UnsettledMessage, decide, is_past, list_entries, list_unsettled,
-    resume_delivery,
-};
-pub use amqp_session_states::{Source, Target, TargetArchetype};
+pub use amqp_link_types::ApplyRemoteDetachError;
+pub use amqp_link_types::DEFAULT_CREDIT;
+pub use amqp_link_types::DesiredFilterNotSupported;
+pub use amqp_link_types::DetachError;
+pub use amqp_link_types::DispositionError;
+pub use amqp_link_types::FlowError;
+pub use amqp_link_types::IllegalLinkStateError;
+pub use amqp_link_types::InsufficientCredit;
+pub use amqp_link_types::IntoRole;
+pub use amqp_link_types::LinkError;
+pub use amqp_link_types::LinkStateError;
+pub use amqp_link_types::ReceiverAttachError;
+pub use amqp_link_types::ReceiverMarker;
+pub use amqp_link_types::ReceiverTransferError;
+pub use amqp_link_types::RecvError;
+pub use amqp_link_types::SendError;
+pub use amqp_link_types::SenderAttachError;
+pub use amqp_link_types::SenderMarker;
+pub use amqp_link_unsettled::AsDeliveryState;
+pub use amqp_link_unsettled::Decision;
+pub use amqp_link_unsettled::ListError;
+pub use amqp_link_unsettled::Listed;
+pub use amqp_link_unsettled::ResumingDelivery;
+pub use amqp_link_unsettled::SenderAttachExchange;
+pub use amqp_link_unsettled::UnsettledList;
+pub use amqp_link_unsettled::UnsettledMap;
+pub use amqp_link_unsettled::UnsettledMessage;
+pub use amqp_link_unsettled::decide;
+pub use amqp_link_unsettled::is_past;
+pub use amqp_link_unsettled::list_entries;
+pub use amqp_link_unsettled::list_unsettled;
+pub use amqp_link_unsettled::resume_delivery;
+pub use amqp_session_states::Source;
+pub use amqp_session_states::Target;
+pub use amqp_session_states::TargetArchetype;
