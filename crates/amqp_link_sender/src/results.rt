@@ -1,5 +1,7 @@
 //! What the sender of a message is told (part 3, 3.4).
-ghost use Rattle.std.specs.Prelude.{◌≡◌, IfOk};
+ghost use Rattle.std.specs.Prelude.{◌≡◌, IfOk, IfErr};
+ghost use Rattle.amqp_link_sender_messages.specs.declared.resolution.Failure.TheVariants.{RemoteClosedWithError};
+ghost use Rattle.amqp_link_sender_messages.specs.declared.resolution.Resolution.TheVariants.{Failed};
 ghost use Rattle.amqp_link_sender.specs.Results.{send_result, failure_error, closed_with};
 
 use crate::link::SenderLink;
@@ -16,7 +18,8 @@ impl SenderLink {
     /// What became of a message, as its sender is told. It is refused only where there is no memory for the error with
     /// which the peer closed the link.
     pub fn result_of(&self, resolution: Resolution) -> Result<SendResult, AllocError>
-        ensures { IfOk result (λ r. r ≡ send_result self.now.remote_error resolution) }
+        ensures ok { IfOk result (λ r. r ≡ send_result self.now.remote_error resolution) }
+        ensures only { IfErr result (λ _. resolution ≡ Failed RemoteClosedWithError) }
     {
         match resolution {
             Resolution::Outcome(outcome) => Ok(Ok(outcome)),
@@ -36,7 +39,8 @@ fn failure_error(
     kept: &Option<Boxed<definitions::Error>>,
     why: Failure,
 ) -> Result<LinkStateError, AllocError>
-    ensures { IfOk result (λ e. e ≡ failure_error kept.now why) }
+    ensures ok { IfOk result (λ e. e ≡ failure_error kept.now why) }
+    ensures only { IfErr result (λ _. why ≡ RemoteClosedWithError) }
 {
     match why {
         Failure::Closed => Ok(LinkStateError::IllegalState),
