@@ -1,7 +1,7 @@
 -- Bytes that are written as they are.
-use Rattle.std.proofs.Common.{◌≡◌, ℕ, List, [], ◌∷◌, ◌++◌, Option, Some, None, ◌∙◌, ap, refl, sym, append-nil}
+use Rattle.std.proofs.Common.{◌≡◌, ℕ, List, [], ◌∷◌, Option, Some, ◌∙◌, ap, refl, sym, append-nil}
 use Rattle.serde_amqp_item.specs.Item.{items_of}
-use Rattle.serde_amqp_item.specs.Canon.{◌>>=◌, canon_all}
+use Rattle.serde_amqp_item.specs.Canon.{◌>>=◌}
 use Rattle.serde_amqp_ser.specs.Written.{Written, extended}
 use Rattle.serde_amqp_ser.specs.Puts.{listed}
 use Rattle.amqp_link_message.specs.Payload.{payload_text}

@@ -1,7 +1,7 @@
 -- Items written one behind the other.
-use Rattle.std.proofs.Common.{◌≡◌, ℕ, List, [], ◌∷◌, ◌++◌, length, map, take, drop, get_or, ◌<◌, ◌+◌, Option, Some, None, sym, ◌∙◌, ap, subst, refl, arith, append_assoc, append-nil, ◌⊎◌, inl, inr}
-use Rattle.serde_amqp_item.specs.Item.{Item, Items, items_of}
-use Rattle.serde_amqp_item.specs.Canon.{◌>>=◌, canon, canon_all, Place, alone}
+use Rattle.std.proofs.Common.{◌≡◌, ℕ, List, [], ◌∷◌, ◌++◌, Option, Some, None, sym, ◌∙◌, ap, refl, append_assoc, append-nil, ◌⊎◌, inl, inr}
+use Rattle.serde_amqp_item.specs.Item.{Item, items_of}
+use Rattle.serde_amqp_item.specs.Canon.{◌>>=◌, canon, canon_all, alone}
 use Rattle.serde_amqp_item.proofs.Texts.{bind_some}
 use Rattle.serde_amqp_ser.specs.Written.{Written, extended}
 use Rattle.serde_amqp_ser.specs.Puts.{State, listed, serialized}
@@ -9,7 +9,6 @@ use Rattle.serde_amqp_ser.proofs.Grown.{extended-extended}
 use Rattle.serde_amqp_ser.proofs.Listed.{listed_text, listed_more, alone_gives, alone_none_of}
 pub use Rattle.serde_amqp_ser.proofs.Listed.{alone_stays}
 use Rattle.amqp_link_message.specs.Payload.{payload_text}
-use Rattle.amqp_link_message.specs.Parts.{if_there}
 
 -- joined texts
 texts_join : (xs ys : List Item) (a b : List ℕ) → canon_all (items_of xs) ≡ Some a → canon_all (items_of ys) ≡ Some b → canon_all (items_of (xs ++ ys)) ≡ Some (a ++ b)

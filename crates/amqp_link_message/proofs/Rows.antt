@@ -1,6 +1,5 @@
 -- Worked rows, computed from the definitions.
-use Rattle.std.proofs.Common.{◌≡◌, ℕ, List, [], ◌∷◌, Option, Some, None, refl}
-use Rattle.serde_amqp_item.specs.Item.{Item}
+use Rattle.std.proofs.Common.{◌≡◌, [], ◌∷◌, Some, None, refl}
 use Rattle.serde_amqp_de.specs.Takes.{string_taken, descriptor_taken}
 use Rattle.amqp_link_sections.specs.Described.{described_as}
 use Rattle.amqp_link_sections.specs.Body.{data_item, amqp_value_taken}
@@ -10,7 +9,6 @@ use Rattle.amqp_link_message.specs.Parts.{exactly_one}
 use Rattle.amqp_link_message.specs.Message.{message_items}
 use Rattle.amqp_link_message.specs.Making.{bare}
 use Rattle.amqp_link_message.specs.Raw.{kept_items}
-use Rattle.amqp_link_message.specs.declared.message.Message.{Message}
 
 -- a message of the data "hi" alone
 data_alone : payload_text (message_items (λ (d : Data). data_item d ∷ []) (bare (record { 0 = 0x68 ∷ 0x69 ∷ [] }))) ≡ Some (0x00 ∷ 0x53 ∷ 0x75 ∷ 0xa0 ∷ 0x02 ∷ 0x68 ∷ 0x69 ∷ [])

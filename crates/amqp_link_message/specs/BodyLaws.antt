@@ -1,5 +1,5 @@
 -- A body begins with a section of its own.
-use Rattle.std.proofs.Common.{◌≡◌, ℕ, ◌≤◌, List, [], ◌∷◌, ◌++◌, Option, Some, None, true, sym, ◌∙◌, ap, subst, arith, append_assoc, ◌⊎◌, inl, inr}
+use Rattle.std.proofs.Common.{◌≡◌, ℕ, List, [], ◌∷◌, ◌++◌, Option, Some, true, ◌∙◌, ap, append_assoc, inr}
 use Rattle.serde_amqp_item.specs.Item.{Item}
 use Rattle.amqp_link_message.specs.Payload.{Says}
 use Rattle.amqp_link_message.specs.Parts.{ReadsParts, EndsOrBegins}

@@ -1,19 +1,19 @@
 -- A type of sections takes only those of its own code.
-use Rattle.std.proofs.Common.{◌≡◌, ℕ, List, [], ◌∷◌, Option, Some, None, Bool, true, false, cond, sym, ◌∙◌, ap, subst, refl, arith}
+use Rattle.std.proofs.Common.{◌≡◌, ℕ, List, [], ◌∷◌, Option, Some, None, cond, sym, ◌∙◌, ap, refl, arith}
 use Rattle.std.specs.Prelude.{◌==◌, ◌≤◌, bytes_eq}
 use Rattle.std.specs.Cmp.Lexicographic.{same_text}
 use Rattle.std.proofs.lemmas.Bool.Decides.{nat_tests}
-use Rattle.serde_amqp_item.specs.Item.{Scalar, ulong, symbol, Item, scalar, raw, list, map, array, described}
+use Rattle.serde_amqp_item.specs.Item.{ulong, symbol, Item, scalar, raw, list, map, array, described}
 use Rattle.serde_amqp_item.specs.Canon.{◌>>=◌}
 use Rattle.serde_amqp_item.proofs.Scalars.{passed}
 use Rattle.serde_amqp_item.proofs.Texts.{bind_some}
-use Rattle.serde_amqp_de.specs.Takes.{descriptor_taken, record_taken, items_taken, binary_taken, list_with, fields_taken}
+use Rattle.serde_amqp_de.specs.Takes.{descriptor_taken, record_taken, items_taken, binary_taken}
 use Rattle.amqp_link_sections.specs.Described.{described_as}
 use Rattle.amqp_link_sections.specs.Header.{header_name, header_takes, header_taken}
 use Rattle.amqp_link_sections.specs.Annotations.{annotations_taken, named_values_taken, delivery_annotations_name, delivery_annotations_taken, message_annotations_name, message_annotations_taken, application_properties_name, application_properties_taken, footer_name, footer_taken}
 use Rattle.amqp_link_sections.specs.Properties.{properties_name, properties_takes, properties_taken}
 use Rattle.amqp_link_sections.specs.Body.{data_name, data_taken, amqp_sequence_name, amqp_sequence_taken, amqp_value_name, amqp_value_taken}
-use Rattle.amqp_link_message.specs.Sections.{code_named, code_said, section_code, TakesCode, IsOfBody, EachOfBody, IsBody}
+use Rattle.amqp_link_message.specs.Sections.{code_named, code_said, section_code, TakesCode, EachOfBody, IsBody}
 use Rattle.amqp_link_message.specs.Parts.{exactly_one, any_number, one_or_more}
 
 number_said : (n code : ℕ) (c : Item) → cond (n == code) (Some (scalar (ulong code))) None ≡ Some c → n ≡ code

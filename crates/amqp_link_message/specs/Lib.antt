@@ -10,5 +10,6 @@ pub mod PartLaws
 pub mod RunLaws
 pub mod CodeLaws
 pub mod BodyLaws
+pub mod OneReading
 pub mod Making
 pub mod RoundLaws

@@ -1,5 +1,5 @@
 -- Messages and what is sent, made of bodies (part 3, 3.2).
-use Rattle.std.specs.Prelude.{◌≡◌, Option, None}
+use Rattle.std.specs.Prelude.{◌≡◌, None}
 use Rattle.amqp_link_message.specs.declared.message.Message.{Message}
 use Rattle.amqp_link_message.specs.declared.sendable.Sendable.{Sendable}
 

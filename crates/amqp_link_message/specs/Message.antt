@@ -1,6 +1,6 @@
 -- A message: its sections in order (part 3, 3.2).
-use Rattle.std.specs.Prelude.{◌≡◌, List, [], ◌∷◌, Option}
-use Rattle.serde_amqp_item.specs.Item.{Item, raw}
+use Rattle.std.specs.Prelude.{List, [], ◌∷◌, Option}
+use Rattle.serde_amqp_item.specs.Item.{Item}
 use Rattle.amqp_link_sections.specs.Header.{header_item, header_taken}
 use Rattle.amqp_link_sections.specs.Annotations.{delivery_annotations_item, delivery_annotations_taken, message_annotations_item, message_annotations_taken, application_properties_item, application_properties_taken, footer_item, footer_taken}
 use Rattle.amqp_link_sections.specs.Properties.{properties_item, properties_taken}

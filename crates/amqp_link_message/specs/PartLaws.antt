@@ -1,16 +1,15 @@
 -- Parts of a message, the first one and the others behind it.
-use Rattle.std.proofs.Common.{◌≡◌, ℕ, ◌+◌, ◌≤◌, ◌<◌, List, [], ◌∷◌, ◌++◌, map, Option, Some, None, Bool, true, false, sym, ◌∙◌, ap, subst, refl, arith, append_assoc, append-nil, ◌⊎◌, inl, inr}
-use Rattle.std.specs.Prelude.{nat_lt, ◌&&◌, Result, Ok, Err}
+use Rattle.std.proofs.Common.{◌≡◌, ℕ, ◌≤◌, ◌<◌, List, [], ◌∷◌, ◌++◌, Option, Some, None, Bool, true, false, sym, ◌∙◌, ap, subst, refl, arith, append-nil, inl, inr}
+use Rattle.std.specs.Prelude.{nat_lt, ◌&&◌}
 use Rattle.std.proofs.lemmas.Bool.Decides.{nat_tests}
 use Rattle.serde_amqp_item.specs.Item.{Item}
 use Rattle.serde_amqp_item.specs.Wire.{Wire}
 use Rattle.serde_amqp_item.specs.Canon.{◌>>=◌}
-use Rattle.serde_amqp_item.proofs.Texts.{bind_some}
 use Rattle.amqp_link_message.specs.Payload.{Says}
-use Rattle.amqp_link_message.specs.Parts.{if_there, at_most_one, exactly_one, any_number, one_or_more, PartsTaken, ReadsParts, NoParts, EndsOrBegins}
-use Rattle.amqp_link_message.specs.Sections.{TakesCode, BeginsFrom, section_code}
+use Rattle.amqp_link_message.specs.Parts.{if_there, at_most_one, exactly_one, ReadsParts, NoParts, EndsOrBegins}
+use Rattle.amqp_link_message.specs.Sections.{TakesCode}
 use Rattle.amqp_link_message.specs.Front.{HasFront, HasNoFront, FrontTaken}
-use Rattle.amqp_link_message.specs.SayingLaws.{says_none, nothing_said, says_more, says_one, SaysFirst, said_first, says_append, SaysBoth, said_both, fronts_same, form_not_empty}
+use Rattle.amqp_link_message.specs.SayingLaws.{says_none, nothing_said, says_one, said_first, says_append, said_both, fronts_same, form_not_empty}
 use Rattle.amqp_link_message.specs.SectionLaws.{code_same}
 
 -- the first part, and the others behind it

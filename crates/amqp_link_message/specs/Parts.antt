@@ -1,6 +1,6 @@
 -- What stands one behind the other in a message, part by part (part 3, 3.2).
 use Rattle.std.specs.Prelude.{◌≡◌, ◌⊎◌, ℕ, List, [], ◌∷◌, ◌++◌, Option, Some, None}
-use Rattle.serde_amqp_item.specs.Item.{Item, raw}
+use Rattle.serde_amqp_item.specs.Item.{Item}
 use Rattle.serde_amqp_item.specs.Canon.{◌>>=◌}
 use Rattle.amqp_link_message.specs.Payload.{Says}
 use Rattle.amqp_link_message.specs.Sections.{BeginsFrom}
@@ -53,6 +53,10 @@ pub record ReadsParts (takes : List (List Item → Option (List Item))) (bytes :
 -- the bytes say no items that are taken as parts
 pub record NoParts (takes : List (List Item → Option (List Item))) (bytes : List ℕ) : Type 0 where
   pub none : (parts : List (List Item)) → ReadsParts takes bytes parts → ⊥
+
+-- bytes that say a part give one value, also where they are meant as other items
+abbrev pub OneValue : (List Item → Option (List Item)) → Type 0
+OneValue take = (bytes : List ℕ) (xs zs ys us : List Item) → Says bytes xs → Says bytes zs → take xs ≡ Some ys → take zs ≡ Some us → ys ≡ us
 
 -- there are no bytes, or they begin with a section of this code or a higher one
 abbrev pub EndsOrBegins : ℕ → List ℕ → Type 0

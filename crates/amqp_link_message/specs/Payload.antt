@@ -1,5 +1,5 @@
 -- What a payload says: items one behind the other, to its end (part 3, 3.2).
-use Rattle.std.specs.Prelude.{◌≡◌, ℕ, List, [], ◌∷◌, Option, None}
+use Rattle.std.specs.Prelude.{ℕ, List, Option, None}
 use Rattle.serde_amqp_item.specs.Item.{Item, items_of}
 use Rattle.serde_amqp_item.specs.Wire.{Forms, IsCapped, IsStrict, NoRaw}
 use Rattle.serde_amqp_item.specs.Canon.{canon_all, EachWithin, EachRawKept}

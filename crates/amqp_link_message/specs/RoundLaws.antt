@@ -1,5 +1,5 @@
 -- A message that is written is read back.
-use Rattle.std.proofs.Common.{◌≡◌, ℕ, List, [], ◌∷◌, ◌++◌, Option, Some, None, sym, ◌∙◌, ap, subst, refl}
+use Rattle.std.proofs.Common.{◌≡◌, ℕ, List, [], ◌∷◌, Option, Some, None, sym, ◌∙◌, ap, subst, refl}
 use Rattle.serde_amqp_item.specs.Item.{Item}
 use Rattle.serde_amqp_item.specs.Canon.{◌>>=◌}
 use Rattle.amqp_link_sections.specs.Header.{header_item, header_taken}
@@ -9,9 +9,11 @@ use Rattle.amqp_link_sections.specs.AnnotationLaws.{delivery_annotations_again, 
 use Rattle.amqp_link_sections.specs.Properties.{properties_item, properties_taken}
 use Rattle.amqp_link_sections.specs.PropertiesLaws.{properties_again}
 use Rattle.amqp_link_message.specs.Payload.{payload_text, IsWithinBounds, IsOfForms}
-use Rattle.amqp_link_message.specs.Parts.{if_there, at_most_one, exactly_one, joined, PartsTaken, ReadsParts}
+use Rattle.amqp_link_message.specs.Parts.{if_there, at_most_one, exactly_one, joined, PartsTaken, ReadsParts, OneValue}
 use Rattle.amqp_link_message.specs.Message.{message_parts, message_items, message_takes}
+use Rattle.amqp_link_message.specs.Sections.{IsBody}
 use Rattle.amqp_link_message.specs.SayingLaws.{text_says}
+use Rattle.amqp_link_message.specs.OneReading.{message_once}
 use Rattle.amqp_link_message.specs.declared.message.Message.{Message}
 
 pub one_again : (take : Item → Option Item) (x : Item) → take x ≡ Some x → exactly_one take (x ∷ []) ≡ Some (x ∷ [])
@@ -58,3 +60,17 @@ message_read takes read a m text w f e = record {
   said = text_says (message_items read m) text w f e;
   taken = message_again takes read a m;
 }
+
+-- a message whose body is written as the items that it is has the items of the message that is read
+message_same : {B : Type 0} (written read : B → List Item) → ((b : B) → written b ≡ read b) → (m : Message B) → message_items written m ≡ message_items read m
+message_same written read s m = ap (λ (body : List Item). message_items (λ b. body) m) (s m.body)
+
+-- what is read of a message that was written
+pub written_once : {B : Type 0} (takes : List Item → Option (List Item)) (written read : B → List Item) → ((xs ys : List Item) → takes xs ≡ Some ys → IsBody xs) → OneValue takes
+    → ((b : B) → written b ≡ read b) → ((b : B) → takes (read b) ≡ Some (read b)) → (m n : Message B) (text : List ℕ)
+    → IsWithinBounds (message_items written m) → IsOfForms (message_items written m) → payload_text (message_items written m) ≡ Some text
+    → ReadsParts (message_takes takes) text (message_parts read n) → message_parts read n ≡ message_parts read m
+written_once takes written read o d s a m n text w f e r =
+    let same = message_same written read s m in
+    let back = message_read takes read a m text (subst IsWithinBounds same w) (subst IsOfForms same f) (sym (ap payload_text same) ∙ e) in
+    message_once takes o d text (message_parts read n) (message_parts read m) r back

@@ -1,17 +1,16 @@
 -- Sections of one type, one behind the other.
-use Rattle.std.proofs.Common.{◌≡◌, ℕ, ◌+◌, ◌≤◌, ◌<◌, List, [], ◌∷◌, ◌++◌, length, map, Option, Some, None, sym, ◌∙◌, ap, subst, refl, arith, append_assoc, append-nil, length-append}
+use Rattle.std.proofs.Common.{◌≡◌, ℕ, ◌<◌, List, [], ◌∷◌, ◌++◌, length, map, Option, Some, None, sym, ◌∙◌, ap, subst, refl, arith, append_assoc, append-nil, length-append}
 use Rattle.std.proofs.lemmas.List.{map-append}
 use Rattle.serde_amqp_item.specs.Item.{Item}
-use Rattle.serde_amqp_item.specs.Wire.{Wire}
 use Rattle.serde_amqp_item.specs.Canon.{◌>>=◌}
 use Rattle.serde_amqp_item.proofs.Texts.{bind_some}
 use Rattle.amqp_link_message.specs.Payload.{Says}
-use Rattle.amqp_link_message.specs.Parts.{exactly_one, any_number, one_or_more, ReadsParts, NoParts, EndsOrBegins}
-use Rattle.amqp_link_message.specs.Sections.{TakesCode, section_code}
+use Rattle.amqp_link_message.specs.Parts.{any_number, one_or_more, ReadsParts, NoParts}
+use Rattle.amqp_link_message.specs.Sections.{TakesCode}
 use Rattle.amqp_link_message.specs.Front.{HasFront, HasNoFront, FrontTaken, Run, Gathered, AllTaken, MoreRead}
-use Rattle.amqp_link_message.specs.SayingLaws.{says_none, nothing_said, says_more, says_one, said_first, says_append, fronts_same, form_not_empty}
+use Rattle.amqp_link_message.specs.SayingLaws.{says_none, nothing_said, says_more, says_one, said_first, says_append, fronts_same}
 use Rattle.amqp_link_message.specs.SectionLaws.{code_same}
-use Rattle.amqp_link_message.specs.PartLaws.{Begins, not_behind, with_first, first_part, without_first, one_behind, item_taken, some_none}
+use Rattle.amqp_link_message.specs.PartLaws.{Begins, not_behind, with_first, first_part, without_first, some_none}
 
 abbrev Parts : Type 0
 Parts = List (List Item → Option (List Item))

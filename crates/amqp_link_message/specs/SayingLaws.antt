@@ -1,9 +1,8 @@
 -- What bytes say, taken apart and put together.
-use Rattle.std.proofs.Common.{◌≡◌, ℕ, List, [], ◌∷◌, ◌++◌, length, Option, Some, None, sym, ◌∙◌, ap, subst, refl, append_assoc}
+use Rattle.std.proofs.Common.{◌≡◌, ℕ, List, [], ◌∷◌, ◌++◌, Some, None, sym, ◌∙◌, ap, subst, refl, append_assoc}
 use Rattle.std.proofs.lemmas.List.{append_cancel_left}
 use Rattle.serde_amqp_item.specs.Item.{Item, items_of}
 use Rattle.serde_amqp_item.specs.Wire.{Wire, IsCapped, IsStrict}
-use Rattle.serde_amqp_item.specs.Canon.{WithoutRaw}
 use Rattle.serde_amqp_item.proofs.Forms.{wire_same}
 use Rattle.serde_amqp_item.proofs.Texts.{all_forms}
 use Rattle.amqp_link_message.specs.Payload.{Says, payload_text, IsWithinBounds, IsOfForms, EachWithoutRaw}

@@ -1,14 +1,11 @@
 -- Which section an item is, by its descriptor.
-use Rattle.std.proofs.Common.{◌≡◌, ℕ, List, [], ◌∷◌, ◌++◌, Option, Some, None, Bool, true, false, sym, ◌∙◌, ap, subst, refl}
-use Rattle.std.specs.Prelude.{◌==◌, bytes_eq, if◌then◌else◌}
-use Rattle.serde_amqp_item.specs.Item.{Scalar, ulong, symbol, Item, scalar, raw, list, map, array, described}
+use Rattle.std.proofs.Common.{◌≡◌, ℕ, List, [], ◌++◌, Some, None, sym, ◌∙◌, ap, subst, refl}
+use Rattle.serde_amqp_item.specs.Item.{Item, scalar, raw, list, map, array, described}
 use Rattle.serde_amqp_item.specs.Wire.{Wire}
-use Rattle.serde_amqp_item.specs.Canon.{WithoutRaw, ◌>>=◌}
+use Rattle.serde_amqp_item.specs.Canon.{WithoutRaw}
 use Rattle.serde_amqp_item.proofs.Forms.{wire_same}
-use Rattle.serde_amqp_item.proofs.Texts.{bind_some}
 use Rattle.serde_amqp_de.specs.Apart.{described_together}
-use Rattle.serde_amqp_de.specs.Takes.{descriptor_taken}
-use Rattle.amqp_link_message.specs.Sections.{code_said, section_code, code_named}
+use Rattle.amqp_link_message.specs.Sections.{code_said, section_code}
 
 -- a descriptor that says a code is no kept item
 plain : (d : Item) (i : ℕ) → code_said d ≡ Some i → WithoutRaw d

@@ -8,10 +8,11 @@ ghost use Rattle.amqp_link_sections.specs.Annotations.{footer_item, footer_taken
 ghost use Rattle.amqp_link_sections.specs.Body.{data_item, data_taken, amqp_sequence_item, amqp_sequence_taken, amqp_value_item, amqp_value_taken};
 ghost use Rattle.amqp_link_message.specs.Payload.{payload_text};
 ghost use Rattle.amqp_link_message.specs.Sections.{IsBody};
-ghost use Rattle.amqp_link_message.specs.Parts.{at_most_one, exactly_one, if_there, ReadsParts, NoParts};
-ghost use Rattle.amqp_link_sections.specs.BodyLaws.{data_again, amqp_sequence_again, amqp_sequence_same_item, amqp_value_again, amqp_value_same_item};
+ghost use Rattle.amqp_link_message.specs.Parts.{at_most_one, exactly_one, if_there, OneValue, ReadsParts, NoParts};
+ghost use Rattle.amqp_link_sections.specs.BodyLaws.{data_again, data_decided, amqp_sequence_again, amqp_sequence_decided, amqp_sequence_same_item, amqp_value_again, amqp_value_decided, amqp_value_same_item};
 ghost use Rattle.std.proofs.Common.{ap};
 ghost use Rattle.amqp_link_message.specs.RoundLaws.{one_again};
+ghost use Rattle.amqp_link_message.specs.OneReading.{one_decided};
 ghost use Rattle.amqp_link_message.specs.CodeLaws.{data_of_body, amqp_sequence_of_body, amqp_value_of_body};
 
 use crate::parts::read_one;
@@ -33,7 +34,8 @@ pub trait WriteBody {
     fn put<W: Sink>(&self, s: &mut Serializer<W>) -> Result<(), Error>
         requires { place_of s.old.element ≡ alone }
         ensures place { OnOk result (place_of s.new.element ≡ alone) }
-        ensures ok { OnOk result (listed (W.written s.old.writer) (items_of (items self.now)) ≡ Some (W.written s.new.writer)) }
+        ensures ok { OnOk result (listed (W.written s.old.writer) (items_of (items self.now))
+            ≡ Some (W.written s.new.writer)) }
         ensures refused { OnlyWhere result (listed (W.written s.old.writer) (items_of (items self.now))) }
         ensures memory { WantsMemory W.takes_memory result };
 
@@ -57,11 +59,15 @@ pub trait ReadBody: Sized {
     ///
     /// Errors: `Memory`; any other exactly where the bytes don't say such a body and at most one footer.
     fn read(alloc: Global, bytes: &[u8]) -> Result<(Self, Option<Footer>), Error>
-        ensures ok { IfOk result (λ p. ReadsParts (takes ∷ at_most_one footer_taken ∷ []) bytes.now (items p.0 ∷ if_there footer_item p.1 ∷ [])) }
+        ensures ok { IfOk result (λ p. ReadsParts (takes ∷ at_most_one footer_taken ∷ []) bytes.now
+            (items p.0 ∷ if_there footer_item p.1 ∷ [])) }
         ensures refused { Unless faultless result (NoParts (takes ∷ at_most_one footer_taken ∷ []) bytes.now) };
 
     /// A body has one section of a body or more, and no other sections.
     ghost of_body: { (xs ys : List Item) → takes xs ≡ Some ys → IsBody xs };
+
+    /// Bytes give one body, whichever items they are meant as.
+    ghost decided: { OneValue takes };
 }
 
 /// A body that is written is read back.
@@ -95,6 +101,8 @@ impl ReadBody for Data {
     }
 
     ghost of_body = { data_of_body };
+
+    ghost decided = { one_decided data_taken data_decided };
 }
 
 /// One amqp-sequence section.
@@ -121,6 +129,8 @@ impl<T: Deserialize + Drop> ReadBody for AmqpSequence<T> {
     }
 
     ghost of_body = { amqp_sequence_of_body T.take };
+
+    ghost decided = { one_decided (amqp_sequence_taken T.take) (amqp_sequence_decided T.take T.decided) };
 }
 
 /// One amqp-value section.
@@ -145,6 +155,8 @@ impl<T: Deserialize + Drop> ReadBody for AmqpValue<T> {
     }
 
     ghost of_body = { amqp_value_of_body T.take };
+
+    ghost decided = { one_decided (amqp_value_taken T.take) (amqp_value_decided T.take T.decided) };
 }
 
 impl RoundTripBody for Data {

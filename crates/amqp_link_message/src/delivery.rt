@@ -147,7 +147,8 @@ impl Delivery<Raw> {
     /// Errors: `Memory`; any other exactly where the payload doesn't say the sections of such a message in order, to its
     /// end.
     pub fn read<B: ReadBody>(&self, alloc: Global) -> Result<Message<B>, Error>
-        ensures ok { IfOk result (λ m. ReadsParts (message_takes B.takes) self.now.message.body.0 (message_parts B.items m)) }
+        ensures ok { IfOk result (λ m. ReadsParts (message_takes B.takes) self.now.message.body.0
+            (message_parts B.items m)) }
         ensures refused { Unless faultless result (NoParts (message_takes B.takes) self.now.message.body.0) }
     {
         read_payload(alloc, self.message.body.0.as_slice())

@@ -96,7 +96,8 @@ pub(crate) fn read_one<S: Section, T: ReadParts>(
     bytes: &[u8],
 ) -> Result<(S, T), Error>
     requires { T.in_order ≡ true }
-    ensures ok { IfOk result (λ p. ReadsParts (exactly_one S.take ∷ T.takes) bytes.now ((S.item p.0 ∷ []) ∷ T.parts p.1)) }
+    ensures ok { IfOk result (λ p. ReadsParts (exactly_one S.take ∷ T.takes) bytes.now
+        ((S.item p.0 ∷ []) ∷ T.parts p.1)) }
     ensures refused { Unless faultless result (NoParts (exactly_one S.take ∷ T.takes) bytes.now) }
 {
     let (section, rest) = take_front::<S>(alloc, bytes)?;

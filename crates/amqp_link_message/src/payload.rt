@@ -66,7 +66,8 @@ impl<B: WriteBody> WriteParts for Message<B> {
 /// How many bytes the canonical texts of parts have, up to 2^64.
 #[tactic(auto, using(crate::proofs::Listing::texts))]
 fn counted<P: WriteParts>(parts: &P) -> Result<u128, Error>
-    ensures ok { IfOk result (λ n. (text : List ℕ) × (payload_text (P.items parts.now) ≡ Some text) × (n ≡ capped (length text))) }
+    ensures ok { IfOk result (λ n. (text : List ℕ) × (payload_text (P.items parts.now) ≡ Some text)
+        × (n ≡ capped (length text))) }
     ensures refused { IfErr result (λ e. (e ≢ Error.Memory) × (payload_text (P.items parts.now) ≡ None)) }
 {
     let mut s = Serializer::new(Counter::new());

@@ -19,7 +19,8 @@ pub(crate) trait WriteParts {
     fn put<W: Sink>(&self, s: &mut Serializer<W>) -> Result<(), Error>
         requires { place_of s.old.element ≡ alone }
         ensures place { OnOk result (place_of s.new.element ≡ alone) }
-        ensures ok { OnOk result (listed (W.written s.old.writer) (items_of (items self.now)) ≡ Some (W.written s.new.writer)) }
+        ensures ok { OnOk result (listed (W.written s.old.writer) (items_of (items self.now))
+            ≡ Some (W.written s.new.writer)) }
         ensures refused { OnlyWhere result (listed (W.written s.old.writer) (items_of (items self.now))) }
         ensures memory { WantsMemory W.takes_memory result };
 }
@@ -34,7 +35,8 @@ pub(crate) fn put_section<S: Serialize, W: Sink>(
 ) -> Result<(), Error>
     requires { place_of s.old.element ≡ alone }
     ensures place { OnOk result (place_of s.new.element ≡ alone) }
-    ensures ok { OnOk result (listed (W.written s.old.writer) (items_of (if_there S.item section.now)) ≡ Some (W.written s.new.writer)) }
+    ensures ok { OnOk result (listed (W.written s.old.writer) (items_of (if_there S.item section.now))
+        ≡ Some (W.written s.new.writer)) }
     ensures refused { OnlyWhere result (listed (W.written s.old.writer) (items_of (if_there S.item section.now))) }
     ensures memory { WantsMemory W.takes_memory result }
 {
@@ -81,7 +83,8 @@ pub(crate) fn put_all<S: Serialize, W: Sink>(
 ) -> Result<(), Error>
     requires { place_of s.old.element ≡ alone }
     ensures place { OnOk result (place_of s.new.element ≡ alone) }
-    ensures ok { OnOk result (listed (W.written s.old.writer) (items_of (map S.item sections.now)) ≡ Some (W.written s.new.writer)) }
+    ensures ok { OnOk result (listed (W.written s.old.writer) (items_of (map S.item sections.now))
+        ≡ Some (W.written s.new.writer)) }
     ensures refused { OnlyWhere result (listed (W.written s.old.writer) (items_of (map S.item sections.now))) }
     ensures memory { WantsMemory W.takes_memory result }
 {

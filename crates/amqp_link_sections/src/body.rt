@@ -14,6 +14,7 @@ use serde_amqp_item::Error;
 use serde_amqp_ser::{Serialize, Serializer, Sink};
 use serde_amqp_types::ByteBuf;
 use std::alloc::{AllocError, Global};
+use std::fmt;
 use std::marker::Model;
 
 /// Bytes (part 3, 3.2.6).
@@ -105,6 +106,17 @@ impl Faithful for Data {
 
 impl NeverNull for Data {
     ghost present = { λ _. refl };
+}
+
+/// The bytes in hexadecimal digits, behind `0x`.
+impl fmt::Display for Data {
+    fn fmt<W: fmt::Write>(&self, f: &mut fmt::Formatter<W>) -> fmt::Result {
+        f.write_str("0x")?;
+        for byte in self.0.as_slice() {
+            write!(f, "{byte:02x}")?;
+        }
+        Ok(())
+    }
 }
 
 impl<T> Model for AmqpSequence<T> {
@@ -250,4 +262,13 @@ impl<T: Faithful + Drop> Faithful for AmqpValue<T> {
 
 impl<T: Deserialize + Drop> NeverNull for AmqpValue<T> {
     ghost present = { λ _. refl };
+}
+
+/// The value alone.
+impl<T: fmt::Display> fmt::Display for AmqpValue<T> {
+    ghost output = { λ v. T.output v.0 };
+
+    fn fmt<W: fmt::Write>(&self, f: &mut fmt::Formatter<W>) -> fmt::Result {
+        self.0.fmt(f)
+    }
 }

@@ -1,6 +1,5 @@
 use Rattle.std.proofs.Common.{Err, map, take, drop, ◌+◌}
 use Rattle.std.proofs.lemmas.Result.{err_from_is_err_and}
-use Rattle.serde_amqp_item.specs.Item.{items_of}
 use Rattle.serde_amqp_ser.specs.Puts.{state_of}
 use Rattle.serde_amqp_ser.proofs.Listed.{alone_stays, only_where, map_take_more, map_split}
 use Rattle.std.proofs.Common.{refl}
