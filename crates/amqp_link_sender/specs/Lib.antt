@@ -2,6 +2,8 @@ pub mod Sending
 pub mod Attaching
 pub mod Dispositions
 pub mod Ending
+pub mod Lends
 pub mod Results
+pub mod Payloads
 pub mod Sends
 pub mod SendsOn

@@ -8,12 +8,15 @@ mod attaching;
 mod dispositions;
 mod ending;
 mod link;
+mod payloads;
 mod results;
 mod sending;
 mod sending_on;
 
+pub use attaching::{AttachAnswer, Attaching};
 pub use ending::{DetachRefusal, Detached};
 pub use link::SenderLink;
+pub use payloads::PreparedBatch;
 pub use results::SendResult;
 pub use sending::{PreparedSend, SendRefusal};
 pub use sending_on::PreparedSendOn;

@@ -1,5 +1,8 @@
 //! A sending link, and its credit (part 2, 2.6.7).
 ghost use Rattle.std.specs.Prelude.{◌≡◌, length, option_copied, false, None, Some};
+ghost use Rattle.std.specs.Borrow.{sem};
+ghost use Rattle.amqp_link_base.specs.Own.{bound};
+ghost use Rattle.amqp_link_sender.specs.Lends.{lends_handle, lends_properties};
 ghost use Rattle.amqp_link_sender.specs.Sending.{flowed, flow_answer, handle_of};
 ghost use Rattle.amqp_link_sender_messages.specs.Messages.{no_messages, open_at, first_of};
 
@@ -8,7 +11,10 @@ use amqp_link_base::LinkBase;
 use amqp_link_flow::{LinkFlowState, LinkFlowStateInner, SenderMarker};
 use amqp_link_sender_messages::{Messages, Open, Waiting};
 use amqp_session_performatives::LinkFlow;
-use amqp_session_types::{Boxed, DeliveryTag, Fields, OutputHandle, definitions};
+use amqp_session_types::{
+    Boxed, DeliveryTag, Fields, OutputHandle, ReceiverSettleMode, SessionStopReason, definitions,
+};
+use serde_amqp_types::Text;
 use std::alloc::Global;
 use std::marker::Model;
 
@@ -80,6 +86,57 @@ impl SenderLink {
         &self.base
     }
 
+    /// The link's name (part 2, 2.6.1).
+    pub fn name(&self) -> &Text
+        ensures { result.now ≡ self.now.base.name }
+    {
+        &self.base.name
+    }
+
+    /// Why the link's session stopped, once it did.
+    pub fn session_stop_reason(&self) -> &Option<Boxed<SessionStopReason>>
+        ensures { result.now ≡ self.now.base.session_stop_reason }
+    {
+        &self.base.session_stop_reason
+    }
+
+    /// How the receiver settles deliveries (part 2, 2.8.3).
+    pub fn rcv_settle_mode(&self) -> ReceiverSettleMode
+        ensures { result ≡ self.now.base.terms.rcv_settle_mode }
+    {
+        self.base.terms.rcv_settle_mode
+    }
+
+    /// The size of the largest message, in bytes; None for no bound (part 2, 2.7.3).
+    pub fn max_message_size(&self) -> Option<u64>
+        ensures { result ≡ bound self.now.base.terms.max_message_size }
+    {
+        bound(self.base.terms.max_message_size)
+    }
+
+    /// The link's properties: the own ones, into which the peer's were merged (part 2, 2.7.3).
+    pub fn properties(&self) -> &Option<Boxed<Fields>>
+        ensures { result.now ≡ self.now.flow.properties }
+    {
+        self.flow.properties()
+    }
+
+    /// The link's properties, to be changed. All else stays.
+    pub fn properties_mut(&mut self) -> &mut Option<Boxed<Fields>>
+        ensures* writes_back { sem 𝓛 (lends_properties self.entry result) }
+        ensures value { result.now ≡ self.old.flow.properties }
+    {
+        self.flow.properties_mut()
+    }
+
+    /// The own handle, which the link has while it is attached, to be changed. All else stays (part 2, 2.6.2).
+    pub fn output_handle_mut(&mut self) -> &mut Option<OutputHandle>
+        ensures* writes_back { sem 𝓛 (lends_handle self.entry result) }
+        ensures value { result.now ≡ self.old.base.output_handle }
+    {
+        &mut self.base.output_handle
+    }
+
     /// The state of the credit.
     pub fn flow_state(&self) -> &LinkFlowState<SenderMarker>
         ensures { result.now ≡ self.now.flow }
@@ -137,4 +194,14 @@ fn handle_of(handle: Option<OutputHandle>) -> OutputHandle
         Some(handle) => handle,
         None => OutputHandle(0),
     }
+}
+
+/// A largest message, 0 being no bound.
+fn bound(max_message_size: u64) -> Option<u64>
+    ensures { result ≡ bound max_message_size }
+{
+    if max_message_size == 0 {
+        return None;
+    }
+    Some(max_message_size)
 }

@@ -85,7 +85,7 @@ impl SenderLink {
     }
 
     /// Why a message with this tag and so many bytes isn't sent, if it isn't.
-    fn refusal(&self, tag: &DeliveryTag, size: usize) -> Option<SendRefusal>
+    pub(crate) fn refusal(&self, tag: &DeliveryTag, size: usize) -> Option<SendRefusal>
         ensures { result ≡ refusal self.now tag.now size }
     {
         if !takes_messages(self.base.local_state) {
@@ -106,7 +106,7 @@ impl SenderLink {
 
 impl PreparedSend {
     /// A message that goes settled or doesn't.
-    fn new(
+    pub(crate) fn new(
         tag: DeliveryTag,
         message_format: u32,
         payload: Bytes,
@@ -160,7 +160,7 @@ pub(crate) fn first_transfer(tag: DeliveryTag, message_format: u32, settled: boo
 }
 
 /// Makes room for one message, and hands back what is ready.
-fn with_room<T: Drop>(messages: &mut Messages, prepared: T) -> Result<T, AllocError>
+pub(crate) fn with_room<T: Drop>(messages: &mut Messages, prepared: T) -> Result<T, AllocError>
     ensures ok { IfOk result (λ p. p ≡ prepared) }
     ensures room { OnOk result (messages.new ≡ record messages.old { room = max messages.old.room 1 }) }
     ensures err { OnErr result (messages.new ≡ messages.old) }
@@ -187,7 +187,7 @@ fn is_too_large(maximum: u64, size: usize) -> bool
 }
 
 /// Whether a message goes settled: as the link's mode says, and where that leaves it open, as it is asked.
-fn goes_settled(mode: SenderSettleMode, asked: Option<bool>) -> bool
+pub(crate) fn goes_settled(mode: SenderSettleMode, asked: Option<bool>) -> bool
     ensures { result ≡ goes_settled mode asked }
 {
     match mode {

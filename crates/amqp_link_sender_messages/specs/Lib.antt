@@ -4,3 +4,4 @@ pub mod Tagged
 pub mod Entries
 pub mod Lends
 pub mod Messages
+pub mod Exchanging

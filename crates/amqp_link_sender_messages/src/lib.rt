@@ -5,12 +5,14 @@
 #![tactic(auto)]
 
 mod entry;
+mod exchanging;
 mod map;
 mod messages;
 mod open;
 mod resolution;
 
 pub use entry::Entry;
+pub use exchanging::Abort;
 pub use messages::Messages;
 pub use open::{Open, Resumption, Waiting};
 pub use resolution::{Failure, Resolution};

@@ -6,4 +6,4 @@
 pub mod laws;
 mod splitting;
 
-pub use splitting::split;
+pub use splitting::{SplitRefusal, split};

@@ -5,16 +5,37 @@ ghost use Rattle.serde_amqp_item.specs.Canon.{canon};
 ghost use Rattle.amqp_link_split.specs.Room.{room_behind, room_of, some_bytes};
 ghost use Rattle.amqp_link_split.specs.Splitting.{Splits, Rest, later, some_left};
 
-use amqp_link_types::LinkStateError;
 use amqp_session_core::Batch;
 use amqp_session_performatives::Transfer;
 use amqp_session_types::Handle;
 use bytes::Bytes;
 use serde_amqp_ser::{Serialize, serialized_size};
 use std::alloc::{AllocError, Global};
+use thiserror::Error;
 
 /// How many bytes stand before a frame's performative (part 2, 2.3.1).
 const HEADER: usize = 8;
+
+/// Why a message isn't cut.
+#[derive(Debug, Clone, Copy, PartialEq, Eq, Error)]
+pub enum SplitRefusal {
+    /// A frame has no room for a byte of it.
+    #[error("a frame has no room for a byte of the message")]
+    NoRoom,
+    /// There was no memory.
+    #[error("out of memory")]
+    Memory,
+}
+
+impl From<AllocError> for SplitRefusal {
+    ghost use Rattle.amqp_link_split.specs.declared.splitting.SplitRefusal.TheVariants.{Memory};
+
+    ghost from_gives = { λ _ e. e ≡ Memory };
+
+    fn from(_error: AllocError) -> Self {
+        SplitRefusal::Memory
+    }
+}
 
 /// Cuts a message into the transfers of a delivery, each of which fits in a frame of at most `limit` bytes, the frame's
 /// header among them (part 2, 2.6.14 and 2.7.5). They share the payload's buffer.
@@ -23,21 +44,21 @@ const HEADER: usize = 8;
 /// of four bytes, since its session is still to write that. Each transfer carries as much as one of that size leaves,
 /// and only the last one less; an empty payload is one transfer. Later transfers carry the handle and `more` alone.
 ///
-/// It is refused with `IllegalState` where a frame has no room for a byte of the payload, and with `Memory`.
+/// It is refused with `NoRoom` exactly where a frame has no room for a byte of the payload, and with `Memory`.
 pub fn split(
     alloc: Global,
     first: Transfer,
     payload: Bytes,
     limit: usize,
-) -> Result<Batch, LinkStateError>
+) -> Result<Batch, SplitRefusal>
     ensures ok { IfOk result (λ batch. IsSomeAnd (room_of first limit) (λ room. Splits first payload room batch)) }
-    ensures refused { room_of first limit ≡ None → result ≡ Err LinkStateError.IllegalState }
-    ensures only { IfErr result (λ e. (e ≡ LinkStateError.Memory)
-        ⊎ ((e ≡ LinkStateError.IllegalState) × (room_of first limit ≡ None))) }
+    ensures refused { room_of first limit ≡ None → result ≡ Err SplitRefusal.NoRoom }
+    ensures only { IfErr result (λ e. (e ≡ SplitRefusal.Memory)
+        ⊎ ((e ≡ SplitRefusal.NoRoom) × (room_of first limit ≡ None))) }
 {
     let mut first = first;
     let Some(room) = payload_room(&mut first, limit) else {
-        return Err(LinkStateError::IllegalState);
+        return Err(SplitRefusal::NoRoom);
     };
     Ok(cut(alloc, first, payload, room)?)
 }
