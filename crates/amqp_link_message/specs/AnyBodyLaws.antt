@@ -16,7 +16,7 @@ use Rattle.amqp_link_message.specs.AnyBody.{or_else, body_takes, body_items}
 use Rattle.amqp_link_message.specs.SayingLaws.{nothing_said, said_first, fronts_same, form_not_empty}
 use Rattle.amqp_link_message.specs.SectionLaws.{code_same}
 use Rattle.amqp_link_message.specs.PartLaws.{FirstPart, first_part, with_first, without_first, item_taken, one_missing}
-use Rattle.amqp_link_message.specs.RunLaws.{first_taken, other_front, none_missing}
+use Rattle.amqp_link_message.specs.RunLaws.{first_taken, first_none, other_front, none_missing}
 use Rattle.amqp_link_message.specs.CodeLaws.{data_coded, amqp_sequence_coded, amqp_value_coded, some_of_body, amqp_value_of_body}
 use Rattle.amqp_link_message.specs.OneReading.{same_some, one_decided}
 use Rattle.amqp_link_message.specs.RoundLaws.{one_again}
@@ -198,7 +198,11 @@ no_body : (take : Item → Option Item) (takes : Parts) (bytes : List ℕ) → N
     → NoParts (one_or_more (amqp_sequence_taken take) ∷ takes) bytes → NoParts (exactly_one (amqp_value_taken take) ∷ takes) bytes → NoParts (body_takes take ∷ takes) bytes
 no_body take takes bytes a b c = without_first (body_takes take) takes bytes (λ ys parts p. no_kind take takes bytes ys parts a b c p (kinds take p.part ys p.taken))
 
--- nor those that begin with a section of one kind and don't go on so
+-- what begins with a section and doesn't go on with others of its type
+pub not_several : (take : Item → Option Item) (takes : List (List Item → Option (List Item))) (bytes rest : List ℕ) (y : Item) → HasFront take bytes rest y → NoParts (any_number take ∷ takes) rest → NotSeveral take takes bytes
+not_several take takes bytes rest y h n = record { rest = rest; item = y; front = h; none = first_none take takes bytes rest y h n }
+
+-- nor do bytes say one that begin with a section of one kind and don't go on so
 pub not_data : (take : Item → Option Item) (takes : List (List Item → Option (List Item))) (bytes : List ℕ) → NotSeveral data_taken takes bytes → NoParts (body_takes take ∷ takes) bytes
 not_data take takes bytes n =
     no_body take takes bytes n.none

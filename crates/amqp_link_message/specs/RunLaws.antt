@@ -66,7 +66,7 @@ pub all_read : {S : Type 0} (take : Item → Option Item) (takes : List (List It
 all_read take takes item bytes rest sections parts a p = more_read take takes bytes rest (map item sections) parts a.run p
 
 -- what is taken of the first item and of the others
-first_taken : (take : Item → Option Item) (x : Item) (xs ys : List Item) → any_number take (x ∷ xs) ≡ Some ys → (y : Item) × (us : List Item) × (take x ≡ Some y) × (any_number take xs ≡ Some us)
+pub first_taken : (take : Item → Option Item) (x : Item) (xs ys : List Item) → any_number take (x ∷ xs) ≡ Some ys → (y : Item) × (us : List Item) × (take x ≡ Some y) × (any_number take xs ≡ Some us)
 first_taken take x xs ys e =
     let h = bind_some (take x) (λ u. any_number take xs >>= λ us. Some (u ∷ us)) ys e in
     let t = bind_some (any_number take xs) (λ us. Some (h.0 ∷ us)) ys h.2 in

@@ -42,16 +42,19 @@ impl<T: Deserialize + Drop> ReadBody for Body<T> {
     ghost takes = { body_takes T.take };
 
     fn read(alloc: Global, bytes: &[u8]) -> Result<(Body<T>, Option<Footer>), Error> {
-        if let Some((data, (footer, ()))) = read_several::<Data, Behind>(alloc, bytes)? {
-            return Ok((Body::Data(data), footer));
+        match read_several::<Data, Behind>(alloc, bytes)? {
+            Some((data, (footer, ()))) => Ok((Body::Data(data), footer)),
+            None => match read_several::<AmqpSequence<T>, Behind>(alloc, bytes)? {
+                Some(read) => {
+                    let (sequences, (footer, ())) = read;
+                    Ok((Body::Sequence(sequences), footer))
+                }
+                None => {
+                    let (value, (footer, ())) = read_one::<AmqpValue<T>, Behind>(alloc, bytes)?;
+                    Ok((Body::Value(value), footer))
+                }
+            },
         }
-        if let Some((sequences, (footer, ()))) = read_several::<AmqpSequence<T>, Behind>(
-            alloc, bytes,
-        )? {
-            return Ok((Body::Sequence(sequences), footer));
-        }
-        let (value, (footer, ())) = read_one::<AmqpValue<T>, Behind>(alloc, bytes)?;
-        Ok((Body::Value(value), footer))
     }
 
     ghost of_body = { body_of_body T.take };

@@ -14,6 +14,6 @@ sections-init g c =
 pub sections-preserved : goal.sections-preserved
 sections-preserved g c =
     let h = front_there g.S.Deserialize.take g.S.Deserialize.item c.sections.rest.now c.in_ok-section.behind.now c.in_ok-section.section c.in-Some.section c.in-Some.is c.in_ok-section.ensures.ok in
-    let more : c.push.new.self.items ≡ c.sections.sections.items ++ c.in-Some.section ∷ [] = grind (arith, common_steps, c.in_ok-push.ensures.items) in
+    let more : c.push.new.self.items ≡ c.sections.sections.items ++ c.in-Some.section ∷ [] = grind (arith, common_steps, c.in_ok-push-in-Some.ensures.items) in
     subst (λ s. Run g.S.Deserialize.take c.args.bytes.now c.in_ok-section.behind.now (map g.S.Deserialize.item s)) (sym more)
     (sections_more g.S.Deserialize.take g.S.Deserialize.item c.args.bytes.now c.sections.rest.now c.in_ok-section.behind.now c.sections.sections.items c.in-Some.section c.sections.invariant h)
