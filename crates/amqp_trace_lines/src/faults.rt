@@ -66,8 +66,8 @@ fn reread_section(alloc: Global, section: Section, bytes: &[u8]) -> Result<Rewri
     }
 }
 
-/// Whether a section may stand behind the last one, or in front of all: in their order, and one of each but for data and
-/// sequences. There is one kind of body, and a footer stands behind one.
+/// Whether a section may stand behind the last one, or in front of all: in their order, and one of each but for data
+/// and sequences. There is one kind of body, and a footer stands behind one.
 fn may_follow(last: Option<Section>, section: Section) -> bool {
     let Some(last) = last else {
         return section != Section::Footer;

@@ -17,8 +17,8 @@ use std::alloc::Global;
 
 /// Reads a message of which these bytes are the payload, and says what it is written as (part 3, 3.2).
 ///
-/// Errors: `Memory`; any other exactly where the bytes don't say the sections of such a message in order, to their end, or
-/// where it can't be written.
+/// Errors: `Memory`; any other exactly where the bytes don't say the sections of such a message in order, to their end,
+/// or where it can't be written.
 pub fn rewritten_message<B: WriteBody + ReadBody + Drop>(
     alloc: Global,
     bytes: &[u8],
@@ -114,12 +114,7 @@ fn push_section(alloc: Global, line: &mut String, section: &[u8]) -> Result<(), 
 }
 
 /// Appends a section's name and its value.
-fn push_named(
-    alloc: Global,
-    line: &mut String,
-    name: &str,
-    value: &[u8],
-) -> Result<(), Refusal> {
+fn push_named(alloc: Global, line: &mut String, name: &str, value: &[u8]) -> Result<(), Refusal> {
     line.push_str(name)?;
     line.push(' ')?;
     push_value(alloc, line, value)
