@@ -1,3 +1,4 @@
+pub mod Bodies
 pub mod Ending
 pub mod Keeping
 pub mod Listing

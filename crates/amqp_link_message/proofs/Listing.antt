@@ -90,6 +90,18 @@ listed_middle_stuck w now xs ys x s p e =
     let first : canon_all (items_of (x ∷ ys)) ≡ None = ap (λ (o : Option (List ℕ)). o >>= λ u. canon_all (items_of ys) >>= λ v. Some (u ++ v)) (alone_none_of x s p e) in
     ap (λ (o : Option (List ℕ)). o >>= λ t. Some (extended w t)) (texts_stuck_right xs (x ∷ ys) first)
 
+-- an item, and others behind it
+pub listed_first : (w n : Written) (x : Item) (ys : List Item) (s t : State) → s.place ≡ alone → s.written ≡ w → serialized s x ≡ Some t → listed t.written (items_of ys) ≡ Some n → listed w (items_of (x ∷ ys)) ≡ Some n
+listed_first w n x ys s t p q e f = listed_both w t.written n (x ∷ []) ys (ap (λ (v : Written). listed v (items_of (x ∷ []))) (sym q) ∙ listed_one x s t p e) f
+
+pub listed_first_stuck : (x : Item) (ys : List Item) (s : State) → s.place ≡ alone → serialized s x ≡ None → listed s.written (items_of (x ∷ ys)) ≡ None
+listed_first_stuck x ys s p e = listed_left_stuck s.written (x ∷ []) ys (listed_one_stuck x s p e)
+
+pub listed_others_stuck : (w m : Written) (x : Item) (ys : List Item) → listed m (items_of ys) ≡ None → listed w (items_of (x ∷ ys)) ≡ None
+listed_others_stuck w m x ys e = listed_right_stuck w m (x ∷ []) ys e
+
+pub ruleset several = (listed_first, listed_first_stuck, listed_others_stuck, alone_stays)
+
 pub ruleset listing = (listed_both, listed_left_stuck, listed_right_stuck, listed_one, listed_one_stuck, listed_nothing, alone_stays)
 
 -- items that can't be listed have no text

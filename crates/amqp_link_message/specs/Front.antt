@@ -1,9 +1,9 @@
 -- Whether a section stands at the front of a payload (part 3, 3.2).
-use Rattle.std.specs.Prelude.{◌≡◌, ℕ, List, ◌∷◌, ◌++◌, map, Option, Some, None}
+use Rattle.std.specs.Prelude.{◌≡◌, ℕ, List, ◌++◌, map, Option, Some, None}
 use Rattle.serde_amqp_item.specs.Item.{Item}
 use Rattle.serde_amqp_item.specs.Wire.{Wire}
 use Rattle.amqp_link_message.specs.Payload.{Says}
-use Rattle.amqp_link_message.specs.Parts.{any_number, ReadsParts}
+use Rattle.amqp_link_message.specs.Parts.{any_number}
 
 -- the bytes begin with a section that is taken as this item, and these bytes stand behind it
 pub record HasFront (take : Item → Option Item) (bytes rest : List ℕ) (y : Item) : Type 0 where
@@ -30,19 +30,7 @@ pub record Run (take : Item → Option Item) (bytes rest : List ℕ) (ys : List 
   pub split : bytes ≡ front ++ rest
   pub taken : any_number take items ≡ Some ys
 
--- a first section, and those behind it that were taken from the front so far
-pub record Gathered {S : Type 0} (take : Item → Option Item) (item : S → Item) (first : S) (bytes rest : List ℕ) (sections : List S) : Type 0 where
-  pub others : List Item
-  pub are : map item sections ≡ item first ∷ others
-  pub run : Run take bytes rest others
-
--- likewise all of them: no other stands behind them
-pub record AllTaken {S : Type 0} (take : Item → Option Item) (item : S → Item) (first : S) (bytes rest : List ℕ) (sections : List S) : Type 0 where
-  pub gathered : Gathered take item first bytes rest sections
+-- the sections at the front are taken from it, all of them: no other stands behind them
+pub record AllTaken {S : Type 0} (take : Item → Option Item) (item : S → Item) (bytes rest : List ℕ) (sections : List S) : Type 0 where
+  pub run : Run take bytes rest (map item sections)
   pub stop : HasNoFront take rest
-
--- the first section, then any number of them, and the parts behind
-pub record MoreRead {S : Type 0} (take : Item → Option Item) (takes : List (List Item → Option (List Item))) (item : S → Item) (first : S) (bytes : List ℕ) (sections : List S) (parts : List (List Item)) : Type 0 where
-  pub others : List Item
-  pub are : map item sections ≡ item first ∷ others
-  pub read : ReadsParts (any_number take ∷ takes) bytes (others ∷ parts)

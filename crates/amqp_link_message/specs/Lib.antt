@@ -2,6 +2,8 @@ pub mod Payload
 pub mod Sections
 pub mod Parts
 pub mod Front
+pub mod Several
+pub mod AnyBody
 pub mod Message
 pub mod Raw
 pub mod SayingLaws
@@ -13,3 +15,4 @@ pub mod BodyLaws
 pub mod OneReading
 pub mod Making
 pub mod RoundLaws
+pub mod AnyBodyLaws

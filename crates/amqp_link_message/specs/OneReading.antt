@@ -28,7 +28,7 @@ Parts = List (List Item → Option (List Item))
 abbrev Once : Parts → Type 0
 Once takes = (bytes : List ℕ) (p q : List (List Item)) → ReadsParts takes bytes p → ReadsParts takes bytes q → p ≡ q
 
-same_some : {X : Type 0} (x y : X) (o : Option X) → o ≡ Some x → o ≡ Some y → x ≡ y
+pub same_some : {X : Type 0} (x y : X) (o : Option X) → o ≡ Some x → o ≡ Some y → x ≡ y
 same_some x y o e f = let h : Some x ≡ Some y = sym e ∙ f in cc
 
 nothing_behind : Once []

@@ -7,7 +7,7 @@ use Rattle.serde_amqp_item.proofs.Texts.{bind_some}
 use Rattle.amqp_link_message.specs.Payload.{Says}
 use Rattle.amqp_link_message.specs.Parts.{any_number, one_or_more, ReadsParts, NoParts}
 use Rattle.amqp_link_message.specs.Sections.{TakesCode}
-use Rattle.amqp_link_message.specs.Front.{HasFront, HasNoFront, FrontTaken, Run, Gathered, AllTaken, MoreRead}
+use Rattle.amqp_link_message.specs.Front.{HasFront, HasNoFront, FrontTaken, Run, AllTaken}
 use Rattle.amqp_link_message.specs.SayingLaws.{says_none, nothing_said, says_more, says_one, said_first, says_append, fronts_same}
 use Rattle.amqp_link_message.specs.SectionLaws.{code_same}
 use Rattle.amqp_link_message.specs.PartLaws.{Begins, not_behind, with_first, first_part, without_first, some_none}
@@ -51,28 +51,22 @@ run_more take bytes rest behind ys y r h = record {
   taken = taken_more take r.items ys h.item y r.taken h.taken;
 }
 
-pub sections_more : {S : Type 0} (item : S → Item) (sections : List S) (first : Item) (ys : List Item) (s : S) → map item sections ≡ first ∷ ys → map item (sections ++ s ∷ []) ≡ first ∷ (ys ++ item s ∷ [])
-sections_more item sections first ys s e = map-append item sections (s ∷ []) ∙ ap (λ (l : List Item). l ++ item s ∷ []) e
+pub sections_none : {S : Type 0} (take : Item → Option Item) (item : S → Item) (bytes : List ℕ) → Run take bytes bytes (map item [])
+sections_none take item bytes = run_none take bytes
 
-pub gathered_one : {S : Type 0} (take : Item → Option Item) (item : S → Item) (first : S) (bytes : List ℕ) → Gathered take item first bytes bytes (first ∷ [])
-gathered_one take item first bytes = record { others = []; are = refl; run = run_none take bytes }
-
-pub gathered_more : {S : Type 0} (take : Item → Option Item) (item : S → Item) (first : S) (bytes rest behind : List ℕ) (sections : List S) (s : S) → Gathered take item first bytes rest sections → HasFront take rest behind (item s) → Gathered take item first bytes behind (sections ++ s ∷ [])
-gathered_more take item first bytes rest behind sections s a h = record {
-  others = a.others ++ item s ∷ [];
-  are = sections_more item sections (item first) a.others s a.are;
-  run = run_more take bytes rest behind a.others (item s) a.run h;
-}
+pub sections_more : {S : Type 0} (take : Item → Option Item) (item : S → Item) (bytes rest behind : List ℕ) (sections : List S) (s : S) → Run take bytes rest (map item sections) → HasFront take rest behind (item s) → Run take bytes behind (map item (sections ++ s ∷ []))
+sections_more take item bytes rest behind sections s r h =
+    subst (λ (ys : List Item). Run take bytes behind ys) (sym (map-append item sections (s ∷ []))) (run_more take bytes rest behind (map item sections) (item s) r h)
 
 -- the sections, and the parts behind them
 pub more_read : (take : Item → Option Item) (takes : List (List Item → Option (List Item))) (bytes rest : List ℕ) (ys : List Item) (parts : List (List Item)) → Run take bytes rest ys → ReadsParts takes rest parts → ReadsParts (any_number take ∷ takes) bytes (ys ∷ parts)
 more_read take takes bytes rest ys parts r p = with_first (any_number take) takes bytes r.front rest r.items ys parts r.split r.said r.taken p
 
-pub all_read : {S : Type 0} (take : Item → Option Item) (takes : List (List Item → Option (List Item))) (item : S → Item) (first : S) (bytes rest : List ℕ) (sections : List S) (parts : List (List Item)) → AllTaken take item first bytes rest sections → ReadsParts takes rest parts → MoreRead take takes item first bytes sections parts
-all_read take takes item first bytes rest sections parts a p = record { others = a.gathered.others; are = a.gathered.are; read = more_read take takes bytes rest a.gathered.others parts a.gathered.run p }
+pub all_read : {S : Type 0} (take : Item → Option Item) (takes : List (List Item → Option (List Item))) (item : S → Item) (bytes rest : List ℕ) (sections : List S) (parts : List (List Item)) → AllTaken take item bytes rest sections → ReadsParts takes rest parts → ReadsParts (any_number take ∷ takes) bytes (map item sections ∷ parts)
+all_read take takes item bytes rest sections parts a p = more_read take takes bytes rest (map item sections) parts a.run p
 
 -- what is taken of the first item and of the others
-first_taken : (take : Item → Option Item) (x : Item) (xs ys : List Item) → any_number take (x ∷ xs) ≡ Some ys → (y : Item) × (us : List Item) × (take x ≡ Some y) × (any_number take xs ≡ Some us)
+pub first_taken : (take : Item → Option Item) (x : Item) (xs ys : List Item) → any_number take (x ∷ xs) ≡ Some ys → (y : Item) × (us : List Item) × (take x ≡ Some y) × (any_number take xs ≡ Some us)
 first_taken take x xs ys e =
     let h = bind_some (take x) (λ u. any_number take xs >>= λ us. Some (u ∷ us)) ys e in
     let t = bind_some (any_number take xs) (λ us. Some (h.0 ∷ us)) ys h.2 in
@@ -106,9 +100,9 @@ all_none_by take takes code least (x ∷ xs) (z ∷ zs) ys us bytes front rest o
     let v = first_taken take z zs us k in
     all_none_by take takes code least xs zs u.1 v.1 (o.rest ++ rest) o.rest rest p.rest behind parts c l b o.others refl u.3 n m p.others same.1 v.3 r
 
-pub all_none : {S : Type 0} (take : Item → Option Item) (takes : List (List Item → Option (List Item))) (item : S → Item) (first : S) (code least : ℕ) (bytes rest : List ℕ) (sections : List S) → TakesCode take code → code < least → Begins least takes → AllTaken take item first bytes rest sections → NoParts takes rest → NoParts (any_number take ∷ takes) bytes
-all_none take takes item first code least bytes rest sections c l b a m =
-    without_first (any_number take) takes bytes (λ ys parts p. all_none_by take takes code least a.gathered.run.items p.part a.gathered.others ys bytes a.gathered.run.front rest p.front p.rest parts c l b a.gathered.run.said a.gathered.run.split a.gathered.run.taken a.stop m p.said p.split p.taken p.others)
+pub all_none : {S : Type 0} (take : Item → Option Item) (takes : List (List Item → Option (List Item))) (item : S → Item) (code least : ℕ) (bytes rest : List ℕ) (sections : List S) → TakesCode take code → code < least → Begins least takes → AllTaken take item bytes rest sections → NoParts takes rest → NoParts (any_number take ∷ takes) bytes
+all_none take takes item code least bytes rest sections c l b a m =
+    without_first (any_number take) takes bytes (λ ys parts p. all_none_by take takes code least a.run.items p.part (map item sections) ys bytes a.run.front rest p.front p.rest parts c l b a.run.said a.run.split a.run.taken a.stop m p.said p.split p.taken p.others)
 
 -- the first section, and any number behind it
 pub first_read : (take : Item → Option Item) (takes : List (List Item → Option (List Item))) (bytes rest : List ℕ) (y : Item) (ys : List Item) (parts : List (List Item)) → HasFront take bytes rest y → ReadsParts (any_number take ∷ takes) rest (ys ∷ parts) → ReadsParts (one_or_more take ∷ takes) bytes ((y ∷ ys) ∷ parts)

@@ -2,6 +2,7 @@
 //! (part 3, 3.2; part 2, 2.6.12 and 2.8.11).
 #![tactic(auto)]
 
+mod any_body;
 mod body;
 mod delivery;
 mod front;
@@ -14,8 +15,10 @@ mod raw;
 mod sections;
 mod send_result;
 mod sendable;
+mod several;
 mod writing;
 
+pub use any_body::Body;
 pub use body::{ReadBody, RoundTripBody, WriteBody};
 pub use delivery::{Delivery, DeliveryInfo};
 pub use message::Message;
@@ -23,3 +26,4 @@ pub use payload::read_payload;
 pub use raw::Raw;
 pub use send_result::{FromDeliveryFailure, FromDeliveryState, FromPreSettled, SendResult};
 pub use sendable::{Builder, MESSAGE_FORMAT, NoMessage, Sendable};
+pub use several::OneOrMore;

@@ -2,6 +2,7 @@
 ghost use Rattle.std.specs.Prelude.{◌≡◌, None};
 ghost use Rattle.amqp_link_message.specs.Making.{bare, IsSendableOf};
 
+use crate::any_body::Body;
 use crate::message::Message;
 use crate::raw::Raw;
 use crate::sendable::{MESSAGE_FORMAT, Sendable};
@@ -49,6 +50,15 @@ impl<T> From<AmqpValue<T>> for Message<AmqpValue<T>> {
     ghost from_gives = { λ b m. m ≡ bare b };
 
     fn from(body: AmqpValue<T>) -> Self {
+        Message::new(body)
+    }
+}
+
+/// A message of this body alone.
+impl<T> From<Body<T>> for Message<Body<T>> {
+    ghost from_gives = { λ b m. m ≡ bare b };
+
+    fn from(body: Body<T>) -> Self {
         Message::new(body)
     }
 }

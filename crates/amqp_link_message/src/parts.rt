@@ -1,13 +1,15 @@
 //! The parts of a message, read one behind the other (part 3, 3.2).
-ghost use Rattle.std.specs.Prelude.{◌≡◌, ◌<◌, ◌&&◌, ◌∷◌, [], ℕ, nat_lt, Bool, true, List, IfOk, IfErr, Option};
+ghost use Rattle.std.specs.Prelude.{◌≡◌, ◌<◌, ◌&&◌, ◌∷◌, [], ℕ, nat_lt, Bool, true, List, map, IfOk, IfErr, IfSome, Option, None};
 ghost use Rattle.serde_amqp_item.specs.Item.{Item};
 ghost use Rattle.serde_amqp_read.specs.Reads.{Unless, faultless};
 ghost use Rattle.amqp_link_message.specs.Sections.{TakesCode};
-ghost use Rattle.amqp_link_message.specs.Parts.{at_most_one, exactly_one, any_number, if_there, ReadsParts, NoParts, EndsOrBegins};
-ghost use Rattle.amqp_link_message.specs.Front.{AllTaken, MoreRead};
+ghost use Rattle.amqp_link_message.specs.Parts.{at_most_one, exactly_one, any_number, one_or_more, if_there, ReadsParts, NoParts, EndsOrBegins};
+ghost use Rattle.amqp_link_message.specs.Front.{HasNoFront, AllTaken};
+ghost use Rattle.amqp_link_message.specs.Several.{each_item, NotSeveral};
 ghost use Rattle.amqp_link_message.specs.PartLaws.{nothing_begins, part_begins_in_order};
 
 use crate::front::take_front;
+use crate::several::OneOrMore;
 use serde_amqp_de::Deserialize;
 use serde_amqp_item::Error;
 use std::alloc::Global;
@@ -110,19 +112,17 @@ pub(crate) fn read_one<S: Section, T: ReadParts>(
     }
 }
 
-/// Takes all sections of a type from the front, and puts them behind the first one, which was taken already.
+/// Takes all sections of a type from the front.
 ///
 /// Errors: `Memory` alone.
 fn take_all<'a, S: Deserialize + Drop>(
     alloc: Global,
-    first: S,
     bytes: &'a [u8],
 ) -> Result<(Vec<S>, &'a [u8]), Error>
-    ensures ok { IfOk result (λ p. AllTaken S.take S.item first bytes.now p.1.now p.0.items) }
+    ensures ok { IfOk result (λ p. AllTaken S.take S.item bytes.now p.1.now p.0.items) }
     ensures memory { IfErr result (λ e. e ≡ Error.Memory) }
 {
     let mut sections = Vec::new(alloc);
-    sections.push(first)?;
     let mut rest = bytes;
     'sections: loop {
         let (section, behind) = take_front::<S>(alloc, rest)?;
@@ -136,20 +136,41 @@ fn take_all<'a, S: Deserialize + Drop>(
     }
 }
 
-/// Reads all sections of a type behind the first one, which was taken already, and the parts behind them.
+/// Reads all sections of a type in front, and the parts behind them.
 ///
 /// Errors: `Memory`; any other exactly where the bytes say no such items.
-pub(crate) fn read_more<S: Section, T: ReadParts>(
-    alloc: Global,
-    first: S,
-    bytes: &[u8],
-) -> Result<(Vec<S>, T), Error>
+fn read_more<S: Section, T: ReadParts>(alloc: Global, bytes: &[u8]) -> Result<(Vec<S>, T), Error>
     requires below { S.code < T.least }
     requires in_order { T.in_order ≡ true }
-    ensures ok { IfOk result (λ p. MoreRead S.take T.takes S.item first bytes.now p.0.items (T.parts p.1)) }
+    ensures ok { IfOk result (λ p. ReadsParts (any_number S.take ∷ T.takes) bytes.now
+        (map S.item p.0.items ∷ T.parts p.1)) }
     ensures refused { Unless faultless result (NoParts (any_number S.take ∷ T.takes) bytes.now) }
 {
-    let (sections, rest) = take_all(alloc, first, bytes)?;
+    let (sections, rest) = take_all(alloc, bytes)?;
     let others = T::read(alloc, rest)?;
     Ok((sections, others))
+}
+
+/// Reads one section of a type or more, and the parts behind them, where such a section stands in front.
+///
+/// Errors: `Memory`; any other exactly where such a section stands in front and the bytes say no such items.
+pub(crate) fn read_several<S: Section, T: ReadParts>(
+    alloc: Global,
+    bytes: &[u8],
+) -> Result<Option<(OneOrMore<S>, T)>, Error>
+    requires below { S.code < T.least }
+    requires in_order { T.in_order ≡ true }
+    ensures some { IfOk result (λ o. IfSome o (λ p. ReadsParts (one_or_more S.take ∷ T.takes) bytes.now
+        (each_item S.item p.0 ∷ T.parts p.1))) }
+    ensures none { IfOk result (λ o. o ≡ None → HasNoFront S.take bytes.now) }
+    ensures refused { Unless faultless result (NotSeveral S.take T.takes bytes.now) }
+{
+    let (section, rest) = take_front::<S>(alloc, bytes)?;
+    match section {
+        Some(first) => {
+            let (others, behind) = read_more::<S, T>(alloc, rest)?;
+            Ok(Some((OneOrMore { first, others }, behind)))
+        }
+        None => Ok(None),
+    }
 }

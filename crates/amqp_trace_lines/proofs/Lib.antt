@@ -1,2 +1,3 @@
 pub mod Rereading
+pub mod Rewriting
 pub mod Seeing

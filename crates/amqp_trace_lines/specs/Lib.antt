@@ -1,2 +1,3 @@
 pub mod Reread
+pub mod Rewriting
 pub mod Seen

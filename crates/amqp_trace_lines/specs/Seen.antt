@@ -1,5 +1,5 @@
 -- Frames as they are shown.
-use Rattle.std.specs.Prelude.{◌≡◌, ℕ, List, length, Option, Some, None}
+use Rattle.std.specs.Prelude.{◌≡◌, ℕ, List, Option, Some, None}
 use Rattle.amqp_session_frames.specs.Text.{FrameText, NotRead, performative_of, performative_text}
 use Rattle.amqp_session_frames.specs.declared.error.Error.{Error}
 use Rattle.amqp_session_frames.specs.declared.error.Error.TheVariants.{DecodeError, NotImplemented, TooLarge, Memory}
@@ -8,16 +8,16 @@ use Rattle.amqp_session_frames.specs.declared.frame.FrameBody.{FrameBody}
 use Rattle.amqp_session_frames.specs.declared.frame.FrameBody.TheVariants.{Transfer}
 use Rattle.amqp_trace_lines.specs.declared.frames.SeenFrame.{SeenFrame}
 
--- how many bytes a transfer carries (part 2, 2.7.5)
-abbrev pub payload_length : FrameBody → Option ℕ
-payload_length (Transfer t payload) = Some (length payload)
-payload_length body = None
+-- the bytes that a transfer carries (part 2, 2.7.5)
+abbrev pub payload_of : FrameBody → Option (List ℕ)
+payload_of (Transfer t payload) = Some payload
+payload_of body = None
 
--- a frame as it is shown: its channel, what its performative is written as, and the length of a transfer's payload
+-- a frame as it is shown: its channel, what its performative is written as, and a transfer's payload
 pub record Shows (frame : Frame) (seen : SeenFrame) : Type 0 where
   pub channel_is : seen.channel ≡ frame.channel
   pub performative_is : performative_text (performative_of frame.body) ≡ Some seen.performative.items
-  pub payload_is : seen.payload ≡ payload_length frame.body
+  pub payload_is : seen.payload ≡ payload_of frame.body
 
 -- the bytes are a frame, which is shown so
 pub record IsSeen (bytes : List ℕ) (seen : SeenFrame) : Type 0 where

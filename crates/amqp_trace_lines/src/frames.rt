@@ -2,8 +2,9 @@
 ghost use Rattle.std.specs.Prelude.{◌≡◌, IfOk, IfErr, Some};
 ghost use Rattle.serde_amqp_item.specs.Canon.{canon};
 ghost use Rattle.amqp_session_frames.specs.Text.{FrameText, NotRead, performative_of, performative_text};
-ghost use Rattle.amqp_trace_lines.specs.Seen.{IsSeen, NotSeen, NotWritten, Shows, payload_length};
+ghost use Rattle.amqp_trace_lines.specs.Seen.{IsSeen, NotSeen, NotWritten, Shows, payload_of};
 
+use crate::messages::push_message;
 use crate::refusal::Refusal;
 use amqp_session_frames::{Error as FrameError, Frame, FrameBody, FrameDecoder};
 use amqp_trace_text::text_of;
@@ -19,8 +20,8 @@ pub struct SeenFrame {
     pub channel: u16,
     /// What its performative is written as. An empty frame has none.
     pub performative: Vec<u8>,
-    /// How many bytes a transfer carries.
-    pub payload: Option<usize>,
+    /// The bytes that a transfer carries.
+    pub payload: Option<Bytes>,
 }
 
 /// The frame that these bytes are, with their size field (part 2, 2.3).
@@ -53,10 +54,11 @@ fn shown(alloc: Global, frame: &Frame) -> Result<SeenFrame, FrameError>
     ensures refused { IfErr result (λ e. NotWritten (performative_text (performative_of frame.now.body)) e) }
 {
     let performative = performative_text(alloc, frame.body())?;
+    let payload = payload_of(frame.body())?;
     Ok(SeenFrame {
         channel: frame.channel(),
         performative,
-        payload: payload_length(frame.body()),
+        payload,
     })
 }
 
@@ -91,13 +93,17 @@ fn text<T: Serialize>(alloc: Global, value: &T) -> Result<Vec<u8>, FrameError>
     }
 }
 
-/// How many bytes a transfer carries.
-fn payload_length(body: &FrameBody) -> Option<usize>
-    ensures { result ≡ payload_length body.now }
+/// The bytes that a transfer carries.
+fn payload_of(body: &FrameBody) -> Result<Option<Bytes>, FrameError>
+    ensures payload { IfOk result (λ p. p ≡ payload_of body.now) }
+    ensures memory { IfErr result (λ e. e ≡ FrameError.Memory) }
 {
     match body {
-        FrameBody::Transfer { payload, .. } => Some(payload.len()),
-        _ => None,
+        FrameBody::Transfer { payload, .. } => match payload.clone() {
+            Ok(payload) => Ok(Some(payload)),
+            Err(_) => Err(FrameError::Memory),
+        },
+        _ => Ok(None),
     }
 }
 
@@ -107,10 +113,17 @@ pub(crate) fn frame_line(alloc: Global, bytes: &[u8]) -> Result<String, Refusal>
     let channel = frame.channel;
     let mut line = format!(in alloc; "channel {channel} ")?;
     push_performative(alloc, &mut line, frame.performative.as_slice())?;
-    if let Some(length) = frame.payload {
-        write!(&mut line, " payload {length}")?;
+    if let Some(payload) = &frame.payload {
+        push_payload(alloc, &mut line, payload.as_slice())?;
     }
     Ok(line)
+}
+
+/// Appends how many bytes a transfer carries, and the message that they are, if they are one.
+fn push_payload(alloc: Global, line: &mut String, payload: &[u8]) -> Result<(), Refusal> {
+    let length = payload.len();
+    write!(line, " payload {length}")?;
+    push_message(alloc, line, payload)
 }
 
 /// Appends a performative, or that there is none.

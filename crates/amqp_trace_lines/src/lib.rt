@@ -4,9 +4,11 @@
 mod calls;
 mod connection;
 mod division;
+mod faults;
 mod frames;
 mod hexadecimal;
 mod lines;
+mod messages;
 mod reading;
 mod refusal;
 mod stream;
@@ -15,5 +17,6 @@ mod types;
 pub use division::divided;
 pub use frames::{SeenFrame, seen_frame};
 pub use lines::answer;
+pub use messages::rewritten_message;
 pub use reading::{Rewritten, reread};
 pub use refusal::Refusal;

@@ -3,6 +3,7 @@ use crate::connection::connection_line;
 use crate::division::division_line;
 use crate::frames::frame_line;
 use crate::hexadecimal::{hex_word, read_bytes};
+use crate::messages::{message_bytes, message_line};
 use crate::reading::answer_of;
 use crate::refusal::Refusal;
 use crate::stream::stream_lines;
@@ -48,7 +49,7 @@ fn of_bytes(alloc: Global, word: &str, asked: &str) -> Result<String, Refusal> {
     match word {
         "value" => Ok(text_of(alloc, bytes.as_slice())?),
         "canonical" => canonical_word(alloc, bytes.as_slice()),
-        "performative" => read_as(alloc, word, bytes.as_slice()),
+        "performative" | "message" => read_as(alloc, word, bytes.as_slice()),
         "frame" => frame_line(alloc, bytes.as_slice()),
         "stream" => stream_lines(alloc, bytes.as_slice(), "\n"),
         "frames" => stream_lines(alloc, bytes.as_slice(), " ; "),
@@ -85,6 +86,9 @@ fn read(alloc: Global, asked: &str) -> Result<String, Refusal> {
 
 /// The text of the value that the bytes are read as.
 fn read_as(alloc: Global, name: &str, bytes: &[u8]) -> Result<String, Refusal> {
+    if name == "message" {
+        return message_line(alloc, bytes);
+    }
     let written = rewritten_as(alloc, name, bytes)?;
     answer_of(alloc, &written)
 }
@@ -95,6 +99,9 @@ fn write(alloc: Global, asked: &str) -> Result<String, Refusal> {
         return Err(Refusal::Unreadable);
     };
     let bytes = read_bytes(alloc, word)?;
+    if name == "message" {
+        return message_bytes(alloc, bytes.as_slice());
+    }
     let written = rewritten_as(alloc, name, bytes.as_slice())?;
     Ok(hex_word(alloc, written.text.as_slice())?)
 }
