@@ -9,7 +9,7 @@ use Rattle.amqp_link_attach.specs.Attach.{receiver_tests}
 use Rattle.amqp_link_attach.specs.Exchange.{exchange, lists_none}
 use Rattle.amqp_link_attach.specs.Properties.{merged}
 use Rattle.amqp_link_attach.specs.Terms.{adopted_by_receiver}
-use Rattle.amqp_link_attach.specs.Tests.{first_of}
+use Rattle.amqp_link_attach.specs.Tests.{first_of, IsOfFilters}
 use Rattle.amqp_link_base.specs.Moves.{sent_attach, took_attach}
 use Rattle.amqp_link_base.specs.Own.{own_attach}
 use Rattle.amqp_link_base.specs.declared.base.LinkBase.{LinkBase}
@@ -31,7 +31,11 @@ to_list s = entries_listed listed_as s.end.unsettled
 abbrev pub attach_sent : ReceiverState → Bool → Option ReceiverState
 attach_sent s incomplete =
     option_map
-    (λ (b : LinkBase). record s { base = b; end = record s.end { flow = attached s.end.flow s.end.flow.initial_delivery_count } })
+    (λ (b : LinkBase).
+    record s {
+      base = b;
+      end = record s.end { flow = attached s.end.flow s.end.flow.initial_delivery_count };
+    })
     (sent_attach s.base incomplete)
 
 -- why the peer's Attach is refused: the first of the receiver's tests that applies
@@ -51,16 +55,19 @@ accepted s moved attach =
 abbrev pub left_to_do : LinkBase → Attach → Attached
 left_to_do moved attach = answer.Attached (exchange moved.local_state (lists_none attach.unsettled))
 
--- the peer's Attach comes where the state allows none, or is refused, which moves state and handle alone, or is accepted; or
--- there is no memory for it and the link stays
-abbrev pub TakesAttach : Option LinkBase → Option ReceiverAttachError → ReceiverState → Attach → Result Attached AllocError → ReceiverState → Type 0
+-- the peer's Attach comes where the state allows none, or is refused, which moves state and handle alone, or is
+-- accepted. There may be no memory for what is taken over, or for the list of filters that it is refused with; the
+-- link stays then
+abbrev pub TakesAttach : Option LinkBase → Option ReceiverAttachError → ReceiverState → Attach
+    → Result Attached AllocError → ReceiverState → Type 0
 TakesAttach None error old attach result new = (result ≡ Ok (answer.Refused refused.IllegalState)) × (new ≡ old)
 TakesAttach (Some moved) (Some error) old attach result new =
-    ((result ≡ Err alloc_error) × (new ≡ old))
+    (IsOfFilters (Some error) × (result ≡ Err alloc_error) × (new ≡ old))
     ⊎ ((result ≡ Ok (answer.Refused error)) × (new ≡ record old { base = moved }))
 TakesAttach (Some moved) None old attach result new =
     ((result ≡ Err alloc_error) × (new ≡ old))
     ⊎ ((result ≡ Ok (left_to_do moved attach)) × (new ≡ accepted old moved attach))
 
 abbrev pub AttachTaken : ReceiverState → Attach → Result Attached AllocError → ReceiverState → Type 0
-AttachTaken old attach result new = TakesAttach (took_attach old.base attach) (attach_error old attach) old attach result new
+AttachTaken old attach result new =
+    TakesAttach (took_attach old.base attach) (attach_error old attach) old attach result new

@@ -22,7 +22,8 @@ abbrev pub settles_at_once : ReceiverSettleMode → Bool
 settles_at_once First = true
 settles_at_once Second = false
 
--- whether a delivery is settled: as it is asked, and where that says nothing by the mode of its transfer, or else the link's
+-- whether a delivery is settled: as it is asked, and where that says nothing by the mode of its transfer, or else the
+-- link's
 abbrev pub is_settled : ReceiverSettleMode → Option ReceiverSettleMode → Option Bool → Bool
 is_settled link told asked = unwrap_or asked (settles_at_once (unwrap_or told link))
 
@@ -42,9 +43,10 @@ disposition_of number settled state =
 abbrev pub disposed_of : ReceiverState → List ℕ → Bool → DeliveryState → ReceiverState
 disposed_of s tag settled state = record s { end = disposed_with s.end tag settled state }
 
--- a delivery is disposed of, settled or not; where it isn't there may be no memory for the state that is noted, and the link
--- stays
-abbrev pub DisposesAs : Bool → ℕ → ReceiverState → List ℕ → DeliveryState → Result Disposition DisposeError → ReceiverState → Type 0
+-- a delivery is disposed of, settled or not; where it isn't there may be no memory for the state that is noted, and
+-- the link stays
+abbrev pub DisposesAs : Bool → ℕ → ReceiverState → List ℕ → DeliveryState
+    → Result Disposition DisposeError → ReceiverState → Type 0
 DisposesAs true number old tag state answer new =
     (answer ≡ Ok (disposition_of number true state)) × (new ≡ disposed_of old tag true state)
 DisposesAs false number old tag state answer new =
@@ -52,7 +54,8 @@ DisposesAs false number old tag state answer new =
     ⊎ ((answer ≡ Ok (disposition_of number false state)) × (new ≡ disposed_of old tag false state))
 
 -- a delivery can't be disposed of, and the link stays, or it is
-abbrev pub Disposes : Result Disposable DisposeRefusal → ReceiverState → List ℕ → DeliveryState → Option Bool → Result Disposition DisposeError → ReceiverState → Type 0
+abbrev pub Disposes : Result Disposable DisposeRefusal → ReceiverState → List ℕ → DeliveryState → Option Bool
+    → Result Disposition DisposeError → ReceiverState → Type 0
 Disposes (Err why) old tag state asked answer new = (answer ≡ Err (Refused why)) × (new ≡ old)
 Disposes (Ok d) old tag state asked answer new =
     DisposesAs (is_settled old.base.terms.rcv_settle_mode d.rcv_settle_mode asked) d.number old tag state answer new

@@ -19,8 +19,8 @@ is_closed state = false
 abbrev pub next : ℕ → ℕ
 next attachment = (attachment + 1) % 2 ^ 64
 
--- the attachment ends with this of the link: what has come of an unsettled delivery is kept, and no delivery has a number
--- any more
+-- the attachment ends with this of the link: what has come of an unsettled delivery is kept, and no delivery has a
+-- number any more
 abbrev pub ended : ReceiverState → LinkBase → ReceiverState
 ended s b = record s { base = b; end = parted s.end; attachment = next s.attachment }
 

@@ -1,5 +1,5 @@
 -- The credit that a receiving link gives, and its Flows: part 2, 2.6.7 and 2.7.4.
-use Rattle.std.specs.Prelude.{◌≡◌, ◌⊎◌, ℕ, ◌-◌, ◌^◌, not, Bool, nat_lt, Option, Some, None, Result, Ok, Err, if◌then◌else◌}
+use Rattle.std.specs.Prelude.{◌≡◌, ◌⊎◌, ℕ, ◌-◌, ◌^◌, not, Bool, true, false, nat_lt, Option, Some, None, Result, Ok, Err, if◌then◌else◌}
 use Rattle.amqp_session_performatives.specs.declared.link_flow.LinkFlow.{LinkFlow}
 use Rattle.amqp_link_attach.specs.State.{is_attached}
 use Rattle.amqp_link_base.specs.declared.base.IllegalState.{IllegalState}
@@ -31,12 +31,13 @@ grant_refusal s credit =
 abbrev pub credited : ReceiverState → ℕ → ReceiverState
 credited s credit = with_flow s (granted s.end.flow credit)
 
--- credit isn't given, for a reason, and the link stays; or it is, the credit that was left before is told, and the Flow that
--- shows it is to be sent
+-- credit isn't given, for a reason, and the link stays; or it is, the credit that was left before is told, and the
+-- Flow that shows it is to be sent
 abbrev pub Grants : Option GrantRefusal → ReceiverState → ℕ → Result Granted GrantRefusal → ReceiverState → Type 0
 Grants (Some why) old credit answer new = (answer ≡ Err why) × (new ≡ old)
 Grants None old credit answer new =
-    (answer ≡ Ok (record { left = old.end.flow.link_credit; flow = own_flow (credited old credit) })) × (new ≡ credited old credit)
+    (answer ≡ Ok (record { left = old.end.flow.link_credit; flow = own_flow (credited old credit) }))
+    × (new ≡ credited old credit)
 
 -- while the link is attached it is to have its credit used up, where it has a drain wanted
 abbrev pub drained : ReceiverState → Option ReceiverState
@@ -47,17 +48,19 @@ abbrev pub Drains : Option ReceiverState → ReceiverState → Result LinkFlow I
 Drains None old answer new = (answer ≡ Err (record {})) × (new ≡ old)
 Drains (Some moved) old answer new = (answer ≡ Ok (own_flow moved)) × (new ≡ moved)
 
--- the Flow that shows count, credit and drain of a link while it is attached, and its properties where they are asked for
+-- the Flow that shows count, credit and drain of a link while it is attached, and its properties where they are asked
+-- for
 abbrev pub told_flow : ReceiverState → (echo asked : Bool) → Option LinkFlow
 told_flow s echo asked =
     if is_attached s.base.local_state
     then Some (told (handle_of s.base.output_handle) echo asked (record s.end.flow { properties = s.properties }))
     else None
 
--- such a Flow, or none while the link isn't attached, or there is no memory for it
-abbrev pub Shows : Option LinkFlow → Result LinkFlow FlowRefusal → Type 0
-Shows None answer = answer ≡ Err flow.IllegalState
-Shows (Some shown) answer = (answer ≡ Err flow.Memory) ⊎ (answer ≡ Ok shown)
+-- such a Flow, or none while the link isn't attached; there may be no memory for properties that are asked for
+abbrev pub Shows : (asked : Bool) → Option LinkFlow → Result LinkFlow FlowRefusal → Type 0
+Shows asked None answer = answer ≡ Err flow.IllegalState
+Shows false (Some shown) answer = answer ≡ Ok shown
+Shows true (Some shown) answer = (answer ≡ Err flow.Memory) ⊎ (answer ≡ Ok shown)
 
 -- a Flow of the sender moves count and credit while the link is attached
 abbrev pub flowed : ReceiverState → LinkFlow → ReceiverState

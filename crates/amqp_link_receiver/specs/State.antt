@@ -8,8 +8,8 @@ use Rattle.amqp_link_flow.specs.declared.inner.LinkFlowStateInner.{LinkFlowState
 use Rattle.amqp_link_receiving.specs.declared.attachment.Attachment.{Attachment}
 use Rattle.amqp_link_receiving.specs.Receiving.{Receiving}
 
--- a link as it stands; its credit, the delivery that is coming in and the unsettled ones; how many attachments of it ended;
--- and its properties with those of the peer
+-- a link as it stands; its credit, the delivery that is coming in and the unsettled ones; how many attachments of it
+-- ended; and its properties with those of the peer
 pub record ReceiverState : Type 0 where
   pub base : LinkBase
   pub end : Receiving

@@ -22,8 +22,8 @@ use std::alloc::{AllocError, Global};
 /// What comes of the peer's Attach.
 #[derive(Debug, Drop)]
 pub enum Attached {
-    /// It is refused for this. Where the link's state allows no Attach the link is as before, and else its state and the
-    /// peer's handle have moved.
+    /// It is refused for this. Where the link's state allows no Attach the link is as before, and else its state and
+    /// the peer's handle have moved.
     Refused(ReceiverAttachError),
     /// It is accepted.
     Attached {
@@ -33,15 +33,16 @@ pub enum Attached {
 }
 
 impl ReceiverLink {
-    /// The own Attach (part 2, 2.7.3). It lists the unsettled deliveries: what has come of one with the place to which it
-    /// reaches, a whole message with the state that was told of it, or with the place of its end. Where that doesn't fit a
-    /// frame of so many bytes it lists the first half of them, or the first quarter, and so on. The session writes the
-    /// link's handle into it.
+    /// The own Attach (part 2, 2.7.3). It lists the unsettled deliveries: what has come of one with the place to
+    /// which it reaches, a whole message with the state that was told of it, or with the place of its end. Where that
+    /// doesn't fit a frame of so many bytes it lists the first half of them, or the first quarter, and so on. The
+    /// session writes the link's handle into it.
     ///
     /// Errors: `TooLarge` exactly where the Attach doesn't fit even without any of them, and `Memory`.
     pub fn attach_frame(&self, alloc: Global, limit: u32) -> Result<Attach, ListError>
         ensures ok { IfOk result (λ attach. Lists limit (unlisted self.now) (to_list self.now) attach) }
-        ensures too_large { IfErr result (λ e. e ≡ TooLarge → FitsNowhere limit (unlisted self.now) (to_list self.now)) }
+        ensures too_large { IfErr result (λ e. e ≡ TooLarge
+            → FitsNowhere limit (unlisted self.now) (to_list self.now)) }
     {
         let list = self.end.unsettled().list(alloc)?;
         let count = self.end.flow().initial_delivery_count;
@@ -49,8 +50,8 @@ impl ReceiverLink {
         with_list(attach, list, limit)
     }
 
-    /// The own Attach is sent, which lists all unsettled deliveries or only a part of them: there is no credit and no drain in
-    /// the attachment that it begins (part 2, 2.6.3 and 2.6.7). It takes no memory.
+    /// The own Attach is sent, which lists all unsettled deliveries or only a part of them: there is no credit and no
+    /// drain in the attachment that it begins (part 2, 2.6.3 and 2.6.7). It takes no memory.
     ///
     /// Errors: `IllegalState` exactly where the state doesn't allow it. Nothing changes then.
     pub fn send_attach(&mut self, incomplete: bool) -> Result<(), IllegalState>
@@ -62,11 +63,12 @@ impl ReceiverLink {
         Ok(())
     }
 
-    /// Takes the peer's Attach: its terms, its count of deliveries and its properties are taken over, where none of the
-    /// receiver's tests applies (part 2, 2.6.3 and 2.7.3).
+    /// Takes the peer's Attach: its terms, its count of deliveries and its properties are taken over, where none of
+    /// the receiver's tests applies (part 2, 2.6.3 and 2.7.3).
     ///
-    /// What refuses it is in the answer: `IllegalState` exactly where the state allows no Attach, and nothing changes then;
-    /// else the error of the first test that applies, and the link's state and the peer's handle alone have moved then.
+    /// What refuses it is in the answer: `IllegalState` exactly where the state allows no Attach, and nothing changes
+    /// then; else the error of the first test that applies, and the link's state and the peer's handle alone have
+    /// moved then.
     ///
     /// Errors: want of memory alone. Nothing changes then.
     pub fn on_incoming_attach(
@@ -108,8 +110,8 @@ impl ReceiverLink {
     }
 }
 
-/// An Attach with these deliveries, or the first half of them, or the first quarter, and so on, as a frame of so many bytes
-/// holds them.
+/// An Attach with these deliveries, or the first half of them, or the first quarter, and so on, as a frame of so many
+/// bytes holds them.
 fn with_list(attach: Attach, list: UnsettledList, limit: u32) -> Result<Attach, ListError>
     ensures ok { IfOk result (λ new. Lists limit attach list new) }
     ensures refused { IfErr result (λ e. (e ≡ TooLarge) × FitsNowhere limit attach list) }

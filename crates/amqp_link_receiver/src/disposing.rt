@@ -42,23 +42,24 @@ impl From<AllocError> for DisposeError {
 }
 
 impl ReceiverLink {
-    /// What the delivery with this tag is disposed of by: its number in the present attachment, and its own settle mode
-    /// (part 2, 2.7.6).
+    /// What the delivery with this tag is disposed of by: its number in the present attachment, and its own settle
+    /// mode (part 2, 2.7.6).
     ///
-    /// Errors: `NotKept` where nothing is kept of it; `AlreadyDisposed` where its outcome was told; `NotAssociated` where it
-    /// has no number in the present attachment, as one that hasn't come whole.
+    /// Errors: `NotKept` where nothing is kept of it; `AlreadyDisposed` where its outcome was told; `NotAssociated`
+    /// where it has no number in the present attachment, as one that hasn't come whole.
     pub fn disposable(&self, tag: &DeliveryTag) -> Result<Disposable, DisposeRefusal>
         ensures { result ≡ disposable_now self.now tag.now }
     {
         self.end.disposable(self.attachment(), tag)
     }
 
-    /// Disposes of the delivery with this tag, and answers the Disposition that is to be sent (part 2, 2.7.6). The delivery
-    /// is settled as is asked; where that says nothing, it is by the mode of its transfer, or else the link's: `First`
-    /// settles, and `Second` doesn't (part 2, 2.8.3). Where it is settled nothing of it is kept, and else its state is noted.
+    /// Disposes of the delivery with this tag, and answers the Disposition that is to be sent (part 2, 2.7.6). The
+    /// delivery is settled as is asked; where that says nothing, it is by the mode of its transfer, or else the
+    /// link's: `First` settles, and `Second` doesn't (part 2, 2.8.3). Where it is settled nothing of it is kept, and
+    /// else its state is noted.
     ///
-    /// Errors: `Refused` exactly where `disposable` refuses it, with what that says; `Memory` only where it isn't settled.
-    /// Nothing changes then.
+    /// Errors: `Refused` exactly where `disposable` refuses it, with what that says; `Memory` only where it isn't
+    /// settled. Nothing changes then.
     pub fn dispose(
         &mut self,
         alloc: Global,
@@ -80,7 +81,8 @@ impl ReceiverLink {
     }
 }
 
-/// Whether a delivery is settled as its state is told: as is asked, or by the mode of its transfer, or else the link's.
+/// Whether a delivery is settled as its state is told: as is asked, or by the mode of its transfer, or else the
+/// link's.
 fn is_settled(
     link: ReceiverSettleMode,
     told: Option<ReceiverSettleMode>,

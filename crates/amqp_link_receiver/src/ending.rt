@@ -17,9 +17,9 @@ pub struct Detached {
 }
 
 impl ReceiverLink {
-    /// The own Detach is sent, which closes the link or doesn't, and ends the attachment: what has come of an unsettled
-    /// delivery is kept, and the numbers of deliveries are worth nothing any more (part 2, 2.6.5 and 2.6.6). It takes no
-    /// memory.
+    /// The own Detach is sent, which closes the link or doesn't, and ends the attachment: what has come of an
+    /// unsettled delivery is kept, and the numbers of deliveries are worth nothing any more (part 2, 2.6.5 and
+    /// 2.6.6). It takes no memory.
     ///
     /// Errors: `IllegalState` exactly where the state doesn't allow it. Nothing changes then.
     pub fn send_detach(&mut self, closed: bool) -> Result<(), IllegalState>
@@ -30,9 +30,9 @@ impl ReceiverLink {
         Ok(())
     }
 
-    /// Takes the peer's Detach, which closes the link or doesn't, by itself or across the own one, and ends the attachment:
-    /// what has come of an unsettled delivery is kept, and the numbers of deliveries are worth nothing any more
-    /// (part 2, 2.6.4 to 2.6.6). It takes no memory.
+    /// Takes the peer's Detach, which closes the link or doesn't, by itself or across the own one, and ends the
+    /// attachment: what has come of an unsettled delivery is kept, and the numbers of deliveries are worth nothing
+    /// any more (part 2, 2.6.4 to 2.6.6). It takes no memory.
     ///
     /// Errors: `IllegalState` exactly where the state doesn't allow it. Nothing changes then.
     pub fn on_incoming_detach(&mut self, closed: bool) -> Result<Detached, IllegalState>
@@ -47,8 +47,8 @@ impl ReceiverLink {
         })
     }
 
-    /// The connection or the session is over: the link is detached, or closed where its closing Detach was sent, and the
-    /// attachment ends as by a Detach (part 2, 2.6.5). It takes no memory.
+    /// The connection or the session is over: the link is detached, or closed where its closing Detach was sent, and
+    /// the attachment ends as by a Detach (part 2, 2.6.5). It takes no memory.
     pub fn on_break(&mut self)
         ensures { self.new ≡ broken self.old }
     {

@@ -1,11 +1,12 @@
 //! The credit that a receiving link gives, and its Flows (part 2, 2.6.7 and 2.7.4).
-ghost use Rattle.std.specs.Prelude.{◌≡◌, None, IfOk, if◌then◌else◌};
+ghost use Rattle.std.specs.Prelude.{◌≡◌};
+ghost use Rattle.amqp_link_flow.specs.Flows.{shown};
+ghost use Rattle.amqp_link_receiver.specs.State.{handle_of};
 ghost use Rattle.amqp_link_receiver.specs.Flowing.{Drains, Grants, Shows, drained, flow_answer, flowed, grant_refusal, own_flow, told_flow};
 
 use crate::link::ReceiverLink;
 use amqp_link_base::IllegalState;
 use amqp_session_performatives::LinkFlow;
-use amqp_session_types::{Boxed, Fields};
 use std::alloc::AllocError;
 
 /// The largest credit that is given: what reaches further can't be told from what lies behind (part 2, 2.6.7).
@@ -49,11 +50,11 @@ impl From<AllocError> for FlowRefusal {
 }
 
 impl ReceiverLink {
-    /// Gives this credit, in place of what was left of the credit given before, and wants no drain any more (part 2, 2.6.7).
-    /// The answer is the credit that was left, and the Flow that is to be sent. It takes no memory.
+    /// Gives this credit, in place of what was left of the credit given before, and wants no drain any more (part 2,
+    /// 2.6.7). The answer is the credit that was left, and the Flow that is to be sent. It takes no memory.
     ///
-    /// Errors, tested in this order: `IllegalState` where the link isn't attached; `CreditOutOfRange` where the credit is
-    /// more than 2^31 - 1. Nothing changes then.
+    /// Errors, tested in this order: `IllegalState` where the link isn't attached; `CreditOutOfRange` where the
+    /// credit is more than 2^31 - 1. Nothing changes then.
     pub fn grant(&mut self, credit: u32) -> Result<Granted, GrantRefusal>
         ensures { Grants (grant_refusal self.old credit) self.old credit result self.new }
     {
@@ -83,26 +84,29 @@ impl ReceiverLink {
         Ok(self.own_flow())
     }
 
-    /// A Flow that shows count, credit and drain, and where they are asked for the link's properties, and that asks for an
-    /// echo or doesn't (part 2, 2.7.4). It changes nothing.
+    /// A Flow that shows count, credit and drain, and where they are asked for the link's properties, and that asks
+    /// for an echo or doesn't (part 2, 2.7.4). It changes nothing.
     ///
-    /// Errors: `IllegalState` exactly where the link isn't attached; `Memory` only where there is none for properties that
-    /// are asked for.
+    /// Errors: `IllegalState` exactly where the link isn't attached; `Memory` only where there is none for properties
+    /// that are asked for.
     pub fn send_flow(&self, echo: bool, include_properties: bool) -> Result<LinkFlow, FlowRefusal>
-        ensures { Shows (told_flow self.now echo include_properties) result }
+        ensures { Shows include_properties (told_flow self.now echo include_properties) result }
     {
         if !self.base.is_attached() {
             return Err(FlowRefusal::IllegalState);
         }
-        let properties = asked(&self.properties, include_properties)?;
+        if !include_properties {
+            return Ok(self.shown(echo));
+        }
+        let properties = self.properties.clone()?;
         Ok(LinkFlow {
             properties,
-            ..self.end.flow().shown(self.own_handle(), echo)
+            ..self.shown(echo)
         })
     }
 
-    /// Takes a Flow of the sender, which moves count and credit while the link is attached, and answers the Flow that is to
-    /// be sent where it asks for an echo (part 2, 2.6.7). It takes no memory.
+    /// Takes a Flow of the sender, which moves count and credit while the link is attached, and answers the Flow that
+    /// is to be sent where it asks for an echo (part 2, 2.6.7). It takes no memory.
     pub fn on_incoming_flow(&mut self, flow: LinkFlow) -> Option<LinkFlow>
         ensures state { self.new ≡ flowed self.old flow }
         ensures answer { result ≡ flow_answer self.old flow }
@@ -118,19 +122,13 @@ impl ReceiverLink {
     fn own_flow(&self) -> LinkFlow
         ensures { result ≡ own_flow self.now }
     {
-        self.end.flow().shown(self.own_handle(), false)
+        self.shown(false)
     }
-}
 
-/// The properties, where they are asked for.
-fn asked(
-    properties: &Option<Boxed<Fields>>,
-    include_properties: bool,
-) -> Result<Option<Boxed<Fields>>, AllocError>
-    ensures { IfOk result (λ p. p ≡ (if include_properties then properties.now else None)) }
-{
-    if !include_properties {
-        return Ok(None);
+    /// The Flow that shows count, credit and drain, and that asks for an echo or doesn't.
+    fn shown(&self, echo: bool) -> LinkFlow
+        ensures { result ≡ shown (handle_of self.now.base.output_handle) echo self.now.end.flow }
+    {
+        self.end.flow().shown(self.own_handle(), echo)
     }
-    Ok(properties.clone()?)
 }

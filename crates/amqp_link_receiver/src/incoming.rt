@@ -10,8 +10,8 @@ use bytes::Bytes;
 use std::alloc::{AllocError, Global};
 
 impl ReceiverLink {
-    /// Takes a transfer with its payload (part 2, 2.7.5). What comes of it is in the answer, also where it is refused. While
-    /// the link isn't attached it is dropped, and nothing changes.
+    /// Takes a transfer with its payload (part 2, 2.7.5). What comes of it is in the answer, also where it is
+    /// refused. While the link isn't attached it is dropped, and nothing changes.
     ///
     /// Errors: want of memory alone. Nothing changes then.
     pub fn on_incoming_transfer(
@@ -30,8 +30,8 @@ impl ReceiverLink {
             .on_incoming_transfer(alloc, attachment, transfer, payload)
     }
 
-    /// Takes a disposition of the sender's, of the delivery with this tag: where it settles the delivery nothing of it is
-    /// kept, in any state of the link (part 2, 2.6.12 and 2.7.6). It takes no memory.
+    /// Takes a disposition of the sender's, of the delivery with this tag: where it settles the delivery nothing of
+    /// it is kept, in any state of the link (part 2, 2.6.12 and 2.7.6). It takes no memory.
     pub fn on_incoming_disposition(&mut self, tag: &DeliveryTag, settled: bool)
         ensures { self.new ≡ disposed self.old tag.now settled }
     {

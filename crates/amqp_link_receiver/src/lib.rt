@@ -1,5 +1,5 @@
-//! The receiving end of a link of AMQP 1.0: how it is attached and detached, the credit that it gives, the messages that
-//! come in by it, and how they are disposed of (part 2, 2.6).
+//! The receiving end of a link of AMQP 1.0: how it is attached and detached, the credit that it gives, the messages
+//! that come in by it, and how they are disposed of (part 2, 2.6).
 //!
 //! What each call does says specs/: State, Attaching, Ending, Flowing, Incoming, Disposing.
 #![tactic(auto)]

@@ -33,8 +33,8 @@ pub struct WholeMessage {
     pub rcv_settle_mode: Option<ReceiverSettleMode>,
 }
 
-/// What has come of a delivery is listed with the place to which it reaches, and a whole message with the state that was
-/// told of it, or with the place of its end (part 2, 2.6.13; part 3, 3.4.1).
+/// What has come of a delivery is listed with the place to which it reaches, and a whole message with the state that
+/// was told of it, or with the place of its end (part 2, 2.6.13; part 3, 3.4.1).
 impl Listed for Entry {
     ghost listed = { listed_as };
 
