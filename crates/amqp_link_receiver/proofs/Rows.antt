@@ -1,6 +1,6 @@
 -- Worked rows of a receiving link, computed from the definitions.
-use Rattle.std.proofs.Common.{◌≡◌, ℕ, List, [], ◌∷◌, Bool, true, false, Option, None, Some, refl}
-use Rattle.std.specs.Prelude.{Result, Ok, Err, option_map}
+use Rattle.std.proofs.Common.{◌≡◌, [], ◌∷◌, true, false, None, Some, refl}
+use Rattle.std.specs.Prelude.{Ok, Err, option_map}
 use Rattle.amqp_session_states.specs.declared.delivery_state.DeliveryState.TheVariants.{Received}
 use Rattle.amqp_session_types.specs.declared.modes.ReceiverSettleMode.TheVariants.{First, Second}
 use Rattle.amqp_session_types.specs.declared.modes.SenderSettleMode.TheVariants.{Mixed}

@@ -2,7 +2,7 @@
 ghost use Rattle.std.specs.Prelude.{◌≡◌, None, IsSome, IfOk, IfErr};
 ghost use Rattle.amqp_link_attach.specs.Terms.{adopted_by_receiver};
 ghost use Rattle.amqp_link_base.specs.Moves.{took_attach};
-ghost use Rattle.amqp_link_unsettled.specs.Listing.{ Lists, FitsNowhere};
+ghost use Rattle.amqp_link_unsettled.specs.Listing.{Lists, FitsNowhere};
 ghost use Rattle.amqp_link_unsettled.specs.declared.listing.ListError.TheVariants.{TooLarge};
 ghost use Rattle.amqp_link_receiver.specs.State.{MovesLink};
 ghost use Rattle.amqp_link_receiver.specs.Attaching.{unlisted, to_list, attach_sent, AttachTaken, TakesAttach};
@@ -79,7 +79,12 @@ impl ReceiverLink {
         ensures { AttachTaken self.old attach.now result self.new }
     {
         let incomplete = attach.incomplete_unsettled;
-        if self.base.local_state.on_incoming_attach(incomplete).is_none() {
+        if self
+            .base
+            .local_state
+            .on_incoming_attach(incomplete)
+            .is_none()
+        {
             return Ok(Attached::Refused(ReceiverAttachError::IllegalState));
         }
         let terms = &self.base.terms;
