@@ -4,3 +4,4 @@ pub mod Receiving
 pub mod Steps
 pub mod Readings
 pub mod Disposing
+pub mod Listed

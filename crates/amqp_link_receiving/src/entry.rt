@@ -1,8 +1,13 @@
 //! What a receiving end keeps of an unsettled delivery (part 2, 2.6.12 and 2.6.13).
+ghost use Rattle.std.specs.Prelude.{◌≡◌, IfOk};
+ghost use Rattle.amqp_link_receiving.specs.Listed.{listed_as, whole_listed_as};
+
 use crate::message_bytes::MessageBytes;
-use amqp_link_place::Gathered;
+use amqp_link_place::{Gathered, place};
+use amqp_link_unsettled::Listed;
 use amqp_session_states::DeliveryState;
 use amqp_session_types::ReceiverSettleMode;
+use std::alloc::AllocError;
 
 /// What a receiving end keeps of an unsettled delivery (part 2, 2.6.12).
 #[derive(Drop)]
@@ -26,4 +31,28 @@ pub struct WholeMessage {
     pub attachment: u64,
     /// How it is to be settled, where its transfer said it (part 2, 2.8.3).
     pub rcv_settle_mode: Option<ReceiverSettleMode>,
+}
+
+/// What has come of a delivery is listed with the place to which it reaches, and a whole message with the state that
+/// was told of it, or with the place of its end (part 2, 2.6.13; part 3, 3.4.1).
+impl Listed for Entry {
+    ghost listed = { listed_as };
+
+    fn listed_state(&self) -> Result<Option<DeliveryState>, AllocError> {
+        match self {
+            Entry::Half(kept) => Ok(Some(DeliveryState::Received(kept.place()))),
+            Entry::Whole(message) => listed_whole(message),
+        }
+    }
+}
+
+/// The state that a message that has come whole is listed with.
+fn listed_whole(message: &WholeMessage) -> Result<Option<DeliveryState>, AllocError>
+    ensures { IfOk result (λ s. s ≡ whole_listed_as message.now) }
+{
+    if message.state.is_some() {
+        return Ok(message.state.clone()?);
+    }
+    let payload = message.payload.as_bytes();
+    Ok(Some(DeliveryState::Received(place(payload, payload.len()))))
 }

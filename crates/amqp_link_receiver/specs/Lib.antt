@@ -1,0 +1,6 @@
+pub mod State
+pub mod Attaching
+pub mod Ending
+pub mod Flowing
+pub mod Incoming
+pub mod Disposing
