@@ -2,6 +2,7 @@
 use Rattle.std.specs.Prelude.{◌≡◌, Bool, Option, Some, None, option_map, Result, Ok, Err}
 use Rattle.amqp_session_performatives.specs.declared.attach.Attach.{Attach}
 use Rattle.amqp_link_attach.specs.State.{after_send_attach, after_incoming_attach, after_send_detach, after_remote_detach, after_break}
+use Rattle.amqp_link_attach.specs.declared.state.LinkState.{LinkState}
 use Rattle.amqp_link_base.specs.declared.base.IllegalState.{IllegalState}
 use Rattle.amqp_link_base.specs.declared.base.LinkBase.{LinkBase}
 
@@ -14,11 +15,14 @@ Moves (Some moved) old answer new = (answer ≡ Ok tt) × (new ≡ moved)
 abbrev pub sent_attach : LinkBase → Bool → Option LinkBase
 sent_attach b incomplete = option_map (λ state. record b { local_state = state }) (after_send_attach b.local_state incomplete)
 
+-- the link in another state, with the handle that the peer's Attach gives it
+abbrev pub moved_to : LinkBase → Attach → LinkState → LinkBase
+moved_to b attach state = record b { local_state = state; input_handle = Some (record { 0 = attach.handle.0 }) }
+
 -- the peer's Attach comes, with the handle that the peer gave the link
 abbrev pub took_attach : LinkBase → Attach → Option LinkBase
 took_attach b attach =
-    option_map (λ state. record b { local_state = state; input_handle = Some (record { 0 = attach.handle.0 }) })
-    (after_incoming_attach b.local_state attach.incomplete_unsettled)
+    option_map (λ state. moved_to b attach state) (after_incoming_attach b.local_state attach.incomplete_unsettled)
 
 -- the own Detach is sent, which closes the link or doesn't
 abbrev pub sent_detach : LinkBase → Bool → Option LinkBase

@@ -55,6 +55,12 @@ accepted s moved attach =
 abbrev pub left_to_do : LinkBase → Attach → Attached
 left_to_do moved attach = answer.Attached (exchange moved.local_state (lists_none attach.unsettled))
 
+-- there is no memory for what is taken over, and the link stays; or the peer's Attach is accepted
+abbrev pub Accepts : LinkBase → ReceiverState → Attach → Result Attached AllocError → ReceiverState → Type 0
+Accepts moved old attach result new =
+    ((result ≡ Err alloc_error) × (new ≡ old))
+    ⊎ ((result ≡ Ok (left_to_do moved attach)) × (new ≡ accepted old moved attach))
+
 -- the peer's Attach comes where the state allows none, or is refused, which moves state and handle alone, or is
 -- accepted. There may be no memory for what is taken over, or for the list of filters that it is refused with; the
 -- link stays then
@@ -64,9 +70,7 @@ TakesAttach None error old attach result new = (result ≡ Ok (answer.Refused re
 TakesAttach (Some moved) (Some error) old attach result new =
     (IsOfFilters (Some error) × (result ≡ Err alloc_error) × (new ≡ old))
     ⊎ ((result ≡ Ok (answer.Refused error)) × (new ≡ record old { base = moved }))
-TakesAttach (Some moved) None old attach result new =
-    ((result ≡ Err alloc_error) × (new ≡ old))
-    ⊎ ((result ≡ Ok (left_to_do moved attach)) × (new ≡ accepted old moved attach))
+TakesAttach (Some moved) None old attach result new = Accepts moved old attach result new
 
 abbrev pub AttachTaken : ReceiverState → Attach → Result Attached AllocError → ReceiverState → Type 0
 AttachTaken old attach result new =

@@ -1,22 +1,22 @@
 //! How an attachment of a receiving link begins (part 2, 2.6.3 and 2.6.13).
-ghost use Rattle.std.specs.Prelude.{◌≡◌, None, IsSome, IfOk, IfErr};
+ghost use Rattle.std.specs.Prelude.{◌≡◌, Ok, IfOk, IfErr, unwrap_or};
 ghost use Rattle.amqp_link_attach.specs.Terms.{adopted_by_receiver};
-ghost use Rattle.amqp_link_base.specs.Moves.{took_attach};
+ghost use Rattle.amqp_link_base.specs.Moves.{moved_to};
+ghost use Rattle.amqp_link_flow.specs.Flows.{attached};
 ghost use Rattle.amqp_link_unsettled.specs.Listing.{Lists, FitsNowhere};
 ghost use Rattle.amqp_link_unsettled.specs.declared.listing.ListError.TheVariants.{TooLarge};
 ghost use Rattle.amqp_link_receiver.specs.State.{MovesLink};
-ghost use Rattle.amqp_link_receiver.specs.Attaching.{unlisted, to_list, attach_sent, AttachTaken, TakesAttach};
+ghost use Rattle.amqp_link_receiver.specs.Attaching.{unlisted, to_list, attach_sent, AttachTaken, Accepts};
 
 use crate::link::ReceiverLink;
 use amqp_link_attach::{
-    AttachExchange, Terms, get_max_message_size, merged_properties, verify_attach_as_receiver,
+    AttachExchange, LinkState, Terms, get_max_message_size, merged_properties, verify_attach_as_receiver,
 };
 use amqp_link_base::IllegalState;
 use amqp_link_types::ReceiverAttachError;
 use amqp_link_unsettled::{ListError, UnsettledList, list_entries};
 use amqp_session_performatives::Attach;
-use amqp_session_states::{Source, TargetArchetype};
-use amqp_session_types::{Boxed, Role};
+use amqp_session_types::{Boxed, Fields, InputHandle, Role};
 use std::alloc::{AllocError, Global};
 
 /// What comes of the peer's Attach.
@@ -79,17 +79,12 @@ impl ReceiverLink {
         ensures { AttachTaken self.old attach.now result self.new }
     {
         let incomplete = attach.incomplete_unsettled;
-        if self
-            .base
-            .local_state
-            .on_incoming_attach(incomplete)
-            .is_none()
-        {
+        let Some(state) = self.base.local_state.on_incoming_attach(incomplete) else {
             return Ok(Attached::Refused(ReceiverAttachError::IllegalState));
-        }
+        };
         let terms = &self.base.terms;
         match verify_attach_as_receiver(alloc, &terms.source, &terms.target, attach) {
-            Ok(()) => self.accept(alloc, attach),
+            Ok(()) => self.accept(alloc, attach, state),
             Err(ReceiverAttachError::Memory) => Err(AllocError),
             Err(error) => {
                 let _ = self.base.on_incoming_attach(attach);
@@ -98,21 +93,66 @@ impl ReceiverLink {
         }
     }
 
-    /// Takes over what the peer's Attach says, which the state allows. Growths come first.
-    fn accept(&mut self, alloc: Global, attach: &Attach) -> Result<Attached, AllocError>
-        requires { IsSome (took_attach self.old.base attach.now) }
-        ensures { TakesAttach (took_attach self.old.base attach.now) None self.old attach.now result self.new }
+    /// Takes over what the peer's Attach says, and brings the link into this state. Growths come first.
+    fn accept(
+        &mut self,
+        alloc: Global,
+        attach: &Attach,
+        state: LinkState,
+    ) -> Result<Attached, AllocError>
+        ensures { Accepts (moved_to self.old.base attach.now state) self.old attach.now result self.new }
     {
-        let properties = merged_properties(alloc, &self.properties, &attach.properties)?;
-        let terms = adopted(alloc, &self.base.terms, attach)?;
-        let _ = self.base.on_incoming_attach(attach);
-        self.base.terms = terms;
-        self.end.attach(attach.initial_delivery_count.unwrap_or(0));
-        self.properties = properties;
-        Ok(Attached::Attached {
-            exchange: AttachExchange::of_receiver(self.base.local_state, &attach.unsettled),
-        })
+        let properties = merged_properties(alloc, &self.properties, &attach.properties);
+        match both(adopted(alloc, &self.base.terms, attach), properties) {
+            Err(error) => Err(error),
+            Ok(taken) => {
+                self.adopt(attach, state, taken);
+                Ok(Attached::Attached {
+                    exchange: AttachExchange::of_receiver(state, &attach.unsettled),
+                })
+            }
+        }
     }
+
+    /// Brings the link into the state that an Attach leads to, with these terms and these properties. It takes no
+    /// memory.
+    fn adopt(&mut self, attach: &Attach, state: LinkState, taken: Taken)
+        ensures { self.new ≡ record self.old {
+          base = record (moved_to self.old.base attach.now state) { terms = taken.0 };
+          end = record self.old.end {
+            flow = attached self.old.end.flow (unwrap_or attach.now.initial_delivery_count 0);
+          };
+          properties = taken.1;
+        } }
+    {
+        let (terms, properties) = taken;
+        self.base.local_state = state;
+        self.base.input_handle = Some(InputHandle(attach.handle.0));
+        put(&mut self.base.terms, terms);
+        self.end.attach(attach.initial_delivery_count.unwrap_or(0));
+        put(&mut self.properties, properties);
+    }
+}
+
+/// The terms and the properties of a link once an Attach is taken over.
+type Taken = (Boxed<Terms>, Option<Boxed<Fields>>);
+
+/// Both values, where there was memory for each.
+fn both<A: Drop, B: Drop>(
+    first: Result<A, AllocError>,
+    second: Result<B, AllocError>,
+) -> Result<(A, B), AllocError>
+    ensures { IfOk result (λ c. (first ≡ Ok c.0) × (second ≡ Ok c.1)) }
+{
+    let second = second?;
+    Ok((first?, second))
+}
+
+/// Puts a value in the place of another.
+fn put<T: Drop>(place: &mut T, value: T)
+    ensures { place.new ≡ value }
+{
+    *place = value;
 }
 
 /// An Attach with these deliveries, or the first half of them, or the first quarter, and so on, as a frame of so many
@@ -130,7 +170,7 @@ fn with_list(attach: Attach, list: UnsettledList, limit: u32) -> Result<Attach, 
 fn adopted(alloc: Global, own: &Terms, attach: &Attach) -> Result<Boxed<Terms>, AllocError>
     ensures { IfOk result (λ terms. terms ≡ adopted_by_receiver own.now attach.now) }
 {
-    let (source, target) = termini(&attach.source, &own.target)?;
+    let (source, target) = both(attach.source.clone(), own.target.clone())?;
     Boxed::new(
         alloc,
         Terms {
@@ -141,15 +181,4 @@ fn adopted(alloc: Global, own: &Terms, attach: &Attach) -> Result<Boxed<Terms>, 
             max_message_size: get_max_message_size(own.max_message_size, attach.max_message_size),
         },
     )
-}
-
-/// Clones of the termini.
-fn termini(
-    source: &Option<Source>,
-    target: &Option<TargetArchetype>,
-) -> Result<(Option<Source>, Option<TargetArchetype>), AllocError>
-    ensures { IfOk result (λ c. (c.0 ≡ source.now) × (c.1 ≡ target.now)) }
-{
-    let target = target.clone()?;
-    Ok((source.clone()?, target))
 }

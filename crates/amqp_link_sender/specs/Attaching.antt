@@ -13,7 +13,6 @@ use Rattle.amqp_link_attach.specs.Properties.{merged}
 use Rattle.amqp_link_attach.specs.Terms.{adopted_by_sender}
 use Rattle.amqp_link_attach.specs.Tests.{first_of}
 use Rattle.amqp_link_attach.specs.declared.exchange.AttachExchange.{AttachExchange}
-use Rattle.amqp_link_attach.specs.declared.state.LinkState.{LinkState}
 use Rattle.amqp_link_base.specs.Moves.{sent_attach, took_attach}
 use Rattle.amqp_link_base.specs.Own.{own_attach}
 use Rattle.amqp_link_base.specs.declared.base.LinkBase.{LinkBase}
@@ -58,10 +57,6 @@ attach_sent_anew s =
     option_map
     (λ (moved : LinkBase). record (with_attach_sent s moved) { messages = failed s.messages failure.Closed })
     (sent_attach s.base false)
-
--- the link in another state, with the handle that the peer's Attach gives it
-abbrev pub moved_to : LinkBase → Attach → LinkState → LinkBase
-moved_to b attach state = record b { local_state = state; input_handle = Some (record { 0 = attach.handle.0 }) }
 
 -- what the receiver's Attach is refused for
 abbrev pub attach_refusal : Sending → Attach → Option SenderAttachError

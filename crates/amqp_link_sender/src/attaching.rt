@@ -7,7 +7,8 @@ ghost use Rattle.amqp_link_attach.specs.Tests.{FirstOf};
 ghost use Rattle.amqp_link_sender_messages.specs.Exchanging.{aborts, exchanged};
 ghost use Rattle.amqp_link_unsettled.specs.Listing.{FitsNowhere, Lists};
 ghost use Rattle.amqp_link_unsettled.specs.declared.listing.ListError.TheVariants.{TooLarge};
-ghost use Rattle.amqp_link_sender.specs.Attaching.{TakesAttach, TakesOver, TellsAttach, abort_transfer, attach_sent, attach_sent_anew, moved_to};
+ghost use Rattle.amqp_link_base.specs.Moves.{moved_to};
+ghost use Rattle.amqp_link_sender.specs.Attaching.{TakesAttach, TakesOver, TellsAttach, abort_transfer, attach_sent, attach_sent_anew};
 ghost use Rattle.amqp_link_sender.specs.Sending.{MovesLink};
 
 use crate::link::SenderLink;
