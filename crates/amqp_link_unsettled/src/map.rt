@@ -1,5 +1,5 @@
 //! The unsettled deliveries of a link, in the order in which they were registered (part 2, 2.6.12).
-ghost use Rattle.std.specs.Prelude.{◌≡◌, ℕ, ◌==◌, ◌+◌, ◌-◌, ◌<◌, ◌≤◌, ◌^◌, List, [], ◌∷◌, ◌++◌, length, max, is_some, None, Some, IsSome, IfNone, IsOk, OnOk, OnErr, option_copied, filter, reverse};
+ghost use Rattle.std.specs.Prelude.{◌≡◌, ℕ, ◌==◌, ◌+◌, ◌-◌, ◌<◌, ◌≤◌, ◌^◌, List, [], ◌∷◌, ◌++◌, length, max, is_some, None, Some, IsSome, IfSome, IfNone, IsOk, OnOk, OnErr, option_copied, filter, reverse};
 ghost use Rattle.std.specs.List.{IsDistinct};
 ghost use Rattle.std.specs.Map.{keys_of, lookup, remove_entry, set_value};
 ghost use Rattle.std.specs.Map.Iter.{ShowsInOrder, deref_pair};
@@ -40,6 +40,19 @@ impl<M> Model for UnsettledMap<M> {
     ghost view = { λ u. record { entries = live u.slots.entries; room = u.room } };
 
     ghost invariant = { λ u. (u.count ≡ length (live u.slots.entries)) × (u.room ≤ spare u.slots) };
+}
+
+/// What keeps something that is told of its delivery.
+pub trait Noting {
+    /// What is told.
+    type Note: Drop;
+
+    /// It, once this is told.
+    ghost noted: { Self → Self.Note → Self };
+
+    /// Notes what is told.
+    fn note(&mut self, note: Self::Note)
+        ensures { self.new ≡ noted self.old note };
 }
 
 impl<M: Drop> UnsettledMap<M> {
@@ -95,6 +108,24 @@ impl<M: Drop> UnsettledMap<M> {
             ≡ record self.old { entries = set_value (bytes_eq tag.now) self.old.entries message } }
     {
         exchange(&mut self.slots, tag, message)
+    }
+
+    /// Notes something of the delivery with this tag, which there must be.
+    pub fn note(&mut self, tag: &DeliveryTag, note: M::Note)
+    where
+        M: Noting,
+        requires { IsSome (lookup (bytes_eq tag.now) self.old.entries) }
+        ensures { IfSome (lookup (bytes_eq tag.now) self.old.entries) (λ m. self.new
+            ≡ record self.old { entries = set_value (bytes_eq tag.now) self.old.entries (M.noted m note) }) }
+    {
+        note_in(&mut self.slots, tag, note);
+    }
+
+    /// For how many more deliveries there is room.
+    pub fn room(&self) -> usize
+        ensures { result ≡ self.now.room }
+    {
+        self.room
     }
 
     /// Makes room, so that so many more deliveries are registered without memory. Where there is none nothing changes.
@@ -229,6 +260,27 @@ fn exchange<M: Drop>(
         unreachable!()
     };
     slot.replace(message).unwrap()
+}
+
+/// Notes something of the value of a tag, which has one.
+#[tactic(auto, using(crate::proofs::Live::rules))]
+fn note_in<M: Noting + Drop>(
+    slots: &mut IndexMap<DeliveryTag, Option<M>>,
+    tag: &DeliveryTag,
+    note: M::Note,
+)
+    requires { IsSome (lookup (bytes_eq tag.now) (live slots.old.entries)) }
+    ensures entries { IfSome (lookup (bytes_eq tag.now) (live slots.old.entries)) (λ m. live slots.new.entries
+        ≡ set_value (bytes_eq tag.now) (live slots.old.entries) (M.noted m note)) }
+    ensures room { spare slots.new ≡ spare slots.old }
+{
+    let Some(slot) = slots.get_mut(tag) else {
+        unreachable!()
+    };
+    let Some(message) = slot else {
+        unreachable!()
+    };
+    message.note(note);
 }
 
 /// Takes the value of a tag out, if it has one.

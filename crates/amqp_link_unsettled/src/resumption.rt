@@ -1,5 +1,5 @@
 //! What becomes of a delivery that was interrupted (part 2, 2.6.13; part 3, 3.4.6).
-ghost use Rattle.std.specs.Prelude.{◌≡◌, true};
+ghost use Rattle.std.specs.Prelude.{◌≡◌, true, option_copied};
 ghost use Rattle.amqp_link_unsettled.specs.Resumption.{decision, resumption, unless_past, told_or_restated, is_past, is_same_kind};
 ghost use Rattle.amqp_link_unsettled.specs.declared.resumption.ResumingDelivery.TheVariants as resuming;
 
@@ -49,8 +49,8 @@ const START: Received = Received {
 
 /// What becomes of a delivery by the state that was told of it last, and by what the peer's list of unsettled
 /// deliveries says of it: nothing where it isn't in that list, or else a state or null.
-pub fn decide(told: &Option<DeliveryState>, listed: &Option<Option<DeliveryState>>) -> Decision
-    ensures { result ≡ decision told.now listed.now }
+pub fn decide(told: &Option<DeliveryState>, listed: Option<&Option<DeliveryState>>) -> Decision
+    ensures { result ≡ decision told.now (option_copied listed.entry) }
 {
     match (told, listed) {
         (None, None) => Decision::Resend,
@@ -120,7 +120,7 @@ pub fn resume_delivery(
 ) -> (Option<ResumingDelivery>, Option<DeliveryState>)
     ensures { result ≡ resumption local remote }
 {
-    match decide(&local.state, &remote) {
+    match decide(&local.state, remote.as_ref()) {
         Decision::Resend => (Some(ResumingDelivery::Resend(local)), None),
         Decision::ResumeFrom(place) => (Some(ResumingDelivery::Resume(local, place)), None),
         Decision::Abort => (Some(aborted(local)), None),
