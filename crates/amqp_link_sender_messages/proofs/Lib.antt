@@ -1,3 +1,4 @@
+pub mod Noting
 pub mod Tagging
 pub mod Failing
 pub mod Rows

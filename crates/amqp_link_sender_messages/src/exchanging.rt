@@ -1,10 +1,8 @@
 //! stand-in
 ghost use Rattle.std.specs.Prelude.{◌≡◌, IfOk, OnOk, OnErr};
-ghost use Rattle.amqp_link_unsettled.specs.Listing.{entries_listed};
 ghost use Rattle.amqp_link_sender_messages.specs.Exchanging.{exchanged, aborts};
 
 use crate::messages::Messages;
-use amqp_link_unsettled::UnsettledList;
 use amqp_session_states::DeliveryState;
 use amqp_session_types::DeliveryTag;
 use serde_amqp_map::OrderedMap;
@@ -20,13 +18,6 @@ pub struct Abort {
 }
 
 impl Messages {
-    /// stand-in
-    pub fn list(&self, alloc: Global) -> Result<UnsettledList, AllocError>
-        ensures { IfOk result (λ l. l ≡ entries_listed (λ m. m.state) self.now.unsettled) }
-    {
-        Err(AllocError)
-    }
-
     /// stand-in
     pub fn exchange(
         &mut self,

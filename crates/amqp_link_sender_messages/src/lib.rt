@@ -6,7 +6,6 @@
 
 mod entry;
 mod exchanging;
-mod map;
 mod messages;
 mod open;
 mod resolution;

@@ -1,18 +1,19 @@
 //! The messages of a sending link (part 2, 2.6.12 and 2.6.13).
-ghost use Rattle.std.specs.Prelude.{◌≡◌, ◌+◌, ◌-◌, ◌<◌, ◌≤◌, [], ◌∷◌, ◌++◌, length, drop, map, max, not, filter, is_some, None, Some, IsSome, IfNone, OnOk, OnErr, option_copied};
+ghost use Rattle.std.specs.Prelude.{◌≡◌, ◌+◌, ◌-◌, ◌<◌, ◌≤◌, [], ◌∷◌, ◌++◌, length, drop, map, max, not, filter, is_some, None, Some, IsSome, IfNone, IfOk, OnOk, OnErr, option_copied};
 ghost use Rattle.std.specs.List.{IsDistinct};
 ghost use Rattle.std.specs.Map.{keys_of, lookup, remove_entry, set_value};
 ghost use Rattle.std.specs.Option.{option_to_list};
 ghost use Rattle.std.specs.Str.{bytes_eq};
 ghost use Rattle.std.specs.VecDeque.{deque_len, deque_capacity};
+ghost use Rattle.amqp_link_unsettled.specs.Listing.{entries_listed};
 ghost use Rattle.amqp_link_sender_messages.specs.Messages.{no_messages, first_of, open_at, opened, waiting_but, resolved_as, told_at, disposed, failed, interrupted};
 ghost use Rattle.amqp_link_sender_messages.specs.Tagged.{AreTagged};
 ghost use Rattle.amqp_link_sender_messages.specs.declared.resolution.Resolution.TheVariants.{Failed};
 
 use crate::entry::Entry;
-use crate::map::TagMap;
 use crate::open::{Open, Waiting};
 use crate::resolution::{Failure, Resolution, ends};
+use amqp_link_unsettled::{UnsettledList, UnsettledMap};
 use amqp_session_states::DeliveryState;
 use amqp_session_types::DeliveryTag;
 use std::alloc::{AllocError, Global};
@@ -25,7 +26,7 @@ use std::marker::Model;
 /// Whatever ends a message takes no memory: as a message is entered, there is room for what becomes of it.
 #[derive(Drop)]
 pub struct Messages {
-    unsettled: TagMap<Open>,
+    unsettled: UnsettledMap<Open>,
     resolved: VecDeque<(DeliveryTag, Resolution)>,
     waiting: VecDeque<Waiting>,
 }
@@ -55,7 +56,7 @@ impl Messages {
         ensures { result ≡ no_messages }
     {
         Messages {
-            unsettled: TagMap::new(alloc),
+            unsettled: UnsettledMap::new(alloc),
             resolved: VecDeque::new(alloc),
             waiting: VecDeque::new(alloc),
         }
@@ -88,6 +89,14 @@ impl Messages {
         ensures { option_copied result ≡ first_of self.now.waiting }
     {
         self.waiting.front()
+    }
+
+    /// The open messages as an Attach lists them: in order, with the states that the peer told of them (part 2, 2.7.3). It
+    /// is refused where there is no memory for them.
+    pub fn list(&self, alloc: Global) -> Result<UnsettledList, AllocError>
+        ensures { IfOk result (λ l. l ≡ entries_listed (λ m. m.state) self.now.unsettled) }
+    {
+        self.unsettled.list(alloc)
     }
 
     /// Makes room, so that so many more messages are entered without memory. Where there is none nothing changes.
@@ -175,8 +184,9 @@ impl Messages {
         settle(&mut self.unsettled, &mut self.resolved, tag, resolution);
     }
 
-    /// Notes the state that the peer told of the message with this tag, if it is open.
+    /// Notes the state that the peer told of the message with this tag, which is open.
     fn note(&mut self, tag: &DeliveryTag, state: Option<DeliveryState>)
+        requires { IsSome (open_at self.old tag.now) }
         ensures { self.new ≡ record self.old {
           unsettled
               = told_at self.old.unsettled tag.now (open_at self.old tag.now) state;
@@ -188,7 +198,7 @@ impl Messages {
 
 /// Makes room for so many more open messages, and for what becomes of them.
 fn reserve_both(
-    unsettled: &mut TagMap<Open>,
+    unsettled: &mut UnsettledMap<Open>,
     resolved: &mut VecDeque<(DeliveryTag, Resolution)>,
     count: usize,
 ) -> Result<(), AllocError>
@@ -219,7 +229,7 @@ fn stop_waiting(waiting: &mut VecDeque<Waiting>, tag: &DeliveryTag)
 
 /// Takes the message with this tag, which is open, out of those that are, and puts what became of it behind the others.
 fn settle(
-    unsettled: &mut TagMap<Open>,
+    unsettled: &mut UnsettledMap<Open>,
     resolved: &mut VecDeque<(DeliveryTag, Resolution)>,
     tag: &DeliveryTag,
     resolution: Resolution,
@@ -236,21 +246,21 @@ fn settle(
     resolved.push_back_reserved((tag, resolution));
 }
 
-/// Notes the state that the peer told of the message with this tag, if it is open.
-fn note_in(unsettled: &mut TagMap<Open>, tag: &DeliveryTag, state: Option<DeliveryState>)
+/// Notes the state that the peer told of the message with this tag, which is open.
+#[tactic(auto, using(crate::proofs::Noting::is_told))]
+fn note_in(unsettled: &mut UnsettledMap<Open>, tag: &DeliveryTag, state: Option<DeliveryState>)
+    requires { IsSome (lookup (bytes_eq tag.now) unsettled.old.entries) }
     ensures { unsettled.new ≡ record unsettled.old {
       entries
           = told_at unsettled.old.entries tag.now (lookup (bytes_eq tag.now) unsettled.old.entries) state;
     } }
 {
-    if let Some(message) = unsettled.get_mut(tag) {
-        message.tell(state);
-    }
+    unsettled.note(tag, state);
 }
 
 /// All open messages end without an outcome, in order.
 fn fail_all(
-    unsettled: &mut TagMap<Open>,
+    unsettled: &mut UnsettledMap<Open>,
     resolved: &mut VecDeque<(DeliveryTag, Resolution)>,
     failure: Failure,
 )
@@ -267,7 +277,7 @@ fn fail_all(
 }
 
 /// Takes the last open message out, and answers its tag.
-fn pop_tag(unsettled: &mut TagMap<Open>) -> Option<DeliveryTag>
+fn pop_tag(unsettled: &mut UnsettledMap<Open>) -> Option<DeliveryTag>
     ensures tags { keys_of unsettled.old.entries ≡ keys_of unsettled.new.entries ++ option_to_list result }
     ensures room { unsettled.new.room ≡ unsettled.old.room }
     ensures none { IfNone result (unsettled.new.entries ≡ []) }

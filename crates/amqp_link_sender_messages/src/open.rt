@@ -2,9 +2,11 @@
 ghost use Rattle.std.specs.Prelude.{◌≡◌};
 ghost use Rattle.amqp_link_sender_messages.specs.Told.{told};
 
+use amqp_link_unsettled::{Listed, Noting};
 use amqp_session_states::{DeliveryState, Received};
 use amqp_session_types::DeliveryTag;
 use bytes::Bytes;
+use std::alloc::AllocError;
 
 /// A message that was sent unsettled, and of which the outcome isn't known yet (part 2, 2.6.12).
 #[derive(Debug, Drop)]
@@ -26,12 +28,25 @@ impl Open {
     {
         self.tag
     }
+}
 
-    /// The peer told this state of the message.
-    pub(crate) fn tell(&mut self, state: Option<DeliveryState>)
-        ensures { self.new ≡ told self.old state }
-    {
-        self.state = state;
+/// The peer tells a state of the message.
+impl Noting for Open {
+    type Note = Option<DeliveryState>;
+
+    ghost noted = { told };
+
+    fn note(&mut self, note: Option<DeliveryState>) {
+        self.state = note;
+    }
+}
+
+/// An Attach lists the message with the state that the peer told of it.
+impl Listed for Open {
+    ghost listed = { λ m. m.state };
+
+    fn listed_state(&self) -> Result<Option<DeliveryState>, AllocError> {
+        Ok(self.state.clone()?)
     }
 }
 

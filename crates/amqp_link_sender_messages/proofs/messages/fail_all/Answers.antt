@@ -2,7 +2,7 @@ use Rattle.std.proofs.Common.{◌+◌, ℕ, List, ◌++◌, length, map, reverse
 use Rattle.std.proofs.lemmas.List.{length-reverse}
 use Rattle.std.specs.Map.{keys_of}
 use Rattle.std.specs.VecDeque.{deque_len}
-use Rattle.amqp_link_sender_messages.specs.Entries.{Kept}
+use Rattle.amqp_link_unsettled.specs.Entries.{Kept}
 use Rattle.amqp_link_sender_messages.specs.declared.open.Open.{Open}
 use Rattle.amqp_link_sender_messages.specs.declared.resolution.Resolution.TheVariants.{Failed}
 use Rattle.amqp_link_sender_messages.proofs.Failing.{failing-none}

@@ -1,7 +1,7 @@
 use Rattle.std.proofs.Common.{◌≡◌, ℕ, List, [], ◌∷◌, ◌++◌, Some, sym, ap, ◌∙◌, arith, length}
 use Rattle.std.specs.Map.{lookup}
 use Rattle.std.specs.Str.{bytes_eq}
-use Rattle.amqp_link_sender_messages.specs.Entries.{Kept}
+use Rattle.amqp_link_unsettled.specs.Entries.{Kept}
 use Rattle.amqp_link_sender_messages.specs.declared.open.Open.{Open}
 use Rattle.amqp_link_sender_messages.proofs.Tagging.{tagged-lookup, length-remove_open}
 use Rattle.amqp_link_sender_messages.proofs.messages.settle.Goals as goal

@@ -1,7 +1,7 @@
 use Rattle.std.proofs.Common.{sym, ap, subst, arith, refl, length, ◌∙◌}
 use Rattle.std.specs.Map.{lookup}
 use Rattle.std.specs.Str.{bytes_eq}
-use Rattle.amqp_link_sender_messages.specs.Entries.{Kept}
+use Rattle.amqp_link_unsettled.specs.Entries.{Kept}
 use Rattle.amqp_link_sender_messages.specs.declared.open.Open.{Open}
 use Rattle.amqp_link_sender_messages.specs.Tagged.{AreTagged}
 use Rattle.amqp_link_sender_messages.proofs.Tagging.{tagged-told, length-told}

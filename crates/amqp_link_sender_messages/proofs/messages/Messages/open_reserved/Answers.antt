@@ -1,6 +1,6 @@
 use Rattle.std.proofs.Common.{◌+◌, ◌≤◌, length, sym, ap, subst, arith, length-append}
 use Rattle.std.specs.VecDeque.{deque_len, deque_capacity}
-use Rattle.amqp_link_sender_messages.specs.Entries.{Kept}
+use Rattle.amqp_link_unsettled.specs.Entries.{Kept}
 use Rattle.amqp_link_sender_messages.specs.declared.open.Open.{Open}
 use Rattle.amqp_link_sender_messages.specs.Messages.{MessageLists}
 use Rattle.amqp_link_sender_messages.specs.Tagged.{AreTagged}

@@ -1,5 +1,5 @@
 use Rattle.std.proofs.Common.{sym, ap, subst, arith}
-use Rattle.amqp_link_sender_messages.specs.Entries.{Kept}
+use Rattle.amqp_link_unsettled.specs.Entries.{Kept}
 use Rattle.amqp_link_sender_messages.specs.declared.open.Open.{Open}
 use Rattle.amqp_link_sender_messages.specs.Tagged.{AreTagged}
 use Rattle.amqp_link_sender_messages.proofs.Tagging.{tagged-remove}
