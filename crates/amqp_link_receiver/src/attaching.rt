@@ -10,7 +10,8 @@ ghost use Rattle.amqp_link_receiver.specs.Attaching.{unlisted, to_list, attach_s
 
 use crate::link::ReceiverLink;
 use amqp_link_attach::{
-    AttachExchange, LinkState, Terms, get_max_message_size, merged_properties, verify_attach_as_receiver,
+    AttachExchange, LinkState, Terms, get_max_message_size, merged_properties,
+    verify_attach_as_receiver,
 };
 use amqp_link_base::IllegalState;
 use amqp_link_types::ReceiverAttachError;

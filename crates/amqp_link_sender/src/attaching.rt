@@ -13,7 +13,8 @@ ghost use Rattle.amqp_link_sender.specs.Sending.{MovesLink};
 
 use crate::link::SenderLink;
 use amqp_link_attach::{
-    AttachExchange, LinkState, Terms, get_max_message_size, merged_properties, verify_attach_as_sender,
+    AttachExchange, LinkState, Terms, get_max_message_size, merged_properties,
+    verify_attach_as_sender,
 };
 use amqp_link_base::IllegalState;
 use amqp_link_sender_messages::{Abort, Failure, Messages};

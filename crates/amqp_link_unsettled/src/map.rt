@@ -277,9 +277,7 @@ fn note_in<M: Noting + Drop>(
     let Some(slot) = slots.get_mut(tag) else {
         unreachable!()
     };
-    let Some(message) = slot else {
-        unreachable!()
-    };
+    let Some(message) = slot else { unreachable!() };
     message.note(note);
 }
 
