@@ -6,6 +6,7 @@
 
 mod entry;
 mod exchanging;
+mod fate;
 mod messages;
 mod open;
 mod resolution;

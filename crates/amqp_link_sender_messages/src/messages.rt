@@ -1,11 +1,13 @@
 //! The messages of a sending link (part 2, 2.6.12 and 2.6.13).
-ghost use Rattle.std.specs.Prelude.{◌≡◌, ◌+◌, ◌-◌, ◌<◌, ◌≤◌, [], ◌∷◌, ◌++◌, length, drop, map, max, not, filter, is_some, None, Some, IsSome, IfNone, IfOk, OnOk, OnErr, option_copied};
+ghost use Rattle.std.specs.Prelude.{◌≡◌, ℕ, List, ◌+◌, ◌-◌, ◌<◌, ◌≤◌, [], ◌∷◌, ◌++◌, length, drop, map, max, not, filter, is_some, None, Some, IsSome, IfNone, IfOk, OnOk, OnErr, option_copied};
 ghost use Rattle.std.specs.List.{IsDistinct};
 ghost use Rattle.std.specs.Map.{keys_of, lookup, remove_entry, set_value};
 ghost use Rattle.std.specs.Option.{option_to_list};
 ghost use Rattle.std.specs.Str.{bytes_eq};
 ghost use Rattle.std.specs.VecDeque.{deque_len, deque_capacity};
+ghost use Rattle.std.specs.Map.Iter.{ShowsInOrder, deref_pair};
 ghost use Rattle.amqp_link_unsettled.specs.Listing.{entries_listed};
+ghost use Rattle.amqp_link_sender_messages.specs.Exchanging.{ended_at};
 ghost use Rattle.amqp_link_sender_messages.specs.Messages.{no_messages, first_of, open_at, opened, waiting_but, resolved_as, told_at, disposed, failed, interrupted};
 ghost use Rattle.amqp_link_sender_messages.specs.Tagged.{AreTagged};
 ghost use Rattle.amqp_link_sender_messages.specs.declared.resolution.Resolution.TheVariants.{Failed};
@@ -13,7 +15,7 @@ ghost use Rattle.amqp_link_sender_messages.specs.declared.resolution.Resolution.
 use crate::entry::Entry;
 use crate::open::{Open, Waiting};
 use crate::resolution::{Failure, Resolution, ends};
-use amqp_link_unsettled::{UnsettledList, UnsettledMap};
+use amqp_link_unsettled::{Iter, UnsettledList, UnsettledMap};
 use amqp_session_states::DeliveryState;
 use amqp_session_types::DeliveryTag;
 use std::alloc::{AllocError, Global};
@@ -175,6 +177,30 @@ impl Messages {
 }
 
 impl Messages {
+    /// The open messages by their tags, in the order in which they were accepted.
+    pub(crate) fn iter(&self) -> Iter<'_, Open>
+        ensures rest { result ≡ self.now.unsettled }
+        ensures runs { ShowsInOrder (deref_pair {K = List ℕ} {X = Open}) }
+    {
+        self.unsettled.iter()
+    }
+
+    /// The message with this tag ends, if it is open.
+    pub(crate) fn end(&mut self, tag: &DeliveryTag, resolution: Resolution)
+        ensures { self.new ≡ ended_at self.old tag.now resolution (open_at self.old tag.now) }
+    {
+        if self.unsettled.contains(tag) {
+            self.resolve(tag, resolution);
+        }
+    }
+
+    /// These messages wait to be sent on, and no others.
+    pub(crate) fn set_waiting(&mut self, waiting: VecDeque<Waiting>)
+        ensures { self.new ≡ record self.old { waiting = waiting.items } }
+    {
+        self.waiting = waiting;
+    }
+
     /// The message with this tag, which is open, comes to its end.
     fn resolve(&mut self, tag: &DeliveryTag, resolution: Resolution)
         requires { IsSome (open_at self.old tag.now) }
