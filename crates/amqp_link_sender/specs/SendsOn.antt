@@ -1,10 +1,10 @@
 -- How messages are sent on once their link is attached again: part 2, 2.6.13, and part 3, 3.4.6.
-use Rattle.std.specs.Prelude.{ℕ, ◌==◌, ◌^◌, ◌&&◌, not, Bool, true, false, List, drop, length, nat_lt, Option, Some, None, option_map, if◌then◌else◌}
+use Rattle.std.specs.Prelude.{ℕ, ◌==◌, ◌&&◌, not, Bool, true, false, List, drop, Option, Some, None, option_map, if◌then◌else◌}
 use Rattle.amqp_session_performatives.specs.declared.transfer.Transfer.{Transfer}
 use Rattle.amqp_session_states.specs.declared.delivery_state.DeliveryState.TheVariants.{Received as ReceivedState}
 use Rattle.amqp_session_states.specs.declared.received.Received.{Received}
 use Rattle.amqp_link_attach.specs.State.{is_attached}
-use Rattle.amqp_link_place.specs.Starts.{read_at}
+use Rattle.amqp_link_sender_messages.specs.Exchanging.{bytes_before}
 use Rattle.amqp_link_sender_messages.specs.Messages.{first_of, open_at}
 use Rattle.amqp_link_sender_messages.specs.declared.open.Open.{Open}
 use Rattle.amqp_link_sender_messages.specs.declared.open.Resumption.{Resumption}
@@ -17,10 +17,6 @@ use Rattle.amqp_link_sender.specs.Sends.{first_transfer, spent}
 -- the place at which a message starts
 abbrev pub start : Received
 start = record { section_number = 0; section_offset = 0 }
-
--- how many bytes of a message stand before a place; none where there is no such place in it
-abbrev pub bytes_before : List ℕ → Received → Option ℕ
-bytes_before payload place = if nat_lt (length payload) (2 ^ 32) then read_at payload place else None
 
 -- the first transfer of a message that is resumed at a place, and not sent anew
 abbrev pub resuming_transfer : Open → Received → Transfer

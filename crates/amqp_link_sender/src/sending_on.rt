@@ -1,11 +1,10 @@
 //! How messages are sent on once their link is attached again (part 2, 2.6.13).
 ghost use Rattle.std.specs.Prelude.{◌≡◌, ◌<◌, drop, true, false, Some, None, IsOk, IfOk};
 ghost use Rattle.amqp_link_sender.specs.Sends.{first_transfer};
-ghost use Rattle.amqp_link_sender.specs.SendsOn.{bytes_before, can_send_on, next_on, prepared_on, resumed_behind, resuming_transfer, sent_on};
+ghost use Rattle.amqp_link_sender.specs.SendsOn.{can_send_on, next_on, prepared_on, resumed_behind, resuming_transfer, sent_on};
 
 use crate::link::SenderLink;
 use crate::sending::first_transfer;
-use amqp_link_place::read_place;
 use amqp_link_sender_messages::{Open, Resumption};
 use amqp_session_performatives::Transfer;
 use amqp_session_states::{DeliveryState, Received};
@@ -77,7 +76,7 @@ fn prepared_on(message: &Open, resumption: Resumption) -> Result<PreparedSendOn,
 {
     match resumption {
         Resumption::Resend => sent_anew(message),
-        Resumption::Resume(place) => resumed(message, place, bytes_before(&message.payload, place)),
+        Resumption::Resume(place) => resumed(message, place, message.bytes_before(place)),
     }
 }
 
@@ -148,14 +147,4 @@ fn resuming_transfer(tag: DeliveryTag, message_format: u32, place: Received) -> 
         aborted: false,
         batchable: false,
     }
-}
-
-/// How many bytes of a message stand before a place; None where there is no such place in it.
-fn bytes_before(payload: &Bytes, place: Received) -> Option<usize>
-    ensures { result ≡ bytes_before payload.now place }
-{
-    if payload.len() >= 1 << 32 {
-        return None;
-    }
-    read_place(payload, place)
 }

@@ -91,7 +91,13 @@ impl Gathering {
     {
         let key = tag.clone()?;
         push_back(&mut self.ended, (key, Resolution::Aborted))?;
-        push(&mut self.aborts, Abort { tag, message_format })
+        push(
+            &mut self.aborts,
+            Abort {
+                tag,
+                message_format,
+            },
+        )
     }
 }
 
@@ -196,7 +202,13 @@ fn gather_unknown(
     while let Some((tag, _)) = list.next() {
         if !messages.is_open(tag) {
             let tag = tag.clone()?;
-            push(given_up, Abort { tag, message_format: 0 })?;
+            push(
+                given_up,
+                Abort {
+                    tag,
+                    message_format: 0,
+                },
+            )?;
         }
     }
     Ok(())
