@@ -1,0 +1,4 @@
+pub mod Standing
+pub mod Ends
+pub mod Gives
+pub mod Lends
