@@ -1,0 +1,63 @@
+-- What the owner of a link does: part 2, 2.6.
+use Rattle.std.specs.Prelude.{◌≡◌, ℕ, Bool, true, false, List, Option, Some, Result}
+use Rattle.amqp_session_types.specs.declared.handles.OutputHandle.{OutputHandle}
+use Rattle.amqp_session_states.specs.declared.delivery_state.DeliveryState.{DeliveryState}
+use Rattle.amqp_link_base.specs.declared.base.IllegalState.{IllegalState}
+use Rattle.amqp_link_flow.specs.Flows.{draining}
+use Rattle.amqp_link_ends.specs.declared.end.End.{End}
+use Rattle.amqp_link_ends.specs.declared.end.End.TheVariants.{Sender, Receiver}
+use Rattle.amqp_link_receiver.specs.Attaching as receiver_attaching
+use Rattle.amqp_link_receiver.specs.Disposing.{disposed_of}
+use Rattle.amqp_link_receiver.specs.Ending as receiver_ending
+use Rattle.amqp_link_receiver.specs.Flowing.{credited, with_flow}
+use Rattle.amqp_link_receiver.specs.State.{MovesLink, ReceiverState}
+use Rattle.amqp_link_sender.specs.Sending.{Sending}
+use Rattle.amqp_link_laws.specs.History.{SenderStep, SenderSteps, TakesItsAttach, TakesFlow, TakesDisposition, TakesItsDetach}
+
+-- a step that isn't a frame of the receiver is the owner's
+abbrev pub is_owners : SenderStep → Bool
+is_owners (TakesItsAttach attach answer) = false
+is_owners (TakesFlow flow) = false
+is_owners (TakesDisposition tag settled state) = false
+is_owners (TakesItsDetach closed error answer) = false
+is_owners step = true
+
+-- the owner of a sending link does one thing
+pub record OwnsSender (old new : Sending) : Type 0 where
+  pub step : SenderStep
+  pub owned : is_owners step ≡ true
+  pub steps : SenderSteps old step new
+
+pub data ReceiverCall : Type 0 where
+  -- so much credit is given
+  Grants : (credit : ℕ) → ReceiverCall
+  -- the credit is to be used up
+  Drains : ReceiverCall
+  -- a delivery is disposed of, and settled or not
+  Disposes : (tag : List ℕ) (settled : Bool) (state : DeliveryState) → ReceiverCall
+  SendsAttach : (incomplete : Bool) (answer : Result (Unit {0}) IllegalState) → ReceiverCall
+  SendsDetach : (closed : Bool) (answer : Result (Unit {0}) IllegalState) → ReceiverCall
+  -- the connection or the session is over
+  Breaks : ReceiverCall
+  -- the own handle changes
+  Sets : (handle : Option OutputHandle) → ReceiverCall
+
+abbrev pub ReceiverCalls : ReceiverState → ReceiverCall → ReceiverState → Type 0
+ReceiverCalls old (Grants credit) new = new ≡ credited old credit
+ReceiverCalls old Drains new = new ≡ with_flow old (draining old.end.flow)
+ReceiverCalls old (Disposes tag settled state) new = new ≡ disposed_of old tag settled state
+ReceiverCalls old (SendsAttach incomplete answer) new = MovesLink (receiver_attaching.attach_sent old incomplete) old answer new
+ReceiverCalls old (SendsDetach closed answer) new = MovesLink (receiver_ending.detach_sent old closed) old answer new
+ReceiverCalls old Breaks new = new ≡ receiver_ending.broken old
+ReceiverCalls old (Sets handle) new = new ≡ record old { base = record old.base { output_handle = handle } }
+
+-- the owner of a receiving link does one thing
+pub record OwnsReceiver (old new : ReceiverState) : Type 0 where
+  pub call : ReceiverCall
+  pub calls : ReceiverCalls old call new
+
+-- the owner of a link does one thing; which end it is stays
+abbrev pub Owns : End → End → Type 0
+Owns (Sender s) (Sender t) = OwnsSender s t
+Owns (Receiver r) (Receiver t) = OwnsReceiver r t
+Owns old new = ⊥

@@ -1,0 +1,14 @@
+//! Who owns links of a session (part 2, 2.6).
+use amqp_link_ends::LinkEnd;
+use amqp_session_core::LinkOwner;
+
+/// Who makes, sends, gives credit, disposes, attaches and detaches by the calls of the two ends alone: each change that it
+/// makes of a link is one of these.
+#[derive(Debug, Clone, Copy, PartialEq, Eq)]
+pub struct Owner;
+
+impl LinkOwner<LinkEnd> for Owner {
+    ghost use Rattle.amqp_link_laws.specs.Owner.{Owns};
+
+    ghost keeps = { Owns };
+}
