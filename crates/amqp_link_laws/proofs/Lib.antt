@@ -1,3 +1,4 @@
 pub mod Counting
 pub mod Steps
 pub mod Histories
+pub mod Rows

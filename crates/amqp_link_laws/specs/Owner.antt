@@ -4,6 +4,11 @@ use Rattle.amqp_session_types.specs.declared.handles.OutputHandle.{OutputHandle}
 use Rattle.amqp_session_states.specs.declared.delivery_state.DeliveryState.{DeliveryState}
 use Rattle.amqp_link_base.specs.declared.base.IllegalState.{IllegalState}
 use Rattle.amqp_link_flow.specs.Flows.{draining}
+use Rattle.amqp_session_core.specs.Relay.{LinkHistory, LinkStep, Relations}
+use Rattle.amqp_link_receiving.specs.declared.answer.Told.{Told}
+use Rattle.amqp_link_sender.specs.declared.ending.Detached.{Detached}
+use Rattle.amqp_link_ends.specs.Gives.{attaches, flows, transfers, disposes, detaches}
+use Rattle.amqp_link_ends.specs.declared.relay.AttachTold.{AttachTold}
 use Rattle.amqp_link_ends.specs.declared.end.End.{End}
 use Rattle.amqp_link_ends.specs.declared.end.End.TheVariants.{Sender, Receiver}
 use Rattle.amqp_link_receiver.specs.Attaching as receiver_attaching
@@ -13,6 +18,16 @@ use Rattle.amqp_link_receiver.specs.Flowing.{credited, with_flow}
 use Rattle.amqp_link_receiver.specs.State.{MovesLink, ReceiverState}
 use Rattle.amqp_link_sender.specs.Sending.{Sending}
 use Rattle.amqp_link_laws.specs.History.{SenderStep, SenderSteps, TakesItsAttach, TakesFlow, TakesDisposition, TakesItsDetach}
+
+-- what an end of a link does, as its session sees it
+abbrev pub EndStep : Type 0
+EndStep = LinkStep End AttachTold Told Detached
+
+abbrev pub end_gives : Relations End AttachTold Told Detached
+end_gives = record { attaches = attaches; flows = flows; transfers = transfers; disposes = disposes; detaches = detaches }
+
+abbrev pub EndHistory : End → List EndStep → End → Type 0
+EndHistory start steps end = LinkHistory end_gives start steps end
 
 -- a step that isn't a frame of the receiver is the owner's
 abbrev pub is_owners : SenderStep → Bool

@@ -2,16 +2,7 @@
 ghost use Rattle.std.specs.Prelude.{◌≡◌, ℕ, ◌+◌, List};
 ghost use Rattle.amqp_link_sender.specs.Sending.{Sending};
 ghost use Rattle.amqp_link_laws.specs.History.{SenderHistory, SenderStep, sent_in, taken_in};
-ghost use Rattle.amqp_link_ends.specs.declared.end.End.{End};
-ghost use Rattle.amqp_link_ends.specs.declared.end.End.TheVariants as variant;
-ghost use Rattle.amqp_session_core.specs.Relay.{LinkHistory, LinkStep, OwnerKeeps};
-ghost use Rattle.amqp_link_laws.specs.Owner.{Owns};
 ghost use Rattle.amqp_link_laws.specs.Times.{times_in, times};
-
-use amqp_link_ends::{AttachTold, LinkEnd};
-use amqp_link_receiving::Told;
-use amqp_link_sender::Detached;
-use amqp_session_core::LinkRelay;
 
 /// A message that was sent unsettled is resolved at most once (part 2, 2.6.12): as often as messages with a tag were sent,
 /// so often one is open, or what became of one waits for the link's owner, or was taken by it, and never two of these for
@@ -20,13 +11,4 @@ pub fn each_message_is_resolved_at_most_once()
     ensures { (start end : Sending) (steps : List SenderStep) (tag : List ℕ) → SenderHistory start steps end →
         times_in tag end.messages.unsettled + times_in tag end.messages.resolved + times tag (taken_in steps)
         ≡ times_in tag start.messages.unsettled + times_in tag start.messages.resolved + times tag (sent_in steps) }
-{}
-
-/// A link that sends has such a history inside each history of a link as its session sees it, where its owner changes it by
-/// its calls alone: so what is said of histories of a sending link holds of links in sessions, and it sends for ever.
-pub fn a_sending_end_has_a_history_of_its_own()
-    ensures { (start : Sending) (end : End)
-        (steps : List (LinkStep End AttachTold Told Detached)) →
-        LinkHistory LinkEnd.gives (variant.Sender start) steps end → OwnerKeeps Owns steps →
-        (last : Sending) × (own : List SenderStep) × (end ≡ variant.Sender last) × SenderHistory start own last }
 {}
