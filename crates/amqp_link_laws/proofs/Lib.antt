@@ -2,3 +2,4 @@ pub mod Counting
 pub mod Steps
 pub mod Histories
 pub mod Rows
+pub mod Ends
