@@ -25,9 +25,11 @@ sender_tested None moved old new attach (inr (answer, taken)) = absurd cc
 sender_moved : (o : Option LinkBase) (old new : Sending) (attach : Attach)
     → sender.TakesMoved o old attach (Err alloc_error) new → new ≡ old
 sender_moved None old new attach (answer, same) = same
-sender_moved (Some moved) old new attach taken = sender_tested (sender.attach_refusal old attach) moved old new attach taken
+sender_moved (Some moved) old new attach taken =
+    sender_tested (sender.attach_refusal old attach) moved old new attach taken
 
-pub sender_kept : (old new : Sending) (attach : Attach) → sender.TakesAttach old attach (Err alloc_error) new → new ≡ old
+pub sender_kept : (old new : Sending) (attach : Attach) → sender.TakesAttach old attach (Err alloc_error) new
+    → new ≡ old
 sender_kept old new attach taken = sender_moved (took_attach old.base attach) old new attach taken
 
 receiver_tested : (o : Option LinkBase) (e : Option ReceiverAttachError) (old new : ReceiverState) (attach : Attach)

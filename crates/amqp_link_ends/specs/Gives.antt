@@ -38,11 +38,13 @@ use Rattle.amqp_link_ends.specs.Standing.{standing_of}
 
 -- each end takes the peer's Attach as its kind does; what refuses it is a part of what it tells
 abbrev pub attaches : End → Attach → Result AttachTold RelayError → End → Type 0
-attaches (Sender s) attach (Ok (told.Sender answer)) (Sender after) = sender_attaching.TakesAttach s attach (Ok answer) after
+attaches (Sender s) attach (Ok (told.Sender answer)) (Sender after) =
+    sender_attaching.TakesAttach s attach (Ok answer) after
 attaches (Sender s) attach (Err Memory) (Sender after) = sender_attaching.TakesAttach s attach (Err alloc_error) after
 attaches (Receiver r) attach (Ok (told.Receiver answer)) (Receiver after) =
     receiver_attaching.AttachTaken r attach (Ok answer) after
-attaches (Receiver r) attach (Err Memory) (Receiver after) = receiver_attaching.AttachTaken r attach (Err alloc_error) after
+attaches (Receiver r) attach (Err Memory) (Receiver after) =
+    receiver_attaching.AttachTaken r attach (Err alloc_error) after
 attaches old attach told new = ⊥
 
 -- a Flow reaches a link that is attached, and is dropped where the own Detach was sent

@@ -30,12 +30,15 @@ module _ (tag : List ℕ) where
     in-removed t (e ∷ es) found = by (bytes_eq t e.0) refl found (λ h. in-removed t es h)
       where
         by : (b : Bool) → bytes_eq t e.0 ≡ b → IsSome (cond b (Some e.1) (lookup (bytes_eq t) es))
-            → (IsSome (lookup (bytes_eq t) es) → times_in tag (remove_entry (bytes_eq t) es) + once_if (bytes_eq tag t) ≡ times_in tag es)
+            → (IsSome (lookup (bytes_eq t) es)
+                → times_in tag (remove_entry (bytes_eq t) es) + once_if (bytes_eq tag t) ≡ times_in tag es)
             → times_in tag (cond b es (e ∷ remove_entry (bytes_eq t) es)) + once_if (bytes_eq tag t) ≡ times_in tag (e ∷ es)
-        by true hit here later = omega (arith, ap (λ (k : List ℕ). once_if (bytes_eq tag k)) (same_text t e.0 (sym hit)))
+        by true hit here later =
+            omega (arith, ap (λ (k : List ℕ). once_if (bytes_eq tag k)) (same_text t e.0 (sym hit)))
         by false miss here later = omega (arith, later here)
 
-    pub in-set : (test : List ℕ → Bool) (es : List (List ℕ × X)) (v : X) → times_in tag (set_value test es v) ≡ times_in tag es
+    pub in-set : (test : List ℕ → Bool) (es : List (List ℕ × X)) (v : X)
+        → times_in tag (set_value test es v) ≡ times_in tag es
     in-set test [] v = refl
     in-set test (e ∷ es) v = by (test e.0) (in-set test es v)
       where
@@ -44,7 +47,8 @@ module _ (tag : List ℕ) where
         by true rest = refl
         by false rest = omega (arith, rest)
 
-    pub in-keys : {Y : Type 0} (y : Y) (es : List (List ℕ × X)) → times_in tag (map (λ (t : List ℕ). (t, y)) (keys_of es)) ≡ times_in tag es
+    pub in-keys : {Y : Type 0} (y : Y) (es : List (List ℕ × X))
+        → times_in tag (map (λ (t : List ℕ). (t, y)) (keys_of es)) ≡ times_in tag es
     in-keys y [] = refl
     in-keys y (e ∷ es) = omega (arith, in-keys y es)
 
@@ -52,32 +56,40 @@ module _ (tag : List ℕ) where
   abbrev pub total : MessageLists → ℕ
   total s = times_in tag s.unsettled + times_in tag s.resolved
 
-  pub total-resolved : (s : MessageLists) (t : List ℕ) (r : Resolution) → IsSome (open_at s t) → total (resolved_as s t r) ≡ total s
+  pub total-resolved : (s : MessageLists) (t : List ℕ) (r : Resolution) → IsSome (open_at s t)
+      → total (resolved_as s t r) ≡ total s
   total-resolved s t r found = omega (arith, in-removed t s.unsettled found, in-append s.resolved ((t, r) ∷ []))
 
-  pub total-ended : (s : MessageLists) (t : List ℕ) (r : Resolution) (o : Option Open) → open_at s t ≡ o → total (ended_at s t r o) ≡ total s
+  pub total-ended : (s : MessageLists) (t : List ℕ) (r : Resolution) (o : Option Open) → open_at s t ≡ o
+      → total (ended_at s t r o) ≡ total s
   total-ended s t r None is = refl
   total-ended s t r (Some m) is = total-resolved s t r cc
 
   pub total-all_ended : (s : MessageLists) (es : List (List ℕ × Resolution)) → total (all_ended s es) ≡ total s
   total-all_ended s [] = refl
-  total-all_ended s (e ∷ es) = total-all_ended (ended_at s e.0 e.1 (open_at s e.0)) es ∙ total-ended s e.0 e.1 (open_at s e.0) refl
+  total-all_ended s (e ∷ es) =
+      total-all_ended (ended_at s e.0 e.1 (open_at s e.0)) es ∙ total-ended s e.0 e.1 (open_at s e.0) refl
 
-  pub total-exchanged : (s : MessageLists) (listed : Listing) (incomplete : Bool) → total (exchanged s listed incomplete) ≡ total s
+  pub total-exchanged : (s : MessageLists) (listed : Listing) (incomplete : Bool)
+      → total (exchanged s listed incomplete) ≡ total s
   total-exchanged s listed incomplete = total-all_ended (interrupted s) (becoming s listed incomplete).ended
 
   pub total-failed : (s : MessageLists) (f : Failure) → total (failed s f) ≡ total s
   total-failed s f = omega (arith, in-append s.resolved (map (λ (t : List ℕ). (t, Failed f)) (keys_of s.unsettled)), in-keys (Failed f) s.unsettled)
 
-  disposed_if : (b : Bool) (s : MessageLists) (t : List ℕ) (m : Open) (state : Option DeliveryState) → open_at s t ≡ Some m
-      → total (if b then resolved_as s t (resolution_of state) else record s { unsettled = told_at s.unsettled t (Some m) state }) ≡ total s
+  disposed_if : (b : Bool) (s : MessageLists) (t : List ℕ) (m : Open) (state : Option DeliveryState)
+      → open_at s t ≡ Some m
+      → total (if b then resolved_as s t (resolution_of state) else record s { unsettled =
+          told_at s.unsettled t (Some m) state }) ≡ total s
   disposed_if true s t m state is = total-resolved s t (resolution_of state) cc
   disposed_if false s t m state is = omega (arith, in-set (bytes_eq t) s.unsettled (told m state))
 
-  disposed_by : (s : MessageLists) (t : List ℕ) (o : Option Open) (settled : Bool) (state : Option DeliveryState) → open_at s t ≡ o
+  disposed_by : (s : MessageLists) (t : List ℕ) (o : Option Open) (settled : Bool) (state : Option DeliveryState)
+      → open_at s t ≡ o
       → total (disposed_at s t o settled state) ≡ total s
   disposed_by s t None settled state is = refl
   disposed_by s t (Some m) settled state is = disposed_if (ends settled state) s t m state is
 
-  pub total-disposed : (s : MessageLists) (t : List ℕ) (settled : Bool) (state : Option DeliveryState) → total (disposed s t settled state) ≡ total s
+  pub total-disposed : (s : MessageLists) (t : List ℕ) (settled : Bool) (state : Option DeliveryState)
+      → total (disposed s t settled state) ≡ total s
   total-disposed s t settled state = disposed_by s t (open_at s t) settled state refl

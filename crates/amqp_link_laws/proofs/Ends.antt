@@ -39,11 +39,13 @@ does s after mid step is steps = (after, step ∷ [], is, (after, steps, refl))
 
 attached : (s : Sending) (attach : Attach) (answer : Result AttachTold RelayError) (mid : End)
     → attaches (Sender s) attach answer mid → Own s mid
-attached s attach (Ok (told.Sender answer)) (Sender after) h = does s after (Sender after) (TakesItsAttach attach (Ok answer)) refl h
+attached s attach (Ok (told.Sender answer)) (Sender after) h =
+    does s after (Sender after) (TakesItsAttach attach (Ok answer)) refl h
 attached s attach (Ok (told.Sender answer)) (Receiver r) h = absurd h
 attached s attach (Ok (told.Receiver answer)) (Sender after) h = absurd h
 attached s attach (Ok (told.Receiver answer)) (Receiver r) h = absurd h
-attached s attach (Err Memory) (Sender after) h = does s after (Sender after) (TakesItsAttach attach (Err alloc_error)) refl h
+attached s attach (Err Memory) (Sender after) h =
+    does s after (Sender after) (TakesItsAttach attach (Err alloc_error)) refl h
 attached s attach (Err Memory) (Receiver r) h = absurd h
 attached s attach (Err UnattachedHandle) (Sender after) h = absurd h
 attached s attach (Err UnattachedHandle) (Receiver r) h = absurd h
@@ -93,7 +95,8 @@ changed s (Receiver b) (Sender a) mid was is owns = absurd owns
 changed s (Receiver b) (Receiver r) mid was is owns = absurd cc
 
 -- one step
-one : (s : Sending) (mid : End) (step : EndStep) → LinkSteps end_gives (Sender s) step mid → StepKeeps Owns step → Own s mid
+one : (s : Sending) (mid : End) (step : EndStep) → LinkSteps end_gives (Sender s) step mid → StepKeeps Owns step
+    → Own s mid
 one s mid (Attaches attach answer) h keeps = attached s attach answer mid h
 one s mid (Flows flow answer) h keeps = flows (standing_of s.base.local_state) s flow answer mid h
 one s mid (Transfers transfer payload answer) h keeps =
@@ -118,7 +121,8 @@ behind start mid end steps (after, own, is, history) others go =
     further after (go after (subst P is others)) history
   where
     further : (after : Sending) → Own after end → SenderHistory start own after → Own start end
-    further after (last, more, is, rest) history = (last, own ++ more, is, joined start after last own more history rest)
+    further after (last, more, is, rest) history =
+        (last, own ++ more, is, joined start after last own more history rest)
 
 pub has_history : (start : Sending) (end : End) (steps : List EndStep) → EndHistory (Sender start) steps end
     → OwnerKeeps Owns steps → Own start end

@@ -42,7 +42,8 @@ module _ (tag : List ℕ) where
   attach_moved : (o : Option LinkBase) (old new : Sending) (attach : Attach) (answer : Result AttachAnswer AllocError)
       → TakesMoved o old attach answer new → of new ≡ of old
   attach_moved None old new attach answer (told, same) = ap of same
-  attach_moved (Some moved) old new attach answer taken = attach_tested (attach_refusal old attach) moved old new attach answer taken
+  attach_moved (Some moved) old new attach answer taken =
+      attach_tested (attach_refusal old attach) moved old new attach answer taken
 
   -- a frame that moves the link or doesn't
   moves : (b : Option LinkBase) (f : LinkBase → Sending) (old new : Sending) (answer : Result (Unit {0}) IllegalState)
@@ -81,10 +82,12 @@ module _ (tag : List ℕ) where
   -- one step
   pub counted : (old new : Sending) (step : SenderStep) → SenderSteps old step new
       → of new + times tag (taken_by step) ≡ of old + times tag (sent_by step)
-  counted old new (TakesItsAttach attach answer) taken = omega (arith, attach_moved (took_attach old.base attach) old new attach answer taken)
+  counted old new (TakesItsAttach attach answer) taken =
+      omega (arith, attach_moved (took_attach old.base attach) old new attach answer taken)
   counted old new (TakesFlow flow) is =
       omega (arith, ap of is ∙ flow_if (is_attached old.base.local_state) old (sender_flowed old.flow flow))
-  counted old new (TakesDisposition t settled state) is = omega (arith, ap of is ∙ total-disposed tag old.messages t settled state)
+  counted old new (TakesDisposition t settled state) is =
+      omega (arith, ap of is ∙ total-disposed tag old.messages t settled state)
   counted old new (TakesItsDetach closed error answer) taken =
       omega (arith, detaches (took_detach old.base closed) _ old new answer (λ x. total-ended old.messages closed (why_closed error)) taken)
   counted old new (MakesRoom count) is = omega (arith, ap of is)

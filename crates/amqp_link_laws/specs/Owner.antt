@@ -24,7 +24,8 @@ abbrev pub EndStep : Type 0
 EndStep = LinkStep End AttachTold Told Detached
 
 abbrev pub end_gives : Relations End AttachTold Told Detached
-end_gives = record { attaches = attaches; flows = flows; transfers = transfers; disposes = disposes; detaches = detaches }
+end_gives =
+    record { attaches = attaches; flows = flows; transfers = transfers; disposes = disposes; detaches = detaches }
 
 abbrev pub EndHistory : End → List EndStep → End → Type 0
 EndHistory start steps end = LinkHistory end_gives start steps end
@@ -61,7 +62,8 @@ abbrev pub ReceiverCalls : ReceiverState → ReceiverCall → ReceiverState → 
 ReceiverCalls old (Grants credit) new = new ≡ credited old credit
 ReceiverCalls old Drains new = new ≡ with_flow old (draining old.end.flow)
 ReceiverCalls old (Disposes tag settled state) new = new ≡ disposed_of old tag settled state
-ReceiverCalls old (SendsAttach incomplete answer) new = MovesLink (receiver_attaching.attach_sent old incomplete) old answer new
+ReceiverCalls old (SendsAttach incomplete answer) new =
+    MovesLink (receiver_attaching.attach_sent old incomplete) old answer new
 ReceiverCalls old (SendsDetach closed answer) new = MovesLink (receiver_ending.detach_sent old closed) old answer new
 ReceiverCalls old Breaks new = new ≡ receiver_ending.broken old
 ReceiverCalls old (Sets handle) new = new ≡ record old { base = record old.base { output_handle = handle } }

@@ -8,18 +8,18 @@ ghost use Rattle.amqp_session_core.specs.Relay.{OwnerKeeps};
 ghost use Rattle.amqp_link_laws.specs.Owner.{EndHistory, EndStep, Owns};
 ghost use Rattle.amqp_link_laws.specs.Times.{times_in, times};
 
-/// A message that was sent unsettled is resolved at most once (part 2, 2.6.12): as often as messages with a tag were sent,
-/// so often one is open, or what became of one waits for the link's owner, or was taken by it, and never two of these for
-/// one that was sent.
+/// A message that was sent unsettled is resolved at most once (part 2, 2.6.12): as often as messages with a tag were
+/// sent, so often one is open, or what became of one waits for the link's owner, or was taken by it, and never two of
+/// these for one that was sent.
 pub fn each_message_is_resolved_at_most_once()
     ensures { (start end : Sending) (steps : List SenderStep) (tag : List ℕ) → SenderHistory start steps end →
         times_in tag end.messages.unsettled + times_in tag end.messages.resolved + times tag (taken_in steps)
         ≡ times_in tag start.messages.unsettled + times_in tag start.messages.resolved + times tag (sent_in steps) }
 {}
 
-/// A link that sends has such a history inside each history of a link as its session sees it, where its owner changes it by
-/// its calls alone: so what is said of histories of a sending link holds of links in sessions, and it never becomes a link
-/// that receives.
+/// A link that sends has such a history inside each history of a link as its session sees it, where its owner changes it
+/// by its calls alone: so what is said of histories of a sending link holds of links in sessions, and it never becomes a
+/// link that receives.
 pub fn a_sending_end_has_a_history_of_its_own()
     ensures { (start : Sending) (end : End) (steps : List EndStep) →
         EndHistory (variant.Sender start) steps end → OwnerKeeps Owns steps →

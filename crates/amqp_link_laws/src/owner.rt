@@ -2,8 +2,8 @@
 use amqp_link_ends::LinkEnd;
 use amqp_session_core::LinkOwner;
 
-/// Who makes, sends, gives credit, disposes, attaches and detaches by the calls of the two ends alone: each change that it
-/// makes of a link is one of these.
+/// Who makes, sends, gives credit, disposes, attaches and detaches by the calls of the two ends alone: each change that
+/// it makes of a link is one of these.
 #[derive(Debug, Clone, Copy, PartialEq, Eq)]
 pub struct Owner;
 
