@@ -31,7 +31,7 @@ module _ (tag : List ℕ) where
       where
         by : (b : Bool) → bytes_eq t e.0 ≡ b → IsSome (cond b (Some e.1) (lookup (bytes_eq t) es))
             → (IsSome (lookup (bytes_eq t) es)
-                → times_in tag (remove_entry (bytes_eq t) es) + once_if (bytes_eq tag t) ≡ times_in tag es)
+            → times_in tag (remove_entry (bytes_eq t) es) + once_if (bytes_eq tag t) ≡ times_in tag es)
             → times_in tag (cond b es (e ∷ remove_entry (bytes_eq t) es)) + once_if (bytes_eq tag t) ≡ times_in tag (e ∷ es)
         by true hit here later =
             omega (arith, ap (λ (k : List ℕ). once_if (bytes_eq tag k)) (same_text t e.0 (sym hit)))
@@ -79,8 +79,10 @@ module _ (tag : List ℕ) where
 
   disposed_if : (b : Bool) (s : MessageLists) (t : List ℕ) (m : Open) (state : Option DeliveryState)
       → open_at s t ≡ Some m
-      → total (if b then resolved_as s t (resolution_of state) else record s { unsettled =
-          told_at s.unsettled t (Some m) state }) ≡ total s
+      → total (if b then resolved_as s t (resolution_of state) else record s {
+        unsettled =
+            told_at s.unsettled t (Some m) state;
+      }) ≡ total s
   disposed_if true s t m state is = total-resolved s t (resolution_of state) cc
   disposed_if false s t m state is = omega (arith, in-set (bytes_eq t) s.unsettled (told m state))
 
