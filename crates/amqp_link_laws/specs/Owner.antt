@@ -1,10 +1,10 @@
 -- What the owner of a link does: part 2, 2.6.
-use Rattle.std.specs.Prelude.{◌≡◌, ℕ, Bool, true, false, List, Option, Some, Result}
+use Rattle.std.specs.Prelude.{◌≡◌, ◌++◌, ℕ, Bool, true, false, List, [], ◌∷◌, Option, Some, Result, if◌then◌else◌}
 use Rattle.amqp_session_types.specs.declared.handles.OutputHandle.{OutputHandle}
 use Rattle.amqp_session_states.specs.declared.delivery_state.DeliveryState.{DeliveryState}
 use Rattle.amqp_link_base.specs.declared.base.IllegalState.{IllegalState}
 use Rattle.amqp_link_flow.specs.Flows.{draining}
-use Rattle.amqp_session_core.specs.Relay.{LinkHistory, LinkStep, Relations}
+use Rattle.amqp_session_core.specs.Relay.{Changes, LinkHistory, LinkStep, OwnerKeeps, Relations, StepKeeps}
 use Rattle.amqp_link_receiving.specs.declared.answer.Told.{Told}
 use Rattle.amqp_link_sender.specs.declared.ending.Detached.{Detached}
 use Rattle.amqp_link_ends.specs.Gives.{attaches, flows, transfers, disposes, detaches}
@@ -78,3 +78,24 @@ abbrev pub Owns : End → End → Type 0
 Owns (Sender s) (Sender t) = OwnsSender s t
 Owns (Receiver r) (Receiver t) = OwnsReceiver r t
 Owns old new = ⊥
+
+-- what an owner's change comes to, of a link that sends
+abbrev pub change_of : (before after : End) → Owns before after → List SenderStep
+change_of (Sender s) (Sender t) owns = owns.step ∷ []
+change_of (Sender s) (Receiver t) owns = []
+change_of (Receiver r) (Sender t) owns = []
+change_of (Receiver r) (Receiver t) owns = []
+
+abbrev pub changes_in : (step : EndStep) → StepKeeps Owns step → List SenderStep
+changes_in (Changes before after) keeps = change_of before after keeps
+changes_in step keeps = []
+
+-- what all of an owner's changes come to
+abbrev pub changes_of : (steps : List EndStep) → OwnerKeeps Owns steps → List SenderStep
+changes_of [] keeps = []
+changes_of (step ∷ steps) keeps = changes_in step keeps.0 ++ changes_of steps keeps.1
+
+-- those of a link's steps that are its owner's
+abbrev pub owned : List SenderStep → List SenderStep
+owned [] = []
+owned (step ∷ steps) = (if is_owners step then step ∷ [] else []) ++ owned steps

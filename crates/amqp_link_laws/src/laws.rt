@@ -5,7 +5,7 @@ ghost use Rattle.amqp_link_laws.specs.History.{SenderHistory, SenderStep, sent_i
 ghost use Rattle.amqp_link_ends.specs.declared.end.End.{End};
 ghost use Rattle.amqp_link_ends.specs.declared.end.End.TheVariants as variant;
 ghost use Rattle.amqp_session_core.specs.Relay.{OwnerKeeps};
-ghost use Rattle.amqp_link_laws.specs.Owner.{EndHistory, EndStep, Owns};
+ghost use Rattle.amqp_link_laws.specs.Owner.{EndHistory, EndStep, Owns, changes_of, owned};
 ghost use Rattle.amqp_link_laws.specs.Times.{times_in, times};
 
 /// A message that was sent unsettled is resolved at most once (part 2, 2.6.12): as often as messages with a tag were
@@ -17,11 +17,12 @@ pub fn each_message_is_resolved_at_most_once()
         ≡ times_in tag start.messages.unsettled + times_in tag start.messages.resolved + times tag (sent_in steps) }
 {}
 
-/// A link that sends has such a history inside each history of a link as its session sees it, where its owner changes it
-/// by its calls alone: so what is said of histories of a sending link holds of links in sessions, and it never becomes a
-/// link that receives.
+/// A link that sends has such a history inside each history of a link as its session sees it, where its owner changes
+/// it by its calls alone, and what its owner does in it are just these changes, in order. So the law above holds of links
+/// in sessions; and such a link never becomes one that receives.
 pub fn a_sending_end_has_a_history_of_its_own()
     ensures { (start : Sending) (end : End) (steps : List EndStep) →
-        EndHistory (variant.Sender start) steps end → OwnerKeeps Owns steps →
-        (last : Sending) × (own : List SenderStep) × (end ≡ variant.Sender last) × SenderHistory start own last }
+        EndHistory (variant.Sender start) steps end → (keeps : OwnerKeeps Owns steps) →
+        (last : Sending) × (own : List SenderStep) × (end ≡ variant.Sender last)
+        × SenderHistory start own last × (owned own ≡ changes_of steps keeps) }
 {}
