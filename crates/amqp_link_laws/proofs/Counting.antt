@@ -32,7 +32,8 @@ module _ (tag : List ℕ) where
         by : (b : Bool) → bytes_eq t e.0 ≡ b → IsSome (cond b (Some e.1) (lookup (bytes_eq t) es))
             → (IsSome (lookup (bytes_eq t) es)
             → times_in tag (remove_entry (bytes_eq t) es) + once_if (bytes_eq tag t) ≡ times_in tag es)
-            → times_in tag (cond b es (e ∷ remove_entry (bytes_eq t) es)) + once_if (bytes_eq tag t) ≡ times_in tag (e ∷ es)
+            → times_in tag (cond b es (e ∷ remove_entry (bytes_eq t) es)) + once_if (bytes_eq tag t)
+            ≡ times_in tag (e ∷ es)
         by true hit here later =
             omega (arith, ap (λ (k : List ℕ). once_if (bytes_eq tag k)) (same_text t e.0 (sym hit)))
         by false miss here later = omega (arith, later here)
@@ -75,7 +76,9 @@ module _ (tag : List ℕ) where
   total-exchanged s listed incomplete = total-all_ended (interrupted s) (becoming s listed incomplete).ended
 
   pub total-failed : (s : MessageLists) (f : Failure) → total (failed s f) ≡ total s
-  total-failed s f = omega (arith, in-append s.resolved (map (λ (t : List ℕ). (t, Failed f)) (keys_of s.unsettled)), in-keys (Failed f) s.unsettled)
+  total-failed s f =
+      let failures : List (List ℕ × Resolution) = map (λ (t : List ℕ). (t, Failed f)) (keys_of s.unsettled) in
+      omega (arith, in-append s.resolved failures, in-keys (Failed f) s.unsettled)
 
   disposed_if : (b : Bool) (s : MessageLists) (t : List ℕ) (m : Open) (state : Option DeliveryState)
       → open_at s t ≡ Some m

@@ -30,7 +30,8 @@ use Rattle.amqp_link_laws.specs.Owner.{EndHistory, EndStep, Owns, change_of, cha
 -- a sending link with a history behind it, in which its owner does these things
 abbrev Own : Sending → End → List SenderStep → Type 0
 Own start mid did =
-    (after : Sending) × (own : List SenderStep) × (mid ≡ Sender after) × SenderHistory start own after × (owned own ≡ did)
+    (after : Sending) × (own : List SenderStep) × (mid ≡ Sender after)
+    × SenderHistory start own after × (owned own ≡ did)
 
 stays : (s : Sending) (mid : End) → mid ≡ Sender s → Own s mid []
 stays s mid is = (s, [], is, refl, refl)
@@ -67,7 +68,8 @@ transfers Attached s transfer payload answer mid (told, is) = stays s mid is
 transfers Detaching s transfer payload answer mid (told, is) = stays s mid is
 transfers Apart s transfer payload answer mid (told, is) = stays s mid is
 
-disposition : (s : Sending) (tag : List ℕ) (r : Role) (settled : Bool) (state : Option DeliveryState) (echo : Bool) (mid : End)
+disposition : (s : Sending) (tag : List ℕ) (r : Role) (settled : Bool) (state : Option DeliveryState) (echo : Bool)
+    (mid : End)
     → disposes (Sender s) tag r settled state echo mid → Own s mid []
 disposition s tag role.Receiver settled state echo mid (told, is) =
     does s (disposed s tag settled state) mid (TakesDisposition tag settled state) [] refl is refl

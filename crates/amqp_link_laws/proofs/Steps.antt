@@ -32,7 +32,8 @@ module _ (tag : List ℕ) where
   of s = total tag s.messages
 
   -- the receiver's Attach
-  attach_tested : (e : Option SenderAttachError) (moved : LinkBase) (old new : Sending) (attach : Attach) (answer : Result AttachAnswer AllocError)
+  attach_tested : (e : Option SenderAttachError) (moved : LinkBase) (old new : Sending) (attach : Attach)
+      (answer : Result AttachAnswer AllocError)
       → TakesTested e moved old attach answer new → of new ≡ of old
   attach_tested (Some error) moved old new attach answer (told, moves) = ap of moves
   attach_tested None moved old new attach answer (inl (told, same)) = ap of same
@@ -89,16 +90,28 @@ module _ (tag : List ℕ) where
   counted old new (TakesDisposition t settled state) is =
       omega (arith, ap of is ∙ total-disposed tag old.messages t settled state)
   counted old new (TakesItsDetach closed error answer) taken =
-      omega (arith, detaches (took_detach old.base closed) _ old new answer (λ x. total-ended old.messages closed (why_closed error)) taken)
+      omega (
+        arith,
+        detaches (took_detach old.base closed) _ old new answer (λ x. total-ended old.messages closed (why_closed error)) taken,
+      )
   counted old new (MakesRoom count) is = omega (arith, ap of is)
   counted old new (Sends entry) is = omega (arith, ap of is ∙ of-sent old entry)
   counted old new SendsOn is = omega (arith, ap of is)
   counted old new (SendsAttach incomplete answer) moved =
-      omega (arith, moves (sent_attach old.base incomplete) (λ x. with_attach_sent old x) old new answer (λ x. refl) moved)
+      omega (
+        arith,
+        moves (sent_attach old.base incomplete) (λ x. with_attach_sent old x) old new answer (λ x. refl) moved,
+      )
   counted old new (SendsAttachAnew answer) moved =
-      omega (arith, moves (sent_attach old.base false) _ old new answer (λ x. total-failed tag old.messages failure.Closed) moved)
+      omega (
+        arith,
+        moves (sent_attach old.base false) _ old new answer (λ x. total-failed tag old.messages failure.Closed) moved,
+      )
   counted old new (SendsDetach closed answer) moved =
-      omega (arith, moves (sent_detach old.base closed) _ old new answer (λ x. total-ended old.messages closed failure.Closed) moved)
+      omega (
+        arith,
+        moves (sent_detach old.base closed) _ old new answer (λ x. total-ended old.messages closed failure.Closed) moved,
+      )
   counted old new Breaks is =
       omega (arith, ap of is ∙ total-ended old.messages (is_closed (after_break old.base.local_state)) failure.Closed)
   counted old new (Takes taken) is = omega (arith, of-taken new taken, ap of is)

@@ -18,8 +18,8 @@ pub fn each_message_is_resolved_at_most_once()
 {}
 
 /// A link that sends has such a history inside each history of a link as its session sees it, where its owner changes
-/// it by its calls alone, and what its owner does in it are just these changes, in order. So the law above holds of links
-/// in sessions; and such a link never becomes one that receives.
+/// it by its calls alone, and what its owner does in it are just these changes, in order. So the law above holds of
+/// links in sessions; and such a link never becomes one that receives.
 pub fn a_sending_end_has_a_history_of_its_own()
     ensures { (start : Sending) (end : End) (steps : List EndStep) →
         EndHistory (variant.Sender start) steps end → (keeps : OwnerKeeps Owns steps) →
