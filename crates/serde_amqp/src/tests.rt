@@ -1,6 +1,5 @@
 //! What rows of a table can't say: readers that refuse, want of memory, texts, generic calls at a type, and compound
 //! serializers. The forms of each type are rows, which the crate `serde_amqp_lines` answers.
-mod conversions;
 mod errors;
 mod memory;
 mod ordered_maps;
