@@ -1,10 +1,13 @@
 -- What a contract sees of a session.
-use Rattle.std.specs.Prelude.{◌≡◌, ℕ, ◌-◌, ◌^◌, List, [], ◌∷◌, Bool, true, Option, Some, None, is_some, if◌then◌else◌, slice_index_or, slice_set}
+use Rattle.std.specs.Prelude.{◌≡◌, ℕ, ◌-◌, ◌^◌, List, [], ◌∷◌, Bool, true, nat_le, Option, Some, None, Result, Ok, Err, is_some, if◌then◌else◌, slice_index_or, slice_set}
 use Rattle.std.specs.FinMap as map
 use Rattle.std.specs.Ordering.{nat_cmp}
 use Rattle.amqp_session_types.specs.declared.channels.IncomingChannel.{IncomingChannel}
 use Rattle.amqp_session_types.specs.declared.channels.OutgoingChannel.{OutgoingChannel}
 use Rattle.amqp_session_types.specs.declared.handles.Handle.{Handle}
+use Rattle.amqp_session_types.specs.declared.handles.OutputHandle.{OutputHandle}
+use Rattle.amqp_session_types.specs.declared.refusals.SessionError.{SessionError}
+use Rattle.amqp_session_types.specs.declared.refusals.SessionError.TheVariants.{HandleMaxReached}
 use Rattle.amqp_session_unsettled.specs.declared.delivery.Delivery.{Delivery}
 use Rattle.amqp_session_outgoing.specs.State as sending
 use Rattle.amqp_session_outgoing.specs.History as sending_history
@@ -55,6 +58,10 @@ module _ {R : Type 0} where
   -- the link with an own handle
   abbrev pub link_at : State R → ℕ → Option R
   link_at s handle = slice_index_or s.links handle None
+
+  -- the own handle that the next link gets, unless it is above the peer's handle-max (part 2, 2.7.2)
+  abbrev pub offered_handle : State R → Result OutputHandle SessionError
+  offered_handle s = if nat_le s.offered s.handle_max then Ok (record { 0 = s.offered }) else Err HandleMaxReached
 
   -- the links, by rising own handle
   abbrev pub links_in : List (Option R) → List R

@@ -5,12 +5,14 @@ ghost use types.Logic.{sem};
 ghost use Rattle.amqp_session_core.specs.Lends.{lends_link};
 ghost use Rattle.std.specs.FinMap as map;
 ghost use Rattle.amqp_session_outgoing.specs.Queues.{held_in, frames_in, turn_of, units_of};
-ghost use Rattle.amqp_session_core.specs.State.{link_at, reached};
+ghost use Rattle.amqp_session_core.specs.State.{link_at, offered_handle, reached};
 
 use crate::links::reach;
 use crate::session::Session;
 use crate::state::SessionState;
-use amqp_session_types::{IncomingChannel, InputHandle, OutgoingChannel, OutputHandle};
+use amqp_session_types::{
+    IncomingChannel, InputHandle, OutgoingChannel, OutputHandle, SessionError,
+};
 use std::alloc::{AllocError, Global};
 
 impl<R: Drop> Session<R> {
@@ -76,6 +78,19 @@ impl<R: Drop> Session<R> {
         ensures { IfOk result (λ turn. turn.items ≡ turn_of self.now.outgoing.queues) }
     {
         self.outgoing.waiting(alloc)
+    }
+
+    /// The own handle that the next link gets, which no link has (part 2, 2.6.2).
+    ///
+    /// It is refused with `HandleMaxReached` alone, exactly where that is above the peer's handle-max (part 2, 2.7.2).
+    pub fn offered_handle(&self) -> Result<OutputHandle, SessionError>
+        ensures { result ≡ offered_handle self.now }
+    {
+        let offered = self.links.vacant_key();
+        if offered > self.handle_max as usize {
+            return Err(SessionError::HandleMaxReached);
+        }
+        Ok(OutputHandle(offered as u32))
     }
 
     /// The link with this own handle, if there is one.
