@@ -1,10 +1,12 @@
 -- What an Attach, a Detach and a loss of the connection make of a link: part 2, 2.6.3 to 2.6.6.
-use Rattle.std.specs.Prelude.{◌≡◌, Bool, Option, Some, None, option_map, Result, Ok, Err}
+use Rattle.std.specs.Prelude.{◌≡◌, Bool, true, false, Option, Some, None, option_map, Result, Ok, Err}
 use Rattle.amqp_session_performatives.specs.declared.attach.Attach.{Attach}
-use Rattle.amqp_link_attach.specs.State.{after_send_attach, after_incoming_attach, after_send_detach, after_remote_detach, after_break}
+use Rattle.amqp_link_attach.specs.State.{after_send_attach, after_incoming_attach, after_send_detach, after_remote_detach, after_break, is_attached}
 use Rattle.amqp_link_attach.specs.declared.state.LinkState.{LinkState}
+use Rattle.amqp_link_attach.specs.declared.state.LinkState.TheVariants.{Closed}
 use Rattle.amqp_link_base.specs.declared.base.IllegalState.{IllegalState}
 use Rattle.amqp_link_base.specs.declared.base.LinkBase.{LinkBase}
+use Rattle.amqp_link_base.specs.declared.detached.Detached.{Detached}
 
 -- a frame is allowed and moves the link, or it isn't and the link stays
 abbrev pub Moves : Option LinkBase → LinkBase → Result (Unit {0}) IllegalState → LinkBase → Type 0
@@ -36,3 +38,12 @@ took_detach b closed =
 -- the connection or the session is over
 abbrev pub broken_off : LinkBase → LinkBase
 broken_off b = record b { local_state = after_break b.local_state; input_handle = None; output_handle = None }
+
+-- the link is closed
+abbrev pub is_closed : LinkState → Bool
+is_closed Closed = true
+is_closed state = false
+
+-- what is told of the peer's Detach: whether the link is closed, and whether the own Detach is still to be sent
+abbrev pub detached : LinkBase → LinkBase → Detached
+detached old new = record { closed = is_closed new.local_state; answer = is_attached old.local_state }

@@ -1,5 +1,6 @@
 -- The own Attach of a link: part 2, 2.7.3.
 use Rattle.std.specs.Prelude.{ℕ, [], ◌==◌, false, Option, Some, None, if◌then◌else◌}
+use Rattle.amqp_session_types.specs.declared.handles.OutputHandle.{OutputHandle}
 use Rattle.amqp_session_types.specs.declared.modes.Role.{Role}
 use Rattle.amqp_session_performatives.specs.declared.attach.Attach.{Attach}
 use Rattle.amqp_link_base.specs.declared.base.LinkBase.{LinkBase}
@@ -8,12 +9,17 @@ use Rattle.amqp_link_base.specs.declared.base.LinkBase.{LinkBase}
 abbrev pub bound : ℕ → Option ℕ
 bound n = if n == 0 then None else Some n
 
--- what a link says of itself as it attaches, with no unsettled deliveries told; the session writes its handle into it
-abbrev pub own_attach : LinkBase → Role → ℕ → Attach
-own_attach b role count =
+-- the own handle, which a link has while it is attached
+abbrev pub handle_of : Option OutputHandle → OutputHandle
+handle_of None = record { 0 = 0 }
+handle_of (Some handle) = handle
+
+-- what a link says of itself as it attaches under an own handle, with no unsettled deliveries told
+abbrev pub own_attach : LinkBase → OutputHandle → Role → ℕ → Attach
+own_attach b handle role count =
     record {
       name = b.name;
-      handle = record { 0 = 0 };
+      handle = record { 0 = handle.0 };
       role = role;
       snd_settle_mode = b.terms.snd_settle_mode;
       rcv_settle_mode = b.terms.rcv_settle_mode;

@@ -2,10 +2,10 @@
 ghost use Rattle.std.specs.Prelude.{◌≡◌, None, IfOk};
 ghost use Rattle.amqp_link_attach.specs.declared.state.LinkState.TheVariants.{Unattached};
 ghost use Rattle.amqp_link_attach.specs.State.{is_attached};
-ghost use Rattle.amqp_link_base.specs.Moves.{Moves, sent_attach, took_attach, sent_detach, took_detach, broken_off};
-ghost use Rattle.amqp_link_base.specs.Own.{own_attach, bound};
+ghost use Rattle.amqp_link_base.specs.Moves.{Moves, broken_off, is_closed, moved_to, sent_attach, sent_detach, took_attach, took_detach};
+ghost use Rattle.amqp_link_base.specs.Own.{bound, handle_of, own_attach};
 
-use crate::both::both;
+use crate::values::{both, put};
 use amqp_link_attach::{LinkState, Terms};
 use amqp_session_performatives::Attach;
 use amqp_session_states::{Source, TargetArchetype};
@@ -70,20 +70,21 @@ impl LinkBase {
         }
     }
 
-    /// The own Attach, without its list of unsettled deliveries (part 2, 2.7.3). The session writes the link's handle
-    /// into it. It is refused where there is no memory for it.
+    /// The own Attach under this own handle, without its list of unsettled deliveries (part 2, 2.7.3). It is refused
+    /// where there is no memory for it.
     pub fn attach_frame(
         &self,
         alloc: Global,
+        handle: OutputHandle,
         role: Role,
         initial_delivery_count: u32,
     ) -> Result<Attach, AllocError>
-        ensures { IfOk result (λ a. a ≡ own_attach self.now role initial_delivery_count) }
+        ensures { IfOk result (λ a. a ≡ own_attach self.now handle role initial_delivery_count) }
     {
         let ((name, properties), (source, target)) = self.clone_parts()?;
         Ok(Attach {
             name,
-            handle: Handle(0),
+            handle: Handle(handle.0),
             role,
             snd_settle_mode: self.terms.snd_settle_mode,
             rcv_settle_mode: self.terms.rcv_settle_mode,
@@ -92,7 +93,7 @@ impl LinkBase {
             unsettled: None,
             incomplete_unsettled: false,
             initial_delivery_count: Some(initial_delivery_count),
-            max_message_size: bound(self.terms.max_message_size),
+            max_message_size: self.max_message_size(),
             offered_capabilities: Array::new(alloc),
             desired_capabilities: Array::new(alloc),
             properties,
@@ -104,6 +105,30 @@ impl LinkBase {
         ensures { result ≡ is_attached self.now.local_state }
     {
         self.local_state.is_attached()
+    }
+
+    /// Whether the link is closed (part 2, 2.6.6).
+    pub fn is_closed(&self) -> bool
+        ensures { result ≡ is_closed self.now.local_state }
+    {
+        matches!(self.local_state, LinkState::Closed)
+    }
+
+    /// The own handle, which a link has while it is attached, and else 0.
+    pub fn own_handle(&self) -> OutputHandle
+        ensures { result ≡ handle_of self.now.output_handle }
+    {
+        match self.output_handle {
+            Some(handle) => handle,
+            None => OutputHandle(0),
+        }
+    }
+
+    /// The size of the largest message, in bytes; None for no bound (part 2, 2.7.3).
+    pub fn max_message_size(&self) -> Option<u64>
+        ensures { result ≡ bound self.now.terms.max_message_size }
+    {
+        bound(self.terms.max_message_size)
     }
 
     /// The own Attach is sent, which lists all unsettled deliveries or only a part of them (part 2, 2.6.3).
@@ -129,9 +154,24 @@ impl LinkBase {
         let Some(state) = self.local_state.on_incoming_attach(incomplete) else {
             return Err(IllegalState);
         };
+        self.move_to(attach, state);
+        Ok(())
+    }
+
+    /// The link is in this state from now on, and the handle of the peer's Attach stands for it.
+    pub fn move_to(&mut self, attach: &Attach, state: LinkState)
+        ensures { self.new ≡ moved_to self.old attach.now state }
+    {
         self.local_state = state;
         self.input_handle = Some(InputHandle(attach.handle.0));
-        Ok(())
+    }
+
+    /// The link is in this state from now on, the handle of the peer's Attach stands for it, and its terms are these.
+    pub fn adopt(&mut self, attach: &Attach, state: LinkState, terms: Boxed<Terms>)
+        ensures { self.new ≡ record (moved_to self.old attach.now state) { terms = terms } }
+    {
+        self.move_to(attach, state);
+        put(&mut self.terms, terms);
     }
 
     /// The own Detach is sent, which closes the link or doesn't (part 2, 2.6.5 and 2.6.6).

@@ -3,6 +3,9 @@
 #![tactic(auto)]
 
 mod base;
-mod both;
+mod detached;
+mod values;
 
 pub use base::{IllegalState, LinkBase};
+pub use detached::Detached;
+pub use values::{both, put};

@@ -12,6 +12,7 @@ use Rattle.amqp_session_core.specs.declared.relay.Registration.TheVariants as se
 use Rattle.amqp_session_core.specs.declared.relay.RelayError.{RelayError}
 use Rattle.amqp_session_core.specs.declared.relay.RelayError.TheVariants.{UnattachedHandle, TransferFrameToSender, Memory}
 use Rattle.amqp_session_core.specs.declared.relay.TransferAnswer.{TransferAnswer}
+use Rattle.amqp_link_base.specs.declared.detached.Detached.{Detached}
 use Rattle.amqp_link_receiving.specs.declared.answer.Answer.{Answer}
 use Rattle.amqp_link_receiving.specs.declared.answer.Registering.{Registering}
 use Rattle.amqp_link_receiving.specs.declared.answer.Registering.TheVariants.{Unchanged, Unsettled, Settled}
@@ -20,13 +21,11 @@ use Rattle.amqp_link_receiving.specs.declared.answer.Told.TheVariants.{Dropped}
 use Rattle.amqp_link_sender.specs.Attaching as sender_attaching
 use Rattle.amqp_link_sender.specs.Dispositions as sender_disposing
 use Rattle.amqp_link_sender.specs.Ending as sender_ending
-use Rattle.amqp_link_sender.specs.declared.ending.Detached.{Detached}
 use Rattle.amqp_link_sender.specs.declared.ending.DetachRefusal.TheVariants as refusal
 use Rattle.amqp_link_receiver.specs.Attaching as receiver_attaching
 use Rattle.amqp_link_receiver.specs.Ending as receiver_ending
 use Rattle.amqp_link_receiver.specs.Incoming as receiver_incoming
 use Rattle.amqp_link_receiver.specs.State.{ReceiverState}
-use Rattle.amqp_link_receiver.specs.declared.ending.Detached.{Detached as ReceiverDetached}
 use Rattle.amqp_link_ends.specs.declared.end.End.{End}
 use Rattle.amqp_link_ends.specs.declared.end.End.TheVariants.{Sender, Receiver}
 use Rattle.amqp_link_ends.specs.declared.relay.AttachTold.{AttachTold}
@@ -97,10 +96,6 @@ disposes (Receiver r) tag role.Sender settled state echo new =
 disposes (Sender s) tag role.Sender settled state echo new = (echo ≡ false) × (new ≡ Sender s)
 disposes (Receiver r) tag role.Receiver settled state echo new = (echo ≡ false) × (new ≡ Receiver r)
 
--- the same of a receiving link
-abbrev pub as_received : Detached → ReceiverDetached
-as_received d = record { closed = d.closed; answer = d.answer }
-
 -- the peer's Detach ends an attachment; a link that is detached has none
 abbrev pub detaches : End → Detach → Result Detached RelayError → End → Type 0
 detaches (Sender s) detach (Ok told) (Sender after) =
@@ -110,7 +105,7 @@ detaches (Sender s) detach (Err UnattachedHandle) (Sender after) =
 detaches (Sender s) detach (Err Memory) (Sender after) =
     sender_ending.TakesDetach (sender_ending.detach_taken s detach.closed detach.error) s (Err refusal.Memory) after
 detaches (Receiver r) detach (Ok told) (Receiver after) =
-    receiver_ending.TakesDetach (receiver_ending.detach_taken r detach.closed) r (Ok (as_received told)) after
+    receiver_ending.TakesDetach (receiver_ending.detach_taken r detach.closed) r (Ok told) after
 detaches (Receiver r) detach (Err UnattachedHandle) (Receiver after) =
     receiver_ending.TakesDetach (receiver_ending.detach_taken r detach.closed) r (Err (record {})) after
 detaches old detach told new = ⊥

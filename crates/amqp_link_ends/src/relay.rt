@@ -4,9 +4,10 @@ ghost use Rattle.amqp_link_ends.specs.Gives.{answer_of, attaches, detaches, drop
 
 use crate::end::{End, LinkEnd};
 use crate::standing::Standing;
-use amqp_link_receiver::{Attached, Detached as ReceiverDetached, ReceiverLink};
+use amqp_link_base::Detached;
+use amqp_link_receiver::{Attached, ReceiverLink};
 use amqp_link_receiving::{Answer, Registering, Told};
-use amqp_link_sender::{AttachAnswer, DetachRefusal, Detached, SenderLink};
+use amqp_link_sender::{AttachAnswer, DetachRefusal, SenderLink};
 use amqp_session_core::{LinkRelay, Registration, RelayError, TransferAnswer};
 use amqp_session_performatives::{Attach, Detach, LinkFlow, Transfer};
 use amqp_session_states::DeliveryState;
@@ -217,7 +218,7 @@ fn detach_receiver(link: &mut ReceiverLink, detach: &Detach) -> Result<Detached,
     ensures memory { result ≡ Err RelayError.Memory → link.new ≡ link.old }
 {
     match link.on_incoming_detach(detach.closed) {
-        Ok(ReceiverDetached { closed, answer }) => Ok(Detached { closed, answer }),
+        Ok(told) => Ok(told),
         Err(_) => Err(RelayError::UnattachedHandle),
     }
 }

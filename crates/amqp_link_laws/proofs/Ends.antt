@@ -23,7 +23,7 @@ use Rattle.amqp_link_ends.specs.declared.standing.Standing.TheVariants.{Attached
 use Rattle.amqp_link_sender.specs.Dispositions.{disposed}
 use Rattle.amqp_link_sender.specs.Sending.{Sending, flowed}
 use Rattle.amqp_link_sender.specs.declared.ending.DetachRefusal.TheVariants as refusal
-use Rattle.amqp_link_sender.specs.declared.ending.Detached.{Detached}
+use Rattle.amqp_link_base.specs.declared.detached.Detached.{Detached}
 use Rattle.amqp_link_laws.specs.History.{SenderHistory, SenderStep, SenderSteps, TakesItsAttach, TakesFlow, TakesDisposition, TakesItsDetach}
 use Rattle.amqp_link_laws.specs.Owner.{EndHistory, EndStep, Owns, change_of, changes_in, changes_of, end_gives, is_owners, owned}
 

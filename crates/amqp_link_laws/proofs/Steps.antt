@@ -17,12 +17,13 @@ use Rattle.amqp_link_sender_messages.specs.declared.resolution.Failure.{Failure}
 use Rattle.amqp_link_sender_messages.specs.declared.resolution.Failure.TheVariants as failure
 use Rattle.amqp_link_sender_messages.specs.declared.resolution.Resolution.{Resolution}
 use Rattle.amqp_link_sender.specs.Attaching.{TakesMoved, TakesTested, attach_refusal, with_attach_sent}
-use Rattle.amqp_link_sender.specs.Ending.{TakesDetach, ended, error_kept, given_error, is_closed, why_closed}
+use Rattle.amqp_link_sender.specs.Ending.{TakesDetach, ended, error_kept, given_error, why_closed}
+use Rattle.amqp_link_base.specs.Moves.{is_closed}
 use Rattle.amqp_link_sender.specs.Sending.{MovesLink, Sending}
 use Rattle.amqp_link_sender.specs.Sends.{sent}
 use Rattle.amqp_link_sender.specs.declared.attaching.AttachAnswer.{AttachAnswer}
 use Rattle.amqp_link_sender.specs.declared.ending.DetachRefusal.{DetachRefusal}
-use Rattle.amqp_link_sender.specs.declared.ending.Detached.{Detached}
+use Rattle.amqp_link_base.specs.declared.detached.Detached.{Detached}
 use Rattle.amqp_link_laws.specs.History.{SenderStep, SenderSteps, TakesItsAttach, TakesFlow, TakesDisposition, TakesItsDetach, MakesRoom, Sends, SendsOn, SendsAttach, SendsAttachAnew, SendsDetach, Breaks, Takes, Sets, sent_by, taken_by, tag_of, key_of}
 use Rattle.amqp_link_laws.specs.Times.{once_if, times, times_in}
 use Rattle.amqp_link_laws.proofs.Counting.{total, in-append, total-disposed, total-exchanged, total-failed}

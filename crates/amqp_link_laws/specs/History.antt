@@ -18,7 +18,7 @@ use Rattle.amqp_link_sender.specs.Sends.{sent}
 use Rattle.amqp_link_sender.specs.SendsOn.{sent_on}
 use Rattle.amqp_link_sender.specs.declared.attaching.AttachAnswer.{AttachAnswer}
 use Rattle.amqp_link_sender.specs.declared.ending.DetachRefusal.{DetachRefusal}
-use Rattle.amqp_link_sender.specs.declared.ending.Detached.{Detached}
+use Rattle.amqp_link_base.specs.declared.detached.Detached.{Detached}
 
 pub data SenderStep : Type 0 where
   -- frames of the receiver, and what is answered to them

@@ -6,13 +6,14 @@ use Rattle.amqp_link_base.specs.declared.base.IllegalState.{IllegalState}
 use Rattle.amqp_link_flow.specs.Flows.{draining}
 use Rattle.amqp_session_core.specs.Relay.{Changes, LinkHistory, LinkStep, OwnerKeeps, Relations, StepKeeps}
 use Rattle.amqp_link_receiving.specs.declared.answer.Told.{Told}
-use Rattle.amqp_link_sender.specs.declared.ending.Detached.{Detached}
+use Rattle.amqp_link_base.specs.declared.detached.Detached.{Detached}
 use Rattle.amqp_link_ends.specs.Gives.{attaches, flows, transfers, disposes, detaches}
 use Rattle.amqp_link_ends.specs.declared.relay.AttachTold.{AttachTold}
 use Rattle.amqp_link_ends.specs.declared.end.End.{End}
 use Rattle.amqp_link_ends.specs.declared.end.End.TheVariants.{Sender, Receiver}
 use Rattle.amqp_link_receiver.specs.Attaching as receiver_attaching
 use Rattle.amqp_link_receiver.specs.Disposing.{disposed_of}
+use Rattle.amqp_link_receiver.specs.DisposingAll.{Named, each_disposed}
 use Rattle.amqp_link_receiver.specs.Ending as receiver_ending
 use Rattle.amqp_link_receiver.specs.Flowing.{credited, with_flow}
 use Rattle.amqp_link_receiver.specs.State.{MovesLink, ReceiverState}
@@ -51,6 +52,8 @@ pub data ReceiverCall : Type 0 where
   Drains : ReceiverCall
   -- a delivery is disposed of, and settled or not
   Disposes : (tag : List ℕ) (settled : Bool) (state : DeliveryState) → ReceiverCall
+  -- several are disposed of at once
+  DisposesOfAll : (named : Named) (states : List DeliveryState) (settled : Option Bool) → ReceiverCall
   SendsAttach : (incomplete : Bool) (answer : Result (Unit {0}) IllegalState) → ReceiverCall
   SendsDetach : (closed : Bool) (answer : Result (Unit {0}) IllegalState) → ReceiverCall
   -- the connection or the session is over
@@ -62,6 +65,7 @@ abbrev pub ReceiverCalls : ReceiverState → ReceiverCall → ReceiverState → 
 ReceiverCalls old (Grants credit) new = new ≡ credited old credit
 ReceiverCalls old Drains new = new ≡ with_flow old (draining old.end.flow)
 ReceiverCalls old (Disposes tag settled state) new = new ≡ disposed_of old tag settled state
+ReceiverCalls old (DisposesOfAll named states settled) new = new ≡ each_disposed old named states settled
 ReceiverCalls old (SendsAttach incomplete answer) new =
     MovesLink (receiver_attaching.attach_sent old incomplete) old answer new
 ReceiverCalls old (SendsDetach closed answer) new = MovesLink (receiver_ending.detach_sent old closed) old answer new

@@ -1,6 +1,7 @@
 -- How an attachment of a receiving link begins: part 2, 2.6.3 and 2.6.13.
 use Rattle.std.specs.Prelude.{◌≡◌, ◌⊎◌, Bool, Option, Some, None, option_map, unwrap_or, Result, Ok, Err, alloc_error}
 use Rattle.std.specs.declared.alloc.AllocError.{AllocError}
+use Rattle.amqp_session_types.specs.declared.handles.OutputHandle.{OutputHandle}
 use Rattle.amqp_session_types.specs.declared.modes.Role.TheVariants.{Receiver}
 use Rattle.amqp_session_performatives.specs.declared.attach.Attach.{Attach}
 use Rattle.amqp_link_types.specs.declared.attaching.ReceiverAttachError.{ReceiverAttachError}
@@ -20,9 +21,9 @@ use Rattle.amqp_link_receiver.specs.declared.attaching.Attached.{Attached}
 use Rattle.amqp_link_receiver.specs.declared.attaching.Attached.TheVariants as answer
 use Rattle.amqp_link_receiver.specs.State.{ReceiverState}
 
--- the own Attach without its list, and what it is to list
-abbrev pub unlisted : ReceiverState → Attach
-unlisted s = own_attach s.base Receiver s.end.flow.initial_delivery_count
+-- the own Attach under an own handle, without its list, and what it is to list
+abbrev pub unlisted : ReceiverState → OutputHandle → Attach
+unlisted s handle = own_attach s.base handle Receiver s.end.flow.initial_delivery_count
 
 abbrev pub to_list : ReceiverState → Entries
 to_list s = entries_listed listed_as s.end.unsettled

@@ -1,19 +1,11 @@
 -- How an attachment of a receiving link ends: part 2, 2.6.4 to 2.6.6.
-use Rattle.std.specs.Prelude.{◌≡◌, ℕ, ◌+◌, ◌%◌, ◌^◌, Bool, true, false, Option, Some, None, option_map, Result, Ok, Err}
-use Rattle.amqp_link_attach.specs.State.{is_attached}
-use Rattle.amqp_link_attach.specs.declared.state.LinkState.{LinkState}
-use Rattle.amqp_link_attach.specs.declared.state.LinkState.TheVariants.{Closed}
-use Rattle.amqp_link_base.specs.Moves.{sent_detach, took_detach, broken_off}
+use Rattle.std.specs.Prelude.{◌≡◌, ℕ, ◌+◌, ◌%◌, ◌^◌, Bool, Option, Some, None, option_map, Result, Ok, Err}
+use Rattle.amqp_link_base.specs.Moves.{broken_off, detached, sent_detach, took_detach}
 use Rattle.amqp_link_base.specs.declared.base.IllegalState.{IllegalState}
 use Rattle.amqp_link_base.specs.declared.base.LinkBase.{LinkBase}
+use Rattle.amqp_link_base.specs.declared.detached.Detached.{Detached}
 use Rattle.amqp_link_receiving.specs.Receiving.{parted}
-use Rattle.amqp_link_receiver.specs.declared.ending.Detached.{Detached}
 use Rattle.amqp_link_receiver.specs.State.{ReceiverState}
-
--- the link is closed
-abbrev pub is_closed : LinkState → Bool
-is_closed Closed = true
-is_closed state = false
 
 -- the next attachment, by the number of those that ended
 abbrev pub next : ℕ → ℕ
@@ -36,11 +28,7 @@ detach_taken s closed = option_map (λ (b : LinkBase). ended s b) (took_detach s
 abbrev pub broken : ReceiverState → ReceiverState
 broken s = ended s (broken_off s.base)
 
--- what is told of the peer's Detach: whether the link is closed, and whether the own Detach is still to be sent
-abbrev pub detached : ReceiverState → ReceiverState → Detached
-detached old new = record { closed = is_closed new.base.local_state; answer = is_attached old.base.local_state }
-
 -- the peer's Detach is allowed and taken, or it isn't and the link stays
 abbrev pub TakesDetach : Option ReceiverState → ReceiverState → Result Detached IllegalState → ReceiverState → Type 0
 TakesDetach None old answer new = (answer ≡ Err (record {})) × (new ≡ old)
-TakesDetach (Some moved) old answer new = (answer ≡ Ok (detached old moved)) × (new ≡ moved)
+TakesDetach (Some moved) old answer new = (answer ≡ Ok (detached old.base moved.base)) × (new ≡ moved)

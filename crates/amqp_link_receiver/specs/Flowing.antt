@@ -2,6 +2,7 @@
 use Rattle.std.specs.Prelude.{◌≡◌, ◌⊎◌, ℕ, ◌-◌, ◌^◌, not, Bool, true, false, nat_lt, Option, Some, None, Result, Ok, Err, if◌then◌else◌}
 use Rattle.amqp_session_performatives.specs.declared.link_flow.LinkFlow.{LinkFlow}
 use Rattle.amqp_link_attach.specs.State.{is_attached}
+use Rattle.amqp_link_base.specs.Own.{handle_of}
 use Rattle.amqp_link_base.specs.declared.base.IllegalState.{IllegalState}
 use Rattle.amqp_link_flow.specs.Flows.{draining, granted, receiver_answer, receiver_flowed, shown, told}
 use Rattle.amqp_link_flow.specs.declared.inner.LinkFlowStateInner.{LinkFlowStateInner}
@@ -10,7 +11,7 @@ use Rattle.amqp_link_receiver.specs.declared.flowing.FlowRefusal.TheVariants as 
 use Rattle.amqp_link_receiver.specs.declared.flowing.Granted.{Granted}
 use Rattle.amqp_link_receiver.specs.declared.flowing.GrantRefusal.{GrantRefusal}
 use Rattle.amqp_link_receiver.specs.declared.flowing.GrantRefusal.TheVariants.{IllegalState as GrantIllegal, CreditOutOfRange}
-use Rattle.amqp_link_receiver.specs.State.{ReceiverState, handle_of}
+use Rattle.amqp_link_receiver.specs.State.{ReceiverState}
 
 -- the link with this credit and these counts
 abbrev pub with_flow : ReceiverState → LinkFlowStateInner → ReceiverState

@@ -4,3 +4,4 @@ pub mod Ending
 pub mod Flowing
 pub mod Incoming
 pub mod Disposing
+pub mod DisposingAll

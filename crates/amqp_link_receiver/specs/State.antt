@@ -1,6 +1,5 @@
 -- The receiving end of a link: part 2, 2.6.
 use Rattle.std.specs.Prelude.{◌≡◌, ℕ, [], false, Option, Some, None, Result, Ok, Err}
-use Rattle.amqp_session_types.specs.declared.handles.OutputHandle.{OutputHandle}
 use Rattle.amqp_link_attach.specs.Properties.{Properties}
 use Rattle.amqp_link_base.specs.declared.base.IllegalState.{IllegalState}
 use Rattle.amqp_link_base.specs.declared.base.LinkBase.{LinkBase}
@@ -37,11 +36,6 @@ unattached base count properties =
       attachment = 0;
       properties = properties;
     }
-
--- the own handle, which a link has while it is attached
-abbrev pub handle_of : Option OutputHandle → OutputHandle
-handle_of None = record { 0 = 0 }
-handle_of (Some handle) = handle
 
 -- the present attachment, as the messages see it that come in by it
 abbrev pub attachment_of : ReceiverState → Attachment

@@ -1,5 +1,5 @@
 //! How an attachment of a receiving link begins (part 2, 2.6.3 and 2.6.13).
-ghost use Rattle.std.specs.Prelude.{◌≡◌, Ok, IfOk, IfErr, unwrap_or};
+ghost use Rattle.std.specs.Prelude.{◌≡◌, IfOk, IfErr, unwrap_or};
 ghost use Rattle.amqp_link_attach.specs.Terms.{adopted_by_receiver};
 ghost use Rattle.amqp_link_base.specs.Moves.{moved_to};
 ghost use Rattle.amqp_link_flow.specs.Flows.{attached};
@@ -13,11 +13,11 @@ use amqp_link_attach::{
     AttachExchange, LinkState, Terms, get_max_message_size, merged_properties,
     verify_attach_as_receiver,
 };
-use amqp_link_base::IllegalState;
+use amqp_link_base::{IllegalState, both, put};
 use amqp_link_types::ReceiverAttachError;
-use amqp_link_unsettled::{ListError, UnsettledList, list_entries};
+use amqp_link_unsettled::{ListError, with_entries};
 use amqp_session_performatives::Attach;
-use amqp_session_types::{Boxed, Fields, InputHandle, Role};
+use amqp_session_types::{Boxed, Fields, OutputHandle, Role};
 use std::alloc::{AllocError, Global};
 
 /// What comes of the peer's Attach.
@@ -34,21 +34,27 @@ pub enum Attached {
 }
 
 impl ReceiverLink {
-    /// The own Attach (part 2, 2.7.3). It lists the unsettled deliveries: what has come of one with the place to
+    /// The own Attach under this own handle (part 2, 2.7.3). It lists the unsettled deliveries: what has come of one with the place to
     /// which it reaches, a whole message with the state that was told of it, or with the place of its end. Where that
-    /// doesn't fit a frame of so many bytes it lists the first half of them, or the first quarter, and so on. The
-    /// session writes the link's handle into it.
+    /// doesn't fit a frame of so many bytes it lists the first half of them, or the first quarter, and so on.
     ///
     /// Errors: `TooLarge` exactly where the Attach doesn't fit even without any of them, and `Memory`.
-    pub fn attach_frame(&self, alloc: Global, limit: u32) -> Result<Attach, ListError>
-        ensures ok { IfOk result (λ attach. Lists limit (unlisted self.now) (to_list self.now) attach) }
+    pub fn attach_frame(
+        &self,
+        alloc: Global,
+        handle: OutputHandle,
+        limit: u32,
+    ) -> Result<Attach, ListError>
+        ensures ok { IfOk result (λ attach. Lists limit (unlisted self.now handle) (to_list self.now) attach) }
         ensures too_large { IfErr result (λ e. e ≡ TooLarge
-            → FitsNowhere limit (unlisted self.now) (to_list self.now)) }
+            → FitsNowhere limit (unlisted self.now handle) (to_list self.now)) }
     {
         let list = self.end.unsettled().list(alloc)?;
         let count = self.end.flow().initial_delivery_count;
-        let attach = self.base.attach_frame(alloc, Role::Receiver, count)?;
-        with_list(attach, list, limit)
+        let attach = self
+            .base
+            .attach_frame(alloc, handle, Role::Receiver, count)?;
+        with_entries(attach, list, limit)
     }
 
     /// The own Attach is sent, which lists all unsettled deliveries or only a part of them: there is no credit and no
@@ -127,9 +133,7 @@ impl ReceiverLink {
         } }
     {
         let (terms, properties) = taken;
-        self.base.local_state = state;
-        self.base.input_handle = Some(InputHandle(attach.handle.0));
-        put(&mut self.base.terms, terms);
+        self.base.adopt(attach, state, terms);
         self.end.attach(attach.initial_delivery_count.unwrap_or(0));
         put(&mut self.properties, properties);
     }
@@ -137,35 +141,6 @@ impl ReceiverLink {
 
 /// The terms and the properties of a link once an Attach is taken over.
 type Taken = (Boxed<Terms>, Option<Boxed<Fields>>);
-
-/// Both values, where there was memory for each.
-fn both<A: Drop, B: Drop>(
-    first: Result<A, AllocError>,
-    second: Result<B, AllocError>,
-) -> Result<(A, B), AllocError>
-    ensures { IfOk result (λ c. (first ≡ Ok c.0) × (second ≡ Ok c.1)) }
-{
-    let second = second?;
-    Ok((first?, second))
-}
-
-/// Puts a value in the place of another.
-fn put<T: Drop>(place: &mut T, value: T)
-    ensures { place.new ≡ value }
-{
-    *place = value;
-}
-
-/// An Attach with these deliveries, or the first half of them, or the first quarter, and so on, as a frame of so many
-/// bytes holds them.
-fn with_list(attach: Attach, list: UnsettledList, limit: u32) -> Result<Attach, ListError>
-    ensures ok { IfOk result (λ new. Lists limit attach list new) }
-    ensures refused { IfErr result (λ e. (e ≡ TooLarge) × FitsNowhere limit attach list) }
-{
-    let mut attach = attach;
-    list_entries(&mut attach, list, limit)?;
-    Ok(attach)
-}
 
 /// The own terms with those of the peer's Attach where the sender's word counts.
 fn adopted(alloc: Global, own: &Terms, attach: &Attach) -> Result<Boxed<Terms>, AllocError>

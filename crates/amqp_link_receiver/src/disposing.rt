@@ -83,7 +83,7 @@ impl ReceiverLink {
 
 /// Whether a delivery is settled as its state is told: as is asked, or by the mode of its transfer, or else the
 /// link's.
-fn is_settled(
+pub(crate) fn is_settled(
     link: ReceiverSettleMode,
     told: Option<ReceiverSettleMode>,
     asked: Option<bool>,

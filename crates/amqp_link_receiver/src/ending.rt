@@ -1,20 +1,10 @@
 //! How an attachment of a receiving link ends (part 2, 2.6.4 to 2.6.6).
 ghost use Rattle.std.specs.Prelude.{◌≡◌};
 ghost use Rattle.amqp_link_receiver.specs.State.{MovesLink};
-ghost use Rattle.amqp_link_receiver.specs.Ending.{broken, detach_sent, detach_taken, ended, is_closed, TakesDetach};
+ghost use Rattle.amqp_link_receiver.specs.Ending.{broken, detach_sent, detach_taken, ended, TakesDetach};
 
 use crate::link::ReceiverLink;
-use amqp_link_attach::LinkState;
-use amqp_link_base::IllegalState;
-
-/// What the peer's Detach made of a link.
-#[derive(Debug, Clone, Copy, PartialEq, Eq)]
-pub struct Detached {
-    /// The link is closed, and not only detached (part 2, 2.6.6).
-    pub closed: bool,
-    /// The own Detach has not been sent, and is to be (part 2, 2.6.4).
-    pub answer: bool,
-}
+use amqp_link_base::{Detached, IllegalState};
 
 impl ReceiverLink {
     /// The own Detach is sent, which closes the link or doesn't, and ends the attachment: what has come of an
@@ -42,7 +32,7 @@ impl ReceiverLink {
         self.base.on_incoming_detach(closed)?;
         self.end_attachment();
         Ok(Detached {
-            closed: is_closed(self.base.local_state),
+            closed: self.base.is_closed(),
             answer,
         })
     }
@@ -63,11 +53,4 @@ impl ReceiverLink {
         self.end.part();
         self.attachment = self.attachment.wrapping_add(1);
     }
-}
-
-/// Whether the link is closed.
-fn is_closed(state: LinkState) -> bool
-    ensures { result ≡ is_closed state }
-{
-    matches!(state, LinkState::Closed)
 }

@@ -1,7 +1,7 @@
 //! The credit that a receiving link gives, and its Flows (part 2, 2.6.7 and 2.7.4).
 ghost use Rattle.std.specs.Prelude.{◌≡◌};
+ghost use Rattle.amqp_link_base.specs.Own.{handle_of};
 ghost use Rattle.amqp_link_flow.specs.Flows.{shown};
-ghost use Rattle.amqp_link_receiver.specs.State.{handle_of};
 ghost use Rattle.amqp_link_receiver.specs.Flowing.{Drains, Grants, Shows, drained, flow_answer, flowed, grant_refusal, own_flow, told_flow};
 
 use crate::link::ReceiverLink;
@@ -114,7 +114,7 @@ impl ReceiverLink {
         if !self.base.is_attached() {
             return None;
         }
-        let handle = self.own_handle();
+        let handle = self.base.own_handle();
         self.end.on_incoming_flow(flow, handle)
     }
 
@@ -129,6 +129,6 @@ impl ReceiverLink {
     fn shown(&self, echo: bool) -> LinkFlow
         ensures { result ≡ shown (handle_of self.now.base.output_handle) echo self.now.end.flow }
     {
-        self.end.flow().shown(self.own_handle(), echo)
+        self.end.flow().shown(self.base.own_handle(), echo)
     }
 }

@@ -6,6 +6,7 @@
 
 mod attaching;
 mod disposing;
+mod disposing_all;
 mod ending;
 mod flowing;
 mod incoming;
@@ -13,6 +14,5 @@ mod link;
 
 pub use attaching::Attached;
 pub use disposing::DisposeError;
-pub use ending::Detached;
 pub use flowing::{FlowRefusal, GrantRefusal, Granted};
 pub use link::ReceiverLink;

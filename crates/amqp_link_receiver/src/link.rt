@@ -2,7 +2,7 @@
 ghost use Rattle.std.specs.Prelude.{◌≡◌, length, option_copied, Some};
 ghost use Rattle.amqp_link_base.specs.Own.{bound};
 ghost use Rattle.amqp_link_receiving.specs.Deliveries.{found};
-ghost use Rattle.amqp_link_receiver.specs.State.{attachment_of, handle_of, unattached};
+ghost use Rattle.amqp_link_receiver.specs.State.{attachment_of, unattached};
 
 use amqp_link_attach::LinkState;
 use amqp_link_base::LinkBase;
@@ -90,7 +90,7 @@ impl ReceiverLink {
     pub fn max_message_size(&self) -> Option<u64>
         ensures { result ≡ bound self.now.base.terms.max_message_size }
     {
-        bound(self.base.terms.max_message_size)
+        self.base.max_message_size()
     }
 
     /// The credit and the counts (part 2, 2.6.7). The link's properties stand apart (`properties`).
@@ -138,24 +138,4 @@ impl ReceiverLink {
     {
         self.base.output_handle = Some(handle);
     }
-
-    /// The own handle.
-    pub(crate) fn own_handle(&self) -> OutputHandle
-        ensures { result ≡ handle_of self.now.base.output_handle }
-    {
-        match self.base.output_handle {
-            Some(handle) => handle,
-            None => OutputHandle(0),
-        }
-    }
-}
-
-/// A largest message, 0 being no bound.
-fn bound(max_message_size: u64) -> Option<u64>
-    ensures { result ≡ bound max_message_size }
-{
-    if max_message_size == 0 {
-        return None;
-    }
-    Some(max_message_size)
 }

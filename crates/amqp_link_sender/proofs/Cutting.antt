@@ -5,10 +5,9 @@ use Rattle.amqp_link_split.specs.declared.splitting.SplitRefusal.TheVariants as 
 use Rattle.amqp_session_core.specs.Batch.{Transfers}
 use Rattle.amqp_session_performatives.specs.declared.transfer.Transfer.{Transfer}
 use Rattle.amqp_link_split.specs.Splitting.{Splits}
-use Rattle.amqp_link_sender.specs.declared.payloads.PreparedBatch.{PreparedBatch}
 use Rattle.amqp_link_sender.specs.declared.sending.PreparedSend.{PreparedSend}
 use Rattle.amqp_link_sender.specs.declared.sending.SendRefusal.{SendRefusal}
-use Rattle.amqp_link_sender.specs.declared.sending.SendRefusal.TheVariants.{IllegalState, Memory}
+use Rattle.amqp_link_sender.specs.declared.sending.SendRefusal.TheVariants.{Memory}
 use Rattle.amqp_link_sender.specs.Payloads.{Cuts, Splitting, uncut}
 use Rattle.amqp_link_sender.specs.Sending.{Sending}
 use Rattle.amqp_link_sender.specs.Sends.{with_room}

@@ -1,7 +1,7 @@
 -- How an attachment of a sending link begins: part 2, 2.6.3 and 2.6.13.
-use Rattle.std.specs.Prelude.{◌≡◌, ◌⊎◌, ◌==◌, ◌&&◌, ℕ, Bool, true, false, List, [], length, Option, Some, None, option_map, Result, Ok, Err, alloc_error}
+use Rattle.std.specs.Prelude.{◌≡◌, ◌⊎◌, ◌==◌, ◌&&◌, ℕ, Bool, true, false, length, Option, Some, None, option_map, Result, Ok, Err, alloc_error}
 use Rattle.std.specs.declared.alloc.AllocError.{AllocError}
-use Rattle.amqp_session_types.specs.declared.handles.Handle.{Handle}
+use Rattle.amqp_session_types.specs.declared.handles.OutputHandle.{OutputHandle}
 use Rattle.amqp_session_performatives.specs.declared.attach.Attach.{Attach}
 use Rattle.amqp_session_performatives.specs.declared.transfer.Transfer.{Transfer}
 use Rattle.amqp_session_types.specs.declared.modes.Role.TheVariants.{Sender}
@@ -28,9 +28,9 @@ use Rattle.amqp_link_sender.specs.declared.attaching.AttachAnswer.{AttachAnswer}
 use Rattle.amqp_link_sender.specs.declared.attaching.AttachAnswer.TheVariants.{Refused, Attached}
 use Rattle.amqp_link_sender.specs.Sending.{Sending}
 
--- the own Attach without its list: its count of deliveries is that of the link
-abbrev pub attach_without_list : Sending → Attach
-attach_without_list s = own_attach s.base Sender s.flow.delivery_count
+-- the own Attach under an own handle, without its list: its count of deliveries is that of the link
+abbrev pub attach_without_list : Sending → OutputHandle → Attach
+attach_without_list s handle = own_attach s.base handle Sender s.flow.delivery_count
 
 -- the open messages with the states that the receiver told of them
 abbrev pub listed : Sending → Entries
@@ -38,10 +38,10 @@ listed s = entries_listed (λ m. m.state) s.messages.unsettled
 
 -- the own Attach lists as many of the open messages as a frame of at most so many bytes holds, or it doesn't fit without
 -- any of them, or there is no memory
-abbrev pub TellsAttach : ℕ → Sending → Result Attach ListError → Type 0
-TellsAttach limit s (Ok attach) = Lists limit (attach_without_list s) (listed s) attach
-TellsAttach limit s (Err TooLarge) = FitsNowhere limit (attach_without_list s) (listed s)
-TellsAttach limit s (Err Memory) = Unit {0}
+abbrev pub TellsAttach : ℕ → OutputHandle → Sending → Result Attach ListError → Type 0
+TellsAttach limit handle s (Ok attach) = Lists limit (attach_without_list s handle) (listed s) attach
+TellsAttach limit handle s (Err TooLarge) = FitsNowhere limit (attach_without_list s handle) (listed s)
+TellsAttach limit handle s (Err Memory) = Unit {0}
 
 -- there is no credit in an attachment as it begins, and its count begins where the link's stands
 abbrev pub with_attach_sent : Sending → LinkBase → Sending

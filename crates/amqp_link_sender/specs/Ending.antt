@@ -1,23 +1,16 @@
 -- How an attachment of a sending link ends: part 2, 2.6.4 to 2.6.6.
 use Rattle.std.specs.Prelude.{◌≡◌, ◌⊎◌, Bool, true, false, Option, Some, None, option_map, Result, Ok, Err}
 use Rattle.amqp_session_types.specs.declared.error.Error.{Error}
-use Rattle.amqp_link_attach.specs.State.{after_break, is_attached}
-use Rattle.amqp_link_attach.specs.declared.state.LinkState.{LinkState}
-use Rattle.amqp_link_attach.specs.declared.state.LinkState.TheVariants.{Closed}
-use Rattle.amqp_link_base.specs.Moves.{sent_detach, took_detach, broken_off}
+use Rattle.amqp_link_attach.specs.State.{after_break}
+use Rattle.amqp_link_base.specs.Moves.{broken_off, detached, is_closed, sent_detach, took_detach}
 use Rattle.amqp_link_base.specs.declared.base.LinkBase.{LinkBase}
+use Rattle.amqp_link_base.specs.declared.detached.Detached.{Detached}
 use Rattle.amqp_link_sender_messages.specs.Messages.{MessageLists, failed, interrupted}
 use Rattle.amqp_link_sender_messages.specs.declared.resolution.Failure.{Failure}
 use Rattle.amqp_link_sender_messages.specs.declared.resolution.Failure.TheVariants as failure
-use Rattle.amqp_link_sender.specs.declared.ending.Detached.{Detached}
 use Rattle.amqp_link_sender.specs.declared.ending.DetachRefusal.{DetachRefusal}
 use Rattle.amqp_link_sender.specs.declared.ending.DetachRefusal.TheVariants as refusal
 use Rattle.amqp_link_sender.specs.Sending.{Sending}
-
--- the link is closed
-abbrev pub is_closed : LinkState → Bool
-is_closed Closed = true
-is_closed state = false
 
 -- nothing is sent on any more; where the link is gone, its messages end without an outcome
 abbrev pub ended : MessageLists → Bool → Failure → MessageLists
@@ -64,12 +57,8 @@ broken s =
       messages = ended s.messages (is_closed (after_break s.base.local_state)) failure.Closed;
     }
 
--- what is told of the peer's Detach: whether the link is closed, and whether the own Detach is still to be sent
-abbrev pub detached : Sending → Sending → Detached
-detached old new = record { closed = is_closed new.base.local_state; answer = is_attached old.base.local_state }
-
 -- the peer's Detach is allowed and taken, or there is no memory for its error, or it isn't allowed; in these two cases the
 -- link stays
 abbrev pub TakesDetach : Option Sending → Sending → Result Detached DetachRefusal → Sending → Type 0
 TakesDetach None old answer new = (answer ≡ Err refusal.IllegalState) × (new ≡ old)
-TakesDetach (Some moved) old answer new = ((answer ≡ Err refusal.Memory) × (new ≡ old)) ⊎ ((answer ≡ Ok (detached old moved)) × (new ≡ moved))
+TakesDetach (Some moved) old answer new = ((answer ≡ Err refusal.Memory) × (new ≡ old)) ⊎ ((answer ≡ Ok (detached old.base moved.base)) × (new ≡ moved))

@@ -2,7 +2,6 @@
 use Rattle.std.specs.Prelude.{◌≡◌, ◌⊎◌, ℕ, List, Option, Some, None, Result, Ok, Err}
 use Rattle.amqp_session_core.specs.Batch.{Transfers}
 use Rattle.amqp_session_performatives.specs.declared.transfer.Transfer.{Transfer}
-use Rattle.amqp_link_sender_messages.specs.declared.open.Open.{Open}
 use Rattle.amqp_link_split.specs.Room.{room_of}
 use Rattle.amqp_link_split.specs.Splitting.{Splits}
 use Rattle.amqp_link_split.specs.declared.splitting.SplitRefusal.{SplitRefusal}

@@ -1,9 +1,9 @@
 -- The sending end of a link: part 2, 2.6.
 use Rattle.std.specs.Prelude.{◌≡◌, Result, Ok, Err, Option, Some, None, if◌then◌else◌}
 use Rattle.amqp_session_types.specs.declared.error.Error.{Error}
-use Rattle.amqp_session_types.specs.declared.handles.OutputHandle.{OutputHandle}
 use Rattle.amqp_session_performatives.specs.declared.link_flow.LinkFlow.{LinkFlow}
 use Rattle.amqp_link_attach.specs.State.{is_attached}
+use Rattle.amqp_link_base.specs.Own.{handle_of}
 use Rattle.amqp_link_base.specs.declared.base.IllegalState.{IllegalState}
 use Rattle.amqp_link_base.specs.declared.base.LinkBase.{LinkBase}
 use Rattle.amqp_link_flow.specs.declared.inner.LinkFlowStateInner.{LinkFlowStateInner}
@@ -16,11 +16,6 @@ pub record Sending : Type 0 where
   pub flow : LinkFlowStateInner
   pub messages : MessageLists
   pub remote_error : Option Error
-
--- the own handle, which a link has while it is attached
-abbrev pub handle_of : Option OutputHandle → OutputHandle
-handle_of None = record { 0 = 0 }
-handle_of (Some handle) = handle
 
 -- a Flow of the receiver changes the credit while the link is attached (part 2, 2.6.7)
 abbrev pub flowed : Sending → LinkFlow → Sending

@@ -1,5 +1,5 @@
 -- How messages are sent on once their link is attached again: part 2, 2.6.13, and part 3, 3.4.6.
-use Rattle.std.specs.Prelude.{ℕ, ◌==◌, ◌&&◌, not, Bool, true, false, List, drop, Option, Some, None, option_map, if◌then◌else◌}
+use Rattle.std.specs.Prelude.{ℕ, ◌==◌, ◌&&◌, not, Bool, true, false, drop, Option, Some, None, option_map, if◌then◌else◌}
 use Rattle.amqp_session_performatives.specs.declared.transfer.Transfer.{Transfer}
 use Rattle.amqp_session_states.specs.declared.delivery_state.DeliveryState.TheVariants.{Received as ReceivedState}
 use Rattle.amqp_session_states.specs.declared.received.Received.{Received}

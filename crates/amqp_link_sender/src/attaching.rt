@@ -1,12 +1,10 @@
 //! How an attachment of a sending link begins (part 2, 2.6.3 and 2.6.13).
-ghost use Rattle.std.specs.Prelude.{◌≡◌, Ok, IfOk, IfErr, OnOk, OnErr};
+ghost use Rattle.std.specs.Prelude.{◌≡◌, IfOk, OnOk, OnErr};
 ghost use Rattle.amqp_link_attach.specs.Attach.{sender_tests};
 ghost use Rattle.amqp_link_attach.specs.Properties.{merged};
 ghost use Rattle.amqp_link_attach.specs.Terms.{adopted_by_sender};
 ghost use Rattle.amqp_link_attach.specs.Tests.{FirstOf};
 ghost use Rattle.amqp_link_sender_messages.specs.Exchanging.{aborts, exchanged};
-ghost use Rattle.amqp_link_unsettled.specs.Listing.{FitsNowhere, Lists};
-ghost use Rattle.amqp_link_unsettled.specs.declared.listing.ListError.TheVariants.{TooLarge};
 ghost use Rattle.amqp_link_base.specs.Moves.{moved_to};
 ghost use Rattle.amqp_link_sender.specs.Attaching.{TakesAttach, TakesOver, TellsAttach, abort_transfer, attach_sent, attach_sent_anew};
 ghost use Rattle.amqp_link_sender.specs.Sending.{MovesLink};
@@ -16,12 +14,12 @@ use amqp_link_attach::{
     AttachExchange, LinkState, Terms, get_max_message_size, merged_properties,
     verify_attach_as_sender,
 };
-use amqp_link_base::IllegalState;
+use amqp_link_base::{IllegalState, both, put};
 use amqp_link_sender_messages::{Abort, Failure, Messages};
 use amqp_link_types::SenderAttachError;
-use amqp_link_unsettled::{ListError, UnsettledList, list_entries};
+use amqp_link_unsettled::{ListError, with_entries};
 use amqp_session_performatives::{Attach, Transfer};
-use amqp_session_types::{Boxed, Fields, Handle, InputHandle, Role};
+use amqp_session_types::{Boxed, Fields, Handle, OutputHandle, Role};
 use serde_amqp_types::Array;
 use std::alloc::{AllocError, Global};
 
@@ -45,18 +43,22 @@ pub struct Attaching {
 }
 
 impl SenderLink {
-    /// The own Attach, which lists the open messages with the states that the receiver told of them (part 2, 2.7.3): all of
-    /// them where the frame has at most `limit` bytes so, else the first half of them, a quarter, and so on. The session
-    /// writes the link's handle into it.
+    /// The own Attach under this own handle, which lists the open messages with the states that the receiver told of them (part 2, 2.7.3): all of
+    /// them where the frame has at most `limit` bytes so, else the first half of them, a quarter, and so on.
     ///
     /// Errors: `TooLarge` exactly where the frame has more bytes even without any of them; `Memory`.
-    pub fn attach_frame(&self, alloc: Global, limit: u32) -> Result<Attach, ListError>
-        ensures { TellsAttach limit self.now result }
+    pub fn attach_frame(
+        &self,
+        alloc: Global,
+        handle: OutputHandle,
+        limit: u32,
+    ) -> Result<Attach, ListError>
+        ensures { TellsAttach limit handle self.now result }
     {
         let list = self.messages.list(alloc)?;
         let count = self.flow.delivery_count();
-        let attach = self.base.attach_frame(alloc, Role::Sender, count)?;
-        with_list(attach, list, limit)
+        let attach = self.base.attach_frame(alloc, handle, Role::Sender, count)?;
+        with_entries(attach, list, limit)
     }
 
     /// The own Attach is sent, which lists all unsettled messages or only a part of them: there is no credit and no drain in
@@ -107,8 +109,7 @@ impl SenderLink {
         };
         match verify(&self.base.terms, attach) {
             Err(error) => {
-                self.base.local_state = state;
-                self.base.input_handle = Some(InputHandle(attach.handle.0));
+                self.base.move_to(attach, state);
                 Ok(AttachAnswer::Refused(error))
             }
             Ok(()) => self.take_over(alloc, attach, state),
@@ -161,9 +162,7 @@ impl SenderLink {
         } }
     {
         let (terms, properties) = taken;
-        self.base.local_state = state;
-        self.base.input_handle = Some(InputHandle(attach.handle.0));
-        put(&mut self.base.terms, terms);
+        self.base.adopt(attach, state, terms);
         put(self.flow.properties_mut(), properties);
     }
 
@@ -191,17 +190,6 @@ impl SenderLink {
 /// The terms and the properties of a link once an Attach is taken over.
 type Taken = (Boxed<Terms>, Option<Boxed<Fields>>);
 
-/// An Attach with these deliveries, or the first half of them, or the first quarter, and so on, as a frame of so many
-/// bytes holds them.
-fn with_list(attach: Attach, list: UnsettledList, limit: u32) -> Result<Attach, ListError>
-    ensures ok { IfOk result (λ new. Lists limit attach list new) }
-    ensures refused { IfErr result (λ e. (e ≡ TooLarge) × FitsNowhere limit attach list) }
-{
-    let mut attach = attach;
-    list_entries(&mut attach, list, limit)?;
-    Ok(attach)
-}
-
 /// What an Attach makes of the messages, and what is given up, with something that is kept meanwhile.
 fn exchange<T: Drop>(
     alloc: Global,
@@ -217,24 +205,6 @@ fn exchange<T: Drop>(
 {
     let aborts = messages.exchange(alloc, &attach.unsettled, attach.incomplete_unsettled)?;
     Ok((Array::from(aborts), kept))
-}
-
-/// Both values, where there was memory for each.
-fn both<A: Drop, B: Drop>(
-    first: Result<A, AllocError>,
-    second: Result<B, AllocError>,
-) -> Result<(A, B), AllocError>
-    ensures { IfOk result (λ c. (first ≡ Ok c.0) × (second ≡ Ok c.1)) }
-{
-    let second = second?;
-    Ok((first?, second))
-}
-
-/// Puts a value in the place of another.
-fn put<T: Drop>(place: &mut T, value: T)
-    ensures { place.new ≡ value }
-{
-    *place = value;
 }
 
 /// What a sending link answers to the receiver's Attach, by its terms.

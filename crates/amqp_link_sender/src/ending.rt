@@ -1,23 +1,13 @@
 //! How an attachment of a sending link ends (part 2, 2.6.4 to 2.6.6).
 ghost use Rattle.std.specs.Prelude.{◌≡◌, OnOk, OnErr};
 ghost use Rattle.amqp_link_sender.specs.Sending.{MovesLink};
-ghost use Rattle.amqp_link_sender.specs.Ending.{broken, TakesDetach, detach_sent, detach_taken, is_closed, ended, why_closed, given_error, error_kept};
+ghost use Rattle.amqp_link_sender.specs.Ending.{broken, TakesDetach, detach_sent, detach_taken, ended, why_closed, given_error, error_kept};
 
 use crate::link::SenderLink;
-use amqp_link_attach::LinkState;
-use amqp_link_base::IllegalState;
+use amqp_link_base::{Detached, IllegalState};
 use amqp_link_sender_messages::{Failure, Messages};
 use amqp_session_types::{Boxed, definitions};
 use std::alloc::{AllocError, Global};
-
-/// What the peer's Detach made of a link.
-#[derive(Debug, Clone, Copy, PartialEq, Eq)]
-pub struct Detached {
-    /// The link is closed, and not only detached (part 2, 2.6.6).
-    pub closed: bool,
-    /// The own Detach has not been sent, and is to be (part 2, 2.6.4).
-    pub answer: bool,
-}
 
 /// Why the peer's Detach isn't taken. The link is as before.
 #[derive(Debug, Clone, Copy, PartialEq, Eq)]
@@ -82,7 +72,7 @@ impl SenderLink {
         self.base.on_incoming_detach(closed)?;
         end(&mut self.messages, closed, why_closed(error));
         Ok(Detached {
-            closed: is_closed(self.base.local_state),
+            closed: self.base.is_closed(),
             answer,
         })
     }
@@ -93,7 +83,7 @@ impl SenderLink {
         ensures { self.new ≡ broken self.old }
     {
         self.base.break_off();
-        let closed = is_closed(self.base.local_state);
+        let closed = self.base.is_closed();
         end(&mut self.messages, closed, Failure::Closed);
     }
 }
@@ -107,13 +97,6 @@ fn end(messages: &mut Messages, gone: bool, why: Failure)
     } else {
         messages.interrupt();
     }
-}
-
-/// Whether the link is closed.
-fn is_closed(state: LinkState) -> bool
-    ensures { result ≡ is_closed state }
-{
-    matches!(state, LinkState::Closed)
 }
 
 /// Why the messages of a link that the peer closes have no outcome.

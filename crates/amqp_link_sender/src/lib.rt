@@ -14,7 +14,7 @@ mod sending;
 mod sending_on;
 
 pub use attaching::{AttachAnswer, Attaching};
-pub use ending::{DetachRefusal, Detached};
+pub use ending::DetachRefusal;
 pub use link::SenderLink;
 pub use payloads::PreparedBatch;
 pub use results::SendResult;

@@ -3,7 +3,7 @@ ghost use Rattle.std.specs.Prelude.{◌≡◌, length, option_copied, false, Non
 ghost use Rattle.std.specs.Borrow.{sem};
 ghost use Rattle.amqp_link_base.specs.Own.{bound};
 ghost use Rattle.amqp_link_sender.specs.Lends.{lends_handle, lends_properties};
-ghost use Rattle.amqp_link_sender.specs.Sending.{flowed, flow_answer, handle_of};
+ghost use Rattle.amqp_link_sender.specs.Sending.{flowed, flow_answer};
 ghost use Rattle.amqp_link_sender_messages.specs.Messages.{no_messages, open_at, first_of};
 
 use amqp_link_attach::LinkState;
@@ -111,7 +111,7 @@ impl SenderLink {
     pub fn max_message_size(&self) -> Option<u64>
         ensures { result ≡ bound self.now.base.terms.max_message_size }
     {
-        bound(self.base.terms.max_message_size)
+        self.base.max_message_size()
     }
 
     /// The link's properties: the own ones, into which the peer's were merged (part 2, 2.7.3).
@@ -181,27 +181,7 @@ impl SenderLink {
         if !self.base.is_attached() {
             return None;
         }
-        let handle = handle_of(self.base.output_handle);
+        let handle = self.base.own_handle();
         self.flow.on_incoming_flow(flow, handle)
     }
-}
-
-/// The own handle, which a link has while it is attached.
-fn handle_of(handle: Option<OutputHandle>) -> OutputHandle
-    ensures { result ≡ handle_of handle }
-{
-    match handle {
-        Some(handle) => handle,
-        None => OutputHandle(0),
-    }
-}
-
-/// A largest message, 0 being no bound.
-fn bound(max_message_size: u64) -> Option<u64>
-    ensures { result ≡ bound max_message_size }
-{
-    if max_message_size == 0 {
-        return None;
-    }
-    Some(max_message_size)
 }

@@ -15,7 +15,7 @@ mod resumption;
 pub use exchange::SenderAttachExchange;
 pub use iter::Iter;
 pub use laws::places_are_ordered;
-pub use listing::{ListError, Listed, UnsettledList, list_entries, list_unsettled};
+pub use listing::{ListError, Listed, UnsettledList, list_entries, list_unsettled, with_entries};
 pub use map::{Noting, UnsettledMap};
 pub use message::{AsDeliveryState, UnsettledMessage};
 pub use resumption::{Decision, ResumingDelivery, decide, is_past, resume_delivery};

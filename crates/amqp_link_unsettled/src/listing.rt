@@ -137,6 +137,18 @@ pub fn list_entries(attach: &mut Attach, list: UnsettledList, limit: u32) -> Res
     Err(ListError::TooLarge)
 }
 
+/// An Attach with these deliveries listed, as [`list_unsettled`] does. It takes no memory.
+///
+/// Errors: `TooLarge` exactly where the Attach doesn't fit even without any of them.
+pub fn with_entries(attach: Attach, list: UnsettledList, limit: u32) -> Result<Attach, ListError>
+    ensures ok { IfOk result (λ new. Lists limit attach list new) }
+    ensures refused { IfErr result (λ e. (e ≡ TooLarge) × FitsNowhere limit attach list) }
+{
+    let mut attach = attach;
+    list_entries(&mut attach, list, limit)?;
+    Ok(attach)
+}
+
 /// Lists all entries, or half, a quarter, and so on of them, and tells whether the Attach fits so. Where it never
 /// does the list is left empty.
 fn list_first(attach: &mut Attach, list: UnsettledList, limit: u32) -> bool

@@ -1,4 +1,3 @@
-use Rattle.std.proofs.Common.{rules}
 use Rattle.amqp_link_split.specs.Room.{room_of}
 use Rattle.amqp_link_sender.proofs.Cutting.{are_not_split}
 use Rattle.amqp_link_sender.proofs.payloads.split_for.Goals as goal
