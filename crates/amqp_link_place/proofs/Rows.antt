@@ -1,14 +1,12 @@
 -- Places, and what transfers say, computed from the definitions.
 use Rattle.std.proofs.Common.{◌≡◌, ℕ, List, [], ◌∷◌, Bool, true, false, refl}
-use Rattle.std.specs.Prelude.{Option, Some, None, Result, Ok, Err}
-use Rattle.amqp_session_types.specs.declared.handles.Handle.{Handle}
+use Rattle.std.specs.Prelude.{Option, Some, None, Ok, Err}
 use Rattle.amqp_session_states.specs.declared.received.Received.{Received}
 use Rattle.amqp_session_performatives.specs.declared.transfer.Transfer.{Transfer}
-use Rattle.amqp_link_types.specs.declared.refusals.ReceiverTransferError.{ReceiverTransferError}
 use Rattle.amqp_link_types.specs.declared.refusals.ReceiverTransferError.TheVariants.{DeliveryIdIsNone, DeliveryTagIsNone, InconsistentFieldInMultiFrameDelivery}
 use Rattle.amqp_link_place.specs.Starts.{place_at, read_at, kept_till}
-use Rattle.amqp_link_place.specs.Said.{Said, begun, continued, whole, agrees, is_same_delivery, gathered}
-use Rattle.amqp_link_place.specs.Readings.{Piece, Reading, nothing, readings, taken}
+use Rattle.amqp_link_place.specs.Said.{Said, agrees, is_same_delivery, gathered}
+use Rattle.amqp_link_place.specs.Readings.{Piece, nothing, readings, taken}
 
 abbrev place : ℕ → ℕ → Received
 place section offset = record { section_number = section; section_offset = offset }

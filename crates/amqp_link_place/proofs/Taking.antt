@@ -1,11 +1,10 @@
 -- What transfers say that a receiver takes.
-use Rattle.std.proofs.Common.{◌≡◌, List, [], ◌∷◌, Bool, true, false, refl, ap, sym, ◌∙◌}
+use Rattle.std.proofs.Common.{◌≡◌, List, [], ◌∷◌, Bool, true, false, refl, ap, ◌∙◌}
 use Rattle.std.specs.Prelude.{Option, Some, None, Result, Ok, Err, if◌then◌else◌}
-use Rattle.amqp_session_performatives.specs.declared.transfer.Transfer.{Transfer}
 use Rattle.amqp_link_types.specs.declared.refusals.ReceiverTransferError.{ReceiverTransferError}
 use Rattle.amqp_link_types.specs.declared.refusals.ReceiverTransferError.TheVariants.{InconsistentFieldInMultiFrameDelivery}
 use Rattle.amqp_link_place.specs.Said.{Said, begun, continued, gathered, unnamed, unless, agrees}
-use Rattle.amqp_link_place.specs.Readings.{Piece, Reading, opened, brought, brought_if, read_on, readings, take_on, taken_on, taken}
+use Rattle.amqp_link_place.specs.Readings.{Piece, Reading, opened, brought, brought_if, read_on, readings, take_on, taken}
 
 -- transfers behind one that was refused are refused
 refused-stays : (e : ReceiverTransferError) (ps : List Piece) (r : Reading) → taken (Err e) ps ≡ Ok r → ⊥

@@ -11,23 +11,24 @@ use bytes::{Bytes, BytesMut};
 use std::alloc::{AllocError, Global};
 use std::marker::Model;
 
-/// Pieces of a payload as they come, and the place to which they reach. A clause sees their bytes.
+/// Pieces of a payload as they come. They are looked into only where the place to which they reach is asked for. A clause
+/// sees their bytes.
 #[derive(Drop)]
 pub struct Gathered {
     pieces: Vec<Bytes>,
-    scan: Scan,
+    /// How many bytes they have together.
+    size: usize,
 }
 
 impl Model for Gathered {
-    ghost use Rattle.std.specs.Prelude.{List, ℕ};
+    ghost use Rattle.std.specs.Prelude.{◌≡◌, ◌<◌, ◌^◌, List, ℕ, length};
     ghost use Rattle.std.specs.List.{concat};
-    ghost use Rattle.amqp_link_place.specs.Scans.{Scanned};
 
     ghost Value = { List ℕ };
 
     ghost view = { λ s. concat s.pieces.items };
 
-    ghost invariant = { λ s. Scanned s.scan (concat s.pieces.items) };
+    ghost invariant = { λ s. (s.size ≡ length (concat s.pieces.items)) × (s.size < 2 ^ 32) };
 }
 
 impl Gathered {
@@ -37,7 +38,7 @@ impl Gathered {
     {
         Gathered {
             pieces: Vec::new(alloc),
-            scan: Scan::new(),
+            size: 0,
         }
     }
 
@@ -48,7 +49,7 @@ impl Gathered {
         ensures err { OnErr result (self.new ≡ self.old) }
     {
         self.pieces.reserve(1)?;
-        self.scan.take(&piece);
+        self.size += piece.len();
         self.pieces.push_reserved(piece);
         Ok(())
     }
@@ -61,8 +62,7 @@ impl Gathered {
     {
         self.pieces.reserve(1)?;
         cut(&mut self.pieces, kept);
-        self.scan = scan_of(&self.pieces);
-        self.scan.take(&next);
+        self.size = self.size.min(kept) + next.len();
         self.pieces.push_reserved(next);
         Ok(())
     }
@@ -72,7 +72,7 @@ impl Gathered {
         ensures { self.new ≡ take n self.old }
     {
         cut(&mut self.pieces, n);
-        self.scan = scan_of(&self.pieces);
+        self.size = self.size.min(n);
     }
 
     /// How many bytes have come.
@@ -80,14 +80,14 @@ impl Gathered {
         ensures size { result ≡ length self.now }
         ensures small { result < 2 ^ 32 }
     {
-        self.scan.size as usize
+        self.size
     }
 
-    /// The place to which the bytes reach.
+    /// The place to which the bytes reach. It is found byte by byte.
     pub fn place(&self) -> Received
         ensures { result ≡ place_at self.now (length self.now) }
     {
-        self.scan.place()
+        scan_of(&self.pieces).place()
     }
 
     /// How many of the bytes stand before a place.

@@ -1,4 +1,4 @@
-use Rattle.std.proofs.Common.{◌≡◌, ℕ, List, ◌++◌, ap, sym, ◌∙◌, take, drop, min, arith}
+use Rattle.std.proofs.Common.{◌≡◌, ℕ, List, ◌++◌, ap, ◌∙◌, take, min, arith}
 use Rattle.std.specs.List.{concat}
 use Rattle.amqp_link_place.proofs.Pieces.{join-more, join-end}
 use Rattle.amqp_link_place.proofs.gathered.joined.Goals as goal

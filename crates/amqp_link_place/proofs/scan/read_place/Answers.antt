@@ -1,5 +1,5 @@
-use Rattle.std.proofs.Common.{◌≡◌, ℕ, List, [], ◌++◌, append-nil, ap, sym, ◌∙◌, refl}
-use Rattle.std.specs.Prelude.{Option, Some, None}
+use Rattle.std.proofs.Common.{◌≡◌, ℕ, List, [], append-nil, ap, sym, ◌∙◌, refl}
+use Rattle.std.specs.Prelude.{Option, Some}
 use Rattle.amqp_link_place.specs.Starts.{behind, start_of}
 use Rattle.amqp_link_place.proofs.scan.read_place.Goals as goal
 

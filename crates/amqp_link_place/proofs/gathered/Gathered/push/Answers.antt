@@ -1,18 +1,19 @@
-use Rattle.std.proofs.Common.{◌≡◌, ℕ, List, [], ◌∷◌, ◌++◌, ap, sym, ◌∙◌, subst}
+use Rattle.std.proofs.Common.{◌≡◌, ℕ, List, [], ◌∷◌, ◌++◌, ap, ◌∙◌, arith, length, length-append}
 use Rattle.std.specs.List.{concat}
-use Rattle.amqp_link_place.specs.Scans.{Scanned}
 use Rattle.amqp_link_place.proofs.Pieces.{concat-push}
 use Rattle.amqp_link_place.proofs.gathered.Gathered.push.Goals as goal
 
+-- the bytes with the piece
+joined : (c : goal.After-push_reserved) → concat c.push_reserved.new.self.items ≡ concat c.self.inside.pieces.items ++ c.args.piece
+joined c =
+    ap (λ (l : List (List ℕ)). concat l) (c.push_reserved.ensures.items ∙ ap (λ (l : List (List ℕ)). l ++ c.args.piece ∷ []) c.in_ok-reserve.ensures.items)
+    ∙ concat-push c.self.inside.pieces.items c.args.piece
+
 pub invariant_of-self-2 : goal.invariant_of-self-2
 invariant_of-self-2 c =
-    let items = c.push_reserved.ensures.items ∙ ap (λ (l : List (List ℕ)). l ++ c.args.piece ∷ []) c.in_ok-reserve.ensures.items in
-    let e : concat c.self.inside.pieces.items ++ c.deref.result.now ≡ concat c.push_reserved.new.self.items =
-    ap (λ (l : List ℕ). concat c.self.inside.pieces.items ++ l) c.deref.ensures ∙ sym (concat-push c.self.inside.pieces.items c.args.piece) ∙ ap (λ (l : List (List ℕ)). concat l) (sym items) in
-    let P : List ℕ → Type 0 = λ l. Scanned c.take.new.self l in
-    subst P e (c.take.ensures.scanned (concat c.self.inside.pieces.items) c.self.invariant)
+    let count = ap (λ (l : List ℕ). length l) (joined c) ∙ length-append (concat c.self.inside.pieces.items) c.args.piece in
+    let before = ap (λ (l : List ℕ). length l) c.self.view_is in
+    (omega (arith, count, c.self.invariant.0, c.len.ensures.value), omega (arith, c.self.invariant.0, c.len.ensures.value, before, c.requires))
 
 pub returns-clause-ok : goal.returns-clause-ok
-returns-clause-ok c =
-    ap (λ (l : List (List ℕ)). concat l) (c.push_reserved.ensures.items ∙ ap (λ (l : List (List ℕ)). l ++ c.args.piece ∷ []) c.in_ok-reserve.ensures.items)
-    ∙ concat-push c.self.inside.pieces.items c.args.piece ∙ ap (λ (l : List ℕ). l ++ c.args.piece) c.self.view_is
+returns-clause-ok c = joined c ∙ ap (λ (l : List ℕ). l ++ c.args.piece) c.self.view_is
