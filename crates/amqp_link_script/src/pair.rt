@@ -1,0 +1,40 @@
+//! The two ends of a link, and the frames that are under way between them.
+mod attaching;
+mod calls;
+mod delivering;
+mod disposing;
+mod ending;
+mod ends;
+mod flowing;
+mod happening;
+mod reading;
+mod reading_frames;
+mod seen;
+mod sending;
+mod shown;
+mod taking;
+mod termini;
+
+use crate::words::Words;
+pub use attaching::{accept, attach};
+pub use calls::{DisposeOf, Outcome, Which};
+pub use delivering::deliver;
+pub use disposing::dispose;
+pub use ending::break_both;
+pub use ends::{Pair, receiver_of, sender_of};
+pub use flowing::{drain, grant};
+pub use happening::Happening;
+use reading::read_call;
+pub use seen::open;
+pub use sending::{Message, send, send_on};
+use std::alloc::{AllocError, Global};
+
+impl Pair {
+    /// What the step with these words answers, or `None` where it can't be read.
+    pub fn step(&mut self, alloc: Global, words: Words<'_>) -> Result<Option<String>, AllocError> {
+        match read_call(words) {
+            Some(call) => calls::perform(self, alloc, call),
+            None => Ok(None),
+        }
+    }
+}

@@ -1,0 +1,100 @@
+//! The words of a step.
+use std::alloc::{AllocError, Global};
+
+/// The words of a step, and how many of them were read.
+#[derive(Clone, Copy)]
+pub struct Words<'a> {
+    all: &'a [&'a str],
+    read: usize,
+}
+
+/// The words of a text, which are parted by one space each.
+pub fn words_of(alloc: Global, text: &str) -> Result<Vec<&str>, AllocError> {
+    text.split(' ').collect(alloc)
+}
+
+/// A number in decimal digits alone: a sign is none.
+pub fn number_of(word: &str) -> Option<u32> {
+    if word.starts_with('+') {
+        return None;
+    }
+    word.parse().ok()
+}
+
+/// A larger number in decimal digits alone.
+pub fn large_number_of(word: &str) -> Option<u64> {
+    if word.starts_with('+') {
+        return None;
+    }
+    word.parse().ok()
+}
+
+/// `true` or `false`.
+fn truth_of(word: &str) -> Option<bool> {
+    match word {
+        "true" => Some(true),
+        "false" => Some(false),
+        _ => None,
+    }
+}
+
+impl<'a> Words<'a> {
+    /// All of these are still to be read.
+    pub fn new(words: &'a [&'a str]) -> Self {
+        Words {
+            all: words,
+            read: 0,
+        }
+    }
+
+    /// Whether all were read.
+    pub fn is_empty(&self) -> bool {
+        self.read >= self.all.len()
+    }
+
+    /// The next word.
+    fn next(&self) -> Option<&'a str> {
+        self.all.get(self.read).copied()
+    }
+
+    /// Reads the next word.
+    pub fn word(&mut self) -> Option<&'a str> {
+        let word = self.next()?;
+        self.read = self.read.saturating_add(1);
+        Some(word)
+    }
+
+    /// Reads the next word where it is this one, and says whether it was.
+    pub fn takes(&mut self, word: &str) -> bool {
+        if self.next() != Some(word) {
+            return false;
+        }
+        self.read = self.read.saturating_add(1);
+        true
+    }
+
+    /// Reads the next word where it is a field of this name, `name=value`, and answers the value.
+    pub fn value(&mut self, name: &str) -> Option<&'a str> {
+        let (found, value) = self.next()?.split_once('=')?;
+        if found != name {
+            return None;
+        }
+        self.read = self.read.saturating_add(1);
+        Some(value)
+    }
+
+    /// Reads the next word, which is a number.
+    pub fn number(&mut self) -> Option<u32> {
+        number_of(self.word()?)
+    }
+
+    /// Reads a field whose value is a number.
+    pub fn field(&mut self, name: &str) -> Option<u32> {
+        number_of(self.value(name)?)
+    }
+
+    /// Reads a field whose value is `true` or `false`.
+    pub fn truth(&mut self, name: &str) -> Option<bool> {
+        truth_of(self.value(name)?)
+    }
+}
