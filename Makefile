@@ -36,9 +36,10 @@ time:
 edits:
 	@tools/try_edits $(CRATES)
 
-# Counts the instructions that the codec, the frames of a session, sessions and the endpoint take, by valgrind.
+# Counts the instructions that the codec, the frames of a session, sessions, the endpoint and links take, by valgrind.
 bench:
 	@crates/amqp_bench/measure
+	@crates/amqp_link_bench/measure
 
 # Proves and builds the program, and runs the script once for each of its requests for memory, with that request refused.
 memory:

@@ -1,0 +1,126 @@
+//! What is done with many messages that are open.
+use super::Bench;
+use crate::content::tag_of;
+use crate::ends::{attach, break_off, listing, note_resolved, take_list};
+use crate::fault::Fault;
+use amqp_session::{Accepted, DeliveryState};
+use std::alloc::Global;
+
+/// How many bytes the frame of an Attach has at most, where that is few.
+const SMALL: u32 = 512;
+
+/// What is done with messages that are open.
+#[derive(Debug, Clone, Copy)]
+pub enum Kind {
+    /// `sent`: nothing. Their transfers are lost.
+    Sent,
+    /// `received`: nothing. The receiver has taken them.
+    Received,
+    /// `listed`: the sender's Attach lists them.
+    Listed,
+    /// `halved`: the same, in a frame of 512 bytes.
+    Halved,
+    /// `disposed`: the receiver's dispositions accept and settle them one by one.
+    Disposed,
+    /// `resolved`: the receiver's Attach lists them as accepted.
+    Resolved,
+    /// `resent`: the connection is lost, and the receiver has none of them. They are sent anew.
+    Resent,
+    /// `resumed`: the connection is lost, and the receiver has all of them. Their deliveries are resumed behind the
+    /// end.
+    Resumed,
+}
+
+impl Kind {
+    /// The kind of this name.
+    pub fn parse(name: &str) -> Option<Kind> {
+        match name {
+            "sent" => Some(Kind::Sent),
+            "received" => Some(Kind::Received),
+            "listed" => Some(Kind::Listed),
+            "halved" => Some(Kind::Halved),
+            "disposed" => Some(Kind::Disposed),
+            "resolved" => Some(Kind::Resolved),
+            "resent" => Some(Kind::Resent),
+            "resumed" => Some(Kind::Resumed),
+            _ => None,
+        }
+    }
+
+    /// Whether the receiver has taken the messages.
+    fn is_received(self) -> bool {
+        matches!(self, Kind::Received | Kind::Resumed)
+    }
+}
+
+impl Bench {
+    /// So many messages are sent unsettled, and then this is done with them.
+    pub fn open(&mut self, alloc: Global, count: u32, kind: Kind) -> Result<(), Fault> {
+        if kind.is_received() {
+            self.pass_each(alloc, false, count)?;
+        } else {
+            self.send_each(alloc, false, count)?;
+        }
+        self.go_on(alloc, count, kind)
+    }
+
+    /// This is done with the messages that are open.
+    fn go_on(&mut self, alloc: Global, count: u32, kind: Kind) -> Result<(), Fault> {
+        match kind {
+            Kind::Sent | Kind::Received => Ok(()),
+            Kind::Listed => self.list(alloc, u32::MAX),
+            Kind::Halved => self.list(alloc, SMALL),
+            Kind::Disposed => self.dispose_each(alloc, count),
+            Kind::Resolved => self.resolve(alloc, count),
+            Kind::Resent | Kind::Resumed => self.resume(alloc, count),
+        }
+    }
+
+    /// The sender's Attach lists the messages in a frame of at most so many bytes.
+    fn list(&mut self, alloc: Global, limit: u32) -> Result<(), Fault> {
+        let count = listing(&self.ends.sender, alloc, limit)?;
+        self.counts.add_listed(count);
+        Ok(())
+    }
+
+    /// So many messages are accepted and settled one by one.
+    fn dispose_each(&mut self, alloc: Global, count: u32) -> Result<(), Fault> {
+        for number in 0..count {
+            self.dispose_at_sender(alloc, number)?;
+        }
+        self.note_each_resolved(count);
+        Ok(())
+    }
+
+    /// The sender takes a disposition that accepts and settles a message.
+    fn dispose_at_sender(&mut self, alloc: Global, number: u32) -> Result<(), Fault> {
+        let tag = tag_of(alloc, number)?;
+        let accepted = Some(DeliveryState::Accepted(Accepted {}));
+        let _ = self
+            .ends
+            .sender
+            .on_incoming_disposition(&tag, true, accepted);
+        Ok(())
+    }
+
+    /// The receiver's Attach lists so many messages as accepted.
+    fn resolve(&mut self, alloc: Global, count: u32) -> Result<(), Fault> {
+        take_list(&mut self.ends, alloc, count)?;
+        self.note_each_resolved(count);
+        Ok(())
+    }
+
+    /// The connection is lost, the ends are attached anew, and so many messages are sent on.
+    fn resume(&mut self, alloc: Global, count: u32) -> Result<(), Fault> {
+        break_off(&mut self.ends);
+        attach(&mut self.ends, alloc)?;
+        self.pass_on_each(alloc, count)
+    }
+
+    /// The sender is told the outcomes of so many messages.
+    fn note_each_resolved(&mut self, count: u32) {
+        for _ in 0..count {
+            note_resolved(&mut self.ends.sender, &mut self.counts);
+        }
+    }
+}
