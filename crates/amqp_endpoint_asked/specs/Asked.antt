@@ -34,7 +34,8 @@ asked_with attach = record { attach = attach; flow = None }
 -- the peer asks for a link with this Attach, and this is the answer
 abbrev pub Asks : Asked → Attach → Result ⊤ AskRefusal → Asked → Type 0
 Asks old attach (Ok done) new =
-    (map.get old (attach.handle).0 ≡ None) × IsNewName old attach.name × (new ≡ map.insert old (attach.handle).0 (asked_with attach))
+    (map.get old (attach.handle).0 ≡ None) × IsNewName old attach.name
+    × (new ≡ map.insert old (attach.handle).0 (asked_with attach))
 Asks old attach (Err HandleInUse) new = IsSome (map.get old (attach.handle).0) × (new ≡ old)
 Asks old attach (Err NameInUse) new =
     (map.get old (attach.handle).0 ≡ None) × ((handle : ℕ) × HasName old handle attach.name) × (new ≡ old)

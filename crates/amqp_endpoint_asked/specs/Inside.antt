@@ -8,7 +8,8 @@ use Rattle.amqp_endpoint_asked.specs.Asked.{Asked, HasName}
 
 -- the handle of each asked link stands under its name, and nothing else does
 pub record AreNamed (asked : Asked) (handles : List (List ℕ × ℕ)) : Type 0 where
-  pub each : (handle : ℕ) (link : AskedLink) → map.get asked handle ≡ Some link → lookup (bytes_eq (link.attach).name) handles ≡ Some handle
+  pub each : (handle : ℕ) (link : AskedLink) → map.get asked handle ≡ Some link
+      → lookup (bytes_eq (link.attach).name) handles ≡ Some handle
   pub only : (name : List ℕ) (handle : ℕ) → lookup (bytes_eq name) handles ≡ Some handle → HasName asked handle name
 
 -- a handle is put under a name
@@ -18,4 +19,5 @@ PutsUnder name handle old new =
 
 -- what stands under a name is taken away
 abbrev pub TakesAway : List ℕ → List (List ℕ × ℕ) → List (List ℕ × ℕ) → Type 0
-TakesAway name old new = (q : List ℕ) → lookup (bytes_eq q) new ≡ (if bytes_eq name q then None else lookup (bytes_eq q) old)
+TakesAway name old new =
+    (q : List ℕ) → lookup (bytes_eq q) new ≡ (if bytes_eq name q then None else lookup (bytes_eq q) old)

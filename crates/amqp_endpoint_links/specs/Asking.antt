@@ -12,7 +12,8 @@ use Rattle.amqp_session_performatives.specs.declared.session_frame.SessionFrame.
 use Rattle.amqp_session_core.specs.Relay.{Relations}
 use Rattle.amqp_session_core.specs.State.{State, leads, reached}
 use Rattle.amqp_session_core.specs.Steps.{told_to_link}
-use Rattle.amqp_session_core.specs.Told.{AttachTaken as SessionAttached, DetachTaken as SessionDetached, FlowTaken, FlowUnattached}
+use Rattle.amqp_session_core.specs.Told.{AttachTaken as SessionAttached, DetachTaken as SessionDetached}
+use Rattle.amqp_session_core.specs.Told.{FlowTaken, FlowUnattached}
 use Rattle.amqp_endpoint_asked.specs.declared.links.AskRefusal.{AskRefusal}
 use Rattle.amqp_endpoint_asked.specs.declared.links.AskRefusal.TheVariants as ask
 use Rattle.amqp_endpoint_asked.specs.Asked.{Asked, Asks, told_at}
@@ -54,7 +55,8 @@ asked_answer (Err ask.NameInUse) = Err session.IllegalState
 asked_answer (Err ask.Memory) = Err session.Memory
 
 -- the peer asks for a link
-pub record AsksFor {A : Type 0} (old : Asked) (attach : Attach) (result : Result (AttachTaken A) SessionError) (new : Asked) : Type 0 where
+pub record AsksFor {A : Type 0} (old : Asked) (attach : Attach) (result : Result (AttachTaken A) SessionError) (new : Asked)
+    : Type 0 where
   pub told : Result ⊤ AskRefusal
   pub asks : Asks old attach told new
   pub answer : result ≡ asked_answer told
@@ -80,31 +82,36 @@ module _ {R : Type 0} where
 
 module _ {R A T D : Type 0} (gives : Relations R A T D) where
   -- the link with this own handle waited for an Attach
-  pub record ByLink (old : AskingSession R) (handle : ℕ) (attach : Attach) (result : Result (AttachTaken A) SessionError) (new : AskingSession R) : Type 0 where
+  pub record ByLink (old : AskingSession R) (handle : ℕ) (attach : Attach)
+      (result : Result (AttachTaken A) SessionError) (new : AskingSession R) : Type 0 where
     pub told : Result A SessionError
     pub taken : SessionAttached gives old.session handle attach told new.session
     pub answer : result ≡ by_link told
     pub rest : new ≡ record old { session = new.session }
 
   -- how an Attach is answered, with whether its handle is in use
-  abbrev pub AttachAt : Bool → AskingSession R → Attach → NamedLink → Result (AttachTaken A) SessionError → AskingSession R → Type 0
+  abbrev pub AttachAt : Bool → AskingSession R → Attach → NamedLink → Result (AttachTaken A) SessionError
+      → AskingSession R → Type 0
   AttachAt true old attach named result new = (result ≡ Err session.HandleInUse) × (new ≡ old)
   AttachAt false old attach Attached result new = (result ≡ Err session.IllegalState) × (new ≡ old)
   AttachAt false old attach (Waiting handle) result new = ByLink old handle.0 attach result new
   AttachAt false old attach Absent result new =
       AsksFor old.asked attach result new.asked × (new ≡ record old { asked = new.asked })
 
-  abbrev pub AttachAnswered : AskingSession R → Attach → NamedLink → Result (AttachTaken A) SessionError → AskingSession R → Type 0
+  abbrev pub AttachAnswered : AskingSession R → Attach → NamedLink → Result (AttachTaken A) SessionError
+      → AskingSession R → Type 0
   AttachAnswered old attach named result new = AttachAt (in_use old (attach.handle).0) old attach named result new
 
   -- how the session takes a Flow that is no asked link's
-  abbrev pub FlowInSession : Bool → State R → List SessionFrame → Flow → Result ⊤ SessionError → State R → List SessionFrame → Type 0
+  abbrev pub FlowInSession : Bool → State R → List SessionFrame → Flow → Result ⊤ SessionError
+      → State R → List SessionFrame → Type 0
   FlowInSession false old out flow result new out_new = FlowUnattached gives old out flow result new out_new
   FlowInSession true old out flow (Err session.Memory) new out_new = (new ≡ old) × (out_new ≡ out)
   FlowInSession true old out flow result new out_new = FlowTaken gives old out flow result new out_new
 
   -- how a Flow is answered, with whether it is an asked link's
-  abbrev pub FlowAt : Bool → AskingSession R → List SessionFrame → Flow → Result ⊤ SessionError → AskingSession R → List SessionFrame → Type 0
+  abbrev pub FlowAt : Bool → AskingSession R → List SessionFrame → Flow → Result ⊤ SessionError
+      → AskingSession R → List SessionFrame → Type 0
   FlowAt false old out flow result new out_new =
       FlowInSession (leads old.session flow.handle) old.session out flow result new.session out_new
       × (new ≡ record old { session = new.session })
@@ -113,11 +120,13 @@ module _ {R A T D : Type 0} (gives : Relations R A T D) where
       × (new ≡ record old { session = new.session; asked = told_of old.asked flow flow.handle })
   FlowAt true old out flow (Err e) new out_new = (e ≡ session.Memory) × (new ≡ old) × (out_new ≡ out)
 
-  abbrev pub FlowAnswered : AskingSession R → List SessionFrame → Flow → Result ⊤ SessionError → AskingSession R → List SessionFrame → Type 0
+  abbrev pub FlowAnswered : AskingSession R → List SessionFrame → Flow → Result ⊤ SessionError
+      → AskingSession R → List SessionFrame → Type 0
   FlowAnswered old out flow result new out_new = FlowAt (is_asked old.asked flow.handle) old out flow result new out_new
 
   -- the session takes a Detach
-  pub record DetachInSession (old : AskingSession R) (detach : Detach) (result : Result (DetachTaken D) SessionError) (new : AskingSession R) : Type 0 where
+  pub record DetachInSession (old : AskingSession R) (detach : Detach)
+      (result : Result (DetachTaken D) SessionError) (new : AskingSession R) : Type 0 where
     pub told : Result D SessionError
     pub taken : SessionDetached gives old.session detach told new.session
     pub answer : result ≡ detached_by told

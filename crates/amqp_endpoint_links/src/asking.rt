@@ -141,7 +141,10 @@ impl<R: LinkRelay> AskingSession<R> {
     ) -> Result<OutputHandle, Unallocated<R>>
         ensures ok { IfOk result (λ handle.
             Steps R.gives self.old.session (Allocates handle.0 link (Some input_handle.0)) self.new.session
-            × (self.new ≡ record self.old { session = self.new.session; asked = map.remove self.old.asked input_handle.0 })) }
+            × (self.new ≡ record self.old {
+              session = self.new.session;
+              asked = map.remove self.old.asked input_handle.0;
+            })) }
         ensures err { IfErr result (λ refused.
             RefusesLink self.old.session (Some input_handle.0) refused.error × (refused.link ≡ link)) }
         ensures kept { OnErr result (self.new ≡ self.old) }
