@@ -105,6 +105,17 @@ RefusesSession old LocalChannelMaxReached = (refusal_of_begin old.local_state �
 RefusesSession old NoMemoryForSession = (refusal_of_begin old.local_state ≡ None) × (old.offered ≤ channel_limit old)
 RefusesSession old e = ⊥
 
+-- why no channel is offered to a session: the state, then the channel itself (part 2, 2.7.1)
+abbrev pub RefusesChannel : State → BeginError → Type 0
+RefusesChannel old NoMemoryForSession = ⊥
+RefusesChannel old e = RefusesSession old e
+
+-- this channel, which no live session has, is offered to the next one
+abbrev pub Offers : State → OutgoingChannel → Type 0
+Offers old channel =
+    (refusal_of_begin old.local_state ≡ None) × (old.offered ≤ channel_limit old) × (channel.0 ≡ old.offered)
+    × (map.get old.live old.offered ≡ None)
+
 -- the offered channel, which no session has, is given to a session. Which one is offered next stays open
 abbrev pub AllocateSession : State → ℕ → Result OutgoingChannel BeginError → State → Type 0
 AllocateSession old session (Err e) new = RefusesSession old e × (new ≡ old)

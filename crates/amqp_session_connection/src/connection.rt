@@ -1,6 +1,7 @@
-ghost use Rattle.std.specs.Prelude.{◌≡◌, IsSome, option_copied};
+ghost use Rattle.std.specs.Prelude.{◌≡◌, IsSome, IfOk, IfErr, option_copied};
 ghost use Rattle.std.specs.FinMap as map;
 ghost use Rattle.amqp_session_connection.specs.State.{fresh, channel_limit};
+ghost use Rattle.amqp_session_connection.specs.Steps.{Offers, RefusesChannel};
 ghost use Rattle.amqp_session_connection.specs.declared.state.ConnectionState.TheVariants.{Start};
 ghost use Rattle.amqp_session_connection.specs.Steps.{Steps, SetsStopReason, SendsHeader, TakesHeader, SendsOpen, TakesOpen, SendsClose, TakesClose, SendsBegin, SendsEnd, AllocatesSession, DeallocatesSession, TakesBegin, AcceptsRoute, TakesEnd, FindsSession};
 
@@ -205,6 +206,25 @@ impl Connection {
         Frame::new(channel.0, FrameBody::End(end))
     }
 
+    /// The outgoing channel that the next session gets, which no live session has (part 2, 2.5.1).
+    ///
+    /// It is refused with `ConnectionNotOpened` where not both Open were exchanged, with `ConnectionStopped` where a Close
+    /// was sent or came, and with `LocalChannelMaxReached` where that channel is above the own channel-max or the peer's
+    /// (part 2, 2.7.1).
+    pub fn offered_channel(&self) -> Result<OutgoingChannel, BeginError>
+        ensures ok { IfOk result (Offers self.now) }
+        ensures err { IfErr result (RefusesChannel self.now) }
+    {
+        if let Some(refusal) = self.local_state.refusal_of_begin() {
+            return Err(refusal);
+        }
+        let offered = self.sessions.offered();
+        if offered > usize::from(self.channel_limit()) {
+            return Err(BeginError::LocalChannelMaxReached);
+        }
+        Ok(OutgoingChannel(offered as u16))
+    }
+
     /// Gives an outgoing channel that no live session has to a session of this number, and answers it (part 2, 2.5.1).
     /// Which of the vacant ones it is isn't said.
     ///
@@ -214,16 +234,9 @@ impl Connection {
     pub fn allocate_session(&mut self, session: u64) -> Result<OutgoingChannel, BeginError>
         ensures step { Steps self.old (AllocatesSession session result) self.new }
     {
-        if let Some(refusal) = self.local_state.refusal_of_begin() {
-            return Err(refusal);
-        }
-        let limit = self.channel_limit();
-        let offered = self.sessions.offered();
-        if offered > usize::from(limit) {
-            return Err(BeginError::LocalChannelMaxReached);
-        }
+        let channel = self.offered_channel()?;
         self.sessions.insert(session)?;
-        Ok(OutgoingChannel(offered as u16))
+        Ok(channel)
     }
 
     /// Takes an outgoing channel back from its session and offers it to the next one (part 2, 2.5.2). Where no live

@@ -11,4 +11,5 @@ mod sessions;
 mod state;
 
 pub use connection::Connection;
+pub use routes::Routes;
 pub use state::ConnectionState;
