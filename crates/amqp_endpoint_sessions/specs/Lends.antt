@@ -13,12 +13,16 @@ module _ {A S : Type 0} where
   -- the sessions with another one at this number, where one has begun there
   abbrev pub set_live : State A S → ℕ → S → State A S
   set_live s number live =
-      record s { places = slice_set s.places number (with_live (slice_index_or s.places number (Over Missing false)) live) }
+      record s {
+        places = slice_set s.places number (with_live (slice_index_or s.places number (Over Missing false)) live);
+      }
 
   -- the same where one is asked for
   abbrev pub set_asked : State A S → ℕ → A → State A S
   set_asked s number asked =
-      record s { places = slice_set s.places number (with_asked (slice_index_or s.places number (Over Missing false)) asked) }
+      record s {
+        places = slice_set s.places number (with_asked (slice_index_or s.places number (Over Missing false)) asked);
+      }
 
 module _ (A S : RattleType) (s : MutBor (State A.Denot S.Denot)) where
   -- once the borrow r ends, the connection is what was written through r

@@ -41,13 +41,16 @@ module _ {A S : Type 0} where
   PlaceSteps old (TellsEnd number) new =
       (stood : Place A S) × (old ≡ Some stood) × (peer_end_of (Some stood) ≡ Received) × (new ≡ Some (told_place stood))
   PlaceSteps old (ChangesAsked number before after) new =
-      (stood : Place A S) × (old ≡ Some stood) × (asked_of (Some stood) ≡ Some before) × (new ≡ Some (with_asked stood after))
+      (stood : Place A S) × (old ≡ Some stood) × (asked_of (Some stood) ≡ Some before)
+      × (new ≡ Some (with_asked stood after))
   PlaceSteps old (ChangesLive number before after) new =
-      (stood : Place A S) × (old ≡ Some stood) × (live_of (Some stood) ≡ Some before) × (new ≡ Some (with_live stood after))
+      (stood : Place A S) × (old ≡ Some stood) × (live_of (Some stood) ≡ Some before)
+      × (new ≡ Some (with_live stood after))
 
   abbrev pub PlaceHistory : Option (Place A S) → List (Step A S) → Option (Place A S) → Type 0
   PlaceHistory start [] end = end ≡ start
-  PlaceHistory start (step ∷ steps) end = (mid : Option (Place A S)) × PlaceSteps start step mid × PlaceHistory mid steps end
+  PlaceHistory start (step ∷ steps) end =
+      (mid : Option (Place A S)) × PlaceSteps start step mid × PlaceHistory mid steps end
 
   -- the owner gives and takes no channel of the connection's itself
   abbrev pub KeepsChannels : List (Step A S) → Type 0

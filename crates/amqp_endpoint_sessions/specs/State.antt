@@ -123,7 +123,7 @@ module _ {A S : Type 0} where
   abbrev pub asked_on : State A S → ℕ → Option ℕ
   asked_on s channel = asked_in s (map.get s.asked channel)
 
-  -- the session that the peer's frames on a channel reach: the one that it was led to goes before the one that is asked for
+  -- the session that the peer's frames on a channel reach: the one that it was led to, before one that is asked for
   abbrev pub reached : State A S → ℕ → Option ℕ
   reached s channel = first_of (routed s channel) (asked_on s channel)
 

@@ -148,7 +148,7 @@ module _ {A S : Type 0} where
   History start [] end = end ≡ start
   History start (step ∷ steps) end = (mid : State A S) × Steps start step mid × History mid steps end
 
-  -- why the peer's Begin asks for no session: its channel leads to one, or one is asked for on it, or there is no memory
+  -- why the peer's Begin asks for no session: its channel reaches one already, or there is no memory
   abbrev pub RefusesAsk : State A S → ℕ → ConnectionError → Type 0
   RefusesAsk s channel NotAllowed = IsSome (reached s channel)
   RefusesAsk s channel Memory = reached s channel ≡ None
@@ -160,7 +160,8 @@ module _ {A S : Type 0} where
   RefusesAccept s number e = IsSome (asked_at s number) × RefusesSession s.connection e
 
   -- the peer's End is taken, or no session is reached
-  abbrev pub EndAnswered : State A S → IncomingChannel → End → Result (ℕ × Place A S) ConnectionError → State A S → Type 0
+  abbrev pub EndAnswered : State A S → IncomingChannel → End → Result (ℕ × Place A S) ConnectionError → State A S
+      → Type 0
   EndAnswered old channel end (Ok told) new = Steps old (TakesEnd told.0 channel end told.1) new
   EndAnswered old channel end (Err e) new = (e ≡ NotFound) × (reached old channel.0 ≡ None) × (new ≡ old)
 

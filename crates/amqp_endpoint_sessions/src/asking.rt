@@ -15,8 +15,8 @@ impl<A: Drop, S: Drop> Sessions<A, S> {
     /// The peer asks for a session on its channel: its Begin names no channel (part 2, 2.7.2). Answers the session's
     /// number.
     ///
-    /// It is refused with `NotAllowed` where the channel reaches a session, and with `Memory`. Nothing changes then, and
-    /// what was asked for is dropped.
+    /// It is refused with `NotAllowed` where the channel reaches a session, and with `Memory`. Nothing changes then,
+    /// and what was asked for is dropped.
     pub fn ask(&mut self, channel: IncomingChannel, session: A) -> Result<u64, ConnectionError>
         ensures ok { IfOk result (λ number. Steps self.old (Asks number channel session) self.new) }
         ensures err { IfErr result (RefusesAsk self.old channel.0) }
@@ -39,7 +39,8 @@ impl<A: Drop, S: Drop> Sessions<A, S> {
     /// It is refused with `IllegalState` where the peer doesn't ask for it, then with what `offered_channel` is refused
     /// with, and with `Memory`. Nothing changes then, and the session comes back.
     pub fn accept(&mut self, number: u64, session: S) -> Result<(OutgoingChannel, A), Unbegun<S>>
-        ensures ok { IfOk result (λ given. (incoming : IncomingChannel) × Steps self.old (Accepts number incoming given.1 given.0 session) self.new) }
+        ensures ok { IfOk result (λ given. (incoming : IncomingChannel)
+            × Steps self.old (Accepts number incoming given.1 given.0 session) self.new) }
         ensures err { IfErr result (λ refused.
             RefusesAccept self.old number refused.error × (refused.session ≡ session)) }
         ensures kept { OnErr result (self.new ≡ self.old) }

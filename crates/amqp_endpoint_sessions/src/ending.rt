@@ -13,10 +13,10 @@ use amqp_session_types::{ConnectionError, IncomingChannel, OutgoingChannel, TryE
 use std::mem;
 
 impl<A: Drop, S: Drop> Sessions<A, S> {
-    /// Takes the peer's End (part 2, 2.5.2): the session that its channel reaches is over, and the channel leads nowhere
-    /// any more. Answers its number and where it stood: what belonged to it is the caller's. The outgoing channel of one
-    /// that has begun comes back, so the own End of a live one is to be sent before another session begins. It takes no
-    /// memory.
+    /// Takes the peer's End (part 2, 2.5.2): the session that its channel reaches is over, and the channel leads
+    /// nowhere any more. Answers its number and where it stood: what belonged to it is the caller's. The outgoing
+    /// channel of one that has begun comes back, so the own End of a live one is to be sent before another session
+    /// begins. It takes no memory.
     ///
     /// It is refused with `NotFound` where the channel reaches no session, and nothing changes then.
     pub fn on_incoming_end(
@@ -35,8 +35,8 @@ impl<A: Drop, S: Drop> Sessions<A, S> {
         Ok((number, self.end_asked(number, channel)))
     }
 
-    /// The own side of the session with this number is over, if it has begun: it is handed out with its channel, which it
-    /// keeps until the peer's End comes (part 2, 2.5.2). Else nothing changes. It takes no memory.
+    /// The own side of the session with this number is over, if it has begun: it is handed out with its channel, which
+    /// it keeps until the peer's End comes (part 2, 2.5.2). Else nothing changes. It takes no memory.
     pub fn end(&mut self, number: u64) -> Option<(OutgoingChannel, S)>
         ensures { EndSent self.old number result self.new }
     {
@@ -47,8 +47,8 @@ impl<A: Drop, S: Drop> Sessions<A, S> {
         }
     }
 
-    /// The connection of the session with this number is over, and with it the session. Answers where it stood, and None
-    /// where there is none: what belonged to it is the caller's, and its channels come back. It takes no memory.
+    /// The connection of the session with this number is over, and with it the session. Answers where it stood, and
+    /// None where there is none: what belonged to it is the caller's, and its channels come back. It takes no memory.
     pub fn finish(&mut self, number: u64) -> Option<Place<A, S>>
         ensures { Finished self.old number result self.new }
     {
@@ -57,7 +57,8 @@ impl<A: Drop, S: Drop> Sessions<A, S> {
         put(&mut self.places, number, finished)
     }
 
-    /// Whether both End of the session with this number have passed, or its connection is over. False where there is none.
+    /// Whether both End of the session with this number have passed, or its connection is over. False where there is
+    /// none.
     pub fn is_ended(&self, number: u64) -> bool
         ensures { result ≡ is_complete (place_at self.now number) }
     {

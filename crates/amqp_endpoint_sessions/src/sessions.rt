@@ -126,8 +126,8 @@ impl<A: Drop, S: Drop> Sessions<A, S> {
         Some(self.places[number as usize].live_mut())
     }
 
-    /// The number of the session that the peer's frames on a channel reach: of the one to which the peer's Begin led the
-    /// channel, until both End have passed, and else of the one that the peer asks for on it (part 2, 2.5.1).
+    /// The number of the session that the peer's frames on a channel reach: of the one to which the peer's Begin led
+    /// the channel, until both End have passed, and else of the one that the peer asks for on it (part 2, 2.5.1).
     pub fn reached(&self, channel: IncomingChannel) -> Option<u64>
         ensures { result ≡ reached self.now channel.0 }
     {
@@ -155,7 +155,8 @@ impl<A: Drop, S: Drop> Sessions<A, S> {
         Some(number)
     }
 
-    /// Begins a session on the channel that `Connection::offered_channel` tells, and answers its number (part 2, 2.5.1).
+    /// Begins a session on the channel that `Connection::offered_channel` tells, and answers its number (part 2,
+    /// 2.5.1).
     ///
     /// It is refused with what that is refused with, and with `Memory`. The session comes back then.
     pub fn begin(&mut self, session: S) -> Result<u64, Unbegun<S>>
