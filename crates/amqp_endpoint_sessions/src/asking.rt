@@ -33,8 +33,8 @@ impl<A: Drop, S: Drop> Sessions<A, S> {
     }
 
     /// Accepts the session with this number, for which the peer asks: it begins on the channel that
-    /// `Connection::offered_channel` tells, and the peer's channel leads to it (part 2, 2.5.1). Answers that channel, and
-    /// what was asked for.
+    /// `Connection::offered_channel` tells, and the peer's channel leads to it (part 2, 2.5.1). Answers that channel,
+    /// and what was asked for.
     ///
     /// It is refused with `IllegalState` where the peer doesn't ask for it, then with what `offered_channel` is refused
     /// with, and with `Memory`. Nothing changes then, and the session comes back.
