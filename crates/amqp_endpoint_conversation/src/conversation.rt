@@ -1,0 +1,15 @@
+use amqp_endpoint_asked::AskedSession;
+use amqp_endpoint_links::AskingSession;
+use amqp_endpoint_sessions::Sessions;
+
+/// The sessions of an endpoint, and how each of them begins. What is said in it comes in as performatives, and is
+/// handed out as frames, in the order in which they are to be sent.
+#[derive(Drop)]
+pub struct Conversation<R> {
+    /// The sessions, by their numbers.
+    pub sessions: Sessions<Box<AskedSession>, Box<AskingSession<R>>>,
+    /// The number that the first transfer of each session gets (part 2, 2.5.6).
+    pub first_transfer_number: u32,
+    /// How many transfers each session takes at once (part 2, 2.5.6).
+    pub incoming_window: u32,
+}
