@@ -1,9 +1,11 @@
 -- The links that a peer asks for in a session (part 2, 2.6.3), by the handles that it gave them.
-use Rattle.std.specs.Prelude.{◌≡◌, ◌≢◌, ℕ, List, Option, Some, None, Result, Ok, Err, ⊤, IsSome}
+use Rattle.std.specs.Prelude.{◌≡◌, ◌≢◌, ℕ, List, Bool, false, Option, Some, None, Result, Ok, Err, ⊤, IsSome, is_some}
 use Rattle.std.specs.Ordering.{nat_cmp}
 use Rattle.std.specs.FinMap as map
+use Rattle.amqp_session_types.specs.declared.handles.Handle.{Handle}
 use Rattle.amqp_session_types.specs.declared.handles.InputHandle.{InputHandle}
 use Rattle.amqp_session_performatives.specs.declared.attach.Attach.{Attach}
+use Rattle.amqp_session_performatives.specs.declared.flow.Flow.{Flow}
 use Rattle.amqp_session_performatives.specs.declared.link_flow.LinkFlow.{LinkFlow}
 use Rattle.amqp_endpoint_asked.specs.declared.links.AskedLink.{AskedLink}
 use Rattle.amqp_endpoint_asked.specs.declared.links.AskRefusal.{AskRefusal}
@@ -48,3 +50,26 @@ told_to asked handle flow (Some link) = map.insert asked handle (record link { f
 
 abbrev pub told_at : Asked → ℕ → LinkFlow → Asked
 told_at asked handle flow = told_to asked handle flow (map.get asked handle)
+
+-- an asked link has the handle, if there is one
+abbrev pub is_asked : Asked → Option Handle → Bool
+is_asked asked None = false
+is_asked asked (Some handle) = is_some (map.get asked handle.0)
+
+-- what a Flow with this handle tells of its link
+abbrev pub link_told : Flow → Handle → LinkFlow
+link_told f handle =
+    record {
+      handle = handle;
+      delivery_count = f.delivery_count;
+      link_credit = f.link_credit;
+      available = f.available;
+      drain = f.drain;
+      echo = f.echo;
+      properties = f.properties;
+    }
+
+-- what is kept of a Flow for an asked link
+abbrev pub told_of : Asked → Flow → Option Handle → Asked
+told_of asked flow None = asked
+told_of asked flow (Some handle) = told_at asked handle.0 (link_told flow handle)

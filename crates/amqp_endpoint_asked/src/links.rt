@@ -1,13 +1,13 @@
 //! The links that a peer asks for, by their handles and their names.
 ghost use Rattle.std.specs.Prelude.{◌≡◌, is_some, IsSome, IfErr, OnOk, OnErr, option_copied, option_map, Ok, Err, None, Some};
 ghost use Rattle.std.specs.FinMap as map;
-ghost use Rattle.amqp_endpoint_asked.specs.Asked.{Asks, Names, asked_with, told_at};
+ghost use Rattle.amqp_endpoint_asked.specs.Asked.{Asks, Names, asked_with, is_asked, told_at, told_of};
 ghost use Rattle.amqp_endpoint_asked.specs.Inside.{AreNamed, PutsUnder, TakesAway};
 ghost use Rattle.amqp_endpoint_asked.specs.declared.links.AskRefusal.TheVariants.{Memory};
 
 use crate::table::Table;
-use amqp_session_performatives::{Attach, LinkFlow};
-use amqp_session_types::{Boxed, InputHandle};
+use amqp_session_performatives::{Attach, Flow, LinkFlow};
+use amqp_session_types::{Boxed, Handle, InputHandle};
 use indexmap::IndexMap;
 use serde_amqp_types::Text;
 use std::alloc::{AllocError, AllocFailed, Global};
@@ -97,6 +97,16 @@ impl AskedLinks {
         self.links.get(handle.0)
     }
 
+    /// Whether a frame that may have a handle has that of an asked link.
+    pub fn is_asked(&self, handle: Option<Handle>) -> bool
+        ensures { result ≡ is_asked self.now handle }
+    {
+        match handle {
+            Some(handle) => self.get(InputHandle(handle.0)).is_some(),
+            None => false,
+        }
+    }
+
     /// The handle of the asked link with this name, if there is one.
     pub fn named(&self, name: &Text) -> Option<InputHandle>
         ensures { Names self.now name.now result }
@@ -130,6 +140,15 @@ impl AskedLinks {
         }
         tell(&mut self.links, &self.handles, flow);
         true
+    }
+
+    /// Keeps what a Flow tells of its link (part 2, 2.7.4), where its handle is that of an asked one. It takes no memory.
+    pub fn keep(&mut self, flow: Flow)
+        ensures { self.new ≡ told_of self.old flow flow.handle }
+    {
+        if let Ok(flow) = LinkFlow::try_from(flow) {
+            self.on_incoming_flow(flow);
+        }
     }
 
     /// The peer asks for the link with this handle no longer, or a link here answers it. The link is handed out, if there
