@@ -1,22 +1,20 @@
 -- A session with the links that its peer asks for in it (part 2, 2.6.3).
 use Rattle.std.specs.Prelude.{◌≡◌, ℕ, List, Bool, true, false, Option, Some, None, Result, Ok, Err, is_some, ⊤, if◌then◌else◌}
 use Rattle.std.specs.FinMap as map
-use Rattle.amqp_session_types.specs.declared.handles.Handle.{Handle}
 use Rattle.amqp_session_types.specs.declared.refusals.SessionError.{SessionError}
 use Rattle.amqp_session_types.specs.declared.refusals.SessionError.TheVariants as session
 use Rattle.amqp_session_performatives.specs.declared.attach.Attach.{Attach}
 use Rattle.amqp_session_performatives.specs.declared.detach.Detach.{Detach}
 use Rattle.amqp_session_performatives.specs.declared.flow.Flow.{Flow}
-use Rattle.amqp_session_performatives.specs.declared.link_flow.LinkFlow.{LinkFlow}
 use Rattle.amqp_session_performatives.specs.declared.session_frame.SessionFrame.{SessionFrame}
 use Rattle.amqp_session_core.specs.Relay.{Relations}
 use Rattle.amqp_session_core.specs.State.{State, leads, reached}
-use Rattle.amqp_session_core.specs.Steps.{told_to_link}
 use Rattle.amqp_session_core.specs.Told.{AttachTaken as SessionAttached, DetachTaken as SessionDetached}
 use Rattle.amqp_session_core.specs.Told.{FlowTaken, FlowUnattached}
 use Rattle.amqp_endpoint_asked.specs.declared.links.AskRefusal.{AskRefusal}
 use Rattle.amqp_endpoint_asked.specs.declared.links.AskRefusal.TheVariants as ask
-use Rattle.amqp_endpoint_asked.specs.Asked.{Asked, Asks, told_at}
+use Rattle.amqp_endpoint_asked.specs.Asked.{Asked, Asks, is_asked, told_of}
+use Rattle.amqp_endpoint_asked.specs.AskedSession.{session_part}
 use Rattle.amqp_endpoint_links.specs.declared.asking.AskingSession.{AskingSession}
 use Rattle.amqp_endpoint_links.specs.declared.asking.NamedLink.{NamedLink}
 use Rattle.amqp_endpoint_links.specs.declared.asking.NamedLink.TheVariants.{Absent, Waiting, Attached}
@@ -24,28 +22,6 @@ use Rattle.amqp_endpoint_links.specs.declared.asking.AttachTaken.{AttachTaken}
 use Rattle.amqp_endpoint_links.specs.declared.asking.AttachTaken.TheVariants as attach
 use Rattle.amqp_endpoint_links.specs.declared.asking.DetachTaken.{DetachTaken}
 use Rattle.amqp_endpoint_links.specs.declared.asking.DetachTaken.TheVariants as detach
-
--- an asked link has the handle, if there is one
-abbrev pub is_asked : Asked → Option Handle → Bool
-is_asked asked None = false
-is_asked asked (Some handle) = is_some (map.get asked handle.0)
-
--- what a Flow tells of its session, without an echo
-abbrev pub session_part : Flow → Flow
-session_part f =
-    record {
-      next_incoming_id = f.next_incoming_id;
-      incoming_window = f.incoming_window;
-      next_outgoing_id = f.next_outgoing_id;
-      outgoing_window = f.outgoing_window;
-      handle = None;
-      delivery_count = None;
-      link_credit = None;
-      available = None;
-      drain = false;
-      echo = false;
-      properties = None;
-    }
 
 -- how an Attach is answered that no link takes
 abbrev pub asked_answer : {A : Type 0} → Result ⊤ AskRefusal → Result (AttachTaken A) SessionError
@@ -69,11 +45,6 @@ by_link (Err e) = Err e
 abbrev pub detached_by : {D : Type 0} → Result D SessionError → Result (DetachTaken D) SessionError
 detached_by (Ok told) = Ok (detach.ByLink told)
 detached_by (Err e) = Err e
-
--- what is kept of a Flow for an asked link
-abbrev pub told_of : Asked → Flow → Option Handle → Asked
-told_of asked flow None = asked
-told_of asked flow (Some handle) = told_at asked handle.0 (told_to_link flow handle)
 
 module _ {R : Type 0} where
   -- a link, or an asked link, has this handle of the peer's

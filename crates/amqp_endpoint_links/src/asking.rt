@@ -5,12 +5,12 @@ ghost use Rattle.std.specs.VecDeque.{deque_len, deque_capacity};
 ghost use Rattle.amqp_session_outgoing.specs.Queues.{frames_in};
 ghost use Rattle.amqp_session_core.specs.Refusals.{RefusesLink};
 ghost use Rattle.amqp_session_core.specs.Steps.{Steps, Allocates};
-ghost use Rattle.amqp_endpoint_links.specs.Asking.{in_use, is_asked, session_part, told_of, AsksFor, ByLink, AttachAnswered, FlowAnswered, DetachAnswered};
+ghost use Rattle.amqp_endpoint_links.specs.Asking.{in_use, AsksFor, ByLink, AttachAnswered, FlowAnswered, DetachAnswered};
 
-use amqp_endpoint_asked::{AskRefusal, AskedLinks};
+use amqp_endpoint_asked::{AskRefusal, AskedLinks, SessionFlow};
 use amqp_session_core::{LinkRelay, Session, Unallocated};
-use amqp_session_performatives::{Attach, Detach, Flow, LinkFlow, SessionFrame};
-use amqp_session_types::{Boxed, Handle, InputHandle, OutputHandle, SessionError};
+use amqp_session_performatives::{Attach, Detach, Flow, SessionFrame};
+use amqp_session_types::{Boxed, InputHandle, OutputHandle, SessionError};
 use std::alloc::Global;
 use std::collections::VecDeque;
 
@@ -101,12 +101,13 @@ impl<R: LinkRelay> AskingSession<R> {
         ensures capacity { deque_capacity out.old ≤ deque_capacity out.new }
         ensures kept_room { self.new.session.outgoing.room ≡ self.old.session.outgoing.room }
     {
-        if !self.is_asked(flow.handle) {
+        if !self.asked.is_asked(flow.handle) {
             return self.session.on_incoming_flow(alloc, out, flow);
         }
+        let told = SessionFlow::told_by(&flow);
         self.session
-            .on_incoming_flow(alloc, out, session_part(&flow))?;
-        keep(&mut self.asked, flow);
+            .on_incoming_flow(alloc, out, told.into_flow())?;
+        self.asked.keep(flow);
         Ok(())
     }
 
@@ -182,16 +183,6 @@ impl<R: LinkRelay> AskingSession<R> {
         }
         self.session.link_by_input_handle(input).is_some()
     }
-
-    /// Whether an asked link has the handle, if there is one.
-    fn is_asked(&self, handle: Option<Handle>) -> bool
-        ensures { result ≡ is_asked self.now.asked handle }
-    {
-        match handle {
-            Some(handle) => self.asked.get(InputHandle(handle.0)).is_some(),
-            None => false,
-        }
-    }
 }
 
 /// The peer asks for a link.
@@ -203,33 +194,5 @@ fn ask<A>(asked: &mut AskedLinks, attach: Boxed<Attach>) -> Result<AttachTaken<A
         Err(AskRefusal::HandleInUse) => Err(SessionError::HandleInUse),
         Err(AskRefusal::NameInUse) => Err(SessionError::IllegalState),
         Err(AskRefusal::Memory) => Err(SessionError::Memory),
-    }
-}
-
-/// What a Flow tells of its session, without an echo.
-fn session_part(flow: &Flow) -> Flow
-    ensures { result ≡ session_part flow.now }
-{
-    Flow {
-        next_incoming_id: flow.next_incoming_id,
-        incoming_window: flow.incoming_window,
-        next_outgoing_id: flow.next_outgoing_id,
-        outgoing_window: flow.outgoing_window,
-        handle: None,
-        delivery_count: None,
-        link_credit: None,
-        available: None,
-        drain: false,
-        echo: false,
-        properties: None,
-    }
-}
-
-/// What a Flow tells of an asked link is kept, where its handle is that of one.
-fn keep(asked: &mut AskedLinks, flow: Flow)
-    ensures { asked.new ≡ told_of asked.old flow flow.handle }
-{
-    if let Ok(flow) = LinkFlow::try_from(flow) {
-        asked.on_incoming_flow(flow);
     }
 }

@@ -3,6 +3,7 @@
 #![tactic(auto)]
 
 mod asking;
+mod beginning;
 pub mod laws;
 mod numbered;
 
