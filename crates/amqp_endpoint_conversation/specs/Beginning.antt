@@ -1,5 +1,6 @@
 -- How sessions begin: here, or by the peer's Begin (part 2, 2.5.1).
 use Rattle.std.specs.Prelude.{◌≡◌, ◌⊎◌, ℕ, List, [], ◌∷◌, ◌++◌, Bool, true, false, Option, Some, None, IsSome, Result, Ok, Err}
+use Rattle.std.specs.Box.{with_value}
 use Rattle.std.specs.Global.{Box}
 use Rattle.amqp_session_types.specs.declared.channels.IncomingChannel.{IncomingChannel}
 use Rattle.amqp_session_types.specs.declared.channels.OutgoingChannel.{OutgoingChannel}
@@ -9,16 +10,20 @@ use Rattle.amqp_session_types.specs.declared.refusals.SessionError.{SessionError
 use Rattle.amqp_session_types.specs.declared.refusals.SessionError.TheVariants.{IllegalState}
 use Rattle.amqp_session_performatives.specs.declared.begin.Begin.{Begin}
 use Rattle.amqp_session_performatives.specs.declared.session_frame.SessionFrame.{SessionFrame}
-use Rattle.amqp_session_connection.specs.Steps.{RefusesBegin}
+use Rattle.amqp_session_connection.specs.Steps.{RefusesBegin, RefusesSession}
+use Rattle.amqp_session_connection.specs.Table.{refusal_of_begin}
 use Rattle.amqp_session_core.specs.Relay.{Relations}
 use Rattle.amqp_session_core.specs.Table.{after_incoming_begin}
 use Rattle.amqp_session_core.specs.Told.{BeginTaken}
 use Rattle.amqp_endpoint_asked.specs.declared.session.AskedSession.{AskedSession}
 use Rattle.amqp_endpoint_asked.specs.AskedSession.{asked_by}
 use Rattle.amqp_endpoint_links.specs.declared.asking.AskingSession.{AskingSession}
-use Rattle.amqp_endpoint_links.specs.Beginning.{Begun as BegunSession}
-use Rattle.amqp_endpoint_sessions.specs.State.{State, live_at}
-use Rattle.amqp_endpoint_sessions.specs.Steps.{Steps, Begins, Asks, TakesBegin, ChangesLive, RefusesAsk}
+use Rattle.amqp_endpoint_asked.specs.Asked.{Asked as AskedLinks}
+use Rattle.amqp_endpoint_links.specs.Beginning.{Accepted, Begun as BegunSession}
+use Rattle.amqp_endpoint_sessions.specs.State.{State, asked_at, asked_on, live_at}
+use Rattle.amqp_endpoint_sessions.specs.Steps.{Steps, Accepts, Begins, Asks, TakesBegin, ChangesLive, RefusesAsk}
+use Rattle.amqp_endpoint_conversation.specs.declared.beginning.AcceptRefusal.{AcceptRefusal}
+use Rattle.amqp_endpoint_conversation.specs.declared.beginning.AcceptRefusal.TheVariants.{NotAsked, Unbegun}
 use Rattle.amqp_endpoint_conversation.specs.declared.beginning.BeginHeard.{BeginHeard}
 use Rattle.amqp_endpoint_conversation.specs.declared.beginning.BeginHeard.TheVariants.{Asked, Begun, Dropped}
 use Rattle.amqp_endpoint_conversation.specs.declared.beginning.BeginRefusal.{BeginRefusal}
@@ -46,6 +51,19 @@ pub record TakesItsBegin {R A T D : Type 0} (gives : Relations R A T D) (mid : S
   pub taken : HearsBegin gives true before.value out channel begin after.value out_new
   pub stepped : Steps mid (ChangesLive number before after) new
 
+-- a session with these links that are asked for in it
+abbrev pub with_links : {R : Type 0} → Box (AskingSession R) → AskedLinks → Box (AskingSession R)
+with_links session links = with_value session (record session.value { asked = links })
+
+-- why the session for which the peer may ask on a channel isn't accepted: the connection isn't open, the peer asks for
+-- none, or it gets no channel
+abbrev pub RefusesAccept : {R : Type 0} → Conversation R → IncomingChannel → AcceptRefusal → Type 0
+RefusesAccept c channel NotAsked =
+    (refusal_of_begin c.sessions.connection.local_state ≡ None) × (asked_on c.sessions channel.0 ≡ None)
+RefusesAccept c channel (Unbegun e) =
+    RefusesSession c.sessions.connection e
+    × ((refusal_of_begin c.sessions.connection.local_state ≡ Some e) ⊎ IsSome (asked_on c.sessions channel.0))
+
 module _ {R A T D : Type 0} (gives : Relations R A T D) where
   -- a session begins here: it gets the next number, and its Begin is to be sent
   pub record BeginsHere (old : Conversation R) (out : List SessionFrame) (number : ℕ) (new : Conversation R)
@@ -55,6 +73,31 @@ module _ {R A T D : Type 0} (gives : Relations R A T D) where
     pub frame : SessionFrame
     pub begun : BegunSession gives channel old.first_transfer_number old.incoming_window frame session.value
     pub stepped : Steps old.sessions (Begins number channel session) new.sessions
+    pub rest : new ≡ record old { sessions = new.sessions }
+    pub queued : out_new ≡ out ++ frame ∷ []
+
+  -- the session that accepts the one with this number, for which the peer asks, and its Begin
+  pub record Accepting (old : Conversation R) (channel : IncomingChannel) (number : ℕ) (outgoing : OutgoingChannel)
+      (session : Box (AskingSession R)) (frame : SessionFrame) : Type 0 where
+    pub wanted : Box AskedSession
+    pub asked : asked_at old.sessions number ≡ Some wanted
+    pub accepted :
+        Accepted gives wanted.value outgoing channel old.first_transfer_number old.incoming_window frame session.value
+
+  -- a session that the peer asks for is accepted: its Begin is to be sent, and the links that are asked for in it go over
+  pub record AcceptsHere (old : Conversation R) (out : List SessionFrame) (channel : IncomingChannel) (number : ℕ)
+      (new : Conversation R) (out_new : List SessionFrame) : Type 0 where
+    pub asked : asked_on old.sessions channel.0 ≡ Some number
+    pub incoming : IncomingChannel
+    pub wanted : Box AskedSession
+    pub outgoing : OutgoingChannel
+    pub session : Box (AskingSession R)
+    pub frame : SessionFrame
+    pub mid : Sessions R
+    pub accepted :
+        Accepted gives wanted.value outgoing channel old.first_transfer_number old.incoming_window frame session.value
+    pub stepped : Steps old.sessions (Accepts number incoming wanted outgoing session) mid
+    pub taken_over : Steps mid (ChangesLive number session (with_links session wanted.value.links)) new.sessions
     pub rest : new ≡ record old { sessions = new.sessions }
     pub queued : out_new ≡ out ++ frame ∷ []
 

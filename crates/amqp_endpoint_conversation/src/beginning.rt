@@ -1,15 +1,22 @@
 //! How sessions begin (part 2, 2.5.1).
-ghost use Rattle.std.specs.Prelude.{◌≡◌, List, None, IsSome, IfOk, IfErr, OnErr};
+ghost use Rattle.std.specs.Prelude.{◌≡◌, List, None, Some, IsSome, IfOk, IfErr, OnOk, OnErr};
 ghost use Rattle.amqp_session_performatives.specs.declared.session_frame.SessionFrame.{SessionFrame};
 ghost use Rattle.amqp_session_connection.specs.Steps.{RefusesSession};
-ghost use Rattle.amqp_endpoint_conversation.specs.Beginning.{BeginsHere, BeginAnswered, HearsBegin};
+ghost use Rattle.amqp_session_connection.specs.Table.{refusal_of_begin};
+ghost use Rattle.amqp_endpoint_links.specs.declared.asking.AskingSession.{AskingSession};
+ghost use Rattle.amqp_endpoint_sessions.specs.State.{asked_at, asked_on, live_at};
+ghost use Rattle.amqp_endpoint_sessions.specs.Steps.{Steps, ChangesLive};
+ghost use Rattle.std.specs.Global.{Box};
+ghost use Rattle.amqp_endpoint_conversation.specs.Beginning.{Accepting, AcceptsHere, BeginsHere, BeginAnswered, HearsBegin, RefusesAccept, with_links};
 
 use crate::conversation::Conversation;
 use amqp_endpoint_asked::AskedSession;
 use amqp_endpoint_links::AskingSession;
 use amqp_session_core::LinkRelay;
 use amqp_session_performatives::{Begin, SessionFrame};
-use amqp_session_types::{BeginError, ConnectionError, IncomingChannel, SessionError};
+use amqp_session_types::{
+    BeginError, ConnectionError, IncomingChannel, OutgoingChannel, SessionError,
+};
 use std::alloc::{AllocError, Global};
 use std::collections::VecDeque;
 
@@ -31,6 +38,15 @@ pub enum BeginRefusal {
     Connection(ConnectionError),
     /// The session with this number, whose channel it names, refuses it.
     Session(u64, SessionError),
+}
+
+/// Why a session that the peer may ask for isn't accepted.
+#[derive(Debug, PartialEq, Drop)]
+pub enum AcceptRefusal {
+    /// The peer asks for none on the channel.
+    NotAsked,
+    /// It can't begin.
+    Unbegun(BeginError),
 }
 
 impl<R: LinkRelay> Conversation<R> {
@@ -65,6 +81,112 @@ impl<R: LinkRelay> Conversation<R> {
                 Ok(number)
             }
             Err(refused) => Err(refused.error),
+        }
+    }
+
+    /// Accepts the session that the peer asks for on this channel of its (part 2, 2.5.1): it takes the peer's Begin and
+    /// what was kept of a Flow, its own Begin is handed out, and the links that the peer asks for in it go over. Answers
+    /// its number.
+    ///
+    /// It is refused, as `begin` is, where the connection isn't open, then with `NotAsked` where the peer asks for no
+    /// session on the channel, and then as `begin` is. Nothing changes then.
+    pub fn accept(
+        &mut self,
+        alloc: Global,
+        out: &mut VecDeque<SessionFrame>,
+        channel: IncomingChannel,
+    ) -> Result<u64, AcceptRefusal>
+        ensures ok { IfOk result
+            (λ number. AcceptsHere R.gives self.old out.old.items channel number self.new out.new.items) }
+        ensures err { IfErr result (RefusesAccept self.old channel) }
+        ensures kept { OnErr result ((self.new ≡ self.old) × (out.new.items ≡ out.old.items)) }
+    {
+        if let Some(error) = self.closed() {
+            return Err(AcceptRefusal::Unbegun(error));
+        }
+        let Some(number) = self.sessions.asked_on(channel) else {
+            return Err(AcceptRefusal::NotAsked);
+        };
+        match self.accept_asked(alloc, out, channel, number) {
+            Ok(()) => Ok(number),
+            Err(error) => Err(AcceptRefusal::Unbegun(error)),
+        }
+    }
+
+    /// Why no session can begin on the connection, whatever channel is offered.
+    fn closed(&self) -> Option<BeginError>
+        ensures { result ≡ refusal_of_begin self.now.sessions.connection.local_state }
+    {
+        match self.sessions.connection().offered_channel() {
+            Err(error @ (BeginError::ConnectionNotOpened | BeginError::ConnectionStopped)) => {
+                Some(error)
+            }
+            _ => None,
+        }
+    }
+
+    /// Accepts the session with this number, for which the peer asks on this channel.
+    fn accept_asked(
+        &mut self,
+        alloc: Global,
+        out: &mut VecDeque<SessionFrame>,
+        channel: IncomingChannel,
+        number: u64,
+    ) -> Result<(), BeginError>
+        requires { asked_on self.old.sessions channel.0 ≡ Some number }
+        ensures ok { OnOk result (AcceptsHere R.gives self.old out.old.items channel number self.new out.new.items) }
+        ensures err { IfErr result (RefusesSession self.old.sessions.connection) }
+        ensures kept { OnErr result ((self.new ≡ self.old) × (out.new.items ≡ out.old.items)) }
+    {
+        let outgoing = self.sessions.connection().offered_channel()?;
+        out.reserve(1)?;
+        let (session, frame) = self.accepting(alloc, channel, number, outgoing)?;
+        match self.sessions.accept(number, session) {
+            Ok((_, asked)) => {
+                self.take_over(number, asked);
+                out.push_back_reserved(frame);
+                Ok(())
+            }
+            Err(refused) => Err(refused.error),
+        }
+    }
+
+    /// The session that accepts the one with this number, and its Begin.
+    fn accepting(
+        &self,
+        alloc: Global,
+        channel: IncomingChannel,
+        number: u64,
+        outgoing: OutgoingChannel,
+    ) -> Result<(Box<AskingSession<R>>, SessionFrame), AllocError>
+        requires { IsSome (asked_at self.now.sessions number) }
+        ensures { IfOk result (λ made. Accepting R.gives self.now channel number outgoing made.0 made.1) }
+    {
+        let Some(asked) = self.sessions.asked(number) else {
+            unreachable!()
+        };
+        let (session, frame) = AskingSession::accept(
+            alloc,
+            outgoing,
+            channel,
+            asked,
+            self.first_transfer_number,
+            self.incoming_window,
+        )?;
+        let Ok(session) = Box::new(alloc, session) else {
+            return Err(AllocError);
+        };
+        Ok((session, frame))
+    }
+
+    /// The links that the peer asked for before the session with this number was accepted go over to it.
+    fn take_over(&mut self, number: u64, asked: Box<AskedSession>)
+        ensures taken { (session : Box (AskingSession R.Denot)) → live_at self.old.sessions number ≡ Some session →
+            Steps self.old.sessions (ChangesLive number session (with_links session asked.value.links)) self.new.sessions }
+        ensures rest { self.new ≡ record self.old { sessions = self.new.sessions } }
+    {
+        if let Some(session) = self.sessions.live_mut(number) {
+            session.asked = Box::into_inner(asked).links;
         }
     }
 

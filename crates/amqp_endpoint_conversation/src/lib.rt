@@ -5,6 +5,6 @@ mod beginning;
 mod conversation;
 mod ending;
 
-pub use beginning::{BeginHeard, BeginRefusal};
+pub use beginning::{AcceptRefusal, BeginHeard, BeginRefusal};
 pub use conversation::Conversation;
 pub use ending::EndHeard;

@@ -108,4 +108,4 @@ module _ {R A T D : Type 0} (gives : Relations R A T D) where
     pub history :
         History gives (fresh channel first window)
         (TakesBegin incoming wanted.begin first [] [] ∷ (kept_steps first wanted.flow ++ SendsBegin frame ∷ [])) new.session
-    pub links : new.asked ≡ wanted.links
+    pub links : new.asked ≡ map.empty

@@ -13,7 +13,6 @@ use amqp_session_performatives::{Begin, SessionFrame};
 use amqp_session_types::{IncomingChannel, OutgoingChannel};
 use std::alloc::{AllocError, Global};
 use std::collections::VecDeque;
-use std::mem;
 
 impl<R: LinkRelay> AskingSession<R> {
     /// A session that begins (part 2, 2.5.1), with its Begin, which is to be sent: it sends on this channel, gives its
@@ -35,27 +34,25 @@ impl<R: LinkRelay> AskingSession<R> {
 
     /// The session that accepts one that the peer asks for (part 2, 2.5.1), with its Begin, which is to be sent: as
     /// `begin`, and it takes the peer's Begin, which came on this incoming channel, and then what was kept of a Flow. The
-    /// links that the peer asks for in it go over with what was kept for them, and the asked session has none left.
+    /// links that the peer asks for in the asked session are to go over: whoever gives it up for this one moves them.
     ///
-    /// It is refused where there is no memory, and nothing changes then.
+    /// It is refused where there is no memory.
     pub fn accept(
         alloc: Global,
         channel: OutgoingChannel,
         incoming: IncomingChannel,
-        asked: &mut AskedSession,
+        asked: &AskedSession,
         first_transfer_number: u32,
         incoming_window: u32,
     ) -> Result<(Self, SessionFrame), AllocError>
-        ensures ok { IfOk result (λ accepted. Accepted R.gives asked.old channel incoming first_transfer_number
+        ensures { IfOk result (λ accepted. Accepted R.gives asked.now channel incoming first_transfer_number
             incoming_window accepted.1 accepted.0) }
-        ensures handed_over { OnOk result (asked.new ≡ record asked.old { links = map.empty }) }
-        ensures kept { OnErr result (asked.new ≡ asked.old) }
     {
         let mut session = Session::new(alloc, channel, first_transfer_number, incoming_window);
         take_asked(&mut session, alloc, incoming, &asked.begin, asked.flow)?;
         let frame = send_begin(&mut session, alloc);
-        let links = mem::replace(&mut asked.links, AskedLinks::new(alloc));
-        Ok((AskingSession { session, asked: links }, frame))
+        let asked = AskedLinks::new(alloc);
+        Ok((AskingSession { session, asked }, frame))
     }
 }
 
