@@ -1,12 +1,15 @@
 -- A session that is lent and stays as it was.
-use Rattle.std.proofs.Common.{◌≡◌, ℕ, Option, Some, None, refl, sym, ap, ◌∙◌, List, slice_get, slice_set, slice_index_or, false}
+use Rattle.std.proofs.Common.{◌≡◌, ℕ, zero, suc, Option, Some, None, refl, sym, ap, ◌∙◌, List, [], ◌∷◌, slice_get, slice_set, slice_index_or, false}
 use Rattle.std.proofs.lemmas.List.{set-get_or}
 use Rattle.std.proofs.lemmas.Option.{none-some, same_Some, get_or_from_slice_get}
+use Rattle.amqp_session_types.specs.declared.channels.IncomingChannel.{IncomingChannel}
+use Rattle.amqp_session_types.specs.declared.channels.OutgoingChannel.{OutgoingChannel}
 use Rattle.amqp_endpoint_sessions.specs.declared.place.PeerEnd.TheVariants.{Missing}
 use Rattle.amqp_endpoint_sessions.specs.declared.place.Place.{Place}
 use Rattle.amqp_endpoint_sessions.specs.declared.place.Place.TheVariants.{Asked, Live, Ending, Over}
 use Rattle.amqp_endpoint_sessions.specs.Lends.{set_live}
-use Rattle.amqp_endpoint_sessions.specs.State.{State, live_at, live_of, with_live}
+use Rattle.amqp_endpoint_sessions.specs.State.{State, asked_at, asked_of, live_at, live_of, with_live}
+use Rattle.amqp_endpoint_sessions.specs.Steps.{Accepts, Steps}
 
 module _ {A S : Type 0} (s : State A S) (n : ℕ) (x : S) where
   pub unlent : live_at s n ≡ Some x → set_live s n x ≡ s
@@ -25,3 +28,22 @@ module _ {A S : Type 0} (s : State A S) (n : ℕ) (x : S) where
           ∙ set-get_or s.places n (Over Missing false))
       by (Some (Ending c)) e q = absurd (none-some _ q)
       by (Some (Over p c)) e q = absurd (none-some _ q)
+
+get-same : {X : Type 0} (xs : List X) (i : ℕ) (x v : X) → slice_get xs i ≡ Some x → slice_get (slice_set xs i v) i ≡ Some v
+get-same [] i x v e = absurd (none-some _ e)
+get-same (y ∷ ys) zero x v e = refl
+get-same (y ∷ ys) (suc i) x v e = get-same ys i x v e
+
+-- what is known of a session that was accepted
+module _ {A S : Type 0} (old : State A S) (number : ℕ) (incoming : IncomingChannel) (asked : A) (outgoing : OutgoingChannel)
+    (session : S) (new : State A S) (step : Steps old (Accepts number incoming asked outgoing session) new) where
+  pub was_asked : (wanted : A) → asked_at old number ≡ Some wanted → wanted ≡ asked
+  was_asked wanted e = same_Some _ _ (sym e ∙ ap asked_of step.0)
+
+  pub is_live : live_at new number ≡ Some session
+  is_live =
+      ap (λ (s : State A S). live_at s number) step.2
+      ∙ ap live_of (get-same old.places number (Asked incoming asked) (Live outgoing session) step.0)
+
+  pub has_channel : (channel : OutgoingChannel) → channel.0 ≡ old.connection.offered → channel ≡ outgoing
+  has_channel channel e = ap (λ (n : ℕ). record { 0 = n }) (e ∙ sym (((step.1).given).2))

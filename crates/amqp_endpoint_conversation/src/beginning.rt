@@ -181,7 +181,7 @@ impl<R: LinkRelay> Conversation<R> {
 
     /// The links that the peer asked for before the session with this number was accepted go over to it.
     fn take_over(&mut self, number: u64, asked: Box<AskedSession>)
-        ensures taken { (session : Box (AskingSession R.Denot)) → live_at self.old.sessions number ≡ Some session →
+        ensures taken { (session : Box (AskingSession R)) → live_at self.old.sessions number ≡ Some session →
             Steps self.old.sessions (ChangesLive number session (with_links session asked.value.links)) self.new.sessions }
         ensures rest { self.new ≡ record self.old { sessions = self.new.sessions } }
     {
