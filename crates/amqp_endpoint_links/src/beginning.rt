@@ -55,7 +55,13 @@ impl<R: LinkRelay> AskingSession<R> {
         take_asked(&mut session, alloc, incoming, &asked.begin, asked.flow)?;
         let frame = send_begin(&mut session, alloc);
         let links = mem::replace(&mut asked.links, AskedLinks::new(alloc));
-        Ok((AskingSession { session, asked: links }, frame))
+        Ok((
+            AskingSession {
+                session,
+                asked: links,
+            },
+            frame,
+        ))
     }
 }
 
