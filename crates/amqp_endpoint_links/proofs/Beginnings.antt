@@ -1,5 +1,5 @@
 -- Where nothing waits in a session, nothing leaves by the peer's Begin, nor by a Flow without a handle and without an echo.
-use Rattle.std.proofs.Common.{◌≡◌, ◌≢◌, ℕ, List, [], ◌∷◌, ◌++◌, Bool, true, false, Option, Some, None, Result, Ok, Err, refl, sym, ap, subst, ◌∙◌}
+use Rattle.std.proofs.Common.{◌≡◌, ◌≢◌, ℕ, List, [], ◌∷◌, ◌++◌, true, false, Option, Some, None, Result, Ok, Err, refl, sym, ap, subst, ◌∙◌}
 use Rattle.std.specs.Prelude.{⊤, OnOk, is_ok}
 use Rattle.amqp_session_types.specs.declared.channels.IncomingChannel.{IncomingChannel}
 use Rattle.amqp_session_types.specs.declared.channels.OutgoingChannel.{OutgoingChannel}
@@ -12,7 +12,6 @@ use Rattle.amqp_session_performatives.specs.declared.session_frame.SessionFrame.
 use Rattle.amqp_session_outgoing.specs.Queues.{TakesTurn}
 use Rattle.amqp_session_outgoing.specs.State as sending
 use Rattle.amqp_session_outgoing.specs.History as sending_history
-use Rattle.amqp_session_outgoing.specs.declared.frames.Sent.{Sent}
 use Rattle.amqp_session_core.specs.declared.batch.TransferFrame.{TransferFrame}
 use Rattle.amqp_session_core.specs.declared.batch.BehindFrame.{BehindFrame}
 use Rattle.amqp_session_core.specs.declared.relay.RelayError.{RelayError}
@@ -59,11 +58,10 @@ module _ {R A T D : Type 0} (gives : Relations R A T D) where
       let based : t.base ≡ (old.outgoing).next_outgoing_id = t.stepped.1 in
       let frames : t.frames ≡ [] = t.stepped.3 ∙ ap (λ (left : Left). frames_left new.fields left) none.0 in
       let opens : new.outgoing ≡ sending.with_window old.outgoing (old.outgoing).next_outgoing_id begin.incoming_window =
-          none.1 ∙ ap (λ (base : ℕ). sending.with_window old.outgoing base begin.incoming_window) based in
-      let counted : new.taken ≡ old.taken = t.stepped.4 ∙ ap (λ (fs : List SessionFrame). taken_behind fs old.taken) frames in
-      (
+      none.1 ∙ ap (λ (base : ℕ). sending.with_window old.outgoing base begin.incoming_window) based in
+      let counted : new.taken ≡ old.taken = t.stepped.4 ∙ ap (λ (fs : List SessionFrame). taken_behind fs old.taken) frames in (
         (t.stepped.0, refl, (opens, t.stepped.2.1), refl, counted, t.stepped.5),
-        (ap (λ (s : Side). s.queues) opens ∙ idle.0, t.added ∙ ap (λ (fs : List SessionFrame). out ++ fs) frames ∙ ap (λ (fs : List SessionFrame). fs ++ []) idle.1)
+        (ap (λ (s : Side). s.queues) opens ∙ idle.0, t.added ∙ ap (λ (fs : List SessionFrame). out ++ fs) frames ∙ ap (λ (fs : List SessionFrame). fs ++ []) idle.1),
       )
 
   pub flow-alone : (old new : State R) (out out_new : List SessionFrame) (flow : SessionFlow)
@@ -77,12 +75,12 @@ module _ {R A T D : Type 0} (gives : Relations R A T D) where
       let waits : (step.mid).queues ≡ [] = ap (λ (s : Side). s.queues) mid ∙ idle.0 in
       let none = none-leaves (sending.with_window step.mid t.base flow.incoming_window) new.outgoing t.left waits (step.window.0) in
       let opens : new.outgoing ≡ sending.with_window old.outgoing (sending.base_of old.outgoing flow.next_incoming_id) flow.incoming_window =
-          none.1 ∙ ap (λ (s : Side). sending.with_window s t.base flow.incoming_window) mid
-          ∙ ap (λ (base : ℕ). sending.with_window old.outgoing base flow.incoming_window) step.base_is in
+      none.1 ∙ ap (λ (s : Side). sending.with_window s t.base flow.incoming_window) mid
+      ∙ ap (λ (base : ℕ). sending.with_window old.outgoing base flow.incoming_window) step.base_is in
       let frames : t.frames ≡ [] =
-          step.frames_are
-          ∙ ap (λ (r : Reply). reply_frames new.fields (old.outgoing).next_outgoing_id r ++ frames_left new.fields t.left) reply
-          ∙ ap (λ (left : Left). frames_left new.fields left) none.0 in
+      step.frames_are
+      ∙ ap (λ (r : Reply). reply_frames new.fields (old.outgoing).next_outgoing_id r ++ frames_left new.fields t.left) reply
+      ∙ ap (λ (left : Left). frames_left new.fields left) none.0 in
       record {
         link = told.1;
         is_reply = refl;

@@ -1,5 +1,5 @@
 -- A session with the links that its peer asks for in it (part 2, 2.6.3).
-use Rattle.std.specs.Prelude.{◌≡◌, ℕ, List, Bool, true, false, Option, Some, None, Result, Ok, Err, is_some, ⊤, if◌then◌else◌}
+use Rattle.std.specs.Prelude.{◌≡◌, ℕ, List, Bool, true, false, Result, Ok, Err, is_some, ⊤, if◌then◌else◌}
 use Rattle.std.specs.FinMap as map
 use Rattle.amqp_session_types.specs.declared.refusals.SessionError.{SessionError}
 use Rattle.amqp_session_types.specs.declared.refusals.SessionError.TheVariants as session

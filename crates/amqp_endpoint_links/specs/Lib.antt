@@ -1,3 +1,4 @@
 pub mod Numbering
 pub mod Asking
 pub mod Beginning
+pub mod History

@@ -105,8 +105,7 @@ impl<R: LinkRelay> AskingSession<R> {
             return self.session.on_incoming_flow(alloc, out, flow);
         }
         let told = SessionFlow::told_by(&flow);
-        self.session
-            .on_incoming_flow(alloc, out, told.into_flow())?;
+        self.session.on_incoming_flow(alloc, out, told.into_flow())?;
         self.asked.keep(flow);
         Ok(())
     }

@@ -1,4 +1,4 @@
-use Rattle.std.proofs.Common.{rules, ◌≡◌, subst}
+use Rattle.std.proofs.Common.{subst}
 use Rattle.amqp_session_core.specs.State.{State}
 use Rattle.amqp_endpoint_links.specs.Beginning.{TakesAsked}
 use Rattle.amqp_endpoint_links.proofs.Beginnings.{accepted-history}
