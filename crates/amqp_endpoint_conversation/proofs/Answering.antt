@@ -47,3 +47,7 @@ module _ {A S : Type 0} (old : State A S) (number : ℕ) (incoming : IncomingCha
 
   pub has_channel : (channel : OutgoingChannel) → channel.0 ≡ old.connection.offered → channel ≡ outgoing
   has_channel channel e = ap (λ (n : ℕ). record { 0 = n }) (e ∙ sym (((step.1).given).2))
+
+-- a channel is told by its number
+pub numbered : (channel : OutgoingChannel) (n : ℕ) → channel.0 ≡ n → channel ≡ record { 0 = n }
+numbered channel n e = ap (λ (k : ℕ). record { 0 = k }) e

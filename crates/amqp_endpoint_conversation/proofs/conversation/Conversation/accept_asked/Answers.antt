@@ -16,11 +16,11 @@ returns-in-Ok-clause-ok g c =
     let frame = c.in_ok-session.frame in
     let outgoing = c.in-Ok.field-0-0 in
     let same =
-          was_asked c.args.self.now.sessions c.args.number incoming c.in-Ok.asked outgoing session c.accept.new.self stepped
-          made.wanted made.asked in
+    was_asked c.args.self.now.sessions c.args.number incoming c.in-Ok.asked outgoing session c.accept.new.self stepped
+    made.wanted made.asked in
     let channel =
-          has_channel c.args.self.now.sessions c.args.number incoming c.in-Ok.asked outgoing session c.accept.new.self stepped
-          c.in_ok-outgoing.outgoing (c.in_ok-outgoing.ensures.ok.2 ∙ ap (λ (s : channels.State). s.offered) c.connection.ensures) in
+    has_channel c.args.self.now.sessions c.args.number incoming c.in-Ok.asked outgoing session c.accept.new.self stepped
+    c.in_ok-outgoing.outgoing (c.in_ok-outgoing.ensures.ok.2 ∙ ap (λ (s : channels.State). s.offered) c.connection.ensures) in
     record {
       asked = c.requires;
       incoming = incoming;
@@ -30,14 +30,14 @@ returns-in-Ok-clause-ok g c =
       frame = frame;
       mid = c.accept.new.self;
       accepted =
-        subst (λ (w : Box AskedSession). Accepted g.R.LinkRelay.gives w.value outgoing c.args.channel
+          subst (λ (w : Box AskedSession). Accepted g.R.LinkRelay.gives w.value outgoing c.args.channel
           c.args.self.now.first_transfer_number c.args.self.now.incoming_window frame session.value) same
-        (subst (λ (ch : OutgoingChannel). Accepted g.R.LinkRelay.gives made.wanted.value ch c.args.channel
+          (subst (λ (ch : OutgoingChannel). Accepted g.R.LinkRelay.gives made.wanted.value ch c.args.channel
           c.args.self.now.first_transfer_number c.args.self.now.incoming_window frame session.value) channel made.accepted);
       stepped = stepped;
       taken_over =
-        c.take_over.ensures.taken session
-        (is_live c.args.self.now.sessions c.args.number incoming c.in-Ok.asked outgoing session c.accept.new.self stepped);
+          c.take_over.ensures.taken session
+          (is_live c.args.self.now.sessions c.args.number incoming c.in-Ok.asked outgoing session c.accept.new.self stepped);
       rest = c.take_over.ensures.rest;
       queued = c.push_back_reserved.ensures.items ∙ ap (λ (fs : List SessionFrame). fs ++ frame ∷ []) c.reserve.ensures.items;
     }

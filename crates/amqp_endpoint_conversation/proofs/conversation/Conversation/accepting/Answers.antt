@@ -10,10 +10,10 @@ returns g c =
       wanted = c.in-Some.asked.now;
       asked = sym c.in-Some.ensures;
       accepted =
-        subst (λ (s : AskingSession g.row.R.Denot). Accepted g.R.LinkRelay.gives c.in-Some.asked.now.value c.args.outgoing
+          subst (λ (s : AskingSession g.row.R.Denot). Accepted g.R.LinkRelay.gives c.in-Some.asked.now.value c.args.outgoing
           c.args.channel c.args.self.now.first_transfer_number c.args.self.now.incoming_window c.in_ok-session.frame s)
-        (sym c.in-Ok.ensures.ok)
-        (subst (λ (w : AskedSession). Accepted g.R.LinkRelay.gives w c.args.outgoing c.args.channel
+          (sym c.in-Ok.ensures.ok)
+          (subst (λ (w : AskedSession). Accepted g.R.LinkRelay.gives w c.args.outgoing c.args.channel
           c.args.self.now.first_transfer_number c.args.self.now.incoming_window c.in_ok-session.frame c.in_ok-session.session)
           c.deref.ensures c.in_ok-session.ensures);
     }

@@ -4,13 +4,16 @@ use Rattle.amqp_session_performatives.specs.declared.session_frame.SessionFrame.
 use Rattle.amqp_endpoint_links.specs.declared.asking.AskingSession.{AskingSession}
 use Rattle.amqp_endpoint_links.specs.Beginning.{Begun}
 use Rattle.amqp_endpoint_sessions.specs.Steps.{Steps, Begins}
+use Rattle.amqp_session_connection.specs.State as channels
+use Rattle.amqp_endpoint_conversation.proofs.Answering.{numbered}
 use Rattle.amqp_endpoint_conversation.proofs.conversation.Conversation.begin.Goals as goal
 
 pub returns-in-Ok-begin-clause-ok : goal.returns-in-Ok-begin-clause-ok
 returns-in-Ok-begin-clause-ok g c =
     let channel = c.in_ok-channel.channel in
-    let offered : channel ≡ record { 0 = c.args.self.now.sessions.connection.offered } =
-    ap (λ (n : _). record { 0 = n }) c.in_ok-channel.ensures.ok.2 in
+    let offered =
+    numbered channel c.args.self.now.sessions.connection.offered
+    (c.in_ok-channel.ensures.ok.2 ∙ ap (λ (s : channels.State). s.offered) c.connection.ensures) in
     let frame = c.begin-session.result.1 in
     record {
       channel = channel;
