@@ -1,3 +1,4 @@
+pub mod Alone
 pub mod Entering
 pub mod Handing
 pub mod Resumptions

@@ -1,5 +1,5 @@
 //! The last transfers of deliveries (part 2, 2.6.14).
-ghost use Rattle.std.specs.Prelude.{◌≡◌, ◌^◌, ◌<◌, length, take, Some, None, IfOk, Ok, Err, OnErr};
+ghost use Rattle.std.specs.Prelude.{◌≡◌, ◌^◌, ◌<◌, ◌↔◌, [], length, take, true, Some, None, IfOk, IsTrue, Ok, Err, OnErr};
 ghost use Rattle.amqp_link_types.specs.declared.refusals.ReceiverTransferError.TheVariants.{Memory};
 ghost use Rattle.amqp_link_receiving.specs.Deliveries.{begun, delivery_of, fresh, found, joined, kept_bytes, resumed, resumption, with_last};
 ghost use Rattle.amqp_link_receiving.specs.Receiving.{completion, message_of, noted, whole_of};
@@ -64,6 +64,7 @@ pub(crate) fn take_whole(
 }
 
 /// Takes a delivery of one transfer that isn't known.
+#[tactic(auto, using(crate::proofs::Alone::among_none))]
 fn take_fresh(
     alloc: Global,
     attachment: Attachment,
@@ -73,6 +74,11 @@ fn take_fresh(
 ) -> Result<Answer, ReceiverTransferError>
     ensures { Completes attachment None unsettled.old.entries (with_last attachment payload (fresh start (found unsettled.old.entries start.delivery_tag))) result unsettled.new.entries }
 {
+    if start.settled {
+        if has_none(unsettled) {
+            return take_settled(attachment, start, payload);
+        }
+    }
     if unsettled.contains(&start.delivery_tag) {
         return Err(ReceiverTransferError::IllegalState);
     }
@@ -88,6 +94,39 @@ fn take_fresh(
         unsettled,
         start.with_bytes(payload, false),
     )
+}
+
+/// Whether no delivery is unsettled.
+fn has_none(unsettled: &UnsettledMap<Entry>) -> bool
+    ensures { IsTrue result ↔ (unsettled.now.entries ≡ []) }
+{
+    unsettled.is_empty()
+}
+
+/// Takes a settled delivery of one transfer where none is unsettled: its message is handed out as it came.
+#[inline(always)]
+fn take_settled(
+    attachment: Attachment,
+    start: Start,
+    payload: Bytes,
+) -> Result<Answer, ReceiverTransferError>
+    requires { start.settled ≡ true }
+    ensures { Completes attachment None [] (with_last attachment payload (fresh start None)) result [] }
+{
+    if attachment.is_passed(0, payload.len() as u64) {
+        return Err(ReceiverTransferError::MessageSizeExceeded);
+    }
+    Ok(Answer {
+        registering: Registering::Unchanged,
+        told: Told::Message(Message {
+            delivery_id: start.delivery_id,
+            delivery_tag: start.delivery_tag,
+            message_format: start.message_format,
+            rcv_settle_mode: None,
+            settled: true,
+            payload,
+        }),
+    })
 }
 
 /// Takes a delivery that begins and is complete at once.

@@ -1,6 +1,6 @@
 //! Messages cut into transfers (part 2, 2.6.14 and 2.7.5).
-ghost use Rattle.std.specs.Prelude.{◌≡◌, ◌-◌, ◌<◌, ◌⊎◌, ◌++◌, length, OnOk, IfOk, IfErr, IfSome, IsSomeAnd, Some, None, Err};
-ghost use Rattle.amqp_session_core.specs.Batch.{Transfers};
+ghost use Rattle.std.specs.Prelude.{◌≡◌, ◌-◌, ◌<◌, ◌⊎◌, [], ◌∷◌, ◌++◌, length, false, OnOk, IfOk, IfErr, IfSome, IsSomeAnd, Some, None, Err};
+ghost use Rattle.amqp_session_core.specs.Batch.{Transfers, first_of};
 ghost use Rattle.serde_amqp_item.specs.Canon.{canon};
 ghost use Rattle.amqp_link_split.specs.Room.{room_behind, room_of, some_bytes};
 ghost use Rattle.amqp_link_split.specs.Splitting.{Splits, Rest, later, some_left};
@@ -103,7 +103,31 @@ fn left(limit: usize, size: usize) -> Option<usize>
 }
 
 /// Cuts a payload into transfers of at most so many bytes.
+#[tactic(auto, using(crate::proofs::Splits::is_whole))]
 fn cut(alloc: Global, first: Transfer, payload: Bytes, room: usize) -> Result<Batch, AllocError>
+    requires { 0 < room }
+    ensures { IfOk result (λ batch. Splits first payload room batch) }
+{
+    if payload.len() <= room {
+        return Ok(whole(alloc, first, payload)?);
+    }
+    cut_up(alloc, first, payload, room)
+}
+
+/// The one transfer of a payload that isn't cut.
+#[inline(always)]
+fn whole(alloc: Global, first: Transfer, payload: Bytes) -> Result<Batch, AllocError>
+    ensures { IfOk result (λ batch. batch ≡ first_of (record first { more = false }) payload ∷ []) }
+{
+    let mut first = first;
+    first.more = false;
+    let mut alone = Batch::new(alloc);
+    alone.push_first(alloc, first, payload)?;
+    Ok(alone)
+}
+
+/// Cuts a payload into a first transfer and those behind it.
+fn cut_up(alloc: Global, first: Transfer, payload: Bytes, room: usize) -> Result<Batch, AllocError>
     requires { 0 < room }
     ensures { IfOk result (λ batch. Splits first payload room batch) }
 {

@@ -96,6 +96,9 @@ impl<M: Drop> UnsettledMap<M> {
     pub fn get(&self, tag: &DeliveryTag) -> Option<&M>
         ensures { option_copied result ≡ lookup (bytes_eq tag.now) self.now.entries }
     {
+        if self.count == 0 {
+            return None;
+        }
         let _ = self.slots.len();
         self.slots.get(tag)?.as_ref()
     }
@@ -156,6 +159,9 @@ impl<M: Drop> UnsettledMap<M> {
         ensures value { result ≡ lookup (bytes_eq tag.now) self.old.entries }
         ensures others { self.new ≡ record self.old { entries = remove_entry (bytes_eq tag.now) self.old.entries } }
     {
+        if self.count == 0 {
+            return None;
+        }
         let message = take_out(&mut self.slots, tag)?;
         self.count -= 1;
         sweep_where_due(&mut self.slots, self.count);

@@ -10,7 +10,7 @@ use Rattle.amqp_session_core.specs.declared.batch.BehindFrame.{BehindFrame}
 use Rattle.amqp_session_core.specs.Batch.{Transfers, first_of}
 use Rattle.amqp_link_split.specs.Splitting.{bytes_of, some_left, Splits}
 use Rattle.amqp_link_split.proofs.Splits.{split-of}
-use Rattle.amqp_link_split.proofs.splitting.cut.Goals as goal
+use Rattle.amqp_link_split.proofs.splitting.cut_up.Goals as goal
 
 pub returns : goal.returns
 returns c =
