@@ -3,13 +3,14 @@ use Rattle.std.specs.Prelude.{◌≡◌, ℕ, List, Option, Some, None, if◌the
 use Rattle.std.specs.Map.{lookup}
 use Rattle.std.specs.Str.{bytes_eq}
 use Rattle.amqp_endpoint_names.specs.declared.place.Named.{Named}
-use Rattle.amqp_endpoint_names.specs.State.{HasName, link_at}
+use Rattle.amqp_endpoint_names.specs.State.{name_in}
 
 -- the number of each link that isn't closed stands under its name, and nothing else does
 pub record AreNamed {L : Type 0} (links : List (Option (Named L))) (numbers : List (List ℕ × ℕ)) : Type 0 where
-  pub each : (number : ℕ) (link : Named L) → link_at links number ≡ Some link
-      → lookup (bytes_eq link.name) numbers ≡ Some number
-  pub only : (name : List ℕ) (number : ℕ) → lookup (bytes_eq name) numbers ≡ Some number → HasName links number name
+  pub each : (name : List ℕ) (number : ℕ) → name_in links number ≡ Some name
+      → lookup (bytes_eq name) numbers ≡ Some number
+  pub only : (name : List ℕ) (number : ℕ) → lookup (bytes_eq name) numbers ≡ Some number
+      → name_in links number ≡ Some name
 
 -- a number is put under a name
 abbrev pub PutsUnder : List ℕ → ℕ → List (List ℕ × ℕ) → List (List ℕ × ℕ) → Type 0

@@ -38,8 +38,11 @@ module _ {L : Type 0} where
   name_of None = None
   name_of (Some link) = Some link.name
 
+  abbrev pub name_in : List (Option (Named L)) → ℕ → Option (List ℕ)
+  name_in links number = name_of (link_at links number)
+
   abbrev pub name_at : State L → ℕ → Option (List ℕ)
-  name_at s number = name_of (link_at s.links number)
+  name_at s number = name_in s.links number
 
   -- the session that holds a link, and the own handle that it has there (part 2, 2.6.2)
   abbrev pub held_of : Option (LinkPlace L) → Option (ℕ × OutputHandle)
@@ -72,21 +75,16 @@ module _ {L : Type 0} where
   abbrev pub without : State L → ℕ → State L
   without s number = record s { links = slice_set s.links number None }
 
-  -- the link with this number isn't closed, and has this name
-  pub record HasName (links : List (Option (Named L))) (number : ℕ) (name : List ℕ) : Type 0 where
-    pub link : Named L
-    pub there : link_at links number ≡ Some link
-    pub is : link.name ≡ name
-
-  -- none has
+  -- no link that isn't closed has this name
   abbrev pub IsNewName : List (Option (Named L)) → List ℕ → Type 0
-  IsNewName links name = (number : ℕ) (link : Named L) → link_at links number ≡ Some link → link.name ≢ name
+  IsNewName links name = (number : ℕ) → name_in links number ≢ Some name
 
   -- the number of the link that isn't closed and has this name, if there is one
   abbrev pub Names : List (Option (Named L)) → List ℕ → Option ℕ → Type 0
   Names links name None = IsNewName links name
-  Names links name (Some number) = HasName links number name
+  Names links name (Some number) = name_in links number ≡ Some name
 
   -- no two links that aren't closed have one name (part 2, 2.6.1)
   abbrev pub AreApart : List (Option (Named L)) → Type 0
-  AreApart links = (m n : ℕ) (name : List ℕ) → HasName links m name → HasName links n name → m ≡ n
+  AreApart links =
+      (m n : ℕ) (name : List ℕ) → name_in links m ≡ Some name → name_in links n ≡ Some name → m ≡ n

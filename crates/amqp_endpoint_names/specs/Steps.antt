@@ -6,7 +6,7 @@ use Rattle.amqp_endpoint_names.specs.declared.place.LinkPlace.TheVariants.{Held,
 use Rattle.amqp_endpoint_names.specs.declared.place.LinkRefusal.{LinkRefusal}
 use Rattle.amqp_endpoint_names.specs.declared.place.LinkRefusal.TheVariants.{NameInUse, Memory}
 use Rattle.amqp_endpoint_names.specs.declared.place.Named.{Named}
-use Rattle.amqp_endpoint_names.specs.State.{State, HasName, IsNewName, held_at, place_at, put, rest_at, without}
+use Rattle.amqp_endpoint_names.specs.State.{State, IsNewName, held_at, name_at, place_at, put, rest_at, without}
 
 -- a call, with what it was given and what it answered
 pub data Step (L : Type 0) : Type 0 where
@@ -48,13 +48,13 @@ module _ {L : Type 0} where
   -- room is made for a new link, unless one has its name or there is no memory
   abbrev pub RoomMade : State L → List ℕ → Result (List ℕ) LinkRefusal → State L → Type 0
   RoomMade old name (Ok given) new = (given ≡ name) × Steps old (MakesRoom name) new
-  RoomMade old name (Err NameInUse) new = ((number : ℕ) × HasName old.links number name) × (new ≡ old)
+  RoomMade old name (Err NameInUse) new = ((number : ℕ) × (name_at old number ≡ Some name)) × (new ≡ old)
   RoomMade old name (Err Memory) new = IsNewName old.links name × (new ≡ old)
 
   -- a link is entered, unless one has its name or no room was made for it
   abbrev pub Entered : State L → List ℕ → ℕ → OutputHandle → Result ℕ LinkRefusal → State L → Type 0
   Entered old name session handle (Ok number) new = Steps old (Enters number name session handle) new
-  Entered old name session handle (Err NameInUse) new = ((number : ℕ) × HasName old.links number name) × (new ≡ old)
+  Entered old name session handle (Err NameInUse) new = ((number : ℕ) × (name_at old number ≡ Some name)) × (new ≡ old)
   Entered old name session handle (Err Memory) new = IsNewName old.links name × (old.room ≡ 0) × (new ≡ old)
 
   -- a link comes back, where a session holds it
