@@ -41,7 +41,7 @@ module _ {L : Type 0} where
             → (if n == number then 1 else 0) + times_given n steps ≡ 0
         by true e rest = absurd (omega (arith, same_number n number e, s.2))
         by false e rest =
-            let none : (if n == number then 1 else 0) ≡ 0 = ap (λ (c : Bool). if c then 1 else 0) e in omega (arith, none, rest)
+            let none : ◌≡◌ {A = ℕ} (if n == number then 1 else 0) 0 = ap (λ (c : Bool). if c then 1 else 0) e in omega (arith, none, rest)
     never start (Rests number link ∷ steps) end (mid, s, h) below =
         never mid steps end h (omega (arith, kept start (Rests number link) mid s))
     never start (Holds number session handle link ∷ steps) end (mid, s, h) below =
@@ -61,10 +61,10 @@ module _ {L : Type 0} where
         by true e rest =
             let below : n < count mid =
             omega (arith, ap count s.3, one_more start (Some (record { name = name; place = Held session handle })), same_number n number e, s.2) in
-            let one : (if n == number then 1 else 0) ≡ 1 = ap (λ (c : Bool). if c then 1 else 0) e in
+            let one : ◌≡◌ {A = ℕ} (if n == number then 1 else 0) 1 = ap (λ (c : Bool). if c then 1 else 0) e in
             omega (arith, one, never mid steps end h below)
         by false e rest =
-            let none : (if n == number then 1 else 0) ≡ 0 = ap (λ (c : Bool). if c then 1 else 0) e in omega (arith, none, rest)
+            let none : ◌≡◌ {A = ℕ} (if n == number then 1 else 0) 0 = ap (λ (c : Bool). if c then 1 else 0) e in omega (arith, none, rest)
     once start end (Rests number link ∷ steps) (mid, s, h) = once mid end steps h
     once start end (Holds number session handle link ∷ steps) (mid, s, h) = once mid end steps h
     once start end (ChangesAtRest number before after ∷ steps) (mid, s, h) = once mid end steps h
