@@ -49,10 +49,12 @@ module _ {L : Type 0} where
         by (inr p) (inr q) =
             apart m n name (sym (name-before links link m p.1) ∙ a) (sym (name-before links link n q.1) ∙ b)
 
-  same_links : (old new : State L) (links : List (Option (Named L))) → new.links ≡ links → AreApart links → AreApart new.links
+  same_links : (old new : State L) (links : List (Option (Named L))) → new.links ≡ links → AreApart links
+      → AreApart new.links
   same_links old new links is apart = subst (λ (ls : List (Option (Named L))). AreApart ls) (sym is) apart
 
-  step_apart : (old : State L) (step : Step L) (new : State L) → Steps old step new → AreApart old.links → AreApart new.links
+  step_apart : (old : State L) (step : Step L) (new : State L) → Steps old step new → AreApart old.links
+      → AreApart new.links
   step_apart old (MakesRoom name) new s apart =
       same_links old new old.links (ap (λ (x : State L). x.links) s.1) apart
   step_apart old (Enters number name session handle) new s apart =
@@ -67,6 +69,7 @@ module _ {L : Type 0} where
   step_apart old (Closes number place) new s apart =
       same_links old new _ (ap (λ (x : State L). x.links) s.1) (closed_apart old.links apart number)
 
-  pub stay_apart : (start end : State L) (steps : List (Step L)) → AreApart start.links → History start steps end → AreApart end.links
+  pub stay_apart : (start end : State L) (steps : List (Step L)) → AreApart start.links → History start steps end
+      → AreApart end.links
   stay_apart start end [] apart h = same_links start end start.links (ap (λ (x : State L). x.links) h) apart
   stay_apart start end (step ∷ steps) apart (mid, s, h) = stay_apart mid end steps (step_apart start step mid s apart) h

@@ -9,7 +9,8 @@ module _ {L : Type 0} (s : State L) (n : ℕ) (x : Option (Named L)) (at : x ≡
   within : is_some (slice_get s.links n) ≡ true → slice_get s.links n ≡ Some x
   within some = by (slice_get_cases s.links n).1
     where
-      by : ((y : Option (Named L)) × (n < length s.links) × (slice_get s.links n ≡ Some y) × (slice_index_or s.links n y ≡ y))
+      by : ((y : Option (Named L)) × (n < length s.links) × (slice_get s.links n ≡ Some y)
+          × (slice_index_or s.links n y ≡ y))
           ⊎ ((length s.links ≤ n) × (slice_get s.links n ≡ None)) → slice_get s.links n ≡ Some x
       by (inl (y, lt, e, _)) = slice_get-get_or s.links n x lt ∙ ap Some (sym at)
       by (inr (le, none)) = absurd (true≢false (sym some ∙ ap is_some none))
@@ -20,7 +21,8 @@ module _ {L : Type 0} (s : State L) (n : ℕ) (x : Option (Named L)) (at : x ≡
       ap (λ (o : Option (Named L)). record s { links = slice_set s.links n (moved o (AtRest w)) })
       (sym (get_or_from_slice_get s.links n x None e))
 
-  pub slot_of_rest : (r : Option (Bor L)) → option_copied r ≡ rest_at s n → is_some r ≡ true → slice_get s.links n ≡ Some x
+  pub slot_of_rest : (r : Option (Bor L)) → option_copied r ≡ rest_at s n → is_some r ≡ true
+      → slice_get s.links n ≡ Some x
   slot_of_rest None e some = absurd (true≢false (sym some))
   slot_of_rest (Some l) e some = within (by (slice_get s.links n) e)
     where

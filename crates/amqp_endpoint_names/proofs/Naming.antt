@@ -24,7 +24,8 @@ told_apart x y = by (bytes_eq x y) refl
 
 module _ {L : Type 0} where
   -- no links have no names
-  pub none-named : (links : List (Option (Named L))) (numbers : Numbers) → links ≡ [] → numbers ≡ [] → AreNamed links numbers
+  pub none-named : (links : List (Option (Named L))) (numbers : Numbers) → links ≡ [] → numbers ≡ []
+      → AreNamed links numbers
   none-named links numbers nothing none =
       record {
         each = λ name number there.
@@ -70,29 +71,35 @@ module _ {L : Type 0} where
         → PutsUnder link.name (length links) numbers more → AreNamed (links ++ Some link ∷ []) more
     entered-named link more new u = record { each = each; only = only }
       where
-        each : (q : List ℕ) (n : ℕ) → name_in (links ++ Some link ∷ []) n ≡ Some q → lookup (bytes_eq q) more ≡ Some n
+        each : (q : List ℕ) (n : ℕ) → name_in (links ++ Some link ∷ []) n ≡ Some q
+            → lookup (bytes_eq q) more ≡ Some n
         each q n there = by (eqb_tells n (length links))
           where
             others : name_in links n ≡ Some q → lookup (bytes_eq q) more ≡ Some n
             others was = by_name (told_apart link.name q)
               where
-                by_name : ((bytes_eq link.name q ≡ true) × (link.name ≡ q)) ⊎ ((bytes_eq link.name q ≡ false) × (link.name ≢ q))
+                by_name : ((bytes_eq link.name q ≡ true) × (link.name ≡ q))
+                    ⊎ ((bytes_eq link.name q ≡ false) × (link.name ≢ q))
                     → lookup (bytes_eq q) more ≡ Some n
                 by_name (inl p) = absurd (new n (was ∙ ap (λ (x : List ℕ). Some x) (sym p.1)))
                 by_name (inr p) =
-                    u q ∙ ap (λ (b : Bool). cond b (Some (length links)) (lookup (bytes_eq q) numbers)) p.0 ∙ named.each q n was
+                    u q ∙ ap (λ (b : Bool). cond b (Some (length links)) (lookup (bytes_eq q) numbers)) p.0
+                    ∙ named.each q n was
 
-            by : (((n == length links) ≡ true) × (n ≡ length links)) ⊎ (((n == length links) ≡ false) × (n ≢ length links))
+            by : (((n == length links) ≡ true) × (n ≡ length links))
+                ⊎ (((n == length links) ≡ false) × (n ≢ length links))
                 → lookup (bytes_eq q) more ≡ Some n
             by (inl p) =
                 let is : link.name ≡ q =
                 same_Some _ _ (sym (ap (name_in (links ++ Some link ∷ [])) p.1 ∙ name-entered links link) ∙ there) in
                 u q
-                ∙ ap (λ (b : Bool). cond b (Some (length links)) (lookup (bytes_eq q) numbers)) ((bytes_eq-Decides link.name q).1 is)
+                ∙ ap (λ (b : Bool). cond b (Some (length links)) (lookup (bytes_eq q) numbers))
+                ((bytes_eq-Decides link.name q).1 is)
                 ∙ ap (λ (k : ℕ). Some k) (sym p.1)
             by (inr p) = others (sym (name-before links link n p.1) ∙ there)
 
-        only : (q : List ℕ) (n : ℕ) → lookup (bytes_eq q) more ≡ Some n → name_in (links ++ Some link ∷ []) n ≡ Some q
+        only : (q : List ℕ) (n : ℕ) → lookup (bytes_eq q) more ≡ Some n
+            → name_in (links ++ Some link ∷ []) n ≡ Some q
         only q n got = by (told_apart link.name q)
           where
             by : ((bytes_eq link.name q ≡ true) × (link.name ≡ q)) ⊎ ((bytes_eq link.name q ≡ false) × (link.name ≢ q))
@@ -101,7 +108,8 @@ module _ {L : Type 0} where
                 let is : length links ≡ n =
                 same_Some _ _
                 (sym (u q ∙ ap (λ (b : Bool). cond b (Some (length links)) (lookup (bytes_eq q) numbers)) p.0) ∙ got) in
-                ap (name_in (links ++ Some link ∷ [])) (sym is) ∙ name-entered links link ∙ ap (λ (x : List ℕ). Some x) p.1
+                ap (name_in (links ++ Some link ∷ [])) (sym is) ∙ name-entered links link
+                ∙ ap (λ (x : List ℕ). Some x) p.1
             by (inr p) =
                 let was : name_in links n ≡ Some q =
                 named.only q n
@@ -114,7 +122,8 @@ module _ {L : Type 0} where
         → TakesAway name numbers more → AreNamed (slice_set links number None) more
     taken-named number name more had u = record { each = each; only = only }
       where
-        each : (q : List ℕ) (n : ℕ) → name_in (slice_set links number None) n ≡ Some q → lookup (bytes_eq q) more ≡ Some n
+        each : (q : List ℕ) (n : ℕ) → name_in (slice_set links number None) n ≡ Some q
+            → lookup (bytes_eq q) more ≡ Some n
         each q n there = by (eqb_tells n number)
           where
             others : n ≢ number → name_in links n ≡ Some q → lookup (bytes_eq q) more ≡ Some n
@@ -135,7 +144,8 @@ module _ {L : Type 0} where
                 (sym (ap (name_in (slice_set links number None)) p.1 ∙ name-gone links number) ∙ there))
             by (inr p) = others p.1 (sym (name-left links number n p.1) ∙ there)
 
-        only : (q : List ℕ) (n : ℕ) → lookup (bytes_eq q) more ≡ Some n → name_in (slice_set links number None) n ≡ Some q
+        only : (q : List ℕ) (n : ℕ) → lookup (bytes_eq q) more ≡ Some n
+            → name_in (slice_set links number None) n ≡ Some q
         only q n got = by (told_apart name q)
           where
             by : ((bytes_eq name q ≡ true) × (name ≡ q)) ⊎ ((bytes_eq name q ≡ false) × (name ≢ q))

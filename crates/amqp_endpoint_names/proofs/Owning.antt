@@ -148,13 +148,16 @@ module _ {L : Type 0} (n : ℕ) where
           → is_about n step ≡ b → SlotHistory (slot_at start n) (steps_of n (step ∷ steps)) (slot_at end n)
       by found rest true e =
           subst
-          (λ (c : Bool). SlotHistory (slot_at start n) (if c then step ∷ steps_of n steps else steps_of n steps) (slot_at end n))
+          (λ (c : Bool). SlotHistory (slot_at start n) (if c then step ∷ steps_of n steps else steps_of n steps)
+          (slot_at end n))
           (sym e) (slot_at mid n, found.about e, rest)
       by found rest false e =
           subst
-          (λ (c : Bool). SlotHistory (slot_at start n) (if c then step ∷ steps_of n steps else steps_of n steps) (slot_at end n))
+          (λ (c : Bool). SlotHistory (slot_at start n) (if c then step ∷ steps_of n steps else steps_of n steps)
+          (slot_at end n))
           (sym e)
-          (subst (λ (o : Option (Option (Named L))). SlotHistory o (steps_of n steps) (slot_at end n)) (found.other e) rest)
+          (subst (λ (o : Option (Option (Named L))). SlotHistory o (steps_of n steps) (slot_at end n))
+          (found.other e) rest)
 
 module _ {L : Type 0} where
   -- nothing happens to a link that is closed
@@ -174,4 +177,5 @@ module _ {L : Type 0} where
 
   pub stays_closed : (n : ℕ) (start end : State L) (steps : List (Step L)) → History start steps end
       → slot_at start n ≡ Some None → slot_at end n ≡ Some None
-  stays_closed n start end steps h e = closed (slot_at start n) (steps_of n steps) (slot_at end n) (own n start steps end h) e
+  stays_closed n start end steps h e =
+      closed (slot_at start n) (steps_of n steps) (slot_at end n) (own n start steps end h) e

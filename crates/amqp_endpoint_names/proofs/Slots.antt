@@ -49,8 +49,9 @@ module _ {L : Type 0} where
   name-moved (Some link) place = refl
 
   -- the same where the link was read before
-  pub name-lent : (links : List (Option (Named L))) (number : ℕ) (slot : Option (Named L)) (place : LinkPlace L) (k : ℕ)
-      → slot ≡ slice_index_or links number slot → name_in (slice_set links number (moved slot place)) k ≡ name_in links k
+  pub name-lent : (links : List (Option (Named L))) (number : ℕ) (slot : Option (Named L)) (place : LinkPlace L)
+      (k : ℕ) → slot ≡ slice_index_or links number slot
+      → name_in (slice_set links number (moved slot place)) k ≡ name_in links k
   name-lent [] number slot place k e = refl
   name-lent (x ∷ links) zero slot place zero e = name-moved slot place ∙ ap (λ (o : Option (Named L)). name_of o) e
   name-lent (x ∷ links) zero slot place (suc k) e = refl
@@ -65,7 +66,8 @@ module _ {L : Type 0} where
 
   pub name-left : (links : List (Option (Named L))) (number k : ℕ) → k ≢ number
       → name_in (slice_set links number None) k ≡ name_in links k
-  name-left links number k ne = ap (λ (o : Option (Option (Named L))). name_of (open_of o)) (get-other links number k None ne)
+  name-left links number k ne =
+      ap (λ (o : Option (Option (Named L))). name_of (open_of o)) (get-other links number k None ne)
 
   -- a link that is entered has its name, and the others keep theirs
   pub name-entered : (links : List (Option (Named L))) (link : Named L)

@@ -13,14 +13,15 @@ use serde_amqp_types::Text;
 use std::alloc::Global;
 use std::marker::Model;
 
-/// The links of an endpoint by their numbers, which count from 0 and never come back, and by their names (part 2, 2.6.1).
+/// The links of an endpoint by their numbers, which count from 0 and never come back, and by their names
+/// (part 2, 2.6.1).
 ///
-/// A link that isn't closed is held by a session or is at rest here. What it is, an `L`, isn't known here. No two links
-/// that aren't closed have one name. A link that is closed is unknown from then on, and its name is free. Each call that
-/// is refused leaves all as it was.
+/// A link that isn't closed is held by a session or is at rest here. What it is, an `L`, isn't known here. No two
+/// links that aren't closed have one name. A link that is closed is unknown from then on, and its name is free. Each
+/// call that is refused leaves all as it was.
 ///
-/// A clause sees them as the record `State`: the memory that they have taken is no part of their value, but for how many
-/// links more there is room in any case.
+/// A clause sees them as the record `State`: the memory that they have taken is no part of their value, but for how
+/// many links more are sure to find room.
 #[derive(Drop)]
 pub struct Links<L> {
     links: Vec<Option<Named<L>>>,
@@ -43,8 +44,8 @@ impl<L> Model for Links<L> {
 
     ghost view = { λ s. record { links = s.links.items; room = s.room } };
 
-    ghost invariant = { λ s. AreNamed s.links.items s.numbers.entries × (vec_len s.links + s.room ≤ vec_capacity s.links)
-        × (s.room ≤ spare s.numbers) };
+    ghost invariant = { λ s. AreNamed s.links.items s.numbers.entries
+        × (vec_len s.links + s.room ≤ vec_capacity s.links) × (s.room ≤ spare s.numbers) };
 }
 
 impl<L: Drop> Links<L> {
@@ -144,8 +145,8 @@ impl<L: Drop> Links<L> {
         Ok(new_name)
     }
 
-    /// Enters a new link, which the session with this number holds by its own handle (part 2, 2.6.3). Answers its number.
-    /// It takes no memory, and uses up room for one link.
+    /// Enters a new link, which the session with this number holds by this own handle (part 2, 2.6.3). Answers the
+    /// link's number. It takes no memory, and uses up room for one link.
     ///
     /// It is refused with `NameInUse` where a link that isn't closed has the name (part 2, 2.6.1), and with `Memory`
     /// where no room was made. Nothing changes then.
@@ -171,8 +172,8 @@ impl<L: Drop> Links<L> {
         Ok(number)
     }
 
-    /// The link with this number comes back from the session that held it: it is detached there, or the session is over
-    /// (part 2, 2.6.1). It takes no memory. Where no session holds it nothing changes, and it is handed back.
+    /// The link with this number comes back from the session that held it: it is detached there, or the session is
+    /// over (part 2, 2.6.4). It takes no memory. Where no session holds it nothing changes, and it is handed back.
     pub fn rest(&mut self, number: u64, link: L) -> Result<(), L>
         ensures { Rested self.old number link result self.new }
     {
@@ -183,8 +184,8 @@ impl<L: Drop> Links<L> {
         Ok(())
     }
 
-    /// The link with this number is handed out, if it is at rest, and the session with that number holds it by its own
-    /// handle from now on: it attaches again (part 2, 2.6.1). Else nothing changes. It takes no memory.
+    /// The link with this number is handed out, if it is at rest, and the session with that number holds it by this own
+    /// handle from now on: it attaches again (part 2, 2.6.3). Else nothing changes. It takes no memory.
     pub fn hold(&mut self, number: u64, session: u64, handle: OutputHandle) -> Option<L>
         ensures { HandedOut self.old number session handle result self.new }
     {
@@ -196,8 +197,9 @@ impl<L: Drop> Links<L> {
         }
     }
 
-    /// The link with this number is closed: its name is free, and it is unknown from now on (part 2, 2.6.1). Answers where
-    /// it was. None where no link has the number, or it was closed before, and nothing changes then. It takes no memory.
+    /// The link with this number is closed: its name is free, and it is unknown from now on (part 2, 2.6.6). Answers
+    /// where it was. None where no link has the number or it was closed before, and nothing changes then. It takes no
+    /// memory.
     pub fn close(&mut self, number: u64) -> Option<LinkPlace<L>>
         ensures { Closed self.old number result self.new }
     {

@@ -123,7 +123,8 @@ fn take_link<L: Drop>(links: &mut Vec<Option<Named<L>>>, number: u64) -> Option<
 /// The link in this slot, which is at rest, to be changed.
 pub(crate) fn rest_in<L: Drop>(slot: &mut Option<Named<L>>) -> &mut L
     requires { IsSome (rest_of (place_of slot.old)) }
-    ensures* lends { sem 𝓛 (Lends (option_row (named_row L.row)) L.row slot.entry result (λ link. moved slot.old (AtRest link))) }
+    ensures* lends { sem 𝓛 (Lends (option_row (named_row L.row)) L.row slot.entry result
+        (λ link. moved slot.old (AtRest link))) }
     ensures value { rest_of (place_of slot.old) ≡ Some result.now }
 {
     match slot {

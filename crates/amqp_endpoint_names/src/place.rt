@@ -20,7 +20,7 @@ pub enum LinkPlace<L> {
         /// The own handle that it has in the session (part 2, 2.6.2).
         handle: OutputHandle,
     },
-    /// Here, until it attaches again: it is suspended (part 2, 2.6.1), or its session is over.
+    /// Here, until it attaches again: it is detached, or its session is over (part 2, 2.6.4).
     AtRest(L),
 }
 
@@ -33,7 +33,7 @@ pub struct Named<L> {
     pub place: LinkPlace<L>,
 }
 
-/// The name of a link that is to be entered. It takes no more memory.
+/// The name of a link that is to be entered: copied, so that entering the link takes no memory.
 ///
 /// A clause sees its bytes.
 #[derive(Debug, Drop)]
@@ -106,7 +106,8 @@ impl<L: Drop> Named<L> {
     /// The link, which is at rest, to be changed.
     pub(crate) fn at_rest_mut(&mut self) -> &mut L
         requires { IsSome (rest_of (Some (self.old).place)) }
-        ensures* lends { sem 𝓛 (Lends (the_row L.row) L.row self.entry result (λ link. record self.old { place = AtRest link })) }
+        ensures* lends { sem 𝓛 (Lends (the_row L.row) L.row self.entry result
+            (λ link. record self.old { place = AtRest link })) }
         ensures value { rest_of (Some (self.old).place) ≡ Some result.now }
     {
         self.place.at_rest_mut()

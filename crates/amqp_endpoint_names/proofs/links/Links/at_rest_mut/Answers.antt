@@ -26,6 +26,8 @@ returns g c =
       ),
       record {
         writes_back = tt;
-        value = sym c.rest_in.ensures.value ∙ sym (ap (λ (o : Option (Option _)). rest_of (place_of (open_of o))) found) ∙ seen;
+        value =
+            sym c.rest_in.ensures.value ∙ sym (ap (λ (o : Option (Option _)). rest_of (place_of (open_of o))) found)
+            ∙ seen;
       },
     )
