@@ -1,5 +1,5 @@
 -- A link at rest that is lent.
-use Rattle.std.proofs.Common.{◌≡◌, ◌⊎◌, inl, inr, ℕ, true, ◌<◌, ◌≤◌, List, Option, Some, None, is_some, Bor, option_copied, refl, sym, ap, ◌∙◌, length, slice_get, slice_set, slice_index_or, true≢false}
+use Rattle.std.proofs.Common.{◌≡◌, ◌⊎◌, inl, inr, ℕ, true, ◌<◌, ◌≤◌, Option, Some, None, is_some, Bor, option_copied, refl, sym, ap, ◌∙◌, length, slice_get, slice_set, slice_index_or, true≢false}
 use Rattle.std.proofs.lemmas.Option.{none-some, slice_get_cases, slice_get-get_or, get_or_from_slice_get}
 use Rattle.amqp_endpoint_names.specs.declared.place.LinkPlace.TheVariants.{AtRest}
 use Rattle.amqp_endpoint_names.specs.declared.place.Named.{Named}

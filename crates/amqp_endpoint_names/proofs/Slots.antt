@@ -1,9 +1,9 @@
 -- Lists of links, where one is put, taken out or entered.
 use Rattle.std.proofs.Common.{◌≡◌, ◌≢◌, ℕ, zero, suc, List, [], ◌∷◌, ◌++◌, Option, Some, None, refl, ap, ◌∙◌, length, slice_get, slice_set, slice_index_or, arith}
-use Rattle.std.proofs.lemmas.Option.{none-some, slice_get_past, get_or_from_slice_get}
+use Rattle.std.proofs.lemmas.Option.{none-some, slice_get_past}
 use Rattle.amqp_endpoint_names.specs.declared.place.LinkPlace.{LinkPlace}
 use Rattle.amqp_endpoint_names.specs.declared.place.Named.{Named}
-use Rattle.amqp_endpoint_names.specs.State.{link_at, moved, name_in, name_of, open_of, put_in}
+use Rattle.amqp_endpoint_names.specs.State.{moved, name_in, name_of, open_of, put_in}
 
 module _ {X : Type 0} where
   pub get-same : (xs : List X) (i : ℕ) (x v : X) → slice_get xs i ≡ Some x → slice_get (slice_set xs i v) i ≡ Some v

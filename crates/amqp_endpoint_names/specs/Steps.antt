@@ -5,7 +5,6 @@ use Rattle.amqp_endpoint_names.specs.declared.place.LinkPlace.{LinkPlace}
 use Rattle.amqp_endpoint_names.specs.declared.place.LinkPlace.TheVariants.{Held, AtRest}
 use Rattle.amqp_endpoint_names.specs.declared.place.LinkRefusal.{LinkRefusal}
 use Rattle.amqp_endpoint_names.specs.declared.place.LinkRefusal.TheVariants.{NameInUse, Memory}
-use Rattle.amqp_endpoint_names.specs.declared.place.Named.{Named}
 use Rattle.amqp_endpoint_names.specs.State.{State, IsNewName, held_at, name_at, place_at, put, rest_at, without}
 
 -- a call, with what it was given and what it answered

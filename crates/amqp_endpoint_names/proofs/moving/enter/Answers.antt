@@ -1,4 +1,4 @@
-use Rattle.std.proofs.Common.{rules, ◌≡◌, sym, subst, ℕ, List, [], ◌∷◌, ◌++◌, Option, Some, length}
+use Rattle.std.proofs.Common.{rules, ◌≡◌, sym, subst, ℕ, List, Option, length}
 use Rattle.amqp_endpoint_names.specs.declared.place.Named.{Named}
 use Rattle.amqp_endpoint_names.specs.Inside.{AreNamed, PutsUnder}
 use Rattle.amqp_endpoint_names.specs.State.{IsNewName}
