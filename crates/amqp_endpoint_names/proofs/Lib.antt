@@ -1,0 +1,6 @@
+pub mod Slots
+pub mod Naming
+pub mod Owning
+pub mod Once
+pub mod Apart
+pub mod Lent

@@ -1,0 +1,5 @@
+pub mod State
+pub mod Steps
+pub mod Inside
+pub mod Lends
+pub mod Own
