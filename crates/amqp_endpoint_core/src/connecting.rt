@@ -5,7 +5,7 @@ ghost use Rattle.amqp_session_connection.specs.Steps.{frame_on};
 ghost use Rattle.amqp_session_connection.specs.Table.{after_incoming_close, after_send_close};
 ghost use Rattle.amqp_session_connection.specs.declared.state.ConnectionState.TheVariants.{Start, HeaderSent, HeaderExchange, OpenSent};
 ghost use Rattle.amqp_session_frames.specs.declared.frame.FrameBody.TheVariants as body;
-ghost use Rattle.amqp_endpoint_model.specs.State.{fits, own_close_with, own_open, written};
+ghost use Rattle.amqp_endpoint_model.specs.State.{fits, own_close_with, own_open, the_frame};
 ghost use Rattle.amqp_endpoint_model.specs.Step.{begin_refusal};
 ghost use Rattle.amqp_endpoint_model.specs.declared.error.EndpointError.TheVariants.{Memory, FrameTooLarge};
 ghost use Rattle.amqp_endpoint_core.specs.Connected.{BeginsWith, IsGreeting, HasNoSession, MovesBy, sent_close, took_close};
@@ -47,8 +47,8 @@ pub(crate) fn hand_out_open(connection: &mut Connection) -> Result<Queued, Endpo
     requires greets { IsGreeting connection.old.local_state }
     requires short { fits 512 (frame_on 0 (body.Open connection.old.local_open)) ≡ true }
     ensures ok { OnOk result (connection.new ≡ record connection.old { local_state = OpenSent }) }
-    ensures text { IfOk result (λ q. q
-        ≡ written (frame_on 0 (body.Open connection.old.local_open))) }
+    ensures frame { IfOk result (λ q. q
+        ≡ the_frame (frame_on 0 (body.Open connection.old.local_open))) }
     ensures err { IfErr result (λ e. e ≡ Memory) }
     ensures kept { OnErr result (connection.new
         ≡ record connection.old { local_state = HeaderExchange }) }
@@ -77,7 +77,7 @@ pub(crate) fn close(
 ) -> Result<Queued, EndpointError>
     requires { fits 512 (own_close_with error) ≡ true }
     ensures ok { OnOk result (MovesBy (after_send_close (is_some error)) connection.old connection.new) }
-    ensures text { IfOk result (λ q. q ≡ written (own_close_with error)) }
+    ensures frame { IfOk result (λ q. q ≡ the_frame (own_close_with error)) }
     ensures own { OnOk result (sent_close connection.new.local_state ≡ true) }
     ensures peer { OnOk result (took_close connection.new.local_state ≡ took_close connection.old.local_state) }
     ensures err { IfErr result (λ e. (e ≡ EndpointError.Connection IllegalState) × (after_send_close (is_some error) connection.old.local_state ≡ None) × (connection.new ≡ connection.old)) }

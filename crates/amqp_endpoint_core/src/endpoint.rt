@@ -1,5 +1,5 @@
 ghost use Rattle.std.specs.Prelude.{◌≡◌, ◌==◌, ◌&&◌, ◌⊎◌, ◌++◌, ◌∷◌, [], true, false, length, Some, None, IfOk, IfErr, OnOk, MatchOption, MatchResult};
-ghost use Rattle.amqp_endpoint_model.specs.State.{fresh, has_opened, is_running, protocol_header, written, heartbeat, fits, own_close_with};
+ghost use Rattle.amqp_endpoint_model.specs.State.{fresh, has_opened, is_running, the_frame, the_header, heartbeat, fits, own_close_with};
 ghost use Rattle.amqp_endpoint_model.specs.Said.{said};
 ghost use Rattle.amqp_endpoint_model.specs.Step.{refusal_of_settings, refusal, MayRefuse, Pulls, Step, broken, close_refusal, connected};
 ghost use Rattle.amqp_endpoint_model.specs.declared.error.EndpointError.TheVariants.{Memory};
@@ -139,7 +139,7 @@ impl Endpoint {
     /// `NotConnected` where the own Open isn't queued yet, or a Close of either end is. `Memory` where there
     /// is no memory. A refusal changes nothing.
     pub fn heartbeat(&mut self) -> Result<(), EndpointError>
-        ensures ok { OnOk result ((refusal self.old Call.Heartbeat ≡ None) × (self.new ≡ record self.old { queue = self.old.queue ++ written heartbeat ∷ [] })) }
+        ensures ok { OnOk result ((refusal self.old Call.Heartbeat ≡ None) × (self.new ≡ record self.old { queue = self.old.queue ++ the_frame heartbeat ∷ [] })) }
         ensures err { IfErr result (λ e. MayRefuse self.old Call.Heartbeat e × (self.new ≡ self.old)) }
     {
         if !self.is_running() {
@@ -166,7 +166,7 @@ impl Endpoint {
     /// `NotConnected` where the own Open isn't queued yet, then `IllegalState` where the own Close is.
     /// `Memory` where there is no memory. A refusal changes nothing.
     pub fn close(&mut self) -> Result<(), EndpointError>
-        ensures ok { OnOk result ((refusal self.old Call.Close ≡ None) × (self.new ≡ record self.old { own_close = true; queue = self.old.queue ++ written (own_close_with None) ∷ [] })) }
+        ensures ok { OnOk result ((refusal self.old Call.Close ≡ None) × (self.new ≡ record self.old { own_close = true; queue = self.old.queue ++ the_frame (own_close_with None) ∷ [] })) }
         ensures err { IfErr result (λ e. MayRefuse self.old Call.Close e × (self.new ≡ self.old)) }
     {
         match self.phase {
@@ -264,7 +264,7 @@ impl Endpoint {
         requires short { fits 512 (own_close_with error) ≡ true }
         requires opened { has_opened self.old.phase ≡ true }
         requires first { self.old.own_close ≡ false }
-        ensures ok { OnOk result (self.new ≡ record self.old { own_close = true; queue = self.old.queue ++ written (own_close_with error) ∷ [] }) }
+        ensures ok { OnOk result (self.new ≡ record self.old { own_close = true; queue = self.old.queue ++ the_frame (own_close_with error) ∷ [] }) }
         ensures err { IfErr result (λ e. (e ≡ Memory) × (self.new ≡ self.old)) }
     {
         self.queue.reserve(1)?;
@@ -276,7 +276,7 @@ impl Endpoint {
 
 /// The queue in which the own protocol header waits alone.
 fn greeting(alloc: Global) -> Result<VecDeque<Queued>, EndpointError>
-    ensures ok { IfOk result (λ queue. queue.items ≡ protocol_header ∷ []) }
+    ensures ok { IfOk result (λ queue. queue.items ≡ the_header ∷ []) }
     ensures err { IfErr result (λ e. e ≡ Memory) }
 {
     let mut queue = VecDeque::new(alloc);

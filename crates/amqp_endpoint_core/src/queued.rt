@@ -1,6 +1,6 @@
 ghost use Rattle.std.specs.Prelude.{◌≡◌, ◌+◌, ◌<◌, ◌^◌, true, None, length, IfErr, IfOk};
 ghost use Rattle.amqp_session_frames.specs.Cutting.{with_size};
-ghost use Rattle.amqp_endpoint_model.specs.State.{fits, protocol_header, written};
+ghost use Rattle.amqp_endpoint_model.specs.State.{fits, text_of, the_frame, the_header, written};
 ghost use Rattle.amqp_endpoint_model.specs.Step.{session_refusal};
 ghost use Rattle.amqp_endpoint_model.specs.declared.error.EndpointError.TheVariants.{Memory};
 
@@ -18,20 +18,20 @@ pub(crate) enum Content {
     Frame(Frame),
 }
 
-/// What one `pull` gives. A clause sees its bytes.
+/// What one `pull` gives. A clause sees which it is, the protocol header or a frame.
 #[derive(Drop)]
 pub(crate) struct Queued {
     content: Content,
 }
 
 impl Model for Queued {
-    ghost use Rattle.std.specs.Prelude.{List, ℕ};
+    ghost use Rattle.amqp_endpoint_model.specs.State.{Waiting};
 
-    ghost Value = { List ℕ };
+    ghost Value = { Waiting };
 
-    ghost use Rattle.amqp_endpoint_core.specs.Queue.{content_bytes, IsShort};
+    ghost use Rattle.amqp_endpoint_core.specs.Queue.{waiting_of, IsShort};
 
-    ghost view = { λ q. content_bytes q.content };
+    ghost view = { λ q. waiting_of q.content };
 
     ghost invariant = { λ q. IsShort q.content };
 }
@@ -39,7 +39,7 @@ impl Model for Queued {
 impl Queued {
     /// The protocol header.
     pub(crate) fn header() -> Self
-        ensures { result ≡ protocol_header }
+        ensures { result ≡ the_header }
     {
         Queued {
             content: Content::Header,
@@ -50,7 +50,7 @@ impl Queued {
     pub(crate) fn frame(frame: Frame) -> Self
         requires own { session_refusal frame.body ≡ None }
         requires short { fits 512 frame ≡ true }
-        ensures { result ≡ written frame }
+        ensures { result ≡ the_frame frame }
     {
         Queued {
             content: Content::Frame(frame),
@@ -59,7 +59,7 @@ impl Queued {
 
     /// The bytes. It is refused where there is no memory for them.
     pub(crate) fn to_vec(&self, alloc: Global) -> Result<Vec<u8>, EndpointError>
-        ensures ok { IfOk result (λ v. v.items ≡ self.now) }
+        ensures ok { IfOk result (λ v. v.items ≡ text_of self.now) }
         ensures err { IfErr result (λ e. e ≡ Memory) }
     {
         match &self.content {

@@ -9,7 +9,7 @@ use Rattle.amqp_endpoint_model.specs.declared.phase.Phase.TheVariants.{Unconnect
 use Rattle.amqp_endpoint_model.specs.declared.call.Call.{Call}
 use Rattle.amqp_endpoint_model.specs.declared.call.Call.TheVariants.{Connect, Feed, Pull, Queued, IsIdle, Heartbeat, BreakOff, Close as CloseCall, IsClosed, TryClose}
 use Rattle.amqp_endpoint_model.specs.Said.{Said, done, refused, fed, pulled, count, truth, tried_close, Told}
-use Rattle.amqp_endpoint_model.specs.State.{State, heartbeat, written, own_close_with}
+use Rattle.amqp_endpoint_model.specs.State.{State, Waiting, the_frame, text_of, heartbeat, own_close_with}
 use Rattle.amqp_endpoint_model.specs.Step.{refusal, MayRefuse, connected, broken, opened, close_refusal, Greets, FeedsIn, Pulls, Step}
 use Rattle.amqp_endpoint_model.specs.History.{Run, HasMemory, AllHaveMemory, feeds_joined, told_joined}
 use Rattle.amqp_endpoint_model.proofs.Joins.{header_long}
@@ -46,13 +46,13 @@ no_refusal : (s : State) (call : Call) (e : EndpointError) → refusal s call �
 no_refusal s call e none (inl is) n = cc
 no_refusal s call e none (inr (none2, memory, grows)) n = n memory
 
-abbrev first_text : List (List ℕ) → Option (List ℕ)
+abbrev first_text : List Waiting → Option (List ℕ)
 first_text [] = None
-first_text (text ∷ texts) = Some text
+first_text (w ∷ ws) = Some (text_of w)
 
-abbrev later_texts : List (List ℕ) → List (List ℕ)
-later_texts [] = []
-later_texts (text ∷ texts) = texts
+abbrev others_behind : List Waiting → List Waiting
+others_behind [] = []
+others_behind (w ∷ ws) = ws
 
 -- the answer, where it is no feed
 abbrev answer_of : State → Call → Said
@@ -70,12 +70,12 @@ answer_of s TryClose = tried_close (close_refusal s)
 abbrev state_of : State → Call → State
 state_of s Connect = state_or (refusal s Connect) s (connected s)
 state_of s (Feed bytes) = s
-state_of s Pull = record s { queue = later_texts s.queue }
+state_of s Pull = record s { queue = others_behind s.queue }
 state_of s Queued = s
 state_of s IsIdle = s
-state_of s Heartbeat = state_or (refusal s Heartbeat) s (record s { queue = s.queue ++ written heartbeat ∷ [] })
+state_of s Heartbeat = state_or (refusal s Heartbeat) s (record s { queue = s.queue ++ the_frame heartbeat ∷ [] })
 state_of s BreakOff = broken s
-state_of s CloseCall = state_or (refusal s CloseCall) s (record s { own_close = true; queue = s.queue ++ written (own_close_with None) ∷ [] })
+state_of s CloseCall = state_or (refusal s CloseCall) s (record s { own_close = true; queue = s.queue ++ the_frame (own_close_with None) ∷ [] })
 state_of s IsClosed = s
 state_of s TryClose = record s { close_told = s.close_told || is_none (close_refusal s) }
 
@@ -83,24 +83,24 @@ abbrev IsNoFeed : Call → Type 0
 IsNoFeed (Feed bytes) = ⊥
 IsNoFeed call = Unit {0}
 
-pulls-decided : (s : State) (o : Option (List ℕ)) (m : State) → Pulls s o m → Decided (pulled o) (pulled (first_text s.queue)) m (record s { queue = later_texts s.queue })
+pulls-decided : (s : State) (o : Option (List ℕ)) (m : State) → Pulls s o m → Decided (pulled o) (pulled (first_text s.queue)) m (record s { queue = others_behind s.queue })
 pulls-decided s None m (empty, same) = record {
   answer_is = ap (λ q. pulled (first_text q)) (sym empty);
-  state_is = same ∙ ap (λ q. record s { queue = q }) (empty ∙ ap later_texts (sym empty));
+  state_is = same ∙ ap (λ q. record s { queue = q }) (empty ∙ ap others_behind (sym empty));
 }
-pulls-decided s (Some text) m (others, is, after) = record {
-  answer_is = ap (λ q. pulled (first_text q)) (sym is);
-  state_is = after ∙ ap (λ q. record s { queue = later_texts q }) (sym is);
+pulls-decided s (Some bytes) m (first, others, is, text, after) = record {
+  answer_is = ap (λ b. pulled (Some b)) text ∙ ap (λ q. pulled (first_text q)) (sym is);
+  state_is = after ∙ ap (λ q. record s { queue = others_behind q }) (sym is);
 }
 
 decided : (s : State) (call : Call) (a : Said) (m : State) → IsNoFeed call → Step s call a m → HasMemory a → Decided a (answer_of s call) m (state_of s call)
 decided s (Feed bytes) a m no_feed step h = absurd no_feed
 decided s Connect (refused e) m no_feed (may, same) h = refused-decided s Connect e done m (connected s) may same h
 decided s Connect done m no_feed (none, after) h = done-decided s Connect done m (connected s) none after
-decided s Heartbeat (refused e) m no_feed (may, same) h = refused-decided s Heartbeat e done m (record s { queue = s.queue ++ written heartbeat ∷ [] }) may same h
-decided s Heartbeat done m no_feed (none, after) h = done-decided s Heartbeat done m (record s { queue = s.queue ++ written heartbeat ∷ [] }) none after
-decided s CloseCall (refused e) m no_feed (may, same) h = refused-decided s CloseCall e done m (record s { own_close = true; queue = s.queue ++ written (own_close_with None) ∷ [] }) may same h
-decided s CloseCall done m no_feed (none, after) h = done-decided s CloseCall done m (record s { own_close = true; queue = s.queue ++ written (own_close_with None) ∷ [] }) none after
+decided s Heartbeat (refused e) m no_feed (may, same) h = refused-decided s Heartbeat e done m (record s { queue = s.queue ++ the_frame heartbeat ∷ [] }) may same h
+decided s Heartbeat done m no_feed (none, after) h = done-decided s Heartbeat done m (record s { queue = s.queue ++ the_frame heartbeat ∷ [] }) none after
+decided s CloseCall (refused e) m no_feed (may, same) h = refused-decided s CloseCall e done m (record s { own_close = true; queue = s.queue ++ the_frame (own_close_with None) ∷ [] }) may same h
+decided s CloseCall done m no_feed (none, after) h = done-decided s CloseCall done m (record s { own_close = true; queue = s.queue ++ the_frame (own_close_with None) ∷ [] }) none after
 decided s Pull (refused e) m no_feed (may, same) h = absurd (no_refusal s Pull e refl may h)
 decided s Pull (pulled o) m no_feed step h = pulls-decided s o m step
 decided s Queued (refused e) m no_feed (may, same) h = absurd (no_refusal s Queued e refl may h)

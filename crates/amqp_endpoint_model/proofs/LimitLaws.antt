@@ -19,7 +19,7 @@ use Rattle.amqp_endpoint_model.specs.declared.settings.Settings.{Settings}
 use Rattle.amqp_endpoint_model.specs.declared.call.Call.{Call}
 use Rattle.amqp_endpoint_model.specs.declared.call.Call.TheVariants.{Connect, Feed, Pull, Queued, IsIdle, Heartbeat, BreakOff, Close as CloseCall, IsClosed, TryClose}
 use Rattle.amqp_endpoint_model.specs.Said.{Said, done, refused, fed, pulled, count, truth, tried_close, Told}
-use Rattle.amqp_endpoint_model.specs.State.{State, fresh, written, text_or_nothing, text_fits, fits, own_open, own_close_with, heartbeat, error_of}
+use Rattle.amqp_endpoint_model.specs.State.{State, Waiting, the_frame, text_of, fresh, written, text_or_nothing, text_fits, fits, own_open, own_close_with, heartbeat, error_of}
 use Rattle.amqp_endpoint_model.specs.Step.{TakesBody, TakesAll, EndsRunning, Ends, ReadsOn, FeedsIn, opened, faulted, condition_of_frame, condition_of_connection, framing_error, decode_error, not_allowed, not_found, refusal_of_settings, Step}
 use Rattle.amqp_endpoint_model.specs.History.{Run, Summary, nothing, note, agreed, JudgedBy, judge_limit, IsWithin, KeepsLimit}
 use Rattle.amqp_endpoint_model.proofs.Recuts.{FeedSaid}
@@ -30,13 +30,13 @@ use Rattle.amqp_endpoint_model.proofs.StandardFacts.{heartbeat_text, close_text,
 pub record IsShort (text : List ℕ) : Type 0 where
   pub short : length text ≤ 512
 
-abbrev pub AllShort : List (List ℕ) → Type 0
+abbrev pub AllShort : List Waiting → Type 0
 AllShort [] = Unit {0}
-AllShort (t ∷ ts) = IsShort t × AllShort ts
+AllShort (w ∷ ws) = IsShort (text_of w) × AllShort ws
 
-all-push : (ts : List (List ℕ)) (t : List ℕ) → AllShort ts → IsShort t → AllShort (ts ++ t ∷ [])
-all-push [] t h s = (s, tt)
-all-push (x ∷ ts) t h s = (h.0, all-push ts t h.1 s)
+all-push : (ws : List Waiting) (w : Waiting) → AllShort ws → IsShort (text_of w) → AllShort (ws ++ w ∷ [])
+all-push [] w h s = (s, tt)
+all-push (x ∷ ws) w h s = (h.0, all-push ws w h.1 s)
 
 heartbeat-short : IsShort (written heartbeat)
 heartbeat-short = record { short = omega (arith, ap length heartbeat_text) }
@@ -88,9 +88,9 @@ open-short s ok =
     let c = past (nat_le (2 ^ 31) s.incoming_window) WindowOutOfRange _ b in
     written-short (own_open s) (open-fits (fits 512 (own_open s)) c)
 
-with_close-short : (own_close : Bool) (queue : List (List ℕ)) (text : List ℕ) → AllShort queue → IsShort text → AllShort (if own_close then queue else queue ++ text ∷ [])
-with_close-short true queue text h s = h
-with_close-short false queue text h s = all-push queue text h s
+with_close-short : (own_close : Bool) (queue : List Waiting) (close : Frame) → AllShort queue → IsShort (written close) → AllShort (if own_close then queue else queue ++ the_frame close ∷ [])
+with_close-short true queue close h s = h
+with_close-short false queue close h s = all-push queue (the_frame close) h s
 
 -- a state whose queue is short
 pub record QueueShort (s : State) : Type 0 where
@@ -100,12 +100,12 @@ to : (s t : State) → t ≡ s → QueueShort s → QueueShort t
 to s t same h = let P : State → Type 0 = λ x. QueueShort x in subst P (sym same) h
 
 faulted-short : (condition : List ℕ) (s new : State) → QueueShort s → IsShort (written (own_close_with (Some (error_of condition)))) → new ≡ faulted condition s → QueueShort new
-faulted-short condition s new h short after = to (faulted condition s) new after (record { all = with_close-short s.own_close s.queue _ h.all short })
+faulted-short condition s new h short after = to (faulted condition s) new after (record { all = with_close-short s.own_close s.queue (own_close_with (Some (error_of condition))) h.all short })
 
 body-short : (body : FrameBody) (old : State) (es : List Event) (new : State) → QueueShort old → TakesBody old body es new → QueueShort new
 body-short Empty old es new h (a, b) = to old new b h
 body-short (Open o) old es new h (a, b, c, d) = to (record old { peer_limit = Some o.max_frame_size }) new d (record { all = h.all })
-body-short (Close c) old es new h (a, b) = to _ new b (record { all = with_close-short old.own_close old.queue _ h.all close-short })
+body-short (Close c) old es new h (a, b) = to _ new b (record { all = with_close-short old.own_close old.queue (own_close_with None) h.all close-short })
 body-short body old es new h t = absurd t
 
 all-short : (old : State) (fs : List Frame) (es : List Event) (new : State) → QueueShort old → TakesAll old fs es new → QueueShort new
@@ -136,7 +136,7 @@ feed-short : (p : Phase) (old : State) (bytes : List ℕ) (es : List Event) (fau
 feed-short Unconnected old bytes es fault new o h (none, is, after) = to old new after h
 feed-short Greeting old bytes es fault new o h (inl (short, none, clean, after)) = to (record old { rest = old.rest ++ bytes }) new after (record { all = h.all })
 feed-short Greeting old bytes es fault new o h (inr (inl (long, other, none, is, after))) = to _ new after (record { all = tt })
-feed-short Greeting old bytes es fault new o h (inr (inr (inl (header, r)))) = reads_on-short (opened old) _ es fault new (record { all = all-push old.queue _ h.all o }) r
+feed-short Greeting old bytes es fault new o h (inr (inr (inl (header, r)))) = reads_on-short (opened old) _ es fault new (record { all = all-push old.queue (the_frame (own_open old.settings)) h.all o }) r
 feed-short Greeting old bytes es fault new o h (inr (inr (inr (none, memory, after)))) = to _ new after (record { all = tt })
 feed-short Running old bytes es fault new o h r = reads_on-short old _ es fault new h r
 feed-short Over old bytes es fault new o h (none, is, after) = to old new after h
@@ -144,20 +144,24 @@ feed-short Over old bytes es fault new o h (none, is, after) = to old new after 
 fed-short : (old : State) (bytes : List ℕ) (answer : Said) (new : State) → IsShort (written (own_open old.settings)) → QueueShort old → FeedSaid old bytes answer new → QueueShort new
 fed-short old bytes answer new o h f = feed-short old.phase old bytes f.events f.fault new o h f.feeds
 
-tail-short : (queue : List (List ℕ)) (bytes : List ℕ) (others : List (List ℕ)) → queue ≡ bytes ∷ others → AllShort queue → IsShort bytes × AllShort others
-tail-short queue bytes others is h = let P : List (List ℕ) → Type 0 = λ x. AllShort x in subst P is h
+tail-short : (queue : List Waiting) (first : Waiting) (others : List Waiting) → queue ≡ first ∷ others → AllShort queue → IsShort (text_of first) × AllShort others
+tail-short queue first others is h = let P : List Waiting → Type 0 = λ x. AllShort x in subst P is h
+
+-- the text of what was queued first
+given-short : (queue : List Waiting) (bytes : List ℕ) (first : Waiting) (others : List Waiting) → queue ≡ first ∷ others → bytes ≡ text_of first → AllShort queue → IsShort bytes
+given-short queue bytes first others is text h = let P : List ℕ → Type 0 = λ x. IsShort x in subst P (sym text) (tail-short queue first others is h).0
 
 step-short : (old : State) (call : Call) (answer : Said) (new : State) → IsShort (written (own_open old.settings)) → QueueShort old → Step old call answer new → QueueShort new
 step-short old call (refused e) new o h (may, same) = to old new same h
 step-short old (Feed bytes) (fed es fault) new o h step = feed-short old.phase old bytes es fault new o h step
 step-short old Connect done new o h (none, after) = to _ new after (record { all = (record { short = omega arith }, tt) })
 step-short old Pull (pulled None) new o h (empty, same) = to old new same h
-step-short old Pull (pulled (Some bytes)) new o h (others, is, after) = to (record old { queue = others }) new after (record { all = (tail-short old.queue bytes others is h.all).1 })
+step-short old Pull (pulled (Some bytes)) new o h (first, others, is, text, after) = to (record old { queue = others }) new after (record { all = (tail-short old.queue first others is h.all).1 })
 step-short old Queued (count n) new o h (is, same) = to old new same h
 step-short old IsIdle (truth b) new o h (is, same) = to old new same h
-step-short old Heartbeat done new o h (none, after) = to _ new after (record { all = all-push old.queue _ h.all heartbeat-short })
+step-short old Heartbeat done new o h (none, after) = to _ new after (record { all = all-push old.queue (the_frame heartbeat) h.all heartbeat-short })
 step-short old BreakOff done new o h after = to _ new after (record { all = tt })
-step-short old CloseCall done new o h (none, after) = to _ new after (record { all = all-push old.queue _ h.all close-short })
+step-short old CloseCall done new o h (none, after) = to _ new after (record { all = all-push old.queue (the_frame (own_close_with None)) h.all close-short })
 step-short old IsClosed (truth b) new o h (is, same) = to old new same h
 step-short old TryClose (tried_close x) new o h (is, after) = to (record old { close_told = old.close_told || is_none x }) new after (record { all = h.all })
 step-short old call answer new o h step = absurd step
@@ -179,7 +183,7 @@ short-within : (fed_bytes text : List ℕ) → IsShort text → IsWithin fed_byt
 short-within fed_bytes text s = λ limit j. omega (arith, s.short, limit-least fed_bytes limit j)
 
 step-within : (fed_bytes : List ℕ) (old : State) (call : Call) (answer : Said) (new : State) → QueueShort old → Step old call answer new → IsWithin fed_bytes answer
-step-within fed_bytes old Pull (pulled (Some text)) new h (others, is, after) = short-within fed_bytes text (tail-short old.queue text others is h.all).0
+step-within fed_bytes old Pull (pulled (Some bytes)) new h (first, others, is, text, after) = short-within fed_bytes bytes (given-short old.queue bytes first others is text h.all)
 step-within fed_bytes old call (pulled (Some text)) new h step = absurd step
 step-within fed_bytes old call answer new h step = tt
 

@@ -390,7 +390,7 @@ quiet σ old (Feed bytes) answer new q step = absurd q
 quiet σ old BreakOff answer new q step = absurd q
 quiet σ old Pull (refused e) new q (may, same) = quiet-same σ old new same
 quiet σ old Pull (pulled None) new q (empty, same) = quiet-same σ old new same
-quiet σ old Pull (pulled (Some bytes)) new q (others, is, after) = record { summary_is = refl; phase = ap (λ s. s.phase) after; rest = ap (λ s. s.rest) after; peer_limit = ap (λ s. s.peer_limit) after }
+quiet σ old Pull (pulled (Some bytes)) new q (first, others, is, text, after) = record { summary_is = refl; phase = ap (λ s. s.phase) after; rest = ap (λ s. s.rest) after; peer_limit = ap (λ s. s.peer_limit) after }
 quiet σ old Queued (refused e) new q (may, same) = quiet-same σ old new same
 quiet σ old Queued (count n) new q (is, same) = quiet-same σ old new same
 quiet σ old IsIdle (refused e) new q (may, same) = quiet-same σ old new same

@@ -8,6 +8,11 @@ use Rattle.amqp_endpoint_model.specs.declared.settings.Settings.{Settings}
 use Rattle.amqp_endpoint_model.specs.declared.phase.Phase.{Phase}
 use Rattle.amqp_endpoint_model.specs.declared.phase.Phase.TheVariants.{Unconnected, Running, Over}
 
+-- what waits to be pulled: the protocol header (part 2, 2.2), or a frame
+pub data Waiting : Type 0 where
+  the_header : Waiting
+  the_frame : Frame → Waiting
+
 pub record State : Type 0 where
   pub settings : Settings
   pub phase : Phase
@@ -20,8 +25,8 @@ pub record State : Type 0 where
   pub close_told : Bool
   -- the bytes fed that are no whole frame yet
   pub rest : List ℕ
-  -- what pull will give: the protocol header, and frames with their sizes
-  pub queue : List (List ℕ)
+  -- what pull will give, each as its text
+  pub queue : List Waiting
 
 -- a new endpoint
 abbrev pub fresh : Settings → State
@@ -52,6 +57,11 @@ text_or_nothing None = []
 
 unfoldable pub written : Frame → List ℕ
 written f = text_or_nothing (frame_text f)
+
+-- the bytes that pull gives of it: a frame's with its size in front (part 2, 2.3.1)
+abbrev pub text_of : Waiting → List ℕ
+text_of the_header = protocol_header
+text_of (the_frame f) = written f
 
 -- the own Open (part 2, 2.7.1)
 abbrev pub own_open : Settings → Frame

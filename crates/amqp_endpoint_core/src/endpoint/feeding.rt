@@ -1,5 +1,5 @@
 ghost use Rattle.std.specs.Prelude.{◌≡◌, ◌++◌, [], true, Some, None, IsSome, IfOk, IfErr, OnOk, MatchOption, MatchResult};
-ghost use Rattle.amqp_endpoint_model.specs.State.{error_of, has_opened, own_close_with, written};
+ghost use Rattle.amqp_endpoint_model.specs.State.{error_of, has_opened, own_close_with};
 ghost use Rattle.amqp_endpoint_model.specs.Step.{FeedsIn, FrontRefused, FrontUnread, Greets, ReadsOn, Waits, closed, opened as opened_state, session_refusal, with_close};
 ghost use Rattle.amqp_endpoint_model.specs.declared.error.EndpointError.TheVariants.{Memory};
 ghost use Rattle.amqp_endpoint_model.specs.declared.phase.Phase.TheVariants.{Greeting, Running};
@@ -322,7 +322,7 @@ impl Endpoint {
     /// Queues the own Close with this condition, unless the own Close is queued.
     fn close_with(&mut self, condition: Condition) -> Result<(), EndpointError>
         requires { has_opened self.old.phase ≡ true }
-        ensures ok { OnOk result (self.new ≡ record self.old { own_close = true; queue = with_close self.old (written (own_close_with (Some (error_of (condition_text condition))))) }) }
+        ensures ok { OnOk result (self.new ≡ record self.old { own_close = true; queue = with_close self.old (own_close_with (Some (error_of (condition_text condition)))) }) }
         ensures err { IfErr result (λ e. (e ≡ Memory) × (self.new ≡ self.old)) }
     {
         if self.own_close() {
