@@ -53,8 +53,8 @@ impl From<AllocError> for AskRefusal {
     }
 }
 
-/// The links that the peer asks for in a session: those that it attached, and that no link here answers yet. No two have
-/// one handle, nor one name.
+/// The links that the peer asks for in a session: those that it attached, and that no link here answers yet. No two
+/// have one handle, nor one name.
 ///
 /// A clause sees them as a map from the handles that the peer gave them.
 #[derive(Debug, Drop)]
@@ -142,7 +142,8 @@ impl AskedLinks {
         true
     }
 
-    /// Keeps what a Flow tells of its link (part 2, 2.7.4), where its handle is that of an asked one. It takes no memory.
+    /// Keeps what a Flow tells of its link (part 2, 2.7.4), where its handle is that of an asked one. It takes no
+    /// memory.
     pub fn keep(&mut self, flow: Flow)
         ensures { self.new ≡ told_of self.old flow flow.handle }
     {
@@ -151,8 +152,8 @@ impl AskedLinks {
         }
     }
 
-    /// The peer asks for the link with this handle no longer, or a link here answers it. The link is handed out, if there
-    /// is one. It takes no memory.
+    /// The peer asks for the link with this handle no longer, or a link here answers it. The link is handed out, if
+    /// there is one. It takes no memory.
     pub fn withdraw(&mut self, handle: InputHandle) -> Option<AskedLink>
         ensures value { result ≡ map.get self.old handle.0 }
         ensures rest { self.new ≡ map.remove self.old handle.0 }

@@ -53,8 +53,8 @@ impl SessionFlow {
     }
 }
 
-/// A session that the peer asks for: its Begin without a remote channel came, and no session here accepts it yet (part 2,
-/// 2.5.1).
+/// A session that the peer asks for: its Begin without a remote channel came, and no session here accepts it yet (part
+/// 2, 2.5.1).
 #[derive(Debug, Drop)]
 pub struct AskedSession {
     /// The peer's Begin.
@@ -87,8 +87,8 @@ impl AskedSession {
         self.links.ask(attach)
     }
 
-    /// Takes a Flow (part 2, 2.7.4) without a handle, or with that of an asked link: what it tells of the session is kept
-    /// in place of what an earlier one told, and so is what it tells of the link. It takes no memory.
+    /// Takes a Flow (part 2, 2.7.4) without a handle, or with that of an asked link: what it tells of the session is
+    /// kept in place of what an earlier one told, and so is what it tells of the link. It takes no memory.
     ///
     /// It is refused with `UnattachedHandle` alone, exactly where its handle is that of no asked link (part 2, 2.8.17),
     /// and nothing changes then.

@@ -30,6 +30,11 @@ module _ {R A T D : Type 0} where
   kept_steps first (Some flow) =
       TakesFlow (flow_of flow) None NoReply (base_behind first flow.next_incoming_id) [] [] ∷ []
 
+  -- the peer's Begin is taken and what was kept of a Flow, and the own Begin leaves. No other frame does
+  abbrev pub accept_steps : ℕ → IncomingChannel → Begin → Option SessionFlow → SessionFrame → List (Step R A T D)
+  accept_steps first incoming begin flow frame =
+      TakesBegin incoming begin first [] [] ∷ (kept_steps first flow ++ SendsBegin frame ∷ [])
+
 -- the own Begin on this channel (part 2, 2.7.2)
 abbrev pub begin_frame : OutgoingChannel → Option ℕ → ℕ → ℕ → SessionFrame
 begin_frame channel remote first window =
@@ -101,11 +106,10 @@ module _ {R A T D : Type 0} (gives : Relations R A T D) where
     pub history : History gives (fresh channel first window) (SendsBegin frame ∷ []) new.session
     pub links : new.asked ≡ map.empty
 
-  -- a session that the peer asked for is accepted: it takes the peer's Begin and what was kept of a Flow, and answers with
-  -- its own Begin. No other frame leaves
+  -- a session that the peer asked for is accepted
   pub record Accepted (wanted : AskedSession) (channel : OutgoingChannel) (incoming : IncomingChannel)
       (first window : ℕ) (frame : SessionFrame) (new : AskingSession R) : Type 0 where
     pub history :
-        History gives (fresh channel first window)
-        (TakesBegin incoming wanted.begin first [] [] ∷ (kept_steps first wanted.flow ++ SendsBegin frame ∷ [])) new.session
+        History gives (fresh channel first window) (accept_steps first incoming wanted.begin wanted.flow frame)
+        new.session
     pub links : new.asked ≡ map.empty

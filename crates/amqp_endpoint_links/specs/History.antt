@@ -25,7 +25,8 @@ use Rattle.amqp_endpoint_links.specs.Asking.{AttachAnswered, FlowAnswered, Detac
 pub data AskingStep (R A T D : Type 0) : Type 0 where
   -- the session itself does something, and the asked links stay
   InSession : (step : Step R A T D) → AskingStep R A T D
-  TakesAttach : (attach : Attach) (named : NamedLink) (result : Result (AttachTaken A) SessionError) → AskingStep R A T D
+  TakesAttach : (attach : Attach) (named : NamedLink) (result : Result (AttachTaken A) SessionError)
+      → AskingStep R A T D
   -- a Flow is taken, with what was handed out before and what is behind it
   TakesFlow : (out : List SessionFrame) (flow : Flow) (result : Result ⊤ SessionError) (out_new : List SessionFrame)
       → AskingStep R A T D
@@ -48,7 +49,8 @@ module _ {R A T D : Type 0} (gives : Relations R A T D) where
   -- the states around a list of calls
   abbrev pub AskingHistory : AskingSession R → List (AskingStep R A T D) → AskingSession R → Type 0
   AskingHistory start [] end = end ≡ start
-  AskingHistory start (step ∷ steps) end = (mid : AskingSession R) × AskingSteps start step mid × AskingHistory mid steps end
+  AskingHistory start (step ∷ steps) end =
+      (mid : AskingSession R) × AskingSteps start step mid × AskingHistory mid steps end
 
 module _ {R A T D : Type 0} where
   -- these steps of the session are one at most, and that one is such
@@ -73,7 +75,8 @@ module _ {R A T D : Type 0} where
     pub frames : List SessionFrame
     pub is : step ≡ SessionFlows flow told reply base left frames
 
-  -- the session takes this Flow, or what it tells of the session alone; or its windows, where its handle is that of no link
+  -- the session takes this Flow, or what it tells of the session alone; or its window is set, where no link has the
+  -- handle
   abbrev pub IsFlow : Flow → Step R A T D → Type 0
   IsFlow flow step = IsTaken flow step ⊎ IsTaken (session_part flow) step ⊎ ((base : ℕ) × (step ≡ SetsWindow flow base))
 

@@ -17,8 +17,8 @@ use std::collections::VecDeque;
 /// A session, and the links that its peer asks for in it: those that it attached, and that no link here answers yet
 /// (part 2, 2.6.3).
 ///
-/// Calls and frames that concern no asked link go to the session itself. A transfer for an asked link is one of these: no
-/// link has its handle.
+/// Calls and frames that concern no asked link go to the session itself. A transfer for an asked link is one of these:
+/// no link has its handle.
 #[derive(Drop)]
 pub struct AskingSession<R> {
     /// The session.
@@ -57,8 +57,8 @@ pub enum DetachTaken<D> {
 }
 
 impl<R: LinkRelay> AskingSession<R> {
-    /// Takes the peer's Attach (part 2, 2.6.3). The caller keeps the names of links, and says what it has of the named one:
-    /// where that waits for the Attach it takes it, and where there is none the peer asks for a link from now on.
+    /// Takes the peer's Attach (part 2, 2.6.3). The caller keeps the names of links, and says what it has of the named
+    /// one: where that waits for the Attach it takes it, and where there is none the peer asks for a link from now on.
     ///
     /// It is refused with `HandleInUse` where a link or an asked link has the peer's handle (part 2, 2.8.17), with what
     /// the session refuses it for where a link waits, with `IllegalState` where the named link is attached, or there is
@@ -81,8 +81,8 @@ impl<R: LinkRelay> AskingSession<R> {
         }
     }
 
-    /// Takes a Flow (part 2, 2.5.6, 2.7.4). Where its handle is that of an asked link the session takes what the Flow tells
-    /// of the session, without an echo, and what it tells of the link is kept; else the session takes it whole.
+    /// Takes a Flow (part 2, 2.5.6, 2.7.4). Where its handle is that of an asked link the session takes what the Flow
+    /// tells of the session, without an echo, and what it tells of the link is kept; else the session takes it whole.
     ///
     /// It is refused with `Memory` alone where its handle is that of an asked link, and nothing changes then; else with
     /// what the session refuses it for. What it handed out, and what waits then, is what waited before and at most one
@@ -110,8 +110,8 @@ impl<R: LinkRelay> AskingSession<R> {
         Ok(())
     }
 
-    /// Takes a Detach (part 2, 2.6.5): where its handle is that of an asked link the peer asks for it no longer, and else
-    /// the session takes it.
+    /// Takes a Detach (part 2, 2.6.5): where its handle is that of an asked link the peer asks for it no longer, and
+    /// else the session takes it.
     ///
     /// It is refused with what the session refuses it for, where no asked link has the handle.
     pub fn on_incoming_detach(

@@ -16,8 +16,8 @@ use std::collections::VecDeque;
 
 impl<R: LinkRelay> AskingSession<R> {
     /// A session that begins (part 2, 2.5.1), with its Begin, which is to be sent: it sends on this channel, gives its
-    /// first transfer this number, and tells this incoming-window in each of its Flows (part 2, 2.5.6). The peer asks for
-    /// no link in it. It takes no memory.
+    /// first transfer this number, and tells this incoming-window in each of its Flows (part 2, 2.5.6). The peer asks
+    /// for no link in it. It takes no memory.
     pub fn begin(
         alloc: Global,
         channel: OutgoingChannel,
@@ -33,8 +33,9 @@ impl<R: LinkRelay> AskingSession<R> {
     }
 
     /// The session that accepts one that the peer asks for (part 2, 2.5.1), with its Begin, which is to be sent: as
-    /// `begin`, and it takes the peer's Begin, which came on this incoming channel, and then what was kept of a Flow. The
-    /// links that the peer asks for in the asked session are to go over: whoever gives it up for this one moves them.
+    /// `begin`, and it takes the peer's Begin, which came on this incoming channel, and then what was kept of a Flow.
+    /// The links that the peer asks for in the asked session are to go over: whoever gives it up for this one moves
+    /// them.
     ///
     /// It is refused where there is no memory.
     pub fn accept(
@@ -115,7 +116,7 @@ fn take_flow<R: LinkRelay>(
     for_memory(session.on_incoming_flow(alloc, out, flow.into_flow()))
 }
 
-/// The refusal, which only want of memory can be the reason of.
+/// The answer. Where it is a refusal there was no memory: a fresh session refuses for nothing else what it takes here.
 fn for_memory<E: Drop>(answer: Result<(), E>) -> Result<(), AllocError>
     ensures { is_ok result ≡ is_ok answer }
 {

@@ -1,15 +1,15 @@
 //! Laws of histories: of a link with its number, and of a session with the links that its peer asks for.
-ghost use Rattle.std.specs.Prelude.{◌≡◌, ℕ, List, IsSome, None, Some, false};
+ghost use Rattle.std.specs.Prelude.{◌≡◌, ℕ, List, ◌∷◌, ◌++◌, IsSome, None, Some, false};
 ghost use Rattle.std.specs.FinMap as map;
 ghost use Rattle.amqp_session_types.specs.declared.channels.IncomingChannel.{IncomingChannel};
 ghost use Rattle.amqp_session_types.specs.declared.channels.OutgoingChannel.{OutgoingChannel};
 ghost use Rattle.amqp_session_performatives.specs.declared.session_frame.SessionFrame.{SessionFrame};
 ghost use Rattle.amqp_session_core.specs.History.{History, OwnersKeep, is_freed, own_of};
 ghost use Rattle.amqp_session_core.specs.Relay.{LinkHistory, LinkStep, OwnerKeeps};
-ghost use Rattle.amqp_session_core.specs.State.{link_at, reached};
-ghost use Rattle.amqp_session_core.specs.Steps.{Step};
+ghost use Rattle.amqp_session_core.specs.State.{fresh, link_at, reached};
+ghost use Rattle.amqp_session_core.specs.Steps.{Step, SendsBegin};
 ghost use Rattle.amqp_endpoint_asked.specs.declared.session.AskedSession.{AskedSession};
-ghost use Rattle.amqp_endpoint_links.specs.Beginning.{Begun, Accepted, begin_frame, begun_state, accepted_with};
+ghost use Rattle.amqp_endpoint_links.specs.Beginning.{Begun, Accepted, accept_steps, begin_frame, begun_state, accepted_with};
 ghost use Rattle.amqp_endpoint_links.specs.History.{AskingStep, AskingHistory, AreDoneBy, AllKeep, RouteNone, is_handle_freed};
 ghost use Rattle.amqp_endpoint_links.specs.Numbering.{keeping, numbered, without_numbers};
 ghost use Rattle.amqp_endpoint_links.specs.declared.asking.AskingSession.{AskingSession};
@@ -36,8 +36,26 @@ pub fn the_session_has_its_own_history<R: LinkRelay>()
         × History R.gives start.session done end.session }
 {}
 
+/// The history of a session that begins, or that accepts one of the peer's, goes on from that of its beginning: so what
+/// the laws of sessions say of one that was fresh holds of it.
+pub fn a_new_session_goes_on<R: LinkRelay>()
+    ensures begun { (channel : OutgoingChannel) (first window : ℕ) (frame : SessionFrame) (start end : AskingSession R)
+        (steps : List (AskingStep R R.Attached R.Transferred R.Detached)) →
+        Begun R.gives channel first window frame start → AskingHistory R.gives start steps end →
+        (done : List (Step R R.Attached R.Transferred R.Detached)) × AreDoneBy steps done
+        × History R.gives (fresh channel first window) (SendsBegin frame ∷ done) end.session }
+    ensures accepted { (wanted : AskedSession) (channel : OutgoingChannel) (incoming : IncomingChannel)
+        (first window : ℕ) (frame : SessionFrame) (start end : AskingSession R)
+        (steps : List (AskingStep R R.Attached R.Transferred R.Detached)) →
+        Accepted R.gives wanted channel incoming first window frame start → AskingHistory R.gives start steps end →
+        (done : List (Step R R.Attached R.Transferred R.Detached)) × AreDoneBy steps done
+        × History R.gives (fresh channel first window)
+        (accept_steps first incoming wanted.begin wanted.flow frame ++ done) end.session }
+{}
+
 /// What the calls do in the session takes an own handle back where one of the session's own calls among them does, and
-/// each change of a link by its owner is one of these. So what a law of sessions asks of a history is asked of the calls.
+/// each change of a link by its owner is one of these. So what a law of sessions asks of a history is asked of the
+/// calls.
 pub fn what_is_done_is_told_by_the_calls<R: LinkRelay, O: LinkOwner<R>>()
     ensures freed { (steps : List (AskingStep R R.Attached R.Transferred R.Detached))
         (done : List (Step R R.Attached R.Transferred R.Detached)) → AreDoneBy steps done →
@@ -47,8 +65,8 @@ pub fn what_is_done_is_told_by_the_calls<R: LinkRelay, O: LinkOwner<R>>()
         AllKeep O.keeps steps → OwnersKeep O.keeps done }
 {}
 
-/// So each link has a history of its own, until a call of the session takes its own handle back, and the changes in it keep
-/// what each change by the links' owner keeps: a law of a link layer holds in sessions with asked links.
+/// So each link has a history of its own, until a call of the session takes its own handle back, and the changes in it
+/// keep what each change by the links' owner keeps: a law of a link layer holds in sessions with asked links.
 pub fn each_link_has_its_own_history<R: LinkRelay, O: LinkOwner<R>>()
     ensures { (start end : AskingSession R) (steps : List (AskingStep R R.Attached R.Transferred R.Detached)) →
         AskingHistory R.gives start steps end → AllKeep O.keeps steps →
@@ -58,8 +76,9 @@ pub fn each_link_has_its_own_history<R: LinkRelay, O: LinkOwner<R>>()
         × LinkHistory R.gives old (own_of link done) new × OwnerKeeps O.keeps (own_of link done)) }
 {}
 
-/// A session that begins, or that accepts one of the peer's, stands just so, and its Begin is this (part 2, 2.5.1, 2.7.2):
-/// it names the peer's channel where it answers the peer's Begin, and the windows are those of the latest frame.
+/// A session that begins, or that accepts one of the peer's, stands just so, and its Begin is this (part 2, 2.5.1,
+/// 2.7.2): it names the peer's channel where it answers the peer's Begin. The peer's window is that of the latest
+/// frame.
 pub fn a_new_session_stands_so<R: LinkRelay>()
     ensures begun { (channel : OutgoingChannel) (first window : ℕ) (frame : SessionFrame) (new : AskingSession R) →
         Begun R.gives channel first window frame new →
@@ -80,8 +99,8 @@ pub fn a_new_session_has_no_routes<R: LinkRelay>()
         Accepted R.gives wanted channel incoming first window frame new → new.session.routes ≡ map.empty }
 {}
 
-/// Each handle of the peer's that leads anywhere leads to a link (part 2, 2.6.2): no link but that of a handle that was
-/// taken back is reached by none. So a handle that no link is reached by is in use nowhere in the session.
+/// Each handle of the peer's that leads anywhere leads to a link that is there (part 2, 2.6.2): an own handle that is
+/// taken back takes its routes along. So a handle by which no link is reached isn't in use in the session either.
 pub fn each_route_leads_to_a_link<R: LinkRelay>()
     ensures { (start end : AskingSession R) (steps : List (AskingStep R R.Attached R.Transferred R.Detached)) →
         start.session.routes ≡ map.empty → AskingHistory R.gives start steps end →
@@ -89,8 +108,8 @@ pub fn each_route_leads_to_a_link<R: LinkRelay>()
 {}
 
 /// A handle of the peer's that is asked for leads to no link, where handles of the peer's come to lead to links by the
-/// calls alone that take an Attach, or have a link answer (part 2, 2.6.2, 2.8.17). So a link that answers an asked one isn't
-/// refused for the peer's handle.
+/// calls alone that take an Attach, or have a link answer (part 2, 2.6.2, 2.8.17). So a link that answers an asked one
+/// isn't refused for the peer's handle.
 pub fn an_asked_handle_leads_to_no_link<R: LinkRelay>()
     ensures { (start end : AskingSession R) (steps : List (AskingStep R R.Attached R.Transferred R.Detached)) →
         start.session.routes ≡ map.empty → AskingHistory R.gives start steps end → RouteNone steps →
