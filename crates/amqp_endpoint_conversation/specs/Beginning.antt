@@ -84,7 +84,7 @@ module _ {R A T D : Type 0} (gives : Relations R A T D) where
     pub accepted :
         Accepted gives wanted.value outgoing channel old.first_transfer_number old.incoming_window frame session.value
 
-  -- a session that the peer asks for is accepted: its Begin is to be sent, and the links that are asked for in it go over
+  -- a session that the peer asks for is accepted: its Begin is to be sent, and the links asked for in it go over
   pub record AcceptsHere (old : Conversation R) (out : List SessionFrame) (channel : IncomingChannel) (number : ℕ)
       (new : Conversation R) (out_new : List SessionFrame) : Type 0 where
     pub asked : asked_on old.sessions channel.0 ≡ Some number

@@ -84,9 +84,9 @@ impl<R: LinkRelay> Conversation<R> {
         }
     }
 
-    /// Accepts the session that the peer asks for on this channel of its (part 2, 2.5.1): it takes the peer's Begin and
-    /// what was kept of a Flow, its own Begin is handed out, and the links that the peer asks for in it go over. Answers
-    /// its number.
+    /// Accepts the session that the peer asks for on this channel of its (part 2, 2.5.1): it takes the peer's Begin
+    /// and what was kept of a Flow, its own Begin is handed out, and the links that the peer asks for in it go over.
+    /// Answers its number.
     ///
     /// It is refused, as `begin` is, where the connection isn't open, then with `NotAsked` where the peer asks for no
     /// session on the channel, and then as `begin` is. Nothing changes then.

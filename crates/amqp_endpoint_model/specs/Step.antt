@@ -52,7 +52,16 @@ MayRefuse s call e = (refusal s call ≡ Some e) ⊎ ((refusal s call ≡ None) 
 
 -- a new connection: the own header is queued (part 2, 2.2)
 abbrev pub connected : State → State
-connected s = record s { phase = Greeting; peer_limit = None; own_close = false; peer_close = false; close_told = false; rest = []; queue = the_header ∷ [] }
+connected s =
+    record s {
+      phase = Greeting;
+      peer_limit = None;
+      own_close = false;
+      peer_close = false;
+      close_told = false;
+      rest = [];
+      queue = the_header ∷ [];
+    }
 
 -- the connection is over without a frame: what is queued and unread goes
 abbrev pub broken : State → State
@@ -68,11 +77,24 @@ with_close s close = if s.own_close then s.queue else s.queue ++ the_frame close
 
 -- the peer's Close was taken: it is answered by a Close without an error
 abbrev pub closed : State → State
-closed s = record s { phase = Over; own_close = true; peer_close = true; rest = []; queue = with_close s (own_close_with None) }
+closed s =
+    record s {
+      phase = Over;
+      own_close = true;
+      peer_close = true;
+      rest = [];
+      queue = with_close s (own_close_with None);
+    }
 
 -- a fault has ended the connection: the own Close tells its condition
 abbrev pub faulted : List ℕ → State → State
-faulted condition s = record s { phase = Over; own_close = true; rest = []; queue = with_close s (own_close_with (Some (error_of condition))) }
+faulted condition s =
+    record s {
+      phase = Over;
+      own_close = true;
+      rest = [];
+      queue = with_close s (own_close_with (Some (error_of condition)));
+    }
 
 -- the conditions of a Close (part 2, 2.8.15, 2.8.16)
 abbrev pub framing_error : List ℕ
@@ -231,7 +253,9 @@ FeedsIn Over old bytes events fault new = (events ≡ []) × (fault ≡ None) ×
 -- what was queued first is taken out, and its text is given
 abbrev pub Pulls : State → Option (List ℕ) → State → Type 0
 Pulls old None new = (old.queue ≡ []) × (new ≡ old)
-Pulls old (Some bytes) new = (first : Waiting) × (others : List Waiting) × (old.queue ≡ first ∷ others) × (bytes ≡ text_of first) × (new ≡ record old { queue = others })
+Pulls old (Some bytes) new =
+    (first : Waiting) × (others : List Waiting) × (old.queue ≡ first ∷ others) × (bytes ≡ text_of first)
+    × (new ≡ record old { queue = others })
 
 -- what try_close answers: the peer's Close is told of once
 abbrev pub close_refusal : State → Option TryCloseError
@@ -245,9 +269,12 @@ Step old (Feed bytes) (fed events fault) new = FeedsIn old.phase old bytes event
 Step old Pull (pulled o) new = Pulls old o new
 Step old Queued (count n) new = (n ≡ length old.queue) × (new ≡ old)
 Step old IsIdle (truth b) new = (b ≡ (length old.queue == 0)) × (new ≡ old)
-Step old Heartbeat done new = (refusal old Heartbeat ≡ None) × (new ≡ record old { queue = old.queue ++ the_frame heartbeat ∷ [] })
+Step old Heartbeat done new =
+    (refusal old Heartbeat ≡ None) × (new ≡ record old { queue = old.queue ++ the_frame heartbeat ∷ [] })
 Step old BreakOff done new = new ≡ broken old
-Step old CloseCall done new = (refusal old CloseCall ≡ None) × (new ≡ record old { own_close = true; queue = old.queue ++ the_frame (own_close_with None) ∷ [] })
+Step old CloseCall done new =
+    (refusal old CloseCall ≡ None)
+    × (new ≡ record old { own_close = true; queue = old.queue ++ the_frame (own_close_with None) ∷ [] })
 Step old IsClosed (truth b) new = (b ≡ (old.own_close && old.peer_close)) × (new ≡ old)
 Step old TryClose (tried_close o) new = (o ≡ close_refusal old) × (new ≡ record old { close_told = old.close_told || is_none o })
 Step old call said new = ⊥

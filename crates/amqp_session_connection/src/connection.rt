@@ -208,9 +208,9 @@ impl Connection {
 
     /// The outgoing channel that the next session gets, which no live session has (part 2, 2.5.1).
     ///
-    /// It is refused with `ConnectionNotOpened` where not both Open were exchanged, with `ConnectionStopped` where a Close
-    /// was sent or came, and with `LocalChannelMaxReached` where that channel is above the own channel-max or the peer's
-    /// (part 2, 2.7.1).
+    /// It is refused with `ConnectionNotOpened` where not both Open were exchanged, with `ConnectionStopped` where a
+    /// Close was sent or came, and with `LocalChannelMaxReached` where that channel is above the own channel-max or
+    /// the peer's (part 2, 2.7.1).
     pub fn offered_channel(&self) -> Result<OutgoingChannel, BeginError>
         ensures ok { IfOk result (Offers self.now) }
         ensures err { IfErr result (RefusesChannel self.now) }
