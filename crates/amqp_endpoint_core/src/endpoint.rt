@@ -139,7 +139,8 @@ impl Endpoint {
     /// `NotConnected` where the own Open isn't queued yet, or a Close of either end is. `Memory` where there
     /// is no memory. A refusal changes nothing.
     pub fn heartbeat(&mut self) -> Result<(), EndpointError>
-        ensures ok { OnOk result ((refusal self.old Call.Heartbeat ≡ None) × (self.new ≡ record self.old { queue = self.old.queue ++ the_frame heartbeat ∷ [] })) }
+        ensures ok { OnOk result ((refusal self.old Call.Heartbeat ≡ None)
+            × (self.new ≡ record self.old { queue = self.old.queue ++ the_frame heartbeat ∷ [] })) }
         ensures err { IfErr result (λ e. MayRefuse self.old Call.Heartbeat e × (self.new ≡ self.old)) }
     {
         if !self.is_running() {
@@ -166,7 +167,11 @@ impl Endpoint {
     /// `NotConnected` where the own Open isn't queued yet, then `IllegalState` where the own Close is.
     /// `Memory` where there is no memory. A refusal changes nothing.
     pub fn close(&mut self) -> Result<(), EndpointError>
-        ensures ok { OnOk result ((refusal self.old Call.Close ≡ None) × (self.new ≡ record self.old { own_close = true; queue = self.old.queue ++ the_frame (own_close_with None) ∷ [] })) }
+        ensures ok { OnOk result ((refusal self.old Call.Close ≡ None)
+            × (self.new ≡ record self.old {
+              own_close = true;
+              queue = self.old.queue ++ the_frame (own_close_with None) ∷ [];
+            })) }
         ensures err { IfErr result (λ e. MayRefuse self.old Call.Close e × (self.new ≡ self.old)) }
     {
         match self.phase {
@@ -264,7 +269,10 @@ impl Endpoint {
         requires short { fits 512 (own_close_with error) ≡ true }
         requires opened { has_opened self.old.phase ≡ true }
         requires first { self.old.own_close ≡ false }
-        ensures ok { OnOk result (self.new ≡ record self.old { own_close = true; queue = self.old.queue ++ the_frame (own_close_with error) ∷ [] }) }
+        ensures ok { OnOk result (self.new ≡ record self.old {
+          own_close = true;
+          queue = self.old.queue ++ the_frame (own_close_with error) ∷ [];
+        }) }
         ensures err { IfErr result (λ e. (e ≡ Memory) × (self.new ≡ self.old)) }
     {
         self.queue.reserve(1)?;

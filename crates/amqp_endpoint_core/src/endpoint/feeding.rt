@@ -322,7 +322,10 @@ impl Endpoint {
     /// Queues the own Close with this condition, unless the own Close is queued.
     fn close_with(&mut self, condition: Condition) -> Result<(), EndpointError>
         requires { has_opened self.old.phase ≡ true }
-        ensures ok { OnOk result (self.new ≡ record self.old { own_close = true; queue = with_close self.old (own_close_with (Some (error_of (condition_text condition)))) }) }
+        ensures ok { OnOk result (self.new ≡ record self.old {
+          own_close = true;
+          queue = with_close self.old (own_close_with (Some (error_of (condition_text condition))));
+        }) }
         ensures err { IfErr result (λ e. (e ≡ Memory) × (self.new ≡ self.old)) }
     {
         if self.own_close() {
