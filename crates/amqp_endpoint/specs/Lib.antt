@@ -5,6 +5,8 @@ pub mod Printed
 pub mod Script
 pub use Rattle.amqp_endpoint_model.specs.History
 pub use Rattle.amqp_endpoint_model.specs.Numbers
+pub use Rattle.amqp_endpoint_model.specs.Relay
 pub use Rattle.amqp_endpoint_model.specs.Said
 pub use Rattle.amqp_endpoint_model.specs.State
 pub use Rattle.amqp_endpoint_model.specs.Step
+pub use Rattle.amqp_endpoint_core.specs.NoSessions

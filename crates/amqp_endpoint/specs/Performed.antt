@@ -2,18 +2,23 @@
 use Rattle.std.specs.Prelude.{◌≡◌, ℕ, List, [], ◌++◌, Option, Some, None, codes, decimal}
 use Rattle.amqp_endpoint_model.specs.declared.error.EndpointError.{EndpointError}
 use Rattle.amqp_endpoint_model.specs.Numbers.{number}
+use Rattle.amqp_endpoint_model.specs.Relay.{IsNew}
 use Rattle.amqp_endpoint_model.specs.Said.{Told}
 use Rattle.amqp_endpoint_model.specs.State.{State, fresh}
 use Rattle.amqp_endpoint_model.specs.Step.{refusal_of_settings}
 use Rattle.amqp_endpoint_model.specs.History.{Run}
+use Rattle.amqp_endpoint_core.specs.declared.no_sessions.NoSessions.{NoSessions}
+use Rattle.amqp_endpoint_core.specs.NoSessions.{no_sessions}
 use Rattle.amqp_endpoint.specs.Script.{Whole, Reading, nothing, unreadable, whole, reading}
 use Rattle.amqp_endpoint.specs.Printed.{printed, line_end}
 
 -- the endpoint of these settings may answer the steps so, and that is printed
 pub record Plays (script : Whole) (output : List ℕ) : Type 0 where
   pub tolds : List Told
-  pub last : State
-  pub run : Run (fresh script.settings) script.calls tolds last
+  pub sessions : NoSessions
+  pub last : State NoSessions
+  pub new : IsNew no_sessions script.settings sessions
+  pub run : Run no_sessions (fresh script.settings sessions) script.calls tolds last
   pub output_is : output ≡ printed script.lines tolds
 
 -- a script that was read, with the first refusal of its settings

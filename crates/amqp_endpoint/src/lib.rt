@@ -2,10 +2,15 @@
 #![tactic(auto)]
 
 pub mod scenario;
+pub mod world;
 
-pub use amqp_endpoint_core::{Endpoint, play};
+/// One end of an AMQP connection, which has no sessions.
+pub type Endpoint = amqp_endpoint_core::Endpoint<NoSessions>;
+
+pub use amqp_endpoint_core::{NoSessions, play};
 pub use amqp_endpoint_model::{
-    Answer, Call, Closed, EndpointError, Event, Fed, LinkError, Opened, Reply, Settings,
+    Answer, Call, Closed, EndpointError, Event, Fed, LinkError, Opened, Reply, SessionRelay,
+    Settings,
 };
 pub use amqp_session_frames::{
     Error as FrameError, Frame, FrameBody, FrameDecoder, FrameEncoder, Piece, Pieces,

@@ -10,7 +10,7 @@ mod printing;
 mod script;
 mod statement;
 
-use amqp_endpoint_core::play;
+use amqp_endpoint_core::{NoSessions, play};
 use amqp_endpoint_model::EndpointError;
 use printing::print_replies;
 use script::{Parsed, Script, parse};
@@ -137,7 +137,7 @@ fn perform(alloc: Global, script: Script) -> Result<Outcome, AllocError>
         lines,
         calls,
     } = script;
-    match play(alloc, settings, calls.as_slice()) {
+    match play::<NoSessions>(alloc, settings, calls.as_slice()) {
         Ok(replies) => Ok(Outcome {
             output: print_replies(alloc, lines.as_slice(), replies.as_slice())?,
             status: 0,

@@ -13,8 +13,6 @@ use Rattle.amqp_session_performatives.specs.declared.session_frame.SessionFrame.
 use Rattle.amqp_session_performatives.specs.declared.session_frame.SessionFrameBody.TheVariants as body
 use Rattle.amqp_session_core.specs.declared.state.SessionState.{SessionState}
 use Rattle.amqp_session_core.specs.declared.state.SessionState.TheVariants.{Mapped}
-use Rattle.amqp_session_core.specs.Relay.{Relations}
-use Rattle.amqp_session_core.specs.Steps as session_steps
 use Rattle.amqp_endpoint_asked.specs.declared.session.AskedSession.{AskedSession}
 use Rattle.amqp_endpoint_links.specs.declared.asking.AskingSession.{AskingSession}
 use Rattle.amqp_endpoint_sessions.specs.declared.place.Place.{Place}

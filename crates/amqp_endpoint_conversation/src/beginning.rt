@@ -1,12 +1,13 @@
 //! How sessions begin (part 2, 2.5.1).
-ghost use Rattle.std.specs.Prelude.{◌≡◌, List, None, Some, IsSome, IfOk, IfErr, OnOk, OnErr};
+ghost use Rattle.std.specs.Prelude.{◌≡◌, ◌<◌, ◌++◌, ◌∷◌, [], List, None, Some, IsSome, IfOk, IfErr, OnOk, OnErr};
 ghost use Rattle.amqp_session_performatives.specs.declared.session_frame.SessionFrame.{SessionFrame};
 ghost use Rattle.amqp_session_connection.specs.Steps.{RefusesSession};
 ghost use Rattle.amqp_session_connection.specs.Table.{refusal_of_begin};
 ghost use Rattle.amqp_endpoint_links.specs.declared.asking.AskingSession.{AskingSession};
 ghost use Rattle.amqp_endpoint_sessions.specs.State.{asked_at, asked_on, live_at};
-ghost use Rattle.amqp_endpoint_sessions.specs.Steps.{Steps, ChangesLive};
+ghost use Rattle.amqp_endpoint_sessions.specs.Steps.{Steps, Begins, ChangesLive};
 ghost use Rattle.std.specs.Global.{Box};
+ghost use Rattle.std.specs.VecDeque.{deque_len, deque_capacity};
 ghost use Rattle.amqp_endpoint_conversation.specs.Beginning.{Accepting, AcceptsHere, BeginsHere, BeginAnswered, HearsBegin, RefusesAccept, with_links};
 
 use crate::conversation::Conversation;
@@ -66,20 +67,27 @@ impl<R: LinkRelay> Conversation<R> {
     {
         let channel = self.sessions.connection().offered_channel()?;
         out.reserve(1)?;
-        let (session, frame) = AskingSession::begin(
+        let begun = AskingSession::begin(
             alloc,
             channel,
             self.first_transfer_number,
             self.incoming_window,
         );
-        let Ok(session) = Box::new(alloc, session) else {
-            return Err(BeginError::Memory);
-        };
+        let (session, frame) = box_first(alloc, begun)?;
+        let entered = self.enter(session);
+        queue_if(out, entered, frame)
+    }
+
+    /// A session begins, and answers its number. It is refused as `begin` is.
+    fn enter(&mut self, session: Box<AskingSession<R>>) -> Result<u64, BeginError>
+        ensures ok { IfOk result (λ number. Steps self.old.sessions
+            (Begins number (record { 0 = self.old.sessions.connection.offered }) session) self.new.sessions
+            × (self.new ≡ record self.old { sessions = self.new.sessions })) }
+        ensures err { IfErr result (RefusesSession self.old.sessions.connection) }
+        ensures kept { OnErr result (self.new ≡ self.old) }
+    {
         match self.sessions.begin(session) {
-            Ok(number) => {
-                out.push_back_reserved(frame);
-                Ok(number)
-            }
+            Ok(number) => Ok(number),
             Err(refused) => Err(refused.error),
         }
     }
@@ -165,7 +173,7 @@ impl<R: LinkRelay> Conversation<R> {
         let Some(asked) = self.sessions.asked(number) else {
             unreachable!()
         };
-        let (session, frame) = AskingSession::accept(
+        let accepted = AskingSession::accept(
             alloc,
             outgoing,
             channel,
@@ -173,10 +181,7 @@ impl<R: LinkRelay> Conversation<R> {
             self.first_transfer_number,
             self.incoming_window,
         )?;
-        let Ok(session) = Box::new(alloc, session) else {
-            return Err(AllocError);
-        };
-        Ok((session, frame))
+        box_first(alloc, accepted)
     }
 
     /// The links that the peer asked for before the session with this number was accepted go over to it.
@@ -226,7 +231,7 @@ impl<R: LinkRelay> Conversation<R> {
         if self.sessions.reached(channel).is_some() {
             return Err(BeginRefusal::Connection(ConnectionError::NotAllowed));
         }
-        let Ok(asked) = Box::new(alloc, AskedSession::new(alloc, begin)) else {
+        let Ok(asked) = boxed(alloc, AskedSession::new(alloc, begin)) else {
             return Err(BeginRefusal::Connection(ConnectionError::Memory));
         };
         match self.sessions.ask(channel, asked) {
@@ -257,6 +262,45 @@ impl<R: LinkRelay> Conversation<R> {
             Ok(false) => Err(BeginRefusal::Session(number, SessionError::IllegalState)),
             Err(_) => Err(BeginRefusal::Connection(ConnectionError::Memory)),
         }
+    }
+}
+
+/// A value behind a pointer. It is refused where there is no memory.
+fn boxed<T: Drop>(alloc: Global, value: T) -> Result<Box<T>, AllocError>
+    ensures { IfOk result (λ made. made.value ≡ value) }
+{
+    match Box::new(alloc, value) {
+        Ok(made) => Ok(made),
+        Err(_) => Err(AllocError),
+    }
+}
+
+/// The first of two behind a pointer. It is refused where there is no memory.
+fn box_first<T: Drop, F: Drop>(alloc: Global, both: (T, F)) -> Result<(Box<T>, F), AllocError>
+    ensures { IfOk result (λ made. (made.0.value ≡ both.0) × (made.1 ≡ both.1)) }
+{
+    let (first, second) = both;
+    let first = boxed(alloc, first)?;
+    Ok((first, second))
+}
+
+/// A frame is queued where the answer is no refusal. There is room for it.
+fn queue_if<N: Drop, F: Drop>(
+    out: &mut VecDeque<F>,
+    answer: Result<N, BeginError>,
+    frame: F,
+) -> Result<N, BeginError>
+    requires { deque_len out.old < deque_capacity out.old }
+    ensures answer { result ≡ answer }
+    ensures queued { OnOk result (out.new.items ≡ out.old.items ++ frame ∷ []) }
+    ensures kept { OnErr result (out.new.items ≡ out.old.items) }
+{
+    match answer {
+        Ok(given) => {
+            out.push_back_reserved(frame);
+            Ok(given)
+        }
+        Err(error) => Err(error),
     }
 }
 

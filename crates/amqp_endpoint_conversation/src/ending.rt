@@ -1,5 +1,6 @@
 //! How sessions end (part 2, 2.5.2).
-ghost use Rattle.std.specs.Prelude.{◌≡◌, IfOk, IfErr, IsTrue, OnErr, ◌↔◌};
+ghost use Rattle.std.specs.Prelude.{◌≡◌, IfOk, IfErr, IsSome, IsTrue, OnErr, ◌↔◌};
+ghost use Rattle.amqp_endpoint_sessions.specs.State.{live_at};
 ghost use Rattle.amqp_endpoint_conversation.specs.Ending.{EndAnswered, EndsHere, IsMapped, RefusesEnd, end_frame};
 
 use crate::conversation::Conversation;
@@ -10,6 +11,7 @@ use amqp_session_performatives::{End, SessionFrame, SessionFrameBody};
 use amqp_session_types::{
     ConnectionError, IncomingChannel, OutgoingChannel, SessionError, definitions,
 };
+use std::alloc::AllocError;
 use std::collections::VecDeque;
 
 /// What comes of a peer's End.
@@ -41,6 +43,25 @@ impl<R: LinkRelay> Conversation<R> {
         if !self.is_mapped(number) {
             return Err(SessionError::IllegalState);
         }
+        match self.end_live(out, number, error) {
+            Ok(session) => Ok(session),
+            Err(_) => Err(SessionError::Memory),
+        }
+    }
+
+    /// Ends the session with this number, which has begun: hands out its End with this error, and the session itself.
+    /// It is refused where there is no memory, and nothing changes then.
+    pub(crate) fn end_live(
+        &mut self,
+        out: &mut VecDeque<SessionFrame>,
+        number: u64,
+        error: Option<definitions::Error>,
+    ) -> Result<Box<AskingSession<R>>, AllocError>
+        requires { IsSome (live_at self.old.sessions number) }
+        ensures ok { IfOk result
+            (λ session. EndsHere self.old out.old.items number error session self.new out.new.items) }
+        ensures kept { OnErr result ((self.new ≡ self.old) × (out.new.items ≡ out.old.items)) }
+    {
         out.reserve(1)?;
         match self.sessions.end(number) {
             Some((channel, session)) => {

@@ -1,5 +1,5 @@
 -- Laws of frames as they are queued.
-use Rattle.std.proofs.Common.{◌≡◌, ℕ, ◌+◌, ◌-◌, ◌≤◌, List, [], ◌∷◌, length, map, inl, inr, Option, Some, None, true, refl, sym, ◌∙◌, ap, arith, subst, All}
+use Rattle.std.proofs.Common.{◌≡◌, ℕ, ◌+◌, ◌≤◌, List, [], ◌∷◌, length, map, inl, inr, Option, Some, None, true, false, refl, sym, ◌∙◌, ap, arith, subst, All}
 use Rattle.std.proofs.lemmas.List.{length-append}
 use Rattle.std.specs.Int.{w32, to_be_bytes}
 use Rattle.std.proofs.lemmas.Bool.Decides.{nat_tests}
@@ -7,31 +7,34 @@ use Rattle.std.specs.Char.{encode_utf8}
 use Rattle.std.specs.Str.{is_utf8, chars}
 use Rattle.amqp_session_frames.specs.declared.frame.Frame.{Frame}
 use Rattle.amqp_session_frames.specs.Cutting.{with_size}
-use Rattle.amqp_session_frames.specs.Text.{frame_text}
+use Rattle.amqp_session_frames.specs.Text.{IsOver, frame_text}
 use Rattle.amqp_session_frames.specs.Parts.{IsWritten}
-use Rattle.amqp_session_frames.specs.declared.frame.FrameBody.{FrameBody}
-use Rattle.amqp_session_frames.specs.declared.frame.FrameBody.TheVariants.{Transfer}
-use Rattle.amqp_session_performatives.specs.declared.transfer.Transfer.{Transfer as TransferFields}
 use Rattle.amqp_endpoint_model.specs.State.{written, text_or_nothing, text_fits, fits, own_close_with, error_of}
-use Rattle.amqp_endpoint_model.specs.Step.{session_refusal}
 use Rattle.amqp_endpoint_core.specs.declared.condition.Condition.{Condition}
 use Rattle.amqp_endpoint_core.specs.declared.condition.Condition.TheVariants.{FramingError, DecodeError, NotAllowed, NotFound}
+use Rattle.amqp_endpoint_core.specs.Queue.{GoesWhole}
 use Rattle.amqp_endpoint_core.specs.Reading.{condition_text}
 
 -- the pieces are all of the frame's text
 abbrev pub IsAll : Frame → List (List ℕ) → Type 0
 IsAll f pieces = map (λ p. Some (with_size p)) pieces ≡ frame_text f ∷ []
 
--- a transfer belongs to a session
-no_transfer : (body : FrameBody) (t : TransferFields) (payload : List ℕ) → body ≡ Transfer t payload → session_refusal body ≡ None → ⊥
-no_transfer body t payload is none = let x : session_refusal (Transfer t payload) ≡ None = sym (ap session_refusal is) ∙ none in cc
+over_fits : (text : Option (List ℕ)) (limit : ℕ) → text_fits limit text ≡ true → IsOver limit text → ⊥
+over_fits None limit fit over = let wrong : false ≡ true = fit in absurd (cc)
+over_fits (Some text) limit fit over = absurd (grind (arith, nat_tests))
 
--- a frame of no session isn't parted
-pub in_one_piece : (limit : ℕ) (f : Frame) (pieces : List (List ℕ)) → IsWritten limit f pieces → session_refusal f.body ≡ None → IsAll f pieces
-in_one_piece limit f pieces w none =
+-- a frame that fits, or that is no transfer, isn't parted
+pub in_one_piece : (least limit : ℕ) (f : Frame) (pieces : List (List ℕ)) → least + 4 ≡ limit
+    → IsWritten least f pieces → GoesWhole limit f → IsAll f pieces
+in_one_piece least limit f pieces sum w whole =
     elim w.goes [
       | inl one ↦ w.texts ∙ ap (map frame_text) one
-      | inr (t, payload, is, over, two, carries) ↦ absurd (no_transfer f.body t payload is none)
+      | inr (t, payload, is, over, two, carries) ↦ elim whole [
+        | inl fit ↦
+            let P : ℕ → Type 0 = λ n. IsOver n (frame_text f) in
+            absurd (over_fits (frame_text f) limit fit (subst P sum over))
+        | inr undivided ↦ absurd (undivided t payload is)
+      ]
     ]
 
 -- the first piece of a frame is all of it
@@ -69,12 +72,13 @@ close_fits NotAllowed = refl
 close_fits NotFound = refl
 
 -- what was encoded is the frame, within the limit
-pub encoded_is : (least most limit : ℕ) (f : Frame) (pieces others : List (List ℕ)) (piece : List ℕ)
-    → IsWritten least f pieces → session_refusal f.body ≡ None → All (λ p. length p ≤ most) pieces → 4 + most ≤ limit → pieces ≡ piece ∷ others
+pub encoded_is : (least limit : ℕ) (f : Frame) (pieces others : List (List ℕ)) (piece : List ℕ)
+    → IsWritten least f pieces → GoesWhole limit f → All (λ p. length p ≤ least) pieces → least + 4 ≡ limit → pieces
+    ≡ piece ∷ others
     → (with_size piece ≡ written f) × (fits limit f ≡ true)
-encoded_is least most limit f pieces others piece w none short le both =
+encoded_is least limit f pieces others piece w whole short sum both =
     let P : List (List ℕ) → Type 0 = IsAll f in
-    let text = first_piece f piece others (subst P both (in_one_piece least f pieces w none)) in
-    let Q : List (List ℕ) → Type 0 = All (λ p. length p ≤ most) in
-    let h : length piece ≤ most = subst Q both short 0 [] (omega arith) in
+    let text = first_piece f piece others (subst P both (in_one_piece least limit f pieces sum w whole)) in
+    let Q : List (List ℕ) → Type 0 = All (λ p. length p ≤ least) in
+    let h : length piece ≤ least = subst Q both short 0 [] (omega arith) in
     (sym (written_is f (with_size piece) text), fits_is f (with_size piece) limit text (omega (arith, length-with_size piece)))

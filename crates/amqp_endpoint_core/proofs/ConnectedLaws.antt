@@ -1,32 +1,23 @@
 -- Laws of an endpoint and its connection.
-use Rattle.std.proofs.Common.{◌≡◌, ℕ, Bool, true, false, Option, Some, None, Ok, Err, Result, IsSome, is_some, refl, sym, ◌∙◌, ap, subst}
+use Rattle.std.proofs.Common.{◌≡◌, ◌≤◌, arith, ℕ, List, Bool, true, false, Option, Some, None, Ok, Err, Result, refl, sym, ◌∙◌, ap, subst}
 use Rattle.amqp_session_connection.specs.declared.state.ConnectionState.{ConnectionState}
 use Rattle.amqp_session_connection.specs.declared.state.ConnectionState.TheVariants.{Start, HeaderSent, HeaderExchange, OpenSent, ClosePipe, Opened, CloseReceived, CloseSent, Discarding, End}
-use Rattle.std.specs.FinMap as map
-use Rattle.std.specs.FinMap.{get-empty}
-use Rattle.std.specs.Ordering.{nat_cmp}
 use Rattle.amqp_session_types.specs.declared.refusals.ConnectionError.{ConnectionError}
-use Rattle.amqp_session_types.specs.declared.refusals.ConnectionError.TheVariants.{IllegalState as OutOfOrder, NotImplemented, NotFound, Memory}
-use Rattle.amqp_session_performatives.specs.declared.begin.Begin.{Begin}
-use Rattle.amqp_session_frames.specs.declared.frame.FrameBody.{FrameBody}
 use Rattle.amqp_session_frames.specs.declared.frame.FrameBody.TheVariants as body
-use Rattle.amqp_session_frames.specs.declared.frame.FrameBody.TheVariants.{Open}
 use Rattle.std.specs.Prelude.{⊤}
 use Rattle.amqp_session_performatives.specs.declared.open.Open.{Open as OpenFields}
 use Rattle.amqp_session_frames.specs.declared.frame.Frame.{Frame}
-use Rattle.amqp_session_connection.specs.State.{State, Table, fresh}
-use Rattle.amqp_session_connection.specs.Steps.{named_session, RefusesBegin, SendHeader, SendOpen, TakeHeader, frame_on}
-use Rattle.amqp_session_connection.specs.Table.{after_incoming_header, after_send_close, after_send_open}
+use Rattle.amqp_session_connection.specs.State.{State, fresh}
+use Rattle.amqp_session_connection.specs.Steps.{SendHeader, SendOpen, TakeHeader, frame_on}
+use Rattle.amqp_session_connection.specs.Table.{after_incoming_header, after_incoming_open, after_send_close, after_send_open}
 use Rattle.amqp_endpoint_model.specs.declared.phase.Phase.{Phase}
 use Rattle.amqp_endpoint_model.specs.declared.phase.Phase.TheVariants.{Unconnected, Greeting, Running, Over}
-use Rattle.amqp_endpoint_model.specs.declared.error.EndpointError.{EndpointError}
-use Rattle.amqp_endpoint_model.specs.declared.error.EndpointError.TheVariants.{Connection}
-use Rattle.amqp_endpoint_model.specs.Refusals.{of_connection}
-use Rattle.amqp_endpoint_model.specs.Step.{begin_refusal, session_refusal}
-use Rattle.amqp_endpoint_model.specs.State.{State as EndpointState, has_opened}
+use Rattle.amqp_endpoint_model.specs.Relay.{Relations, StandsStill}
+use Rattle.amqp_endpoint_model.specs.State.{State as EndpointState, Waiting, has_opened}
 use Rattle.amqp_endpoint_model.specs.declared.settings.Settings.{Settings}
-use Rattle.amqp_endpoint_core.specs.Connected.{sent_close, took_close, Runs, IsGreeting, Agrees, HasNoSession, Stands, MovesBy}
-use Rattle.amqp_endpoint_core.specs.Reading.{BodyRefused}
+use Rattle.std.proofs.lemmas.Bool.Decides.{nat_tests}
+use Rattle.amqp_endpoint_core.specs.Reading.{says_too_little}
+use Rattle.amqp_endpoint_core.specs.Connected.{sent_close, took_close, Runs, IsGreeting, Agrees, Stands}
 
 -- a new connection sends its header
 pub header_sent : (opening : OpenFields) (answer : Result ⊤ ConnectionError) (new : State) → SendHeader (fresh Start opening) answer new → new ≡ fresh HeaderSent opening
@@ -108,46 +99,172 @@ agrees_on Over limit state next error agrees has first e = let wrong : true ≡ 
 agrees_on Unconnected limit state next error agrees has first e = absurd (cc)
 agrees_on Greeting limit state next error agrees has first e = absurd (cc)
 
-named_refusal : (channel : Option ℕ) → IsSome channel → NotFound ≡ begin_refusal channel
-named_refusal None some = absurd (cc)
-named_refusal (Some channel) some = refl
+module _ {S : Type 0} (does : Relations S) where
+  -- only the state of the connection changed
+  pub stands_moved : (settings : Settings) (phase phase_new : Phase) (limit : Option ℕ) (s new : S)
+      → Stands does settings phase limit s
+      → does.connection new ≡ record (does.connection s) { local_state = (does.connection new).local_state }
+      → Agrees phase_new limit (does.connection new).local_state → Stands does settings phase_new limit new
+  stands_moved settings phase phase_new limit s new stands is agrees =
+      record {
+        opening = ap (λ (x : State). frame_on 0 (body.Open x.local_open)) is ∙ stands.opening;
+        agrees = agrees;
+      }
 
--- no session has a channel
-none_at : (t : Table) (channel : ℕ) → t ≡ map.empty → map.get t channel ≡ None
-none_at t channel empty = ap (λ (x : Table). map.get x channel) empty ∙ get-empty nat_cmp channel
+  -- the connection stands still
+  pub stands_still : (settings : Settings) (phase phase_new : Phase) (limit limit_new : Option ℕ) (s new : S)
+      → Stands does settings phase limit s
+      → StandsStill (does.connection s) (does.connection new)
+      → Agrees phase_new limit_new (does.connection s).local_state → Stands does settings phase_new limit_new new
+  stands_still settings phase phase_new limit limit_new s new stands still agrees =
+      record {
+        opening = ap (λ (o : OpenFields). frame_on 0 (body.Open o)) still.opening ∙ stands.opening;
+        agrees = subst (λ (c : ConnectionState). Agrees phase_new limit_new c) (sym still.state) agrees;
+      }
 
-module _ (c : State) (sessions : HasNoSession c) where
-  no_session : (channel : Option ℕ) → named_session c channel ≡ None
-  no_session None = refl
-  no_session (Some channel) = none_at c.live channel sessions.live
+-- an endpoint as it is seen, by its parts
+module _ {S : Type 0} (does : Relations S) where
+  abbrev pub seen : Settings → Phase → Option ℕ → Bool → List ℕ → List Waiting → S → EndpointState S
+  seen settings phase limit told rest queue s =
+      record {
+        settings = settings;
+        phase = phase;
+        peer_limit = limit;
+        own_close = sent_close (does.connection s).local_state;
+        peer_close = took_close (does.connection s).local_state;
+        close_told = told;
+        rest = rest;
+        queue = queue;
+        sessions = s;
+      }
 
-  -- the peer's Begin is refused
-  pub begin_refused : (b : Begin) (e : ConnectionError) (told : EndpointError) → RefusesBegin c b e → told ≡ of_connection e → told ≡ Connection (begin_refusal b.remote_channel)
-  begin_refused b NotImplemented told none is = is ∙ sym (ap (λ (x : Option ℕ). Connection (begin_refusal x)) none)
-  begin_refused b NotFound told (some, none) is = is ∙ ap Connection (named_refusal b.remote_channel some)
-  begin_refused b Memory told some is = let wrong : true ≡ false = sym some ∙ ap is_some (no_session b.remote_channel) in absurd (cc)
-  begin_refused b e told h is = absurd h
+  -- the sessions did something, and it can't be seen that their connection went on
+  pub seen_as : (settings : Settings) (phase : Phase) (limit : Option ℕ) (told : Bool) (rest : List ℕ)
+      (queue more : List Waiting)
+      (s new : S) → more ≡ queue
+      → sent_close (does.connection new).local_state ≡ sent_close (does.connection s).local_state
+      → took_close (does.connection new).local_state ≡ took_close (does.connection s).local_state
+      → seen settings phase limit told rest more new
+      ≡ record (seen settings phase limit told rest queue s) { sessions = new }
+  seen_as settings phase limit told rest queue more s new queue_is sent took =
+      ap (λ (b : Bool). record (seen settings phase limit told rest more new) { own_close = b }) sent
+      ∙ ap (λ (b : Bool). record (seen settings phase limit told rest more new) {
+        own_close = sent_close (does.connection s).local_state;
+        peer_close = b;
+      }) took
+      ∙ ap (λ (q : List Waiting). record (seen settings phase limit told rest q s) { sessions = new }) queue_is
 
-  pub begin_not_taken : (b : Begin) (session : ℕ) → named_session c b.remote_channel ≡ Some session → ⊥
-  begin_not_taken b session is = let wrong : None ≡ Some session = sym (no_session b.remote_channel) ∙ is in absurd (cc)
+  -- their connection stands still
+  pub seen_still : (settings : Settings) (phase : Phase) (limit : Option ℕ) (told : Bool) (rest : List ℕ)
+      (queue more : List Waiting)
+      (s new : S) → more ≡ queue → (does.connection new).local_state ≡ (does.connection s).local_state
+      → seen settings phase limit told rest more new
+      ≡ record (seen settings phase limit told rest queue s) { sessions = new }
+  seen_still settings phase limit told rest queue more s new queue_is still =
+      seen_as settings phase limit told rest queue more s new queue_is (ap sent_close still) (ap took_close still)
 
-  pub end_not_taken : (channel session : ℕ) → map.get c.routes channel ≡ Some session → ⊥
-  end_not_taken channel session is = let wrong : None ≡ Some session = sym (none_at c.routes channel sessions.routes) ∙ is in absurd (cc)
+  -- the peer's header was taken
+  pub seen_greeted : (settings : Settings) (phase : Phase) (limit : Option ℕ) (told : Bool) (rest : List ℕ)
+      (queue more : List Waiting)
+      (s new : S) → more ≡ queue → IsGreeting (does.connection s).local_state
+      → (does.connection new).local_state ≡ HeaderExchange
+      → seen settings phase limit told rest more new
+      ≡ record (seen settings phase limit told rest queue s) { sessions = new }
+  seen_greeted settings phase limit told rest queue more s new queue_is greets at =
+      let (sent, took) = greets_open (does.connection s).local_state greets in
+      seen_as settings phase limit told rest queue more s new queue_is (ap sent_close at ∙ sym sent)
+      (ap took_close at ∙ sym took)
 
-session_refuses : (s : EndpointState) (r : ConnectionError) (b : FrameBody) → session_refusal b ≡ Some r → BodyRefused s b (Connection r)
-session_refuses s OutOfOrder (Open o) is = absurd (cc)
-session_refuses s r b is = is
+-- the peer's Open comes where the own one was sent alone
+pub opens_on : (state next : ConnectionState) (limit : ℕ) → Runs None state → after_incoming_open state ≡ Some next
+    → Runs (Some limit) next
+opens_on OpenSent next limit runs e =
+    let at : Opened ≡ next = cc in
+    let P : ConnectionState → Type 0 = λ s. Runs (Some limit) s in
+    subst P at tt
+opens_on ClosePipe next limit runs e =
+    let at : CloseSent ≡ next = cc in
+    let P : ConnectionState → Type 0 = λ s. Runs (Some limit) s in
+    subst P at tt
+opens_on state next limit runs e = absurd runs
 
--- what says something of a session is refused
-pub session_refused : (s : EndpointState) (r : ConnectionError) (b : FrameBody) (told : EndpointError) → session_refusal b ≡ Some r → told ≡ Connection r → BodyRefused s b told
-session_refused s r b told is same = let P : EndpointError → Type 0 = λ x. BodyRefused s b x in subst P (sym same) (session_refuses s r b is)
+-- it comes once
+pub opens_once : (limit : Option ℕ) (state next : ConnectionState) → Runs limit state → after_incoming_open state
+    ≡ Some next → limit ≡ None
+opens_once None state next runs e = refl
+opens_once (Some limit) Opened next runs e = absurd (cc)
+opens_once (Some limit) CloseSent next runs e = absurd (cc)
+opens_once (Some limit) Discarding next runs e = absurd (cc)
+opens_once (Some limit) state next runs e = absurd runs
 
--- only the state of the connection changed
-pub stands_moved : (settings : Settings) (phase : Phase) (limit : Option ℕ) (c new : State) (row : ConnectionState → Option ConnectionState) → Stands settings phase limit c → MovesBy row c new → Agrees phase limit new.local_state
-    → Stands settings phase limit new
-stands_moved settings phase limit c new row stands moves agrees =
-    record {
-      opening = ap (λ (x : State). frame_on 0 (body.Open x.local_open)) moves.is ∙ stands.opening;
-      sessions = record { live = ap (λ (x : State). x.live) moves.is ∙ stands.sessions.live; routes = ap (λ (x : State). x.routes) moves.is ∙ stands.sessions.routes };
-      agrees = agrees;
-    }
+-- where an endpoint greets, its peer's limit isn't known, and its connection greets
+pub greeting_of : (phase : Phase) (limit : Option ℕ) (state : ConnectionState) → phase ≡ Greeting
+    → Agrees phase limit state
+    → (limit ≡ None) × IsGreeting state
+greeting_of Greeting limit state is agrees = agrees
+greeting_of Unconnected limit state is agrees = absurd (cc)
+greeting_of Running limit state is agrees = absurd (cc)
+greeting_of Over limit state is agrees = absurd (cc)
+
+greets_exchanged : (state : ConnectionState) → state ≡ HeaderExchange → IsGreeting state
+greets_exchanged state at =
+    let P : ConnectionState → Type 0 = λ s. IsGreeting s in
+    subst P (sym at) tt
+
+pub agrees_exchanged : (phase : Phase) (limit : Option ℕ) (state : ConnectionState) → phase ≡ Greeting → limit ≡ None
+    → state ≡ HeaderExchange
+    → Agrees phase limit state
+agrees_exchanged Greeting limit state is none at = (none, greets_exchanged state at)
+agrees_exchanged Unconnected limit state is none at = tt
+agrees_exchanged Running limit state is none at = absurd (cc)
+agrees_exchanged Over limit state is none at = absurd (cc)
+
+-- behind the own Open frames are read
+pub runs_sent : (limit : Option ℕ) (state : ConnectionState) → limit ≡ None → state ≡ OpenSent → Runs limit state
+runs_sent limit state none at =
+    let P : ConnectionState → Type 0 = λ s. Runs limit s in
+    let Q : Option ℕ → Type 0 = λ l. Runs l OpenSent in
+    subst P (sym at) (subst Q (sym none) tt)
+
+runs_of : (phase : Phase) (limit : Option ℕ) (state : ConnectionState) → phase ≡ Running → Agrees phase limit state
+    → Runs limit state
+runs_of Running limit state is agrees = agrees
+runs_of Unconnected limit state is agrees = absurd (cc)
+runs_of Greeting limit state is agrees = absurd (cc)
+runs_of Over limit state is agrees = absurd (cc)
+
+agrees_of : (phase : Phase) (limit : Option ℕ) (state : ConnectionState) → phase ≡ Running → Runs limit state
+    → Agrees phase limit state
+agrees_of Running limit state is runs = runs
+agrees_of Unconnected limit state is runs = tt
+agrees_of Greeting limit state is runs = absurd (cc)
+agrees_of Over limit state is runs = absurd (cc)
+
+module _ {S : Type 0} (does : Relations S) (settings : Settings) (phase : Phase) (limit : Option ℕ) (s new : S)
+    (stands : Stands does settings phase limit s) (running : phase ≡ Running)
+    (to : after_incoming_open (does.connection s).local_state ≡ Some (does.connection new).local_state) where
+  -- the peer's Open comes once
+  pub first_open : limit ≡ None
+  first_open =
+      opens_once limit (does.connection s).local_state (does.connection new).local_state
+      (runs_of phase limit (does.connection s).local_state running stands.agrees) to
+
+  -- and its limit is known then
+  pub stands_opened : (most : Option ℕ) (least : ℕ)
+      → does.connection new ≡ record (does.connection s)
+      { local_state = (does.connection new).local_state; remote_channel_max = most }
+      → Stands does settings phase (Some least) new
+  stands_opened most least is =
+      let P : Option ℕ → Type 0 = λ l. Runs l (does.connection s).local_state in
+      let runs = subst P first_open (runs_of phase limit (does.connection s).local_state running stands.agrees) in
+      record {
+        opening = ap (λ (x : State). frame_on 0 (body.Open x.local_open)) is ∙ stands.opening;
+        agrees =
+            agrees_of phase (Some least) (does.connection new).local_state running
+            (opens_on (does.connection s).local_state (does.connection new).local_state least runs to);
+      }
+
+-- an Open with a limit that isn't too low
+pub says_enough : (limit : Option ℕ) (most : ℕ) → limit ≡ None → says_too_little limit most ≡ false → 512 ≤ most
+says_enough None most none enough = grind (arith, nat_tests)
+says_enough (Some n) most none enough = absurd (cc)

@@ -1,5 +1,5 @@
 -- Laws of reading a frame.
-use Rattle.std.proofs.Common.{◌≡◌, ℕ, List, [], ◌++◌, length, take, drop, Some, Bool, true, false, refl, sym, ◌∙◌, ap, arith, subst, if◌then◌else◌}
+use Rattle.std.proofs.Common.{◌≡◌, ◌⊎◌, ℕ, List, [], ◌++◌, length, take, drop, Some, inl, inr, Bool, true, false, refl, sym, ◌∙◌, ap, arith, subst, if◌then◌else◌}
 use Rattle.std.proofs.lemmas.List.{take-take, take-append-drop, length-take-le}
 use Rattle.std.specs.Int.{w32, from_be_bytes}
 use Rattle.amqp_session_frames.specs.declared.frame.Frame.{Frame}
@@ -9,10 +9,12 @@ use Rattle.amqp_session_frames.specs.Cutting.{said_size, IsPiece}
 use Rattle.amqp_session_frames.specs.Text.{FrameText}
 use Rattle.amqp_endpoint_model.specs.declared.event.Event.{Event}
 use Rattle.amqp_endpoint_model.specs.declared.error.EndpointError.{EndpointError}
-use Rattle.amqp_endpoint_model.specs.declared.error.EndpointError.TheVariants.{Memory, SizeUnder8, SizeOverLimit, PeerLimitUnder512, Frame as FrameFault, Connection}
+use Rattle.amqp_endpoint_model.specs.declared.error.EndpointError.TheVariants.{Memory, NumbersUsedUp, SizeUnder8, SizeOverLimit, PeerLimitUnder512, Frame as FrameFault, Connection, Session}
+use Rattle.amqp_session_types.specs.declared.refusals.ConnectionError.TheVariants.{IllegalState as OutOfOrder}
+use Rattle.amqp_endpoint_model.specs.Relay.{Relations}
 use Rattle.amqp_endpoint_model.specs.declared.phase.Phase.TheVariants.{Running}
 use Rattle.amqp_endpoint_model.specs.State.{State, is_running}
-use Rattle.amqp_endpoint_model.specs.Step.{Front, FrontUnread, FrontRefused, TakesBody, closed}
+use Rattle.amqp_endpoint_model.specs.Step.{Front, FrontBarred, FrontUnread, FrontRefused, RefusesBody, TakesBody, closed}
 use Rattle.amqp_endpoint_core.specs.Reading.{PieceOf, NotTaken, SizeRefused, BodyRefused, BodyTaken, FrameSplit, TakesFront}
 
 -- a whole piece stands in front
@@ -41,49 +43,112 @@ front_size limit left SizeUnder8 h = h
 front_size limit left SizeOverLimit h = h
 front_size limit left e h = absurd h
 
-pub frame_split : (s new : State) (size : ℕ) (piece : List ℕ) (f : Frame) → PieceOf s.settings.max_frame_size s.rest size → piece ≡ take size s.rest → FrameText piece f
+pub frame_split : {S : Type 0} (s new : State S) (size : ℕ) (piece : List ℕ) (f : Frame)
+    → PieceOf s.settings.max_frame_size s.rest size → piece ≡ take size s.rest → FrameText piece f
     → new ≡ record s { rest = drop size s.rest } → FrameSplit s f new
 unfolding front
 frame_split s new size piece f p is t e =
     let P : List ℕ → Type 0 = λ x. FrameText x f in
     record { piece = take size s.rest; front = front s.settings.max_frame_size s.rest size p; text = subst P is t; after = e }
 
--- a frame in front that is refused
-pub front_refused : (s m : State) (f : Frame) (e : EndpointError) → FrameSplit s f m → BodyRefused m f.body e → FrontRefused s s.rest e
-front_refused s m f Memory x h = tt
-front_refused s m f PeerLimitUnder512 x h =
-    let Q : State → Type 0 = λ y. BodyRefused y f.body PeerLimitUnder512 in
-    (x.piece, f, x.front, x.text, subst Q x.after h)
-front_refused s m f (Connection e) x h =
-    let Q : State → Type 0 = λ y. BodyRefused y f.body (Connection e) in
-    (x.piece, f, x.front, x.text, subst Q x.after h)
-front_refused s m f e x h = absurd h
+module _ {S : Type 0} where
+  pub chosen : (b : Bool) (x y : State S) → b ≡ true → (if b then x else y) ≡ x
+  chosen true x y e = refl
+  chosen false x y e = absurd (cc)
 
--- a frame that isn't read is not taken
-pub front_not_read : (s : State) (e : EndpointError) → FrontUnread s.settings.max_frame_size s.rest e → FrontRefused s s.rest e
-front_not_read s PeerLimitUnder512 h = absurd h
-front_not_read s (Connection e) h = absurd h
-front_not_read s e h = h
+module _ {S : Type 0} (does : Relations S) where
+  -- what a frame is refused for doesn't lie in the bytes behind it
+  pub refuses_again : (s : State S) (r : List ℕ) (e : EndpointError) (channel : ℕ) (b : FrameBody) (sessions : S)
+      → RefusesBody does (record s { rest = r }) e channel b sessions → RefusesBody does s e channel b sessions
+  refuses_again s r PeerLimitUnder512 channel (Open o) sessions h = h
+  refuses_again s r (Connection OutOfOrder) channel (Open o) sessions h = h
+  refuses_again s r e channel b sessions h = record { theirs = h.theirs; ends = h.ends; refuses = h.refuses }
 
-chosen : (b : Bool) (x y : State) → b ≡ true → (if b then x else y) ≡ x
-chosen true x y e = refl
-chosen false x y e = absurd (cc)
+  barred : (s m : State S) (f : Frame) (e : EndpointError) (sessions : S) → FrameSplit s f m
+      → RefusesBody does m e f.channel f.body sessions → FrontBarred does s s.rest e sessions
+  barred s m f e sessions x h =
+      let Q : State S → Type 0 = λ y. RefusesBody does y e f.channel f.body sessions in
+      record {
+        piece = x.piece;
+        frame = f;
+        front = x.front;
+        text = x.text;
+        refuses = refuses_again s x.front.more e f.channel f.body sessions (subst Q x.after h);
+      }
 
--- what a frame says is taken behind its bytes as well as before them
-after_body : (s : State) (more : List ℕ) (b : FrameBody) (events : List Event) (new : State) → s.phase ≡ Running → TakesBody (record s { rest = more }) b events new
-    → (mid : State) × TakesBody (record s { rest = [] }) b events mid × (new ≡ (if is_running mid.phase then record mid { rest = more } else mid))
-after_body s more Empty events new run (none, same) =
-    (record s { rest = [] }, (none, refl), same ∙ sym (chosen (is_running s.phase) _ _ (ap is_running run)))
-after_body s more (Open o) events new run (fresh, least, told, after) =
-    (record s { rest = []; peer_limit = Some o.max_frame_size }, (fresh, least, told, refl), after ∙ sym (chosen (is_running s.phase) _ _ (ap is_running run)))
-after_body s more (Close c) events new run (told, after) =
-    (closed (record s { rest = [] }), (told, refl), after)
-after_body s more b events new run t = absurd t
+  for_memory : (s m : State S) (f : Frame) (sessions : S) → FrameSplit s f m
+      → (sessions ≡ m.sessions) ⊎ RefusesBody does m Memory f.channel f.body sessions
+      → (sessions ≡ s.sessions) ⊎ ((e : EndpointError) × FrontBarred does s s.rest e sessions)
+  for_memory s m f sessions x (inl same) = inl (same ∙ ap (λ (y : State S). y.sessions) x.after)
+  for_memory s m f sessions x (inr h) = inr (Memory, barred s m f Memory sessions x h)
 
--- the frame in front is taken
-pub front_taken : (s m new : State) (f : Frame) (before behind : List Event) → s.phase ≡ Running → FrameSplit s f m → BodyTaken m f.body before behind new
-    → (events : List Event) × (behind ≡ before ++ events) × TakesFront s events new
-front_taken s m new f before behind run x t =
-    let P : State → Type 0 = λ y. TakesBody y f.body t.events new in
-    let (mid, takes, after) = after_body s x.front.more f.body t.events new run (subst P x.after t.takes) in
-    (t.events, t.told, record { piece = x.piece; frame = f; mid = mid; front = x.front; text = x.text; takes = takes; after = after })
+  -- a frame in front that is refused
+  pub front_refused : (s m new : State S) (f : Frame) (e : EndpointError) → FrameSplit s f m
+      → BodyRefused does m f.channel f.body e new → FrontRefused does s s.rest e new.sessions
+  front_refused s m new f Memory x (h, kept) = for_memory s m f new.sessions x h
+  front_refused s m new f PeerLimitUnder512 x ((may, h), kept) = barred s m f PeerLimitUnder512 new.sessions x h
+  front_refused s m new f (Connection e) x ((may, h), kept) = barred s m f (Connection e) new.sessions x h
+  front_refused s m new f (Session e) x ((may, h), kept) = barred s m f (Session e) new.sessions x h
+  front_refused s m new f NumbersUsedUp x ((may, h), kept) = barred s m f NumbersUsedUp new.sessions x h
+  front_refused s m new f e x ((may, h), kept) = absurd may
+
+  -- a frame that isn't read is not taken
+  pub front_not_read : (s : State S) (e : EndpointError) (sessions : S) → FrontUnread s.settings.max_frame_size s.rest e
+      → sessions ≡ s.sessions → FrontRefused does s s.rest e sessions
+  front_not_read s PeerLimitUnder512 sessions h same = absurd h
+  front_not_read s (Connection e) sessions h same = absurd h
+  front_not_read s (Session e) sessions h same = absurd h
+  front_not_read s NumbersUsedUp sessions h same = absurd h
+  front_not_read s Memory sessions h same = inl same
+  front_not_read s e sessions h same = (h, same)
+
+  -- what a frame says is taken behind its bytes as well as before them
+  after_body : (s : State S) (more : List ℕ) (channel : ℕ) (b : FrameBody) (events : List Event) (new : State S)
+      → s.phase ≡ Running
+      → TakesBody does (record s { rest = more }) channel b events new
+      → (mid : State S) × TakesBody does (record s { rest = [] }) channel b events mid
+      × (new ≡ (if is_running mid.phase then record mid { rest = more } else mid))
+  after_body s more channel Empty events new run (none, same) =
+      (record s { rest = [] }, (none, refl), same ∙ sym (chosen (is_running s.phase) _ _ (ap is_running run)))
+  after_body s more channel (Open o) events new run (fresh, least, told, moves, after) = (
+    record s { rest = []; peer_limit = Some o.max_frame_size; sessions = new.sessions },
+    (fresh, least, told, moves, refl),
+    after ∙ sym (chosen (is_running s.phase) _ _ (ap is_running run)),
+  )
+  after_body s more channel (Close c) events new run (told, both, after) =
+      (closed (record s { rest = [] }) new.sessions, (told, both, refl), after)
+  after_body s more channel b events new run t =
+      let running : is_running new.phase ≡ true = ap (λ (x : State S). is_running x.phase) t.queued
+      ∙ ap is_running run in (
+        record new { rest = [] },
+        record {
+          theirs = t.theirs;
+          frames = t.frames;
+          takes = t.takes;
+          fit = t.fit;
+          queued = ap (λ (x : State S). record x { rest = [] }) t.queued;
+        },
+        t.queued ∙ sym (ap (λ (x : State S). record x { rest = more }) t.queued)
+            ∙ sym (chosen (is_running new.phase) (record new { rest = more }) (record new { rest = [] }) running),
+      )
+
+  -- the frame in front is taken
+  pub front_taken : (s m new : State S) (f : Frame) (before behind : List Event) → s.phase ≡ Running → FrameSplit s f m
+      → BodyTaken does m f.channel f.body before behind new
+      → (events : List Event) × (behind ≡ before ++ events) × TakesFront does s events new
+  front_taken s m new f before behind run x t =
+      let P : State S → Type 0 = λ y. TakesBody does y f.channel f.body t.events new in
+      let (mid, takes, after) = after_body s x.front.more f.channel f.body t.events new run (subst P x.after t.takes)
+      in (
+        t.events,
+        t.told,
+        record {
+          piece = x.piece;
+          frame = f;
+          mid = mid;
+          front = x.front;
+          text = x.text;
+          takes = takes;
+          after = after;
+        },
+      )

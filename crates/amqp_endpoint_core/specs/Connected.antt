@@ -1,6 +1,5 @@
 -- How an endpoint and its connection agree.
 use Rattle.std.specs.Prelude.{◌≡◌, ℕ, Bool, true, false, Option, Some, None}
-use Rattle.std.specs.FinMap as map
 use Rattle.amqp_session_frames.specs.declared.frame.FrameBody.TheVariants as body
 use Rattle.amqp_session_connection.specs.declared.state.ConnectionState.{ConnectionState}
 use Rattle.amqp_session_connection.specs.declared.state.ConnectionState.TheVariants.{HeaderSent, HeaderExchange, OpenClosePipe, OpenSent, ClosePipe, Opened, CloseReceived, CloseSent, Discarding, End}
@@ -10,6 +9,7 @@ use Rattle.amqp_session_connection.specs.Steps.{frame_on}
 use Rattle.amqp_endpoint_model.specs.declared.phase.Phase.{Phase}
 use Rattle.amqp_endpoint_model.specs.declared.phase.Phase.TheVariants.{Unconnected, Greeting, Running, Over}
 use Rattle.amqp_endpoint_model.specs.declared.settings.Settings.{Settings}
+use Rattle.amqp_endpoint_model.specs.Relay.{Relations}
 use Rattle.amqp_endpoint_model.specs.State.{own_open}
 
 -- the own Close was sent (part 2, 2.4.6)
@@ -49,16 +49,12 @@ Agrees Greeting limit state = (limit ≡ None) × IsGreeting state
 Agrees Running limit state = Runs limit state
 Agrees Over limit state = sent_close state ≡ true
 
--- no session is live, and no channel of the peer is routed to one
-pub record HasNoSession (connection : State) : Type 0 where
-  pub live : connection.live ≡ map.empty
-  pub routes : connection.routes ≡ map.empty
-
--- the connection of an endpoint with these settings, which stands so: it sends their Open, and has no sessions
-pub record Stands (settings : Settings) (phase : Phase) (limit : Option ℕ) (connection : State) : Type 0 where
-  pub opening : frame_on 0 (body.Open connection.local_open) ≡ own_open settings
-  pub sessions : HasNoSession connection
-  pub agrees : Agrees phase limit connection.local_state
+-- the sessions of an endpoint with these settings, which stands so: their connection sends the settings' Open
+pub record Stands {S : Type 0} (does : Relations S) (settings : Settings) (phase : Phase) (limit : Option ℕ)
+    (sessions : S)
+    : Type 0 where
+  pub opening : frame_on 0 (body.Open (does.connection sessions).local_open) ≡ own_open settings
+  pub agrees : Agrees phase limit (does.connection sessions).local_state
 
 -- a new connection in this state, which will send the Open of these settings
 pub record BeginsWith (state : ConnectionState) (settings : Settings) (connection : State) : Type 0 where

@@ -1,3 +1,4 @@
 pub mod Connected
 pub mod Queue
 pub mod Reading
+pub mod NoSessions

@@ -1,27 +1,41 @@
 -- How an endpoint reads its input, frame by frame.
-use Rattle.std.specs.Prelude.{◌≡◌, ◌≢◌, ℕ, ◌≤◌, ◌<◌, ◌⊎◌, Bool, true, false, List, [], ◌++◌, length, take, drop, Option, Some, None, if◌then◌else◌}
+use Rattle.std.specs.Prelude.{◌≡◌, ◌≢◌, ℕ, ◌≤◌, ◌<◌, ◌⊎◌, Bool, true, false, List, [], ◌++◌, length, take, drop, Option, Some, None, if◌then◌else◌, nat_lt}
 use Rattle.amqp_session_frames.specs.declared.frame.Frame.{Frame}
 use Rattle.amqp_session_frames.specs.declared.frame.FrameBody.{FrameBody}
 use Rattle.amqp_session_frames.specs.Text.{FrameText}
 use Rattle.amqp_session_frames.specs.Cutting.{said_size, ReadsAs}
 use Rattle.amqp_endpoint_model.specs.declared.error.EndpointError.{EndpointError}
-use Rattle.amqp_endpoint_model.specs.declared.error.EndpointError.TheVariants.{Memory, ProtocolHeaderMismatch, SizeUnder8, SizeOverLimit, PeerLimitUnder512, Frame as FrameFault, Connection}
+use Rattle.amqp_endpoint_model.specs.declared.error.EndpointError.TheVariants.{Memory, NumbersUsedUp, ProtocolHeaderMismatch, SizeUnder8, SizeOverLimit, PeerLimitUnder512, Frame as FrameFault, Connection, Session}
 use Rattle.amqp_endpoint_model.specs.declared.event.Event.{Event}
 use Rattle.amqp_endpoint_model.specs.declared.phase.Phase.TheVariants.{Running, Over}
 use Rattle.amqp_endpoint_model.specs.State.{State, is_running, protocol_header}
-use Rattle.amqp_endpoint_model.specs.Step.{Admits, TakesBody, TakesAll, Front, FrontUnread, NoFrame, RefusesBody, Waits, opened, broken, after_fault, condition_of, framing_error, decode_error, not_allowed, not_found}
+use Rattle.amqp_endpoint_model.specs.Step.{Admits, AfterFault, Breaks, TakesBody, TakesAll, Front, FrontUnread, NoFrame, RefusesBody, Waits, at_state, opened, condition_of, framing_error, decode_error, not_allowed, not_found}
+use Rattle.amqp_endpoint_model.specs.Relay.{Relations}
+use Rattle.amqp_session_connection.specs.declared.state.ConnectionState.TheVariants.{HeaderExchange}
 use Rattle.amqp_endpoint_core.specs.declared.condition.Condition.{Condition}
 use Rattle.amqp_endpoint_core.specs.declared.condition.Condition.TheVariants.{FramingError, DecodeError, NotAllowed, NotFound}
 
--- the peer's header was whole and right, and the own Open is queued; or it isn't whole yet
-abbrev pub HeaderTaken : Bool → State → State → Type 0
-HeaderTaken true old new = (take 8 old.rest ≡ protocol_header) × (new ≡ record (opened old) { rest = drop 8 old.rest })
-HeaderTaken false old new = (length old.rest < 8) × (new ≡ old)
+module _ {S : Type 0} (does : Relations S) where
+  -- the peer's header was whole and right, and the own Open is queued; or it isn't whole yet
+  abbrev pub HeaderTaken : Bool → State S → State S → Type 0
+  HeaderTaken true old new =
+      (take 8 old.rest ≡ protocol_header) × (new ≡ record (opened does old) { rest = drop 8 old.rest })
+  HeaderTaken false old new = (length old.rest < 8) × (new ≡ old)
 
-abbrev pub HeaderRefused : List ℕ → EndpointError → Type 0
-HeaderRefused bytes ProtocolHeaderMismatch = (8 ≤ length bytes) × (take 8 bytes ≢ protocol_header)
-HeaderRefused bytes Memory = Unit {0}
-HeaderRefused bytes e = ⊥
+  -- there was no memory, before the peer's header was taken or behind it
+  abbrev pub GreetedOff : State S → State S → Type 0
+  GreetedOff old new = (new ≡ old) ⊎ (new ≡ record old { sessions = at_state does old.sessions HeaderExchange })
+
+  abbrev pub HeaderRefused : State S → EndpointError → State S → Type 0
+  HeaderRefused old ProtocolHeaderMismatch new =
+      (8 ≤ length old.rest) × (take 8 old.rest ≢ protocol_header) × (new ≡ old)
+  HeaderRefused old Memory new = GreetedOff old new
+  HeaderRefused old e new = ⊥
+
+  -- these bytes are taken, or there is no memory for them, and the header is refused
+  abbrev pub HeaderLeft : State S → List ℕ → EndpointError → State S → Type 0
+  HeaderLeft old bytes e new =
+      ((e ≡ Memory) × (new ≡ old)) ⊎ HeaderRefused (record old { rest = old.rest ++ bytes }) e new
 
 -- why a whole piece is not read as a frame
 abbrev pub NotTaken : List ℕ → EndpointError → Type 0
@@ -42,40 +56,62 @@ pub record PieceOf (limit : ℕ) (left : List ℕ) (size : ℕ) : Type 0 where
   pub short : size ≤ limit
   pub there : size ≤ length left
 
--- a frame that is read is refused for what it says
-abbrev pub BodyRefused : State → FrameBody → EndpointError → Type 0
-BodyRefused s body Memory = Unit {0}
-BodyRefused s body PeerLimitUnder512 = RefusesBody s PeerLimitUnder512 body
-BodyRefused s body (Connection e) = RefusesBody s (Connection e) body
-BodyRefused s body e = ⊥
+module _ {S : Type 0} (does : Relations S) where
+  -- the errors by which a frame that is read is refused
+  abbrev pub MayEnd : EndpointError → Type 0
+  MayEnd PeerLimitUnder512 = Unit {0}
+  MayEnd (Connection e) = Unit {0}
+  MayEnd (Session e) = Unit {0}
+  MayEnd NumbersUsedUp = Unit {0}
+  MayEnd e = ⊥
 
--- what a frame says is taken, and its events are behind those before
-pub record BodyTaken (old : State) (body : FrameBody) (before behind : List Event) (new : State) : Type 0 where
-  pub events : List Event
-  pub told : behind ≡ before ++ events
-  pub takes : TakesBody old body events new
+  -- a frame that is read is refused for what it says, or for want of memory
+  abbrev pub RefusedFor : State S → ℕ → FrameBody → EndpointError → S → Type 0
+  RefusedFor s channel body Memory sessions =
+      (sessions ≡ s.sessions) ⊎ RefusesBody does s Memory channel body sessions
+  RefusedFor s channel body e sessions = MayEnd e × RefusesBody does s e channel body sessions
+
+  abbrev pub BodyRefused : State S → ℕ → FrameBody → EndpointError → State S → Type 0
+  BodyRefused s channel body e new =
+      RefusedFor s channel body e new.sessions × (new ≡ record s { sessions = new.sessions })
+
+  -- what a frame says is taken, and its events are behind those before
+  pub record BodyTaken (old : State S) (channel : ℕ) (body : FrameBody) (before behind : List Event) (new : State S)
+      : Type 0 where
+    pub events : List Event
+    pub told : behind ≡ before ++ events
+    pub takes : TakesBody does old channel body events new
 
 -- the frame in front is split off
-pub record FrameSplit (old : State) (frame : Frame) (new : State) : Type 0 where
+pub record FrameSplit {S : Type 0} (old : State S) (frame : Frame) (new : State S) : Type 0 where
   pub piece : List ℕ
   pub front : Front old.settings.max_frame_size old.rest piece
   pub text : FrameText piece frame
   pub after : new ≡ record old { rest = front.more }
 
--- the frame in front is taken, with these events; what stands behind it is still to be read, unless it was the peer's Close
-pub record TakesFront (old : State) (events : List Event) (new : State) : Type 0 where
-  pub piece : List ℕ
-  pub frame : Frame
-  pub mid : State
-  pub front : Front old.settings.max_frame_size old.rest piece
-  pub text : FrameText piece frame
-  pub takes : TakesBody (record old { rest = [] }) frame.body events mid
-  pub after : new ≡ (if is_running mid.phase then record mid { rest = front.more } else mid)
+module _ {S : Type 0} (does : Relations S) where
+  -- the frame in front is taken, with these events; what stands behind it is still to be read, unless it was the peer's
+  -- Close
+  pub record TakesFront (old : State S) (events : List Event) (new : State S) : Type 0 where
+    pub piece : List ℕ
+    pub frame : Frame
+    pub mid : State S
+    pub front : Front old.settings.max_frame_size old.rest piece
+    pub text : FrameText piece frame
+    pub takes : TakesBody does (record old { rest = [] }) frame.channel frame.body events mid
+    pub after : new ≡ (if is_running mid.phase then record mid { rest = front.more } else mid)
 
--- the frame in front is taken, or isn't whole yet
-abbrev pub FrontTaken : Bool → State → List Event → List Event → State → Type 0
-FrontTaken true old before behind new = (events : List Event) × (behind ≡ before ++ events) × TakesFront old events new
-FrontTaken false old before behind new = Waits old.settings.max_frame_size old.rest × (behind ≡ before) × (new ≡ old)
+  -- the frame in front is taken, or isn't whole yet
+  abbrev pub FrontTaken : Bool → State S → List Event → List Event → State S → Type 0
+  FrontTaken true old before behind new =
+      (events : List Event) × (behind ≡ before ++ events) × TakesFront old events new
+  FrontTaken false old before behind new =
+      Waits old.settings.max_frame_size old.rest × (behind ≡ before) × (new ≡ old)
+
+-- the peer's first Open has a limit of under 512 bytes (part 2, 2.7.1)
+abbrev pub says_too_little : Option ℕ → ℕ → Bool
+says_too_little None most = nat_lt most 512
+says_too_little (Some limit) most = false
 
 -- the names of conditions (part 2, 2.8.15, 2.8.16)
 abbrev pub condition_text : Condition → List ℕ
@@ -88,18 +124,20 @@ abbrev pub told_by : Option Condition → Option (List ℕ)
 told_by (Some c) = Some (condition_text c)
 told_by None = None
 
--- a fault ends the connection, or want of memory for the Close that tells of it does
-abbrev pub EndsBy : EndpointError → EndpointError → State → State → Type 0
-EndsBy fault told old new = ((told ≡ fault) × (new ≡ after_fault (condition_of fault) old)) ⊎ ((told ≡ Memory) × (new ≡ broken old))
+module _ {S : Type 0} (does : Relations S) where
+  -- a fault ends the connection, or want of memory for the Close that tells of it does
+  abbrev pub EndsBy : EndpointError → EndpointError → State S → State S → Type 0
+  EndsBy fault told old new =
+      ((told ≡ fault) × AfterFault does (condition_of fault) old new) ⊎ ((told ≡ Memory) × Breaks does old new)
 
--- what a feed came to so far: the frames that it took, and the state and the bytes behind them
-pub record SoFar (start : State) (events : List Event) (now : State) : Type 0 where
-  pub frames : List Frame
-  pub left : List ℕ
-  pub mid : State
-  pub read : ReadsAs (Admits start.settings.max_frame_size) start.rest frames left
-  pub taken : TakesAll (record start { rest = [] }) frames events mid
-  pub is : now ≡ (if is_running mid.phase then record mid { rest = left } else mid)
-  pub settings : mid.settings ≡ start.settings
-  pub dropped : mid.rest ≡ []
-  pub phase : (mid.phase ≡ Running) ⊎ (mid.phase ≡ Over)
+  -- what a feed came to so far: the frames that it took, and the state and the bytes behind them
+  pub record SoFar (start : State S) (events : List Event) (now : State S) : Type 0 where
+    pub frames : List Frame
+    pub left : List ℕ
+    pub mid : State S
+    pub read : ReadsAs (Admits start.settings.max_frame_size) start.rest frames left
+    pub taken : TakesAll does (record start { rest = [] }) frames events mid
+    pub is : now ≡ (if is_running mid.phase then record mid { rest = left } else mid)
+    pub settings : mid.settings ≡ start.settings
+    pub dropped : mid.rest ≡ []
+    pub phase : (mid.phase ≡ Running) ⊎ (mid.phase ≡ Over)

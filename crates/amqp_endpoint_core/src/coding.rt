@@ -1,11 +1,11 @@
-ghost use Rattle.std.specs.Prelude.{◌≡◌, ◌+◌, ◌<◌, ◌^◌, ◌⊎◌, true, false, length, None, IfOk, IfErr};
+ghost use Rattle.std.specs.Prelude.{◌≡◌, ◌+◌, ◌<◌, ◌≤◌, ◌^◌, ◌⊎◌, true, false, length, None, IfOk, IfErr};
 ghost use Rattle.amqp_session_frames.specs.Text.{FrameText};
 ghost use Rattle.amqp_session_frames.specs.Cutting.{IsPiece, with_size};
 ghost use Rattle.amqp_session_connection.specs.Steps.{frame_on};
 ghost use Rattle.amqp_session_frames.specs.declared.frame.FrameBody.TheVariants as body;
 ghost use Rattle.amqp_endpoint_model.specs.State.{written, fits, own_open, error_of};
-ghost use Rattle.amqp_endpoint_model.specs.Step.{session_refusal};
 ghost use Rattle.amqp_endpoint_model.specs.declared.error.EndpointError.TheVariants.{Memory, FrameTooLarge};
+ghost use Rattle.amqp_endpoint_core.specs.Queue.{GoesWhole};
 ghost use Rattle.amqp_endpoint_core.specs.Reading.{NotTaken};
 
 use amqp_endpoint_model::{EndpointError, Settings};
@@ -25,16 +25,17 @@ pub(crate) const SIZE_FIELD: usize = 4;
 /// The protocol header: AMQP, protocol id 0, version 1.0.0 (part 2, 2.2).
 pub(crate) const PROTOCOL_HEADER: &[u8] = b"AMQP\x00\x01\x00\x00";
 
-/// A frame of no session in one piece, which any peer takes.
-pub(crate) fn encoded(alloc: Global, frame: &Frame) -> Result<Piece, EndpointError>
-    requires own { session_refusal frame.now.body ≡ None }
+/// A frame in one piece, which is as long as `limit` allows: one that fits, or that is no transfer.
+pub(crate) fn encoded(alloc: Global, limit: u32, frame: &Frame) -> Result<Piece, EndpointError>
+    requires least { 8 ≤ limit }
+    requires whole { GoesWhole limit frame.now }
     ensures size { IfOk result (λ p. 4 + length p < 2 ^ 32) }
     ensures ok { IfOk result (λ p. (with_size p ≡ written frame.now)
-        × (fits 512 frame.now ≡ true)) }
+        × (fits limit frame.now ≡ true)) }
     ensures err { IfErr result (λ e. (e ≡ Memory)
-        ⊎ ((e ≡ FrameTooLarge) × (fits 512 frame.now ≡ false))) }
+        ⊎ ((e ≡ FrameTooLarge) × (fits limit frame.now ≡ false))) }
 {
-    let encoder = FrameEncoder::new(MIN_MAX_FRAME_SIZE as usize - SIZE_FIELD);
+    let encoder = FrameEncoder::new(limit as usize - SIZE_FIELD);
     match encoder.encode(alloc, frame) {
         Ok(pieces) => {
             let (piece, _) = pieces.into_parts();

@@ -28,6 +28,7 @@ impl Condition {
             EndpointError::Frame(_) => Some(Condition::NotAllowed),
             EndpointError::Connection(ConnectionError::NotFound) => Some(Condition::NotFound),
             EndpointError::Connection(_) => Some(Condition::NotAllowed),
+            EndpointError::Session(_) => Some(Condition::NotAllowed),
             _ => None,
         }
     }

@@ -1,21 +1,21 @@
-ghost use Rattle.std.specs.Prelude.{◌≡◌, ◌⊎◌, true, false, None, is_some, IfOk, IfErr, OnOk, OnErr, MatchResult};
-ghost use Rattle.amqp_session_types.specs.declared.refusals.ConnectionError.TheVariants.{IllegalState, NotFound};
+ghost use Rattle.std.specs.Prelude.{◌≡◌, ◌⊎◌, true, false, None, Some, is_some, IfOk, IfErr, OnOk, OnErr};
+ghost use Rattle.amqp_session_types.specs.declared.refusals.ConnectionError.TheVariants.{IllegalState};
 ghost use Rattle.amqp_session_connection.specs.State.{fresh};
 ghost use Rattle.amqp_session_connection.specs.Steps.{frame_on};
-ghost use Rattle.amqp_session_connection.specs.Table.{after_incoming_close, after_send_close};
+ghost use Rattle.amqp_session_connection.specs.Table.{after_incoming_close, after_incoming_open, after_send_close};
 ghost use Rattle.amqp_session_connection.specs.declared.state.ConnectionState.TheVariants.{Start, HeaderSent, HeaderExchange, OpenSent};
 ghost use Rattle.amqp_session_frames.specs.declared.frame.FrameBody.TheVariants as body;
 ghost use Rattle.amqp_endpoint_model.specs.State.{fits, own_close_with, own_open, the_frame};
-ghost use Rattle.amqp_endpoint_model.specs.Step.{begin_refusal};
+ghost use Rattle.amqp_endpoint_model.specs.Step as step;
 ghost use Rattle.amqp_endpoint_model.specs.declared.error.EndpointError.TheVariants.{Memory, FrameTooLarge};
-ghost use Rattle.amqp_endpoint_core.specs.Connected.{BeginsWith, IsGreeting, HasNoSession, MovesBy, sent_close, took_close};
+ghost use Rattle.amqp_endpoint_core.specs.Connected.{BeginsWith, IsGreeting, MovesBy, sent_close, took_close};
 
-use crate::coding::{encoded, open_of};
+use crate::coding::{MIN_MAX_FRAME_SIZE, encoded, open_of};
 use crate::queued::Queued;
-use amqp_endpoint_model::{EndpointError, Settings};
+use amqp_endpoint_model::{EndpointError, SessionRelay, Settings};
 use amqp_session_connection::{Connection, ConnectionState};
 use amqp_session_frames::{Frame, FrameBody};
-use amqp_session_performatives::{Begin, Close, End};
+use amqp_session_performatives::{Close, Open};
 use amqp_session_types::{ConnectionError, IncomingChannel, definitions};
 use std::alloc::Global;
 
@@ -23,10 +23,11 @@ use std::alloc::Global;
 /// bytes.
 pub(crate) fn unopened(alloc: Global, settings: &Settings) -> Result<Connection, EndpointError>
     ensures ok { IfOk result (λ c. BeginsWith Start settings.now c × (fits 512 (own_open settings.now) ≡ true)) }
-    ensures err { IfErr result (λ e. (e ≡ Memory) ⊎ ((e ≡ FrameTooLarge) × (fits 512 (own_open settings.now) ≡ false))) }
+    ensures err { IfErr result (λ e. (e ≡ Memory)
+        ⊎ ((e ≡ FrameTooLarge) × (fits 512 (own_open settings.now) ≡ false))) }
 {
     let open = Frame::new(0, FrameBody::Open(open_of(alloc, settings)?));
-    encoded(alloc, &open)?;
+    encoded(alloc, MIN_MAX_FRAME_SIZE, &open)?;
     let open = open_of(alloc, settings)?;
     Ok(Connection::new(alloc, ConnectionState::Start, open))
 }
@@ -44,8 +45,7 @@ pub(crate) fn greet(alloc: Global, connection: &mut Connection)
 /// the copy that is handed out: the header is taken then, and the Open is still to be handed out.
 #[tactic(auto, using(crate::proofs::ConnectedLaws::open_sent))]
 pub(crate) fn hand_out_open(connection: &mut Connection) -> Result<Queued, EndpointError>
-    requires greets { IsGreeting connection.old.local_state }
-    requires short { fits 512 (frame_on 0 (body.Open connection.old.local_open)) ≡ true }
+    requires { IsGreeting connection.old.local_state }
     ensures ok { OnOk result (connection.new ≡ record connection.old { local_state = OpenSent }) }
     ensures frame { IfOk result (λ q. q
         ≡ the_frame (frame_on 0 (body.Open connection.old.local_open))) }
@@ -75,12 +75,12 @@ pub(crate) fn close(
     connection: &mut Connection,
     error: Option<definitions::Error>,
 ) -> Result<Queued, EndpointError>
-    requires { fits 512 (own_close_with error) ≡ true }
     ensures ok { OnOk result (MovesBy (after_send_close (is_some error)) connection.old connection.new) }
     ensures frame { IfOk result (λ q. q ≡ the_frame (own_close_with error)) }
     ensures own { OnOk result (sent_close connection.new.local_state ≡ true) }
     ensures peer { OnOk result (took_close connection.new.local_state ≡ took_close connection.old.local_state) }
-    ensures err { IfErr result (λ e. (e ≡ EndpointError.Connection IllegalState) × (after_send_close (is_some error) connection.old.local_state ≡ None) × (connection.new ≡ connection.old)) }
+    ensures err { IfErr result (λ e. (e ≡ EndpointError.Connection IllegalState)
+        × (after_send_close (is_some error) connection.old.local_state ≡ None) × (connection.new ≡ connection.old)) }
 {
     let close = connection.send_close(error)?;
     Ok(Queued::frame(close))
@@ -93,51 +93,89 @@ pub(crate) fn take_close(
     close: &Close,
 ) -> Result<(), EndpointError>
     ensures ok { OnOk result (MovesBy after_incoming_close connection.old connection.new) }
-    ensures err { IfErr result (λ e. (e ≡ EndpointError.Connection IllegalState) × (after_incoming_close connection.old.local_state ≡ None) × (connection.new ≡ connection.old)) }
+    ensures err { IfErr result (λ e. (e ≡ EndpointError.Connection IllegalState)
+        × (after_incoming_close connection.old.local_state ≡ None) × (connection.new ≡ connection.old)) }
 {
     connection.on_incoming_close(channel, close)?;
     Ok(())
 }
 
-/// The peer's Begin is refused: it names no channel, or that of no session (part 2, 2.5.1).
-#[tactic(auto, using(crate::proofs::ConnectedLaws::begin_refused, crate::proofs::ConnectedLaws::begin_not_taken))]
-pub(crate) fn take_begin(
-    connection: &mut Connection,
-    channel: IncomingChannel,
-    begin: &Begin,
-) -> Result<(), EndpointError>
-    requires { HasNoSession connection.old }
-    ensures { MatchResult result (λ _. ⊥) (λ e. (e ≡ EndpointError.Connection (begin_refusal begin.now.remote_channel)) × (connection.new ≡ connection.old)) }
+/// The connection of these sessions begins anew.
+pub(crate) fn greet_anew<S: SessionRelay>(alloc: Global, sessions: &mut S)
+    ensures sessions { sessions.new ≡ step.anew S.does sessions.old }
+    ensures connection { S.does.connection sessions.new ≡ fresh HeaderSent (S.does.connection sessions.old).local_open }
 {
-    connection.on_incoming_begin(channel, begin)?;
-    Ok(())
+    greet(alloc, sessions.connection_mut());
 }
 
-/// The peer's End is refused: no session has its channel (part 2, 2.5.2).
-#[tactic(auto, using(crate::proofs::ConnectedLaws::end_not_taken))]
-pub(crate) fn take_end(
-    connection: &mut Connection,
-    channel: IncomingChannel,
-    end: &End,
-) -> Result<(), EndpointError>
-    requires { HasNoSession connection.old }
-    ensures { MatchResult result (λ _. ⊥) (λ e. (e ≡ EndpointError.Connection NotFound) × (connection.new ≡ connection.old)) }
+/// The connection of these sessions hands out its Open, as it is queued, behind the peer's header. Where there is no
+/// memory the header alone is taken.
+pub(crate) fn open<S: SessionRelay>(sessions: &mut S) -> Result<Queued, EndpointError>
+    requires { IsGreeting (S.does.connection sessions.old).local_state }
+    ensures ok { OnOk result (sessions.new ≡ step.at_state S.does sessions.old OpenSent) }
+    ensures connection { OnOk result (S.does.connection sessions.new
+        ≡ record (S.does.connection sessions.old) { local_state = OpenSent }) }
+    ensures frame { IfOk result (λ q. q
+        ≡ the_frame (frame_on 0 (body.Open (S.does.connection sessions.old).local_open))) }
+    ensures err { IfErr result (λ e. e ≡ Memory) }
+    ensures kept { OnErr result (sessions.new ≡ step.at_state S.does sessions.old HeaderExchange) }
+    ensures still { OnErr result (S.does.connection sessions.new
+        ≡ record (S.does.connection sessions.old) { local_state = HeaderExchange }) }
 {
-    connection.on_incoming_end(channel, end)?;
-    Ok(())
+    hand_out_open(sessions.connection_mut())
 }
 
-/// Another performative of a session is refused: no session has its channel (part 2, 2.5.1).
-#[tactic(auto, using(crate::proofs::ConnectedLaws::end_not_taken))]
-pub(crate) fn find_session(
-    connection: &Connection,
+/// The connection of these sessions takes the peer's Open. It is refused where it took one.
+pub(crate) fn take_open<S: SessionRelay>(
+    sessions: &mut S,
     channel: IncomingChannel,
+    peer: &Open,
 ) -> Result<(), EndpointError>
-    requires { HasNoSession connection.now }
-    ensures { MatchResult result (λ _. ⊥) (λ e. e ≡ EndpointError.Connection NotFound) }
+    ensures ok { OnOk result (step.MovesByOpen S.does peer.now sessions.old sessions.new) }
+    ensures connection { OnOk result (S.does.connection sessions.new
+        ≡ record (S.does.connection sessions.old) {
+          local_state = (S.does.connection sessions.new).local_state;
+          remote_channel_max = Some peer.now.channel_max;
+        }) }
+    ensures err { IfErr result (λ e. (e ≡ EndpointError.Connection IllegalState)
+        × (after_incoming_open (S.does.connection sessions.old).local_state ≡ None) × (sessions.new ≡ sessions.old)) }
 {
-    match connection.session_tx_by_incoming_channel(channel) {
-        Some(_) => Ok(()),
-        None => Err(EndpointError::Connection(ConnectionError::NotFound)),
+    match sessions.connection_mut().on_incoming_open(channel, peer) {
+        Ok(()) => Ok(()),
+        Err(_) => Err(EndpointError::Connection(ConnectionError::IllegalState)),
     }
+}
+
+/// The connection of these sessions hands out its Close, with this error, as it is queued.
+pub(crate) fn send_close<S: SessionRelay>(
+    sessions: &mut S,
+    error: Option<definitions::Error>,
+) -> Result<Queued, EndpointError>
+    ensures ok { OnOk result (step.MovesBy S.does (after_send_close (is_some error)) sessions.old sessions.new) }
+    ensures connection { OnOk result (MovesBy (after_send_close (is_some error))
+        (S.does.connection sessions.old) (S.does.connection sessions.new)) }
+    ensures frame { IfOk result (λ q. q ≡ the_frame (own_close_with error)) }
+    ensures own { OnOk result (sent_close (S.does.connection sessions.new).local_state ≡ true) }
+    ensures peer { OnOk result (took_close (S.does.connection sessions.new).local_state
+        ≡ took_close (S.does.connection sessions.old).local_state) }
+    ensures err { IfErr result (λ e. (e ≡ EndpointError.Connection IllegalState)
+        × (after_send_close (is_some error) (S.does.connection sessions.old).local_state ≡ None)
+        × (sessions.new ≡ sessions.old)) }
+{
+    close(sessions.connection_mut(), error)
+}
+
+/// The connection of these sessions takes the peer's Close.
+pub(crate) fn take_peers_close<S: SessionRelay>(
+    sessions: &mut S,
+    channel: IncomingChannel,
+    closing: &Close,
+) -> Result<(), EndpointError>
+    ensures ok { OnOk result (step.MovesBy S.does after_incoming_close sessions.old sessions.new) }
+    ensures connection { OnOk result (MovesBy after_incoming_close
+        (S.does.connection sessions.old) (S.does.connection sessions.new)) }
+    ensures err { IfErr result (λ e. (e ≡ EndpointError.Connection IllegalState)
+        × (after_incoming_close (S.does.connection sessions.old).local_state ≡ None) × (sessions.new ≡ sessions.old)) }
+{
+    take_close(sessions.connection_mut(), channel, closing)
 }

@@ -1,15 +1,20 @@
-ghost use Rattle.std.specs.Prelude.{◌≡◌, ◌==◌, ◌&&◌, ◌⊎◌, ◌++◌, ◌∷◌, [], true, false, length, Some, None, IfOk, IfErr, OnOk, MatchOption, MatchResult};
-ghost use Rattle.amqp_endpoint_model.specs.State.{fresh, has_opened, is_running, the_frame, the_header, heartbeat, fits, own_close_with};
+ghost use Rattle.std.specs.Prelude.{◌≡◌, ◌==◌, ◌&&◌, ◌⊎◌, ◌++◌, ◌∷◌, [], true, false, length, drop, is_some, Some, None, IfOk, IfErr, OnOk, OnErr, MatchOption, MatchResult};
+ghost use Rattle.amqp_session_connection.specs.Table.{after_send_close};
+ghost use Rattle.amqp_endpoint_model.specs.Relay.{IsNew};
+ghost use Rattle.amqp_endpoint_model.specs.State.{Waiting, fresh, has_opened, is_running, limit_of, text_of, the_frame, the_header, heartbeat, fits, own_close_with};
+ghost use Rattle.amqp_endpoint_core.specs.Queue.{IsFirst};
 ghost use Rattle.amqp_endpoint_model.specs.Said.{said};
-ghost use Rattle.amqp_endpoint_model.specs.Step.{refusal_of_settings, refusal, MayRefuse, Pulls, Step, broken, close_refusal, connected};
+ghost use Rattle.amqp_endpoint_model.specs.Step.{refusal_of_settings, refusal, Breaks, ClosesOwn, MayRefuse, MovesBy, Pulls, Step, close_refusal, connected};
 ghost use Rattle.amqp_endpoint_model.specs.declared.error.EndpointError.TheVariants.{Memory};
+ghost use Rattle.amqp_endpoint_model.specs.declared.settings.Settings.{Settings};
 
 use crate::coding::MIN_MAX_FRAME_SIZE;
-use crate::connecting::{close, greet, unopened};
-use crate::queued::Queued;
-use amqp_endpoint_model::{Answer, Call, EndpointError, Phase, Settings};
-use amqp_session_connection::{Connection, ConnectionState};
+use crate::connecting::{greet_anew, send_close, unopened};
+use crate::queued::{Queued, drop_first, first_bytes, gather};
+use amqp_endpoint_model::{Answer, Call, EndpointError, Phase, SessionRelay, Settings};
+use amqp_session_connection::ConnectionState;
 use amqp_session_frames::Frame;
+use amqp_session_performatives::SessionFrame;
 use amqp_session_types::{TryCloseError, definitions};
 use bytes::BytesMut;
 use std::alloc::Global;
@@ -23,42 +28,60 @@ const MAX_WINDOW: u32 = 0x7fff_ffff;
 
 /// One end of an AMQP connection, without a network: `feed` takes the peer's bytes and answers what they say,
 /// `pull` gives the bytes for the peer. A clause sees it as a `State`: its settings, where it stands with its
-/// connection, the bytes that are no whole frame yet, and what is queued.
+/// connection, the bytes that are no whole frame yet, what is queued, and its sessions.
 ///
-/// Which Open and Close may come and go says its `Connection`.
+/// Which Open and Close may come and go says the connection of its sessions. What sessions do isn't known here: an
+/// endpoint is proved for all that say what they do.
 #[derive(Drop)]
-pub struct Endpoint {
+pub struct Endpoint<S: SessionRelay> {
     alloc: Global,
     settings: Settings,
-    /// Behind a pointer, so that an endpoint is small.
-    connection: Box<Connection>,
     phase: Phase,
     peer_limit: Option<u32>,
     close_told: bool,
     input: BytesMut,
     queue: VecDeque<Queued>,
+    /// What the sessions sent, behind what is in the queue.
+    out: VecDeque<SessionFrame>,
+    sessions: S,
 }
 
-impl Model for Endpoint {
-    ghost use Rattle.std.specs.Prelude.{◌≡◌, ◌≤◌, true};
+impl<S: SessionRelay> Model for Endpoint<S> {
+    ghost use Rattle.std.specs.Prelude.{◌≡◌, ◌≤◌, ◌++◌, true};
     ghost use Rattle.amqp_endpoint_model.specs.State.{State, fits, own_open, limit_of};
     ghost use Rattle.amqp_endpoint_core.specs.Connected.{Stands, sent_close, took_close};
+    ghost use Rattle.amqp_endpoint_core.specs.Queue.{AllWithin, frames_waiting};
 
-    ghost Value = { State };
+    ghost Value = { State S };
 
-    ghost view = { λ a. record { settings = a.settings; phase = a.phase; peer_limit = a.peer_limit; own_close = sent_close a.connection.value.local_state; peer_close = took_close a.connection.value.local_state; close_told = a.close_told; rest = a.input.items; queue = a.queue.items } };
+    ghost view = { λ a. record {
+      settings = a.settings;
+      phase = a.phase;
+      peer_limit = a.peer_limit;
+      own_close = sent_close (S.does.connection a.sessions).local_state;
+      peer_close = took_close (S.does.connection a.sessions).local_state;
+      close_told = a.close_told;
+      rest = a.input.items;
+      queue = a.queue.items ++ frames_waiting a.out.items;
+      sessions = a.sessions;
+    } };
 
-    ghost invariant = { λ a. Stands a.settings a.phase a.peer_limit a.connection.value × (fits 512 (own_open a.settings) ≡ true) × (512 ≤ limit_of a.peer_limit) };
+    ghost invariant = { λ a.
+        Stands S.does a.settings a.phase a.peer_limit a.sessions
+        × (fits 512 (own_open a.settings) ≡ true)
+        × (512 ≤ limit_of a.peer_limit)
+        × AllWithin (limit_of a.peer_limit) (a.queue.items ++ frames_waiting a.out.items) };
 }
 
-impl Endpoint {
+impl<S: SessionRelay> Endpoint<S> {
     /// A new endpoint, with no connection.
     ///
     /// `LimitUnder512` where max_frame_size is under 512 (part 2, 2.7.1), then `WindowOutOfRange` where
     /// incoming_window is 0 or above 2,147,483,647, then `FrameTooLarge` where the own Open has more than 512
     /// bytes. `Memory` where there is no memory.
     pub fn new(alloc: Global, settings: Settings) -> Result<Self, EndpointError>
-        ensures ok { IfOk result (λ endpoint. (refusal_of_settings settings ≡ None) × (endpoint ≡ fresh settings)) }
+        ensures ok { IfOk result (λ endpoint. (refusal_of_settings settings ≡ None)
+            × ((sessions : S) × IsNew S.does settings sessions × (endpoint ≡ fresh settings sessions))) }
         ensures err { IfErr result (λ e. (e ≡ Memory) ⊎ (refusal_of_settings settings ≡ Some e)) }
     {
         if settings.max_frame_size < MIN_MAX_FRAME_SIZE {
@@ -70,16 +93,23 @@ impl Endpoint {
         if settings.incoming_window > MAX_WINDOW {
             return Err(EndpointError::WindowOutOfRange);
         }
-        let connection = Box::new(alloc, unopened(alloc, &settings)?)?;
+        let connection = unopened(alloc, &settings)?;
+        let sessions = S::new(
+            alloc,
+            connection,
+            settings.first_transfer_number,
+            settings.incoming_window,
+        )?;
         Ok(Endpoint {
             alloc,
             settings,
-            connection,
             phase: Phase::Unconnected,
             peer_limit: None,
             close_told: false,
             input: BytesMut::new(alloc),
             queue: VecDeque::new(alloc),
+            out: VecDeque::new(alloc),
+            sessions,
         })
     }
 
@@ -88,19 +118,20 @@ impl Endpoint {
     /// `AlreadyConnected` where there is a connection, also one that is closed: `break_off` ends it. `Memory`
     /// where there is no memory. A refusal changes nothing.
     pub fn connect(&mut self) -> Result<(), EndpointError>
-        ensures ok { OnOk result ((refusal self.old Call.Connect ≡ None) × (self.new ≡ connected self.old)) }
+        ensures ok { OnOk result ((refusal self.old Call.Connect ≡ None) × (self.new ≡ connected S.does self.old)) }
         ensures err { IfErr result (λ e. MayRefuse self.old Call.Connect e × (self.new ≡ self.old)) }
     {
         if self.phase != Phase::Unconnected {
             return Err(EndpointError::AlreadyConnected);
         }
         let queue = greeting(self.alloc)?;
-        greet(self.alloc, &mut *self.connection);
+        greet_anew(self.alloc, &mut self.sessions);
         self.phase = Phase::Greeting;
         self.peer_limit = None;
         self.close_told = false;
         self.input = BytesMut::new(self.alloc);
         self.queue = queue;
+        self.out = VecDeque::new(self.alloc);
         Ok(())
     }
 
@@ -109,29 +140,49 @@ impl Endpoint {
     ///
     /// `Memory` where there is no memory for the bytes: what they are written of stays queued.
     pub fn pull(&mut self) -> Result<Option<Vec<u8>>, EndpointError>
-        ensures ok { IfOk result (λ pulled. MatchOption pulled (Pulls self.old None self.new) (λ bytes. Pulls self.old (Some (bytes.items)) self.new)) }
+        ensures ok { IfOk result (λ pulled. MatchOption pulled (Pulls self.old None self.new)
+            (λ bytes. Pulls self.old (Some (bytes.items)) self.new)) }
         ensures err { IfErr result (λ e. (e ≡ Memory) × (self.new ≡ self.old)) }
     {
-        let Some(first) = self.queue.front() else {
+        let Some(bytes) = self.peek()? else {
             return Ok(None);
         };
-        let bytes = first.to_vec(self.alloc)?;
-        let _ = self.queue.pop_front();
+        self.take_first();
         Ok(Some(bytes))
+    }
+
+    /// What `pull` would give, which stays queued.
+    ///
+    /// `Memory` where there is no memory for the bytes.
+    pub fn peek(&mut self) -> Result<Option<Vec<u8>>, EndpointError>
+        ensures ok { IfOk result (λ seen. MatchOption seen (self.old.queue ≡ [])
+            (λ bytes. (first : Waiting) × IsFirst self.old.queue first × (bytes.items ≡ text_of first))) }
+        ensures err { IfErr result (λ e. e ≡ Memory) }
+        ensures same { self.new ≡ self.old }
+    {
+        let limit = self.limit();
+        first_bytes(self.alloc, limit, &mut self.queue, &mut self.out)
+    }
+
+    /// Takes out what was queued first, if something is. It takes no memory.
+    pub fn take_first(&mut self)
+        ensures { self.new ≡ record self.old { queue = drop 1 self.old.queue } }
+    {
+        drop_first(&mut self.queue, &mut self.out);
     }
 
     /// How many answers of bytes `pull` still gives.
     pub fn queued(&self) -> usize
         ensures { result ≡ length self.now.queue }
     {
-        self.queue.len()
+        self.queue.len() + self.out.len()
     }
 
     /// Whether nothing is queued.
     pub fn is_idle(&self) -> bool
         ensures { result ≡ (length self.now.queue == 0) }
     {
-        self.queue.is_empty()
+        self.queued() == 0
     }
 
     /// Queues a frame that says nothing, so that the peer sees a sign of life (part 2, 2.4.5).
@@ -149,17 +200,20 @@ impl Endpoint {
         if self.own_close() {
             return Err(EndpointError::NotConnected);
         }
-        self.queue.push_back(Queued::frame(Frame::empty()))?;
+        gather(&mut self.queue, &mut self.out)?;
+        self.queue.push_back_reserved(Queued::frame(Frame::empty()));
         Ok(())
     }
 
     /// Ends the connection without a frame. What is queued and unread goes.
     pub fn break_off(&mut self)
-        ensures { self.new ≡ broken self.old }
+        ensures { Breaks S.does self.old self.new }
     {
+        self.sessions.finish();
         self.phase = Phase::Unconnected;
         self.input = BytesMut::new(self.alloc);
         self.queue = VecDeque::new(self.alloc);
+        self.out = VecDeque::new(self.alloc);
     }
 
     /// Queues the own Close, without an error (part 2, 2.7.9). The peer's frames are read on until its Close.
@@ -168,9 +222,11 @@ impl Endpoint {
     /// `Memory` where there is no memory. A refusal changes nothing.
     pub fn close(&mut self) -> Result<(), EndpointError>
         ensures ok { OnOk result ((refusal self.old Call.Close ≡ None)
+            × ClosesOwn S.does self.old.sessions self.new.sessions
             × (self.new ≡ record self.old {
               own_close = true;
               queue = self.old.queue ++ the_frame (own_close_with None) ∷ [];
+              sessions = self.new.sessions;
             })) }
         ensures err { IfErr result (λ e. MayRefuse self.old Call.Close e × (self.new ≡ self.old)) }
     {
@@ -181,7 +237,9 @@ impl Endpoint {
         if self.own_close() {
             return Err(EndpointError::IllegalState);
         }
-        self.send_close(None)
+        self.send_close(None)?;
+        self.sessions.leave();
+        Ok(())
     }
 
     /// Whether both Close went since the latest `connect`: the own one was queued, and the peer's came.
@@ -196,7 +254,8 @@ impl Endpoint {
     /// `RemoteCloseNotReceived` where it hasn't come since the latest `connect`, `AlreadyClosed` where an Ok
     /// told of it before. A refusal changes nothing.
     pub fn try_close(&mut self) -> Result<(), TryCloseError>
-        ensures ok { OnOk result ((close_refusal self.old ≡ None) × (self.new ≡ record self.old { close_told = true })) }
+        ensures ok { OnOk result ((close_refusal self.old ≡ None)
+            × (self.new ≡ record self.old { close_told = true })) }
         ensures err { IfErr result (λ e. (close_refusal self.old ≡ Some e) × (self.new ≡ self.old)) }
     {
         if !self.peer_close() {
@@ -211,7 +270,7 @@ impl Endpoint {
 
     /// One call, and what it answers.
     pub fn call(&mut self, call: &Call) -> Answer
-        ensures { Step self.old call.now (said result) self.new }
+        ensures { Step S.does self.old call.now (said result) self.new }
     {
         match call {
             Call::Connect => done(self.connect()),
@@ -243,7 +302,7 @@ impl Endpoint {
     fn own_close(&self) -> bool
         ensures { result ≡ self.now.own_close }
     {
-        match self.connection.local_state() {
+        match self.sessions.connection().local_state() {
             ConnectionState::OpenClosePipe
             | ConnectionState::ClosePipe
             | ConnectionState::CloseSent
@@ -257,9 +316,19 @@ impl Endpoint {
     fn peer_close(&self) -> bool
         ensures { result ≡ self.now.peer_close }
     {
-        match self.connection.local_state() {
+        match self.sessions.connection().local_state() {
             ConnectionState::CloseReceived | ConnectionState::End => true,
             _ => false,
+        }
+    }
+
+    /// The longest frame that the peer takes, as far as it is known.
+    fn limit(&self) -> u32
+        ensures { result ≡ limit_of self.now.peer_limit }
+    {
+        match self.peer_limit {
+            Some(limit) => limit,
+            None => MIN_MAX_FRAME_SIZE,
         }
     }
 
@@ -269,14 +338,16 @@ impl Endpoint {
         requires short { fits 512 (own_close_with error) ≡ true }
         requires opened { has_opened self.old.phase ≡ true }
         requires first { self.old.own_close ≡ false }
-        ensures ok { OnOk result (self.new ≡ record self.old {
-          own_close = true;
-          queue = self.old.queue ++ the_frame (own_close_with error) ∷ [];
-        }) }
+        ensures ok { OnOk result (MovesBy S.does (after_send_close (is_some error)) self.old.sessions self.new.sessions
+            × (self.new ≡ record self.old {
+              own_close = true;
+              queue = self.old.queue ++ the_frame (own_close_with error) ∷ [];
+              sessions = self.new.sessions;
+            })) }
         ensures err { IfErr result (λ e. (e ≡ Memory) × (self.new ≡ self.old)) }
     {
-        self.queue.reserve(1)?;
-        let close = close(&mut *self.connection, error)?;
+        gather(&mut self.queue, &mut self.out)?;
+        let close = send_close(&mut self.sessions, error)?;
         self.queue.push_back_reserved(close);
         Ok(())
     }

@@ -5,8 +5,11 @@ mod coding;
 mod condition;
 mod connecting;
 mod endpoint;
+pub mod laws;
+mod no_sessions;
 mod playing;
 mod queued;
 
 pub use endpoint::Endpoint;
+pub use no_sessions::NoSessions;
 pub use playing::play;

@@ -1,4 +1,5 @@
 ghost use Rattle.std.specs.Prelude.{◌≡◌, ◌⊎◌, map, Some, None, IfOk, IfErr};
+ghost use Rattle.amqp_endpoint_model.specs.Relay.{IsNew};
 ghost use Rattle.amqp_endpoint_model.specs.State.{State, fresh};
 ghost use Rattle.amqp_endpoint_model.specs.Said.{told};
 ghost use Rattle.amqp_endpoint_model.specs.Step.{refusal_of_settings};
@@ -6,7 +7,7 @@ ghost use Rattle.amqp_endpoint_model.specs.History.{KeepsLimit, Pieces, Run, not
 ghost use Rattle.amqp_endpoint_model.specs.declared.error.EndpointError.TheVariants.{Memory};
 
 use crate::endpoint::Endpoint;
-use amqp_endpoint_model::{Call, EndpointError, Reply, Settings};
+use amqp_endpoint_model::{Call, EndpointError, Reply, SessionRelay, Settings};
 use std::alloc::Global;
 
 /// Steps one endpoint by these calls, whatever its peer sends, and gives what each answered.
@@ -16,15 +17,21 @@ use std::alloc::Global;
 /// within the peer's limit as it was given (part 2, 2.4.1, 2.7.1).
 ///
 /// The errors are those of `Endpoint::new`. `Memory` also where there is no memory for the replies.
-pub fn play(alloc: Global, settings: Settings, calls: &[Call]) -> Result<Vec<Reply>, EndpointError>
+pub fn play<S: SessionRelay>(
+    alloc: Global,
+    settings: Settings,
+    calls: &[Call],
+) -> Result<Vec<Reply>, EndpointError>
     ensures accepted { IfOk result (λ replies. refusal_of_settings settings ≡ None) }
-    ensures run { IfOk result (λ replies. (end : State) × Run (fresh settings) calls.now (map told replies.items) end) }
-    ensures pieces { IfOk result (λ replies. Pieces settings.max_frame_size (summary nothing calls.now (map told replies.items))) }
+    ensures run { IfOk result (λ replies. (sessions : S) × (end : State S) × IsNew S.does settings sessions
+        × Run S.does (fresh settings sessions) calls.now (map told replies.items) end) }
+    ensures pieces { IfOk result (λ replies. Pieces S.does settings.max_frame_size
+        (summary nothing calls.now (map told replies.items))) }
     ensures limit { IfOk result (λ replies. KeepsLimit nothing calls.now (map told replies.items)) }
     ensures err { IfErr result (λ e. (e ≡ Memory) ⊎ (refusal_of_settings settings ≡ Some e)) }
 {
     let mut replies = Vec::with_capacity(alloc, calls.len())?;
-    let mut endpoint = Endpoint::new(alloc, settings)?;
+    let mut endpoint = Endpoint::<S>::new(alloc, settings)?;
     for call in calls {
         let answer = endpoint.call(call);
         let queued = endpoint.queued();

@@ -1,13 +1,16 @@
-ghost use Rattle.std.specs.Prelude.{◌≡◌, ◌+◌, ◌<◌, ◌^◌, true, None, length, IfErr, IfOk};
+ghost use Rattle.std.specs.Prelude.{◌≡◌, ◌+◌, ◌<◌, ◌≤◌, ◌^◌, ◌++◌, [], true, drop, length, IfErr, IfOk, MatchOption, OnErr, OnOk};
 ghost use Rattle.amqp_session_frames.specs.Cutting.{with_size};
-ghost use Rattle.amqp_endpoint_model.specs.State.{fits, text_of, the_frame, the_header, written};
-ghost use Rattle.amqp_endpoint_model.specs.Step.{session_refusal};
+ghost use Rattle.amqp_endpoint_model.specs.State.{Waiting, body_of, fits, text_of, the_frame, the_header, waiting_of, written};
 ghost use Rattle.amqp_endpoint_model.specs.declared.error.EndpointError.TheVariants.{Memory};
+ghost use Rattle.amqp_endpoint_core.specs.Queue.{AllWithin, IsFirst, IsWithin, frames_waiting};
+ghost use Rattle.std.specs.VecDeque.{deque_capacity, deque_len};
 
 use crate::coding::{PROTOCOL_HEADER, SIZE_FIELD, encoded};
 use amqp_endpoint_model::EndpointError;
-use amqp_session_frames::{Frame, Piece};
+use amqp_session_frames::{Frame, FrameBody, Piece};
+use amqp_session_performatives::{SessionFrame, SessionFrameBody};
 use std::alloc::{AllocError, Global};
+use std::collections::VecDeque;
 use std::marker::Model;
 
 #[derive(Drop)]
@@ -29,11 +32,9 @@ impl Model for Queued {
 
     ghost Value = { Waiting };
 
-    ghost use Rattle.amqp_endpoint_core.specs.Queue.{waiting_of, IsShort};
+    ghost use Rattle.amqp_endpoint_core.specs.Queue.{said_by};
 
-    ghost view = { λ q. waiting_of q.content };
-
-    ghost invariant = { λ q. IsShort q.content };
+    ghost view = { λ q. said_by q.content };
 }
 
 impl Queued {
@@ -46,10 +47,8 @@ impl Queued {
         }
     }
 
-    /// A frame of no session that fits any peer's limit.
+    /// A frame.
     pub(crate) fn frame(frame: Frame) -> Self
-        requires own { session_refusal frame.body ≡ None }
-        requires short { fits 512 frame ≡ true }
         ensures { result ≡ the_frame frame }
     {
         Queued {
@@ -57,38 +56,154 @@ impl Queued {
         }
     }
 
-    /// The bytes. It is refused where there is no memory for them.
-    pub(crate) fn to_vec(&self, alloc: Global) -> Result<Vec<u8>, EndpointError>
+    /// A frame of a session.
+    pub(crate) fn of_session(frame: SessionFrame) -> Self
+        ensures { result ≡ waiting_of frame }
+    {
+        let SessionFrame { channel, body } = frame;
+        Queued::frame(Frame::new(channel, body_of(body)))
+    }
+
+    /// The bytes: those of a frame are at most `limit`. It is refused where there is no memory for them.
+    pub(crate) fn to_vec(&self, alloc: Global, limit: u32) -> Result<Vec<u8>, EndpointError>
+        requires least { 512 ≤ limit }
+        requires within { IsWithin limit self.now }
         ensures ok { IfOk result (λ v. v.items ≡ text_of self.now) }
         ensures err { IfErr result (λ e. e ≡ Memory) }
     {
         match &self.content {
             Content::Header => Ok(Vec::from_slice(alloc, PROTOCOL_HEADER)?),
-            Content::Frame(frame) => frame_bytes(alloc, frame),
+            Content::Frame(frame) => frame_bytes(alloc, limit, frame),
         }
     }
 }
 
-/// What a frame of no session that fits any peer's limit is written as.
-fn frame_bytes(alloc: Global, frame: &Frame) -> Result<Vec<u8>, EndpointError>
-    requires own { session_refusal frame.now.body ≡ None }
-    requires short { fits 512 frame.now ≡ true }
+/// Puts the frame that sessions sent first behind what waits, where nothing else does. Nothing changes where there is
+/// no memory.
+fn advance(queue: &mut VecDeque<Queued>, out: &mut VecDeque<SessionFrame>) -> Result<(), AllocError>
+    ensures same { queue.new.items ++ frames_waiting out.new.items ≡ queue.old.items ++ frames_waiting out.old.items }
+    ensures first { OnOk result (queue.new.items ≡ [] → out.new.items ≡ []) }
+{
+    if !queue.is_empty() {
+        return Ok(());
+    }
+    queue.reserve(1)?;
+    let Some(frame) = out.pop_front() else {
+        return Ok(());
+    };
+    queue.push_back_reserved(Queued::of_session(frame));
+    Ok(())
+}
+
+/// The bytes of what waits first, which stays there. None where nothing waits. It is refused where there is no memory.
+pub(crate) fn first_bytes(
+    alloc: Global,
+    limit: u32,
+    queue: &mut VecDeque<Queued>,
+    out: &mut VecDeque<SessionFrame>,
+) -> Result<Option<Vec<u8>>, EndpointError>
+    requires least { 512 ≤ limit }
+    requires within { AllWithin limit (queue.old.items ++ frames_waiting out.old.items) }
+    ensures ok { IfOk result (λ seen. MatchOption seen ((queue.old.items ++ frames_waiting out.old.items) ≡ [])
+        (λ bytes. (first : Waiting) × IsFirst (queue.old.items ++ frames_waiting out.old.items) first
+        × (bytes.items ≡ text_of first))) }
+    ensures err { IfErr result (λ e. e ≡ Memory) }
+    ensures same { queue.new.items ++ frames_waiting out.new.items ≡ queue.old.items ++ frames_waiting out.old.items }
+{
+    advance(queue, out)?;
+    let Some(first) = queue.front() else {
+        return Ok(None);
+    };
+    Ok(Some(first.to_vec(alloc, limit)?))
+}
+
+/// Takes out what waits first, if something does.
+pub(crate) fn drop_first(queue: &mut VecDeque<Queued>, out: &mut VecDeque<SessionFrame>)
+    ensures { queue.new.items ++ frames_waiting out.new.items
+        ≡ drop 1 (queue.old.items ++ frames_waiting out.old.items) }
+{
+    if queue.is_empty() {
+        drop_sent(out);
+        return;
+    }
+    drop_waiting(queue);
+}
+
+/// Takes out what waits first.
+fn drop_waiting(queue: &mut VecDeque<Queued>)
+    ensures { queue.new.items ≡ drop 1 queue.old.items }
+{
+    let _ = queue.pop_front();
+}
+
+/// Takes out what sessions sent first.
+fn drop_sent(out: &mut VecDeque<SessionFrame>)
+    ensures { out.new.items ≡ drop 1 out.old.items }
+{
+    let _ = out.pop_front();
+}
+
+/// Puts all frames that sessions sent behind what waits, and makes room for one more. Nothing changes where there is no
+/// memory.
+pub(crate) fn gather(
+    queue: &mut VecDeque<Queued>,
+    out: &mut VecDeque<SessionFrame>,
+) -> Result<(), AllocError>
+    ensures ok { OnOk result ((queue.new.items ≡ queue.old.items ++ frames_waiting out.old.items)
+        × (out.new.items ≡ []) × (deque_len queue.new < deque_capacity queue.new)) }
+    ensures err { OnErr result ((queue.new.items ≡ queue.old.items) × (out.new.items ≡ out.old.items)) }
+{
+    let Some(room) = out.len().checked_add(1) else {
+        return Err(AllocError);
+    };
+    queue.reserve(room)?;
+    while let Some(frame) = out.pop_front() {
+        queue.push_back_reserved(Queued::of_session(frame));
+    }
+    Ok(())
+}
+
+/// What a frame that fits the limit is written as.
+fn frame_bytes(alloc: Global, limit: u32, frame: &Frame) -> Result<Vec<u8>, EndpointError>
+    requires least { 512 ≤ limit }
+    requires short { fits limit frame.now ≡ true }
     ensures ok { IfOk result (λ v. v.items ≡ written frame.now) }
     ensures err { IfErr result (λ e. e ≡ Memory) }
 {
-    let piece = piece_of(alloc, frame)?;
+    let piece = piece_of(alloc, limit, frame)?;
     Ok(sized(alloc, &piece)?)
 }
 
-/// The piece of a frame that fits any peer's limit.
-fn piece_of(alloc: Global, frame: &Frame) -> Result<Piece, EndpointError>
-    requires own { session_refusal frame.now.body ≡ None }
-    requires short { fits 512 frame.now ≡ true }
+/// The piece of a frame that fits the limit.
+fn piece_of(alloc: Global, limit: u32, frame: &Frame) -> Result<Piece, EndpointError>
+    requires least { 512 ≤ limit }
+    requires short { fits limit frame.now ≡ true }
     ensures size { IfOk result (λ p. 4 + length p < 2 ^ 32) }
     ensures text { IfOk result (λ p. with_size p ≡ written frame.now) }
     ensures err { IfErr result (λ e. e ≡ Memory) }
 {
-    encoded(alloc, frame)
+    encoded(alloc, limit, frame)
+}
+
+/// What a frame says that says this of a session.
+fn body_of(body: SessionFrameBody) -> FrameBody
+    ensures { result ≡ body_of body }
+{
+    match body {
+        SessionFrameBody::Begin(begin) => FrameBody::Begin(begin),
+        SessionFrameBody::Attach(attach) => FrameBody::Attach(attach),
+        SessionFrameBody::Flow(flow) => FrameBody::Flow(flow),
+        SessionFrameBody::Transfer {
+            performative,
+            payload,
+        } => FrameBody::Transfer {
+            performative,
+            payload,
+        },
+        SessionFrameBody::Disposition(disposition) => FrameBody::Disposition(disposition),
+        SessionFrameBody::Detach(detach) => FrameBody::Detach(detach),
+        SessionFrameBody::End(end) => FrameBody::End(end),
+    }
 }
 
 /// A piece with its size in front.

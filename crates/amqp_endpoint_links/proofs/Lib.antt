@@ -5,3 +5,5 @@ pub mod Projecting
 pub mod Apart
 pub mod Calls
 pub mod Standing
+pub mod Waiting
+pub mod Heard

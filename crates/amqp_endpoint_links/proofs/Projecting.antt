@@ -150,7 +150,8 @@ module _ {R A T D : Type 0} (gives : Relations R A T D) where
   step-within (AnswersLink handle link input) old new s =
       record { steps = Allocates handle link (Some input) ∷ []; are = refl; run = (new.session, s.0, refl) }
 
-  pub joined : (steps later : List (Step R A T D)) (start mid end : State R) → History gives start steps mid → History gives mid later end → History gives start (steps ++ later) end
+  pub joined : (steps later : List (Step R A T D)) (start mid end : State R) → History gives start steps mid
+      → History gives mid later end → History gives start (steps ++ later) end
   joined [] later start mid end run more = subst (λ (s : State R). History gives s later end) run more
   joined (step ∷ steps) later start mid end run more = (run.0, run.1, joined steps later run.0 mid end run.2 more)
 

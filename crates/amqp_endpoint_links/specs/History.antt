@@ -3,34 +3,39 @@ use Rattle.std.specs.Prelude.{◌≡◌, ◌⊎◌, ℕ, List, [], ◌∷◌, �
 use Rattle.std.specs.FinMap as map
 use Rattle.amqp_session_types.specs.declared.handles.OutputHandle.{OutputHandle}
 use Rattle.amqp_session_types.specs.declared.refusals.SessionError.{SessionError}
-use Rattle.amqp_session_performatives.specs.declared.attach.Attach.{Attach}
-use Rattle.amqp_session_performatives.specs.declared.detach.Detach.{Detach}
-use Rattle.amqp_session_performatives.specs.declared.flow.Flow.{Flow}
+use Rattle.amqp_session_performatives.specs.declared.attach.Attach.{Attach as AttachFrame}
+use Rattle.amqp_session_performatives.specs.declared.detach.Detach.{Detach as DetachFrame}
+use Rattle.amqp_session_performatives.specs.declared.disposition.Disposition.{Disposition as DispositionFrame}
+use Rattle.amqp_session_performatives.specs.declared.flow.Flow.{Flow as FlowFrame}
 use Rattle.amqp_session_performatives.specs.declared.link_flow.LinkFlow.{LinkFlow}
 use Rattle.amqp_session_performatives.specs.declared.session_frame.SessionFrame.{SessionFrame}
 use Rattle.amqp_session_core.specs.declared.relay.RelayError.{RelayError}
+use Rattle.amqp_session_core.specs.declared.relay.TransferAnswer.{TransferAnswer}
+use Rattle.amqp_session_core.specs.Echoes.{Reach}
 use Rattle.amqp_session_core.specs.Frames.{Left}
 use Rattle.amqp_session_core.specs.History.{CallKeeps, frees}
 use Rattle.amqp_session_core.specs.Relay.{Relations}
-use Rattle.amqp_session_core.specs.Steps.{Step, Steps, Reply, TakesAttach as SessionAttaches, TakesFlow as SessionFlows, SetsWindow, TakesDetach as SessionDetaches, Allocates}
+use Rattle.amqp_session_core.specs.Steps.{Step, Steps, Reply, TakesAttach as SessionAttaches, TakesFlow as SessionFlows, SetsWindow, TakesDetach as SessionDetaches, Allocates, TakesTransfer, TakesDisposition}
 use Rattle.amqp_endpoint_asked.specs.AskedSession.{session_part}
 use Rattle.amqp_endpoint_links.specs.declared.asking.AskingSession.{AskingSession}
 use Rattle.amqp_endpoint_links.specs.declared.asking.NamedLink.{NamedLink}
 use Rattle.amqp_endpoint_links.specs.declared.asking.NamedLink.TheVariants.{Waiting}
 use Rattle.amqp_endpoint_links.specs.declared.asking.AttachTaken.{AttachTaken}
 use Rattle.amqp_endpoint_links.specs.declared.asking.DetachTaken.{DetachTaken}
+use Rattle.amqp_endpoint_links.specs.declared.hearing.LinkPerformative.{LinkPerformative}
+use Rattle.amqp_endpoint_links.specs.declared.hearing.LinkPerformative.TheVariants.{Attach, Flow, Transfer, Disposition, Detach}
 use Rattle.amqp_endpoint_links.specs.Asking.{AttachAnswered, FlowAnswered, DetachAnswered}
 
 -- a call, what it was given, and what it answered
 pub data AskingStep (R A T D : Type 0) : Type 0 where
   -- the session itself does something, and the asked links stay
   InSession : (step : Step R A T D) → AskingStep R A T D
-  TakesAttach : (attach : Attach) (named : NamedLink) (result : Result (AttachTaken A) SessionError)
+  TakesAttach : (attach : AttachFrame) (named : NamedLink) (result : Result (AttachTaken A) SessionError)
       → AskingStep R A T D
   -- a Flow is taken, with what was handed out before and what is behind it
-  TakesFlow : (out : List SessionFrame) (flow : Flow) (result : Result ⊤ SessionError) (out_new : List SessionFrame)
-      → AskingStep R A T D
-  TakesDetach : (detach : Detach) (result : Result (DetachTaken D) SessionError) → AskingStep R A T D
+  TakesFlow : (out : List SessionFrame) (flow : FlowFrame) (result : Result ⊤ SessionError)
+      (out_new : List SessionFrame) → AskingStep R A T D
+  TakesDetach : (detach : DetachFrame) (result : Result (DetachTaken D) SessionError) → AskingStep R A T D
   -- a link that answers an asked one, or another, gets an own handle, and is reached by this handle of the peer's
   AnswersLink : (handle : ℕ) (link : R) (input : ℕ) → AskingStep R A T D
 
@@ -60,14 +65,14 @@ module _ {R A T D : Type 0} where
   AtMostOne is (step ∷ next ∷ steps) = ⊥
 
   -- the link that waits takes this Attach
-  pub record IsAttach (attach : Attach) (named : NamedLink) (step : Step R A T D) : Type 0 where
+  pub record IsAttach (attach : AttachFrame) (named : NamedLink) (step : Step R A T D) : Type 0 where
     pub handle : OutputHandle
     pub told : Result A RelayError
     pub waits : named ≡ Waiting handle
     pub is : step ≡ SessionAttaches handle.0 attach told
 
   -- this Flow is taken, with or without a link
-  pub record IsTaken (flow : Flow) (step : Step R A T D) : Type 0 where
+  pub record IsTaken (flow : FlowFrame) (step : Step R A T D) : Type 0 where
     pub told : Option (ℕ × Result (Option LinkFlow) RelayError)
     pub reply : Reply
     pub base : ℕ
@@ -77,11 +82,11 @@ module _ {R A T D : Type 0} where
 
   -- the session takes this Flow, or what it tells of the session alone; or its window is set, where no link has the
   -- handle
-  abbrev pub IsFlow : Flow → Step R A T D → Type 0
+  abbrev pub IsFlow : FlowFrame → Step R A T D → Type 0
   IsFlow flow step = IsTaken flow step ⊎ IsTaken (session_part flow) step ⊎ ((base : ℕ) × (step ≡ SetsWindow flow base))
 
   -- a link takes this Detach
-  pub record IsDetach (detach : Detach) (step : Step R A T D) : Type 0 where
+  pub record IsDetach (detach : DetachFrame) (step : Step R A T D) : Type 0 where
     pub handle : ℕ
     pub told : Result D RelayError
     pub is : step ≡ SessionDetaches handle detach told
@@ -133,3 +138,25 @@ module _ {R A T D : Type 0} where
   abbrev pub RouteNone : List (AskingStep R A T D) → Type 0
   RouteNone [] = Unit {0}
   RouteNone (step ∷ steps) = RoutesNone step × RouteNone steps
+
+  -- a call takes what the peer says
+  abbrev pub IsHearing : LinkPerformative → AskingStep R A T D → Type 0
+  IsHearing (Attach attach named) step =
+      (result : Result (AttachTaken A) SessionError) × (step ≡ TakesAttach attach named result)
+  IsHearing (Flow flow) step =
+      (out : List SessionFrame) × (result : Result ⊤ SessionError) × (out_new : List SessionFrame)
+      × (step ≡ TakesFlow out flow result out_new)
+  IsHearing (Transfer transfer payload) step =
+      (handle : ℕ) × (told : Result (TransferAnswer T) RelayError) × (due : Option SessionFrame)
+      × (step ≡ InSession (TakesTransfer handle transfer payload told due))
+  IsHearing (Disposition disposition) step =
+      (walk : List Reach) × (echoes : List DispositionFrame)
+      × (step ≡ InSession (TakesDisposition disposition walk echoes))
+  IsHearing (Detach detach) step =
+      (result : Result (DetachTaken D) SessionError) × (step ≡ TakesDetach detach result)
+
+  -- one at most does
+  abbrev pub AreHearing : LinkPerformative → List (AskingStep R A T D) → Type 0
+  AreHearing said [] = Unit {0}
+  AreHearing said (step ∷ []) = IsHearing said step
+  AreHearing said (step ∷ next ∷ steps) = ⊥

@@ -2,3 +2,4 @@ pub mod Numbering
 pub mod Asking
 pub mod Beginning
 pub mod History
+pub mod Hearing

@@ -1,8 +1,9 @@
 //! Laws of histories: of a link with its number, and of a session with the links that its peer asks for.
-ghost use Rattle.std.specs.Prelude.{◌≡◌, ℕ, List, ◌∷◌, ◌++◌, IsSome, None, Some, false};
+ghost use Rattle.std.specs.Prelude.{◌≡◌, ℕ, List, ◌∷◌, ◌++◌, IsSome, None, Some, Result, false};
 ghost use Rattle.std.specs.FinMap as map;
 ghost use Rattle.amqp_session_types.specs.declared.channels.IncomingChannel.{IncomingChannel};
 ghost use Rattle.amqp_session_types.specs.declared.channels.OutgoingChannel.{OutgoingChannel};
+ghost use Rattle.amqp_session_types.specs.declared.refusals.SessionError.{SessionError};
 ghost use Rattle.amqp_session_performatives.specs.declared.session_frame.SessionFrame.{SessionFrame};
 ghost use Rattle.amqp_session_core.specs.History.{History, OwnersKeep, is_freed, own_of};
 ghost use Rattle.amqp_session_core.specs.Relay.{LinkHistory, LinkStep, OwnerKeeps};
@@ -10,9 +11,12 @@ ghost use Rattle.amqp_session_core.specs.State.{fresh, link_at, reached};
 ghost use Rattle.amqp_session_core.specs.Steps.{Step, SendsBegin};
 ghost use Rattle.amqp_endpoint_asked.specs.declared.session.AskedSession.{AskedSession};
 ghost use Rattle.amqp_endpoint_links.specs.Beginning.{Begun, Accepted, accept_steps, begin_frame, begun_state, accepted_with};
-ghost use Rattle.amqp_endpoint_links.specs.History.{AskingStep, AskingHistory, AreDoneBy, AllKeep, RouteNone, is_handle_freed};
+ghost use Rattle.amqp_endpoint_links.specs.Hearing.{Hears};
+ghost use Rattle.amqp_endpoint_links.specs.History.{AskingStep, AskingHistory, AreDoneBy, AreHearing, AllKeep, RouteNone, is_handle_freed};
 ghost use Rattle.amqp_endpoint_links.specs.Numbering.{keeping, numbered, without_numbers};
 ghost use Rattle.amqp_endpoint_links.specs.declared.asking.AskingSession.{AskingSession};
+ghost use Rattle.amqp_endpoint_links.specs.declared.hearing.LinkPerformative.{LinkPerformative};
+ghost use Rattle.amqp_endpoint_links.specs.declared.hearing.PerformativeTaken.{PerformativeTaken};
 ghost use Rattle.amqp_endpoint_links.specs.declared.numbered.Numbered.{Numbered};
 
 use amqp_session_core::{LinkOwner, LinkRelay};
@@ -115,4 +119,18 @@ pub fn an_asked_handle_leads_to_no_link<R: LinkRelay>()
         start.session.routes ≡ map.empty → AskingHistory R.gives start steps end → RouteNone steps →
         (handle : ℕ) → IsSome (map.get end.asked handle) →
         (map.get end.session.routes handle ≡ None) × (reached end.session handle ≡ None) }
+{}
+
+/// What a session hears of its peer is one of its calls at most, and nothing where nothing changed. It takes no own
+/// handle back, no owner changes a link by it, and no handle of the peer's comes to lead to a link by it but where an
+/// Attach is taken: so the laws above hold of a session that is told all by `AskingSession::on_incoming`.
+pub fn what_is_heard_is_a_call<R: LinkRelay, O: LinkOwner<R>>()
+    ensures call { (old new : AskingSession R) (out out_new : List SessionFrame) (said : LinkPerformative)
+        (told : Result (PerformativeTaken R.Attached R.Transferred R.Detached) SessionError) →
+        Hears R.gives old out said told new out_new →
+        (steps : List (AskingStep R R.Attached R.Transferred R.Detached)) × AreHearing said steps
+        × AskingHistory R.gives old steps new }
+    ensures plain { (said : LinkPerformative) (steps : List (AskingStep R R.Attached R.Transferred R.Detached)) →
+        AreHearing said steps →
+        ((link : ℕ) → is_handle_freed link steps ≡ false) × AllKeep O.keeps steps × RouteNone steps }
 {}

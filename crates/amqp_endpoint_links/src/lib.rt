@@ -4,8 +4,10 @@
 
 mod asking;
 mod beginning;
+mod hearing;
 pub mod laws;
 mod numbered;
 
 pub use asking::{AskingSession, AttachTaken, DetachTaken, NamedLink};
+pub use hearing::{LinkPerformative, PerformativeTaken, hear_asked};
 pub use numbered::Numbered;

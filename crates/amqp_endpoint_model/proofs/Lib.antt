@@ -2,12 +2,14 @@ pub mod Texts
 pub mod Takings
 pub mod Joins
 pub mod Recuts
+pub mod Moves
 pub mod Endings
 pub mod Decides
 pub mod Stepped
 pub mod PieceLaws
 pub mod Keeping
 pub mod StandardFacts
+pub mod JudgeReads
 pub mod LimitLaws
 pub mod BytesDecide
 pub mod JudgeLaws

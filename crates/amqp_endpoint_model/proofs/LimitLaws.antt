@@ -1,9 +1,11 @@
 -- What is pulled is within the limit of a judge of the wire.
-use Rattle.std.proofs.Common.{◌≡◌, ℕ, ◌≤◌, Bool, true, false, List, [], ◌∷◌, ◌++◌, length, refl, sym, ap, arith, subst, Option, Some, None, inl, inr}
-use Rattle.std.specs.Prelude.{if◌then◌else◌, ◌==◌, ◌||◌, is_none, nat_lt, nat_le, ◌^◌}
+use Rattle.std.proofs.Common.{◌≡◌, ◌≢◌, ℕ, ◌≤◌, Bool, true, false, List, [], ◌∷◌, ◌++◌, length, refl, sym, ◌∙◌, ap, arith, subst, Option, Some, None, inl, inr}
+use Rattle.std.specs.Prelude.{if◌then◌else◌, ◌==◌, ◌&&◌, ◌||◌, not, is_none, nat_lt, nat_le, ◌^◌, map, All}
 use Rattle.std.proofs.lemmas.Bool.Decides.{nat_tests}
+use Rattle.std.proofs.lemmas.List.Elements.{All-head, All-tail}
 use Rattle.amqp_session_types.specs.declared.refusals.ConnectionError.{ConnectionError}
 use Rattle.amqp_session_types.specs.declared.refusals.ConnectionError.TheVariants.{NotFound}
+use Rattle.amqp_session_performatives.specs.declared.session_frame.SessionFrame.{SessionFrame}
 use Rattle.amqp_session_frames.specs.declared.error.Error.{Error as FrameError}
 use Rattle.amqp_session_frames.specs.declared.error.Error.TheVariants.{DecodeError}
 use Rattle.amqp_session_frames.specs.declared.frame.Frame.{Frame}
@@ -11,64 +13,93 @@ use Rattle.amqp_session_frames.specs.declared.frame.FrameBody.{FrameBody}
 use Rattle.amqp_session_frames.specs.declared.frame.FrameBody.TheVariants.{Empty, Open, Close}
 use Rattle.amqp_session_frames.specs.Text.{frame_text}
 use Rattle.amqp_endpoint_model.specs.declared.error.EndpointError.{EndpointError}
-use Rattle.amqp_endpoint_model.specs.declared.error.EndpointError.TheVariants.{Memory, LimitUnder512, WindowOutOfRange, FrameTooLarge, SizeUnder8, SizeOverLimit, PeerLimitUnder512, Frame as FrameFault, Connection}
+use Rattle.amqp_endpoint_model.specs.declared.error.EndpointError.TheVariants.{LimitUnder512, WindowOutOfRange, FrameTooLarge, SizeUnder8, SizeOverLimit, PeerLimitUnder512, NotConnected, IllegalState, Frame as FrameFault, Connection, Session}
 use Rattle.amqp_endpoint_model.specs.declared.event.Event.{Event}
 use Rattle.amqp_endpoint_model.specs.declared.phase.Phase.{Phase}
 use Rattle.amqp_endpoint_model.specs.declared.phase.Phase.TheVariants.{Unconnected, Greeting, Running, Over}
 use Rattle.amqp_endpoint_model.specs.declared.settings.Settings.{Settings}
 use Rattle.amqp_endpoint_model.specs.declared.call.Call.{Call}
 use Rattle.amqp_endpoint_model.specs.declared.call.Call.TheVariants.{Connect, Feed, Pull, Queued, IsIdle, Heartbeat, BreakOff, Close as CloseCall, IsClosed, TryClose}
+use Rattle.amqp_endpoint_model.specs.Relay.{Relations}
 use Rattle.amqp_endpoint_model.specs.Said.{Said, done, refused, fed, pulled, count, truth, tried_close, Told}
-use Rattle.amqp_endpoint_model.specs.State.{State, Waiting, the_frame, text_of, fresh, written, text_or_nothing, text_fits, fits, own_open, own_close_with, heartbeat, error_of}
-use Rattle.amqp_endpoint_model.specs.Step.{TakesBody, TakesAll, EndsRunning, Ends, ReadsOn, FeedsIn, opened, faulted, condition_of_frame, condition_of_connection, framing_error, decode_error, not_allowed, not_found, refusal_of_settings, Step}
-use Rattle.amqp_endpoint_model.specs.History.{Run, Summary, nothing, note, agreed, JudgedBy, judge_limit, IsWithin, KeepsLimit}
-use Rattle.amqp_endpoint_model.proofs.Recuts.{FeedSaid}
-use Rattle.amqp_endpoint_model.proofs.Keeping.{step-settings}
+use Rattle.amqp_endpoint_model.specs.State.{State, Waiting, the_frame, text_of, fresh, written, text_or_nothing, text_fits, fits, frame_of, waiting_of, own_open, own_close_with, heartbeat, error_of, limit_of, is_running, has_opened}
+use Rattle.amqp_endpoint_model.specs.Step.{SessionsTake, TakesBody, TakesAll, AfterFault, EndsRunning, Ends, ReadsOn, Greets, FeedsIn, opened, cut_off, faulted, condition_of, condition_of_frame, condition_of_connection, framing_error, decode_error, not_allowed, not_found, refusal_of_settings, Step}
+use Rattle.amqp_endpoint_model.specs.History.{Run, Summary, nothing, note, judge_limit, IsWithin, KeepsLimit}
+use Rattle.amqp_endpoint_model.proofs.JudgeReads.{limit-least, read-limit}
+use Rattle.amqp_endpoint_model.proofs.Keeping.{fresh-stands, step-settings}
+use Rattle.amqp_endpoint_model.proofs.PieceLaws.{Stands, StandsAt, greeting_broken, step-stands}
 use Rattle.amqp_endpoint_model.proofs.StandardFacts.{heartbeat_text, close_text, framing_error_text, decode_error_text, not_allowed_text, not_found_text}
 
--- no text is longer than any peer allows
-pub record IsShort (text : List ℕ) : Type 0 where
-  pub short : length text ≤ 512
+-- a text is no longer than this
+pub record Fits (limit : ℕ) (text : List ℕ) : Type 0 where
+  pub short : length text ≤ limit
 
-abbrev pub AllShort : List Waiting → Type 0
-AllShort [] = Unit {0}
-AllShort (w ∷ ws) = IsShort (text_of w) × AllShort ws
+abbrev pub AllFit : ℕ → List Waiting → Type 0
+AllFit limit [] = Unit {0}
+AllFit limit (w ∷ ws) = Fits limit (text_of w) × AllFit limit ws
 
-all-push : (ws : List Waiting) (w : Waiting) → AllShort ws → IsShort (text_of w) → AllShort (ws ++ w ∷ [])
-all-push [] w h s = (s, tt)
-all-push (x ∷ ws) w h s = (h.0, all-push ws w h.1 s)
+fits-more : (small large : ℕ) (text : List ℕ) → small ≤ large → Fits small text → Fits large text
+fits-more small large text le f = record { short = omega (arith, le, f.short) }
 
-heartbeat-short : IsShort (written heartbeat)
+all-more : (small large : ℕ) (ws : List Waiting) → small ≤ large → AllFit small ws → AllFit large ws
+all-more small large [] le h = tt
+all-more small large (w ∷ ws) le h = (fits-more small large (text_of w) le h.0, all-more small large ws le h.1)
+
+all-append : (limit : ℕ) (ws vs : List Waiting) → AllFit limit ws → AllFit limit vs → AllFit limit (ws ++ vs)
+all-append limit [] vs h k = k
+all-append limit (w ∷ ws) vs h k = (h.0, all-append limit ws vs h.1 k)
+
+-- a short text behind the others
+all-push : (limit : ℕ) (ws : List Waiting) (w : Waiting) → 512 ≤ limit → AllFit limit ws → Fits 512 (text_of w)
+    → AllFit limit (ws ++ w ∷ [])
+all-push limit ws w least h s = all-append limit ws (w ∷ []) h (fits-more 512 limit (text_of w) least s, tt)
+
+heartbeat-short : Fits 512 (written heartbeat)
 heartbeat-short = record { short = omega (arith, ap length heartbeat_text) }
 
-close-short : IsShort (written (own_close_with None))
+close-short : Fits 512 (written (own_close_with None))
 close-short = record { short = omega (arith, ap length close_text) }
 
-framing_error-short : IsShort (written (own_close_with (Some (error_of framing_error))))
+framing_error-short : Fits 512 (written (own_close_with (Some (error_of framing_error))))
 framing_error-short = record { short = omega (arith, ap length framing_error_text) }
 
-decode_error-short : IsShort (written (own_close_with (Some (error_of decode_error))))
+decode_error-short : Fits 512 (written (own_close_with (Some (error_of decode_error))))
 decode_error-short = record { short = omega (arith, ap length decode_error_text) }
 
-not_allowed-short : IsShort (written (own_close_with (Some (error_of not_allowed))))
+not_allowed-short : Fits 512 (written (own_close_with (Some (error_of not_allowed))))
 not_allowed-short = record { short = omega (arith, ap length not_allowed_text) }
 
-not_found-short : IsShort (written (own_close_with (Some (error_of not_found))))
+not_found-short : Fits 512 (written (own_close_with (Some (error_of not_found))))
 not_found-short = record { short = omega (arith, ap length not_found_text) }
 
-condition-short : (e : FrameError) → IsShort (written (own_close_with (Some (error_of (condition_of_frame e)))))
+condition-short : (e : FrameError) → Fits 512 (written (own_close_with (Some (error_of (condition_of_frame e)))))
 condition-short DecodeError = decode_error-short
 condition-short e = not_allowed-short
 
-connection-short : (e : ConnectionError) → IsShort (written (own_close_with (Some (error_of (condition_of_connection e)))))
+connection-short : (e : ConnectionError)
+    → Fits 512 (written (own_close_with (Some (error_of (condition_of_connection e)))))
 connection-short NotFound = not_found-short
 connection-short e = not_allowed-short
 
--- what the settings promise
-fitting-short : (text : Option (List ℕ)) → text_fits 512 text ≡ true → length (text_or_nothing text) ≤ 512
-fitting-short None fit = cc
-fitting-short (Some text) fit = grind (arith, nat_tests)
+-- what a frame that fits is written as
+text-fits : (limit : ℕ) (text : Option (List ℕ)) → text_fits limit text ≡ true → length (text_or_nothing text) ≤ limit
+text-fits limit None fit = cc
+text-fits limit (Some text) fit = grind (arith, nat_tests)
 
+written-fits : (limit : ℕ) (f : Frame) → fits limit f ≡ true → Fits limit (written f)
+unfolding written
+written-fits limit f fit = record { short = text-fits limit (frame_text f) fit }
+
+-- what the sessions send
+frames-fit : (limit : ℕ) (fs : List SessionFrame) → All (λ f. fits limit (frame_of f) ≡ true) fs
+    → AllFit limit (map waiting_of fs)
+frames-fit limit [] h = tt
+frames-fit limit (f ∷ fs) h = (
+  written-fits limit (frame_of f) (All-head (λ (g : SessionFrame). fits limit (frame_of g) ≡ true) f fs h),
+  frames-fit limit fs (All-tail (λ (g : SessionFrame). fits limit (frame_of g) ≡ true) f fs h),
+)
+
+-- what the settings promise
 open-fits : (b : Bool) → (if b then None else Some FrameTooLarge) ≡ None → b ≡ true
 open-fits true e = refl
 open-fits false e = cc
@@ -77,126 +108,312 @@ past : (b : Bool) (x : EndpointError) (o : Option EndpointError) → (if b then 
 past true x o e = cc
 past false x o e = e
 
-written-short : (f : Frame) → fits 512 f ≡ true → IsShort (written f)
-unfolding written
-written-short f fit = record { short = fitting-short (frame_text f) fit }
-
-pub open-short : (s : Settings) → refusal_of_settings s ≡ None → IsShort (written (own_open s))
+pub open-short : (s : Settings) → refusal_of_settings s ≡ None → Fits 512 (written (own_open s))
 open-short s ok =
     let a = past (nat_lt s.max_frame_size 512) LimitUnder512 _ ok in
     let b = past (s.incoming_window == 0) WindowOutOfRange _ a in
     let c = past (nat_le (2 ^ 31) s.incoming_window) WindowOutOfRange _ b in
-    written-short (own_open s) (open-fits (fits 512 (own_open s)) c)
+    written-fits 512 (own_open s) (open-fits (fits 512 (own_open s)) c)
 
-with_close-short : (own_close : Bool) (queue : List Waiting) (close : Frame) → AllShort queue → IsShort (written close) → AllShort (if own_close then queue else queue ++ the_frame close ∷ [])
-with_close-short true queue close h s = h
-with_close-short false queue close h s = all-push queue (the_frame close) h s
+with_close-fits : (limit : ℕ) (own_close : Bool) (queue : List Waiting) (close : Frame) → 512 ≤ limit
+    → AllFit limit queue → Fits 512 (written close)
+    → AllFit limit (if own_close then queue else queue ++ the_frame close ∷ [])
+with_close-fits limit true queue close least h s = h
+with_close-fits limit false queue close least h s = all-push limit queue (the_frame close) least h s
 
--- a state whose queue is short
-pub record QueueShort (s : State) : Type 0 where
-  pub all : AllShort s.queue
+tail-fits : (limit : ℕ) (queue : List Waiting) (first : Waiting) (others : List Waiting) → queue ≡ first ∷ others
+    → AllFit limit queue → Fits limit (text_of first) × AllFit limit others
+tail-fits limit queue first others is h = let P : List Waiting → Type 0 = λ x. AllFit limit x in subst P is h
 
-to : (s t : State) → t ≡ s → QueueShort s → QueueShort t
-to s t same h = let P : State → Type 0 = λ x. QueueShort x in subst P (sym same) h
+no_first : (queue : List Waiting) (first : Waiting) (others : List Waiting) → queue ≡ first ∷ others → queue ≡ [] → ⊥
+no_first queue first others is none = let x : [] ≡ first ∷ others = sym none ∙ is in cc
 
-faulted-short : (condition : List ℕ) (s new : State) → QueueShort s → IsShort (written (own_close_with (Some (error_of condition)))) → new ≡ faulted condition s → QueueShort new
-faulted-short condition s new h short after = to (faulted condition s) new after (record { all = with_close-short s.own_close s.queue (own_close_with (Some (error_of condition))) h.all short })
+-- what waits fits the limit of written frames
+pub record QueueFits {S : Type 0} (s : State S) : Type 0 where
+  pub all : AllFit (limit_of s.peer_limit) s.queue
+  pub least : 512 ≤ limit_of s.peer_limit
 
-body-short : (body : FrameBody) (old : State) (es : List Event) (new : State) → QueueShort old → TakesBody old body es new → QueueShort new
-body-short Empty old es new h (a, b) = to old new b h
-body-short (Open o) old es new h (a, b, c, d) = to (record old { peer_limit = Some o.max_frame_size }) new d (record { all = h.all })
-body-short (Close c) old es new h (a, b) = to _ new b (record { all = with_close-short old.own_close old.queue (own_close_with None) h.all close-short })
-body-short body old es new h t = absurd t
+-- where there is no connection nothing waits
+abbrev pub NoneWaits : {S : Type 0} → State S → Type 0
+NoneWaits s = s.phase ≡ Unconnected → s.queue ≡ []
 
-all-short : (old : State) (fs : List Frame) (es : List Event) (new : State) → QueueShort old → TakesAll old fs es new → QueueShort new
-all-short old [] es new h (none, same) = to old new same h
-all-short old (f ∷ fs) es new h (mid, first, others, one, all, split) = all-short mid fs others new (body-short f.body old first mid h one.1) all
+module _ {S : Type 0} where
+  to : (s t : State S) → t ≡ s → QueueFits s → QueueFits t
+  to s t same h = let P : State S → Type 0 = λ x. QueueFits x in subst P (sym same) h
 
-running-short : (mid : State) (left : List ℕ) (fault : Option EndpointError) (new : State) → QueueShort mid → EndsRunning mid left fault new → QueueShort new
-running-short mid left None new h (waits, after) = to (record mid { rest = left }) new after (record { all = h.all })
-running-short mid left (Some Memory) new h (none, after) = to _ new after (record { all = tt })
-running-short mid left (Some SizeUnder8) new h (why, after) = faulted-short framing_error mid new h framing_error-short after
-running-short mid left (Some SizeOverLimit) new h (why, after) = faulted-short framing_error mid new h framing_error-short after
-running-short mid left (Some (FrameFault e)) new h (why, after) = faulted-short (condition_of_frame e) mid new h (condition-short e) after
-running-short mid left (Some PeerLimitUnder512) new h (why, after) = faulted-short framing_error mid new h framing_error-short after
-running-short mid left (Some (Connection e)) new h (why, after) = faulted-short (condition_of_connection e) mid new h (connection-short e) after
-running-short mid left (Some e) new h (why, after) = absurd why
+  cut_off-fits : (s new : State S) → QueueFits s → new ≡ cut_off s new.sessions → QueueFits new
+  cut_off-fits s new h after = to (cut_off s new.sessions) new after (record { all = tt; least = h.least })
 
-ends-short : (p : Phase) (mid : State) (left : List ℕ) (fault : Option EndpointError) (new : State) → QueueShort mid → Ends mid p left fault new → QueueShort new
-ends-short Running mid left fault new h e = running-short mid left fault new h e
-ends-short Over mid left None new h e = to mid new e h
-ends-short Over mid left (Some f) new h e = absurd e
-ends-short p mid left fault new h e = absurd e
+  faulted-fits : (condition : List ℕ) (s new : State S) → QueueFits s
+      → Fits 512 (written (own_close_with (Some (error_of condition)))) → new ≡ faulted condition s new.sessions
+      → QueueFits new
+  faulted-fits condition s new h short after =
+      let close : Frame = own_close_with (Some (error_of condition)) in
+      to (faulted condition s new.sessions) new after (record {
+        all = with_close-fits (limit_of s.peer_limit) s.own_close s.queue close h.least h.all short;
+        least = h.least;
+      })
 
-reads_on-short : (old : State) (bytes : List ℕ) (es : List Event) (fault : Option EndpointError) (new : State) → QueueShort old → ReadsOn old bytes es fault new → QueueShort new
-reads_on-short old bytes es fault new h r =
-    ends-short r.mid.phase r.mid r.left fault new (all-short (record old { rest = [] }) r.frames es r.mid (record { all = h.all }) r.taken) r.ends
+  -- a frame without an error is queued
+  pushed-fits : (s t : State S) (w : Waiting) → QueueFits s → Fits 512 (text_of w) → t.peer_limit ≡ s.peer_limit
+      → t.queue ≡ s.queue ++ w ∷ [] → QueueFits t
+  pushed-fits s t w h short same queued =
+      let P : Option ℕ → Type 0 = λ o. 512 ≤ limit_of o in
+      let Q : Option ℕ → Type 0 = λ o. AllFit (limit_of o) (s.queue ++ w ∷ []) in
+      let R : List Waiting → Type 0 = λ x. AllFit (limit_of t.peer_limit) x in
+      let all : AllFit (limit_of s.peer_limit) (s.queue ++ w ∷ [])
+      = all-push (limit_of s.peer_limit) s.queue w h.least h.all short in
+      record { all = subst R (sym queued) (subst Q (sym same) all); least = subst P (sym same) h.least }
 
-feed-short : (p : Phase) (old : State) (bytes : List ℕ) (es : List Event) (fault : Option EndpointError) (new : State) → IsShort (written (own_open old.settings)) → QueueShort old → FeedsIn p old bytes es fault new → QueueShort new
-feed-short Unconnected old bytes es fault new o h (none, is, after) = to old new after h
-feed-short Greeting old bytes es fault new o h (inl (short, none, clean, after)) = to (record old { rest = old.rest ++ bytes }) new after (record { all = h.all })
-feed-short Greeting old bytes es fault new o h (inr (inl (long, other, none, is, after))) = to _ new after (record { all = tt })
-feed-short Greeting old bytes es fault new o h (inr (inr (inl (header, r)))) = reads_on-short (opened old) _ es fault new (record { all = all-push old.queue (the_frame (own_open old.settings)) h.all o }) r
-feed-short Greeting old bytes es fault new o h (inr (inr (inr (none, memory, after)))) = to _ new after (record { all = tt })
-feed-short Running old bytes es fault new o h r = reads_on-short old _ es fault new h r
-feed-short Over old bytes es fault new o h (none, is, after) = to old new after h
+  -- the text of what was queued first
+  given-fits : (s : State S) (bytes : List ℕ) (first : Waiting) (others : List Waiting) → s.queue ≡ first ∷ others
+      → bytes ≡ text_of first → QueueFits s → Fits (limit_of s.peer_limit) bytes
+  given-fits s bytes first others is text h =
+      let P : List ℕ → Type 0 = λ x. Fits (limit_of s.peer_limit) x in
+      subst P (sym text) (tail-fits (limit_of s.peer_limit) s.queue first others is h.all).0
 
-fed-short : (old : State) (bytes : List ℕ) (answer : Said) (new : State) → IsShort (written (own_open old.settings)) → QueueShort old → FeedSaid old bytes answer new → QueueShort new
-fed-short old bytes answer new o h f = feed-short old.phase old bytes f.events f.fault new o h f.feeds
+module _ {S : Type 0} (does : Relations S) where
+  open-taken-fits : (old : State S) (n : ℕ) (new : State S) → old.peer_limit ≡ None → 512 ≤ n → QueueFits old
+      → new ≡ record old { peer_limit = Some n; sessions = new.sessions } → QueueFits new
+  open-taken-fits old n new none least h after =
+      let P : Option ℕ → Type 0 = λ o. AllFit (limit_of o) old.queue in
+      let all : AllFit 512 old.queue = subst P none h.all in
+      to (record old { peer_limit = Some n; sessions = new.sessions }) new after
+      (record { all = all-more 512 n old.queue least all; least = least })
 
-tail-short : (queue : List Waiting) (first : Waiting) (others : List Waiting) → queue ≡ first ∷ others → AllShort queue → IsShort (text_of first) × AllShort others
-tail-short queue first others is h = let P : List Waiting → Type 0 = λ x. AllShort x in subst P is h
+  sessions-fit : (old : State S) (channel : ℕ) (body : FrameBody) (es : List Event) (new : State S) → QueueFits old
+      → SessionsTake does old channel body es new → QueueFits new
+  sessions-fit old channel body es new h t =
+      let limit : ℕ = limit_of old.peer_limit in
+      to _ new t.queued (record {
+        all = all-append limit old.queue (map waiting_of t.frames) h.all (frames-fit limit t.frames t.fit);
+        least = h.least;
+      })
 
--- the text of what was queued first
-given-short : (queue : List Waiting) (bytes : List ℕ) (first : Waiting) (others : List Waiting) → queue ≡ first ∷ others → bytes ≡ text_of first → AllShort queue → IsShort bytes
-given-short queue bytes first others is text h = let P : List ℕ → Type 0 = λ x. IsShort x in subst P (sym text) (tail-short queue first others is h).0
+  body-fits : (body : FrameBody) (old : State S) (channel : ℕ) (es : List Event) (new : State S) → QueueFits old
+      → TakesBody does old channel body es new → QueueFits new
+  body-fits Empty old channel es new h (told, same) = to old new same h
+  body-fits (Open o) old channel es new h (none, least, told, moves, after) =
+      open-taken-fits old o.max_frame_size new none least h after
+  body-fits (Close c) old channel es new h (told, both, after) = to _ new after (record {
+    all = with_close-fits (limit_of old.peer_limit) old.own_close old.queue (own_close_with None) h.least h.all
+        close-short;
+    least = h.least;
+  })
+  body-fits body old channel es new h t = sessions-fit old channel body es new h t
 
-step-short : (old : State) (call : Call) (answer : Said) (new : State) → IsShort (written (own_open old.settings)) → QueueShort old → Step old call answer new → QueueShort new
-step-short old call (refused e) new o h (may, same) = to old new same h
-step-short old (Feed bytes) (fed es fault) new o h step = feed-short old.phase old bytes es fault new o h step
-step-short old Connect done new o h (none, after) = to _ new after (record { all = (record { short = omega arith }, tt) })
-step-short old Pull (pulled None) new o h (empty, same) = to old new same h
-step-short old Pull (pulled (Some bytes)) new o h (first, others, is, text, after) = to (record old { queue = others }) new after (record { all = (tail-short old.queue first others is h.all).1 })
-step-short old Queued (count n) new o h (is, same) = to old new same h
-step-short old IsIdle (truth b) new o h (is, same) = to old new same h
-step-short old Heartbeat done new o h (none, after) = to _ new after (record { all = all-push old.queue (the_frame heartbeat) h.all heartbeat-short })
-step-short old BreakOff done new o h after = to _ new after (record { all = tt })
-step-short old CloseCall done new o h (none, after) = to _ new after (record { all = all-push old.queue (the_frame (own_close_with None)) h.all close-short })
-step-short old IsClosed (truth b) new o h (is, same) = to old new same h
-step-short old TryClose (tried_close x) new o h (is, after) = to (record old { close_told = old.close_told || is_none x }) new after (record { all = h.all })
-step-short old call answer new o h step = absurd step
+  all-fit : (old : State S) (fs : List Frame) (es : List Event) (new : State S) → QueueFits old
+      → TakesAll does old fs es new → QueueFits new
+  all-fit old [] es new h (none, same) = to old new same h
+  all-fit old (f ∷ fs) es new h (mid, first, others, one, all, split) =
+      all-fit mid fs others new (body-fits f.body old f.channel first mid h one.1) all
 
--- the judge's limit is no less than 512
-agreed-least : (n : ℕ) → 512 ≤ agreed n
-agreed-least n = grind (arith, nat_tests)
+  fault-fits : (e : EndpointError) (s new : State S) → QueueFits s → AfterFault does (condition_of e) s new
+      → QueueFits new
+  fault-fits SizeUnder8 s new h (closes, after) = faulted-fits framing_error s new h framing_error-short after
+  fault-fits SizeOverLimit s new h (closes, after) = faulted-fits framing_error s new h framing_error-short after
+  fault-fits PeerLimitUnder512 s new h (closes, after) = faulted-fits framing_error s new h framing_error-short after
+  fault-fits (FrameFault e) s new h (closes, after) =
+      faulted-fits (condition_of_frame e) s new h (condition-short e) after
+  fault-fits (Connection e) s new h (closes, after) =
+      faulted-fits (condition_of_connection e) s new h (connection-short e) after
+  fault-fits (Session e) s new h (closes, after) = faulted-fits not_allowed s new h not_allowed-short after
+  fault-fits e s new h (finishes, after) = cut_off-fits s new h after
 
-judged-least : (pieces : List (List ℕ)) (limit : ℕ) → JudgedBy pieces limit → 512 ≤ limit
-judged-least [] limit is = omega arith
-judged-least (piece ∷ pieces) limit (inl (o, opens, is)) = omega (arith, agreed-least o.max_frame_size)
-judged-least (piece ∷ pieces) limit (inr (other, j)) = judged-least pieces limit j
+  running-fits : (mid : State S) (left : List ℕ) (fault : Option EndpointError) (new : State S) → QueueFits mid
+      → EndsRunning does mid left fault new → QueueFits new
+  running-fits mid left None new h (waits, after) =
+      to (record mid { rest = left }) new after (record { all = h.all; least = h.least })
+  running-fits mid left (Some e) new h r =
+      fault-fits e (record mid { sessions = r.sessions }) new (record { all = h.all; least = h.least }) r.after
 
-pub limit-least : (bytes : List ℕ) (limit : ℕ) → judge_limit bytes limit → 512 ≤ limit
-limit-least bytes limit (inl (short, is)) = omega arith
-limit-least bytes limit (inr (header, pieces, rest, cut, judged)) = judged-least pieces limit judged
+  ends-fit : (p : Phase) (mid : State S) (left : List ℕ) (fault : Option EndpointError) (new : State S) → QueueFits mid
+      → Ends does mid p left fault new → QueueFits new
+  ends-fit Running mid left fault new h e = running-fits mid left fault new h e
+  ends-fit Over mid left None new h e = to mid new e h
+  ends-fit Over mid left (Some f) new h e = absurd e
+  ends-fit p mid left fault new h e = absurd e
 
-short-within : (fed_bytes text : List ℕ) → IsShort text → IsWithin fed_bytes (pulled (Some text))
-short-within fed_bytes text s = λ limit j. omega (arith, s.short, limit-least fed_bytes limit j)
+  reads_on-fits : (old : State S) (bytes : List ℕ) (es : List Event) (fault : Option EndpointError) (new : State S)
+      → QueueFits old → ReadsOn does old bytes es fault new → QueueFits new
+  reads_on-fits old bytes es fault new h r =
+      let start : State S = record old { rest = [] } in
+      let mid : QueueFits r.mid = all-fit start r.frames es r.mid (record { all = h.all; least = h.least }) r.taken in
+      ends-fit r.mid.phase r.mid r.left fault new mid r.ends
 
-step-within : (fed_bytes : List ℕ) (old : State) (call : Call) (answer : Said) (new : State) → QueueShort old → Step old call answer new → IsWithin fed_bytes answer
-step-within fed_bytes old Pull (pulled (Some bytes)) new h (first, others, is, text, after) = short-within fed_bytes bytes (given-short old.queue bytes first others is text h.all)
-step-within fed_bytes old call (pulled (Some text)) new h step = absurd step
-step-within fed_bytes old call answer new h step = tt
+  greets-fit : (old : State S) (bytes : List ℕ) (es : List Event) (fault : Option EndpointError) (new : State S)
+      → Fits 512 (written (own_open old.settings)) → QueueFits old → Greets does old bytes es fault new → QueueFits new
+  greets-fit old bytes es fault new o h (inl (short, none, clean, after)) =
+      to (record old { rest = bytes }) new after (record { all = h.all; least = h.least })
+  greets-fit old bytes es fault new o h (inr (inl (long, other, none, is, breaks))) = cut_off-fits old new h breaks.1
+  greets-fit old bytes es fault new o h (inr (inr (inl (header, r)))) =
+      let own : Waiting = the_frame (own_open old.settings) in
+      let start : QueueFits (opened does old) = pushed-fits old (opened does old) own h o refl refl in
+      reads_on-fits (opened does old) _ es fault new start r
+  greets-fit old bytes es fault new o h (inr (inr (inr (none, memory, breaks)))) =
+      cut_off-fits old new h (greeting_broken does old new breaks)
 
-run-within : (σ : Summary) (old : State) (calls : List Call) (ts : List Told) (new : State) → IsShort (written (own_open old.settings)) → QueueShort old → Run old calls ts new → KeepsLimit σ calls ts
-run-within σ old [] [] new o h run = tt
-run-within σ old [] (t ∷ ts) new o h run = tt
-run-within σ old (call ∷ calls) [] new o h run = absurd run
-run-within σ old (call ∷ calls) (t ∷ ts) new o h (mid, one, queued, rest) =
-    let P : Settings → Type 0 = λ x. IsShort (written (own_open x)) in (
-      step-within σ.fed old call t.answer mid h one,
-      run-within (note σ call t.answer) mid calls ts new (subst P (sym (step-settings old call t.answer mid one)) o) (step-short old call t.answer mid o h one) rest,
-    )
+  feed-fits : (p : Phase) (old : State S) (bytes : List ℕ) (es : List Event) (fault : Option EndpointError)
+      (new : State S) → Fits 512 (written (own_open old.settings)) → QueueFits old
+      → FeedsIn does p old bytes es fault new → QueueFits new
+  feed-fits Unconnected old bytes es fault new o h (none, is, after) = to old new after h
+  feed-fits Greeting old bytes es fault new o h g = greets-fit old (old.rest ++ bytes) es fault new o h g
+  feed-fits Running old bytes es fault new o h r = reads_on-fits old _ es fault new h r
+  feed-fits Over old bytes es fault new o h (none, is, after) = to old new after h
 
--- each answer of bytes is within the judge's limit
-pub limit_kept : (s : Settings) (calls : List Call) (ts : List Told) (end : State) → refusal_of_settings s ≡ None → Run (fresh s) calls ts end → KeepsLimit nothing calls ts
-limit_kept s calls ts end ok run = run-within nothing (fresh s) calls ts end (open-short s ok) (record { all = tt }) run
+  step-fits : (old : State S) (call : Call) (answer : Said) (new : State S) → Fits 512 (written (own_open old.settings))
+      → QueueFits old → Step does old call answer new → QueueFits new
+  step-fits old call (refused e) new o h (may, same) = to old new same h
+  step-fits old (Feed bytes) (fed es fault) new o h step = feed-fits old.phase old bytes es fault new o h step
+  step-fits old Connect done new o h (none, after) =
+      to _ new after (record { all = (record { short = omega arith }, tt); least = omega arith })
+  step-fits old Pull (pulled None) new o h (empty, same) = to old new same h
+  step-fits old Pull (pulled (Some bytes)) new o h (first, others, is, text, after) =
+      to (record old { queue = others }) new after (record {
+        all = (tail-fits (limit_of old.peer_limit) old.queue first others is h.all).1;
+        least = h.least;
+      })
+  step-fits old Queued (count n) new o h (is, same) = to old new same h
+  step-fits old IsIdle (truth b) new o h (is, same) = to old new same h
+  step-fits old Heartbeat done new o h (none, after) =
+      pushed-fits old new (the_frame heartbeat) h heartbeat-short (ap (λ s. s.peer_limit) after)
+      (ap (λ s. s.queue) after)
+  step-fits old BreakOff done new o h breaks = cut_off-fits old new h breaks.1
+  step-fits old CloseCall done new o h (none, closes, after) =
+      pushed-fits old new (the_frame (own_close_with None)) h close-short (ap (λ s. s.peer_limit) after)
+      (ap (λ s. s.queue) after)
+  step-fits old IsClosed (truth b) new o h (is, same) = to old new same h
+  step-fits old TryClose (tried_close x) new o h (is, after) =
+      to (record old { close_told = old.close_told || is_none x }) new after (record { all = h.all; least = h.least })
+  step-fits old call answer new o h step = absurd step
+
+  after_fault-none : (condition : Option (List ℕ)) (s new : State S) → AfterFault does condition s new → NoneWaits new
+  after_fault-none (Some condition) s new (closes, after) e =
+      absurd (let x : Over ≡ Unconnected = sym (ap (λ s. s.phase) after) ∙ e in cc)
+  after_fault-none None s new (finishes, after) e = ap (λ s. s.queue) after
+
+  ends-none : (p : Phase) (mid : State S) (left : List ℕ) (fault : Option EndpointError) (new : State S)
+      → mid.phase ≡ p → Ends does mid p left fault new → NoneWaits new
+  ends-none Running mid left None new is (waits, after) e =
+      absurd (let x : Running ≡ Unconnected = sym (ap (λ s. s.phase) after ∙ is) ∙ e in cc)
+  ends-none Running mid left (Some why) new is r e =
+      after_fault-none (condition_of why) (record mid { sessions = r.sessions }) new r.after e
+  ends-none Over mid left None new is same e =
+      absurd (let x : Over ≡ Unconnected = sym (ap (λ s. s.phase) same ∙ is) ∙ e in cc)
+  ends-none Over mid left (Some f) new is r e = absurd r
+  ends-none p mid left fault new is r e = absurd r
+
+  greets-none : (old : State S) (bytes : List ℕ) (es : List Event) (fault : Option EndpointError) (new : State S)
+      → old.phase ≡ Greeting → Greets does old bytes es fault new → NoneWaits new
+  greets-none old bytes es fault new is (inl (short, none, clean, after)) e =
+      absurd (let x : Greeting ≡ Unconnected = sym (ap (λ s. s.phase) after ∙ is) ∙ e in cc)
+  greets-none old bytes es fault new is (inr (inl (long, other, none, mismatch, breaks))) e =
+      ap (λ s. s.queue) breaks.1
+  greets-none old bytes es fault new is (inr (inr (inl (header, r)))) e =
+      ends-none r.mid.phase r.mid r.left fault new refl r.ends e
+  greets-none old bytes es fault new is (inr (inr (inr (none, memory, breaks)))) e =
+      ap (λ s. s.queue) (greeting_broken does old new breaks)
+
+  feed-none : (p : Phase) (old : State S) (bytes : List ℕ) (es : List Event) (fault : Option EndpointError)
+      (new : State S) → old.phase ≡ p → NoneWaits old → FeedsIn does p old bytes es fault new → NoneWaits new
+  feed-none Unconnected old bytes es fault new is h (none, refuses, after) e = ap (λ s. s.queue) after ∙ h is
+  feed-none Greeting old bytes es fault new is h g e = greets-none old (old.rest ++ bytes) es fault new is g e
+  feed-none Running old bytes es fault new is h r e = ends-none r.mid.phase r.mid r.left fault new refl r.ends e
+  feed-none Over old bytes es fault new is h (none, well, after) e =
+      absurd (let x : Over ≡ Unconnected = sym (ap (λ s. s.phase) after ∙ is) ∙ e in cc)
+
+  -- without a connection there is no heartbeat and no own Close
+  no_beat : (p : Phase) (own_close : Bool) → p ≡ Unconnected
+      → (if is_running p && not own_close then None else Some NotConnected) ≡ None → ⊥
+  no_beat Unconnected own_close is e = cc
+  no_beat Greeting own_close is e = cc
+  no_beat Running own_close is e = cc
+  no_beat Over own_close is e = cc
+
+  no_close : (p : Phase) (own_close : Bool) → p ≡ Unconnected
+      → (if has_opened p then (if own_close then Some IllegalState else None) else Some NotConnected) ≡ None → ⊥
+  no_close Unconnected own_close is e = cc
+  no_close Greeting own_close is e = cc
+  no_close Running own_close is e = cc
+  no_close Over own_close is e = cc
+
+  same-none : (old new : State S) → NoneWaits old → new.phase ≡ old.phase → new.queue ≡ old.queue → NoneWaits new
+  same-none old new h phase queue e = queue ∙ h (sym phase ∙ e)
+
+  equal-none : (old new : State S) → NoneWaits old → new ≡ old → NoneWaits new
+  equal-none old new h same = same-none old new h (ap (λ s. s.phase) same) (ap (λ s. s.queue) same)
+
+  step-none : (old : State S) (call : Call) (answer : Said) (new : State S) → NoneWaits old
+      → Step does old call answer new → NoneWaits new
+  step-none old call (refused e) new h (may, same) = equal-none old new h same
+  step-none old (Feed bytes) (fed es fault) new h step = feed-none old.phase old bytes es fault new refl h step
+  step-none old Connect done new h (none, after) =
+      λ e. absurd (let x : Greeting ≡ Unconnected = sym (ap (λ s. s.phase) after) ∙ e in cc)
+  step-none old Pull (pulled None) new h (empty, same) = equal-none old new h same
+  step-none old Pull (pulled (Some bytes)) new h (first, others, is, text, after) =
+      λ e. absurd (no_first old.queue first others is (h (sym (ap (λ s. s.phase) after) ∙ e)))
+  step-none old Queued (count n) new h (is, same) = equal-none old new h same
+  step-none old IsIdle (truth b) new h (is, same) = equal-none old new h same
+  step-none old Heartbeat done new h (none, after) =
+      λ e. absurd (no_beat old.phase old.own_close (sym (ap (λ s. s.phase) after) ∙ e) none)
+  step-none old BreakOff done new h breaks = λ e. ap (λ s. s.queue) breaks.1
+  step-none old CloseCall done new h (none, closes, after) =
+      λ e. absurd (no_close old.phase old.own_close (sym (ap (λ s. s.phase) after) ∙ e) none)
+  step-none old IsClosed (truth b) new h (is, same) = equal-none old new h same
+  step-none old TryClose (tried_close x) new h (is, after) =
+      same-none old new h (ap (λ s. s.phase) after) (ap (λ s. s.queue) after)
+  step-none old call answer new h step = absurd step
+
+  -- the limit of written frames is no more than the judge's
+  stands-limit : (p : Phase) (most : ℕ) (rest : List ℕ) (peer_limit : Option ℕ) (σ : Summary) (limit : ℕ)
+      → p ≢ Unconnected → Stands does p most rest peer_limit σ → judge_limit σ.fed limit → limit_of peer_limit ≤ limit
+  stands-limit Unconnected most rest peer_limit σ limit n h j = absurd (n refl)
+  stands-limit Greeting most rest peer_limit σ limit n (is, short, none, well, unopened) j =
+      let same : limit_of peer_limit ≡ 512 = ap limit_of unopened in
+      omega (arith, same, limit-least σ.fed limit j)
+  stands-limit Running most rest peer_limit σ limit n h j =
+      let P : Option ℕ → Type 0 = λ o. limit_of o ≤ limit in
+      subst P h.limit_is (read-limit most σ.fed h.body h.frames rest limit h.header h.read j)
+  stands-limit Over most rest peer_limit σ limit n h j =
+      let P : Option ℕ → Type 0 = λ o. limit_of o ≤ limit in
+      let f = h.framed in
+      subst P h.limit_is (read-limit most σ.fed f.body f.frames f.left limit f.header f.read j)
+
+  pull-within : (most : ℕ) (σ : Summary) (s : State S) (bytes : List ℕ) (first : Waiting) (others : List Waiting)
+      → StandsAt does most σ s → QueueFits s → NoneWaits s → s.queue ≡ first ∷ others → bytes ≡ text_of first
+      → IsWithin σ.fed (pulled (Some bytes))
+  pull-within most σ s bytes first others stands h none is text limit j =
+      let there : s.phase ≢ Unconnected = λ e. no_first s.queue first others is (none e) in
+      let fit : Fits (limit_of s.peer_limit) bytes = given-fits s bytes first others is text h in
+      omega (arith, fit.short, stands-limit s.phase most s.rest s.peer_limit σ limit there stands j)
+
+  step-within : (most : ℕ) (σ : Summary) (old : State S) (call : Call) (answer : Said) (new : State S)
+      → StandsAt does most σ old → QueueFits old → NoneWaits old → Step does old call answer new → IsWithin σ.fed answer
+  step-within most σ old Pull (pulled (Some bytes)) new stands h none (first, others, is, text, after) =
+      pull-within most σ old bytes first others stands h none is text
+  step-within most σ old call (pulled (Some text)) new stands h none step = absurd step
+  step-within most σ old call answer new stands h none step = tt
+
+  run-within : (most : ℕ) (σ : Summary) (old : State S) (calls : List Call) (ts : List Told) (new : State S)
+      → old.settings.max_frame_size ≡ most → Fits 512 (written (own_open old.settings)) → StandsAt does most σ old
+      → QueueFits old → NoneWaits old → Run does old calls ts new → KeepsLimit σ calls ts
+  run-within most σ old [] [] new l o stands h none run = tt
+  run-within most σ old [] (t ∷ ts) new l o stands h none run = tt
+  run-within most σ old (call ∷ calls) [] new l o stands h none run = absurd run
+  run-within most σ old (call ∷ calls) (t ∷ ts) new l o stands h none (mid, one, queued, rest) =
+      let P : Settings → Type 0 = λ x. Fits 512 (written (own_open x)) in
+      let kept : mid.settings ≡ old.settings = step-settings does old call t.answer mid one in (
+        step-within most σ old call t.answer mid stands h none one,
+        run-within most (note σ call t.answer) mid calls ts new (ap (λ s. s.max_frame_size) kept ∙ l)
+            (subst P (sym kept) o) (step-stands does most σ old call t.answer mid l stands one)
+            (step-fits old call t.answer mid o h one)
+            (step-none old call t.answer mid none one) rest,
+      )
+
+  -- each answer of bytes is within the judge's limit
+  pub limit_kept : (sessions : S) (s : Settings) (calls : List Call) (ts : List Told) (end : State S)
+      → refusal_of_settings s ≡ None → Run does (fresh s sessions) calls ts end → KeepsLimit nothing calls ts
+  limit_kept sessions s calls ts end ok run =
+      let start : QueueFits (fresh s sessions) = record { all = tt; least = omega arith } in
+      run-within s.max_frame_size nothing (fresh s sessions) calls ts end refl (open-short s ok)
+      (fresh-stands does s sessions) start (λ e. refl) run

@@ -3,26 +3,30 @@ use Rattle.std.specs.Prelude.{◌≡◌, ◌≢◌, ℕ, ◌≤◌, ◌<◌, ◌
 use Rattle.amqp_session_performatives.specs.declared.open.Open.{Open as OpenFields}
 use Rattle.amqp_session_frames.specs.declared.frame.Frame.{Frame}
 use Rattle.amqp_session_frames.specs.declared.frame.FrameBody.{FrameBody}
-use Rattle.amqp_session_frames.specs.declared.frame.FrameBody.TheVariants.{Open, Close}
+use Rattle.amqp_session_frames.specs.declared.frame.FrameBody.TheVariants.{Empty, Open, Close}
 use Rattle.amqp_session_types.specs.declared.refusals.ConnectionError.TheVariants.{IllegalState as OutOfOrder}
+use Rattle.amqp_session_performatives.specs.declared.session_frame.SessionFrame.{SessionFrame}
 use Rattle.amqp_session_frames.specs.Text.{FrameText}
 use Rattle.amqp_session_frames.specs.Cutting.{Cut, ReadsAs}
 use Rattle.amqp_endpoint_model.specs.declared.error.EndpointError.{EndpointError}
-use Rattle.amqp_endpoint_model.specs.declared.error.EndpointError.TheVariants.{Memory, NotConnected, ProtocolHeaderMismatch, PeerLimitUnder512, Connection}
+use Rattle.amqp_endpoint_model.specs.declared.error.EndpointError.TheVariants.{Memory, NotConnected, NumbersUsedUp, ProtocolHeaderMismatch, PeerLimitUnder512, Connection, Session}
 use Rattle.amqp_endpoint_model.specs.declared.event.Event.{Event}
 use Rattle.amqp_endpoint_model.specs.declared.event.Event.TheVariants.{Opened, Closed}
 use Rattle.amqp_endpoint_model.specs.declared.call.Call.{Call}
 use Rattle.amqp_endpoint_model.specs.declared.call.Call.TheVariants.{Connect, Feed}
 use Rattle.amqp_endpoint_model.specs.Said.{Said, done, refused, fed, pulled, Told}
 use Rattle.amqp_endpoint_model.specs.State.{State, protocol_header}
-use Rattle.amqp_endpoint_model.specs.Step.{Step, Admits, Waits, Front, FrontUnread, session_refusal}
+use Rattle.amqp_endpoint_model.specs.Relay.{Relations, IsOfSession, IsSessionFault}
+use Rattle.amqp_endpoint_model.specs.Step.{Step, Admits, Waits, Front, FrontUnread}
 
--- the calls may be answered so, one after the other
-abbrev pub Run : State → List Call → List Told → State → Type 0
-Run old [] [] new = new ≡ old
-Run old (call ∷ calls) (t ∷ ts) new = (mid : State) × Step old call t.answer mid × (t.queued ≡ length mid.queue) × Run mid calls ts new
-Run old [] (t ∷ ts) new = ⊥
-Run old (call ∷ calls) [] new = ⊥
+module _ {S : Type 0} (does : Relations S) where
+  -- the calls may be answered so, one after the other
+  abbrev pub Run : State S → List Call → List Told → State S → Type 0
+  Run old [] [] new = new ≡ old
+  Run old (call ∷ calls) (t ∷ ts) new =
+      (mid : State S) × Step does old call t.answer mid × (t.queued ≡ length mid.queue) × Run mid calls ts new
+  Run old [] (t ∷ ts) new = ⊥
+  Run old (call ∷ calls) [] new = ⊥
 
 -- what a history comes to since the latest connect: read off the calls and answers alone
 pub record Summary : Type 0 where
@@ -41,7 +45,8 @@ first_fault None later = later
 
 abbrev pub note_fed : Summary → List ℕ → List Event → Option EndpointError → Summary
 note_fed σ bytes events (Some NotConnected) = σ
-note_fed σ bytes events fault = record { fed = σ.fed ++ bytes; events = σ.events ++ events; fault = first_fault σ.fault fault }
+note_fed σ bytes events fault =
+    record { fed = σ.fed ++ bytes; events = σ.events ++ events; fault = first_fault σ.fault fault }
 
 abbrev pub note : Summary → Call → Said → Summary
 note σ Connect done = nothing
@@ -52,15 +57,38 @@ abbrev pub summary : Summary → List Call → List Told → Summary
 summary σ (call ∷ calls) (t ∷ ts) = summary (note σ call t.answer) calls ts
 summary σ calls ts = σ
 
--- what a frame tells that is taken
-abbrev pub body_events : FrameBody → List Event
-body_events (Open o) = Opened (record { container_id = o.container_id; max_frame_size = o.max_frame_size; channel_max = o.channel_max; idle_time_out = o.idle_time_out }) ∷ []
-body_events (Close c) = Closed (record { error = c.error }) ∷ []
-body_events body = []
+module _ {S : Type 0} (does : Relations S) where
+  -- the sessions tell this as they take a frame
+  pub record SessionsTell (f : Frame) (events : List Event) : Type 0 where
+    pub theirs : IsOfSession f.body
+    pub before : S
+    pub limit : ℕ
+    pub frames : List SessionFrame
+    pub behind : S
+    pub takes : does.takes before limit f.channel f.body frames events behind
 
-abbrev pub events_of : List Frame → List Event
-events_of [] = []
-events_of (f ∷ fs) = body_events f.body ++ events_of fs
+  -- what a frame tells that is taken
+  abbrev pub BodyTells : FrameBody → Frame → List Event → Type 0
+  BodyTells Empty f events = events ≡ []
+  BodyTells (Open o) f events =
+      events ≡ Opened (record {
+        container_id = o.container_id;
+        max_frame_size = o.max_frame_size;
+        channel_max = o.channel_max;
+        idle_time_out = o.idle_time_out;
+      }) ∷ []
+  BodyTells (Close c) f events = events ≡ Closed (record { error = c.error }) ∷ []
+  BodyTells body f events = SessionsTell f events
+
+  abbrev pub FrameTells : Frame → List Event → Type 0
+  FrameTells f events = BodyTells f.body f events
+
+  -- frames tell this, one after the other
+  abbrev pub FramesTell : List Frame → List Event → Type 0
+  FramesTell [] events = events ≡ []
+  FramesTell (f ∷ fs) events =
+      (first : List Event) × (others : List Event) × FrameTells f first × FramesTell fs others
+      × (events ≡ first ++ others)
 
 abbrev pub is_open : FrameBody → Bool
 is_open (Open o) = true
@@ -94,49 +122,72 @@ abbrev pub OpenIsOnce : List Frame → Type 0
 OpenIsOnce [] = Unit {0}
 OpenIsOnce (f ∷ fs) = OpenIsTaken f.body fs × OpenIsOnce fs
 
--- no performative of a session is among the frames
-abbrev pub NoneOfSessions : List Frame → Type 0
-NoneOfSessions [] = Unit {0}
-NoneOfSessions (f ∷ fs) = (session_refusal f.body ≡ None) × NoneOfSessions fs
-
--- a whole piece comes next, and it is a frame with this body
-pub record Next (limit : ℕ) (left : List ℕ) (body : FrameBody) : Type 0 where
+-- a whole piece comes next, and it is this frame
+pub record Next (limit : ℕ) (left : List ℕ) (frame : Frame) : Type 0 where
   pub piece : List ℕ
   pub front : Front limit left piece
+  pub text : FrameText piece frame
+
+-- the next frame is an Open
+pub record NextOpen (limit : ℕ) (left : List ℕ) (o : OpenFields) : Type 0 where
   pub channel : ℕ
-  pub text : FrameText piece (record { channel = channel; body = body })
+  pub next : Next limit left (record { channel = channel; body = Open o })
 
--- why no frame more is read of what is left: there is less than a whole one, the peer closed, or a fault stands in front
-abbrev pub Stops : ℕ → List Frame → List ℕ → Option EndpointError → Type 0
-Stops limit frames left None = Waits limit left ⊎ (has_close frames ≡ true)
-Stops limit frames left (Some PeerLimitUnder512) = (o : OpenFields) × Next limit left (Open o) × (has_open frames ≡ false) × (o.max_frame_size < 512)
-Stops limit frames left (Some (Connection OutOfOrder)) = (o : OpenFields) × Next limit left (Open o) × (has_open frames ≡ true)
-Stops limit frames left (Some (Connection e)) = (body : FrameBody) × Next limit left body × (session_refusal body ≡ Some e)
-Stops limit frames left (Some e) = FrontUnread limit left e
+module _ {S : Type 0} (does : Relations S) where
+  -- the sessions refuse the next frame
+  pub record NextRefused (limit : ℕ) (left : List ℕ) (e : EndpointError) : Type 0 where
+    pub frame : Frame
+    pub next : Next limit left frame
+    pub theirs : IsOfSession frame.body
+    pub ends : IsSessionFault e
+    pub before : S
+    pub written : ℕ
+    pub behind : S
+    pub refuses : does.refuses before written frame.channel frame.body e behind
 
--- behind the header the bytes fed are these frames, each once and in order, and then what is left
-pub record Framed (limit : ℕ) (σ : Summary) : Type 0 where
-  pub body : List ℕ
-  pub header : σ.fed ≡ protocol_header ++ body
-  pub frames : List Frame
-  pub left : List ℕ
-  pub read : ReadsAs (Admits limit) body frames left
-  pub told : σ.events ≡ events_of frames
-  pub closes : CloseIsLast frames
-  pub once : OpenIsOnce frames
-  pub known : NoneOfSessions frames
-  pub well : has_close frames ≡ true → σ.fault ≡ None
-  pub stops : Stops limit frames left σ.fault
+  -- why no frame more is read of what is left: there is less than a whole one, the peer closed, or a fault stands in
+  -- front
+  abbrev pub Stops : ℕ → List Frame → List ℕ → Option EndpointError → Type 0
+  Stops limit frames left None = Waits limit left ⊎ (has_close frames ≡ true)
+  Stops limit frames left (Some PeerLimitUnder512) =
+      (o : OpenFields) × NextOpen limit left o × (has_open frames ≡ false) × (o.max_frame_size < 512)
+  Stops limit frames left (Some (Connection OutOfOrder)) =
+      (o : OpenFields) × NextOpen limit left o × (has_open frames ≡ true)
+  Stops limit frames left (Some (Connection e)) = NextRefused limit left (Connection e)
+  Stops limit frames left (Some (Session e)) = NextRefused limit left (Session e)
+  Stops limit frames left (Some NumbersUsedUp) = NextRefused limit left NumbersUsedUp
+  Stops limit frames left (Some e) = FrontUnread limit left e
 
--- the frames stepped through since the latest connect are the pieces of all bytes fed since then, up to a fault or the peer's Close (part 2, 2.2, 2.3)
-abbrev pub Pieces : ℕ → Summary → Type 0
-Pieces limit σ =
-    ((length σ.fed < 8) × (σ.events ≡ []) × (σ.fault ≡ None))
-    ⊎ ((8 ≤ length σ.fed) × (take 8 σ.fed ≢ protocol_header) × (σ.events ≡ []) × (σ.fault ≡ Some ProtocolHeaderMismatch))
-    ⊎ ((σ.events ≡ []) × (σ.fault ≡ Some Memory))
-    ⊎ Framed limit σ
+  -- behind the header the bytes fed are these frames, each once and in order, and then what is left
+  pub record Framed (limit : ℕ) (σ : Summary) : Type 0 where
+    pub body : List ℕ
+    pub header : σ.fed ≡ protocol_header ++ body
+    pub frames : List Frame
+    pub left : List ℕ
+    pub read : ReadsAs (Admits limit) body frames left
+    pub told : FramesTell does frames σ.events
+    pub closes : CloseIsLast frames
+    pub once : OpenIsOnce frames
+    pub well : has_close frames ≡ true → σ.fault ≡ None
+    pub stops : Stops limit frames left σ.fault
 
--- the limit that a judge of the wire holds written frames to: 512, and behind the first Open of the peer its max-frame-size, where that is at least 512 (part 2, 2.4.1, 2.7.1)
+  -- the frames stepped through since the latest connect are the pieces of all bytes fed since then, up to a fault or
+  -- the peer's Close (part 2, 2.2, 2.3)
+  abbrev pub Pieces : ℕ → Summary → Type 0
+  Pieces limit σ =
+      ((length σ.fed < 8) × (σ.events ≡ []) × (σ.fault ≡ None))
+      ⊎ ((8 ≤ length σ.fed) × (take 8 σ.fed ≢ protocol_header) × (σ.events ≡ [])
+      × (σ.fault ≡ Some ProtocolHeaderMismatch))
+      ⊎ ((σ.events ≡ []) × (σ.fault ≡ Some Memory))
+      ⊎ Framed limit σ
+
+-- one list begins with the other
+pub record IsFront (fs gs : List Frame) : Type 0 where
+  pub more : List Frame
+  pub whole : gs ≡ fs ++ more
+
+-- the limit that a judge of the wire holds written frames to: 512, and behind the first Open of the peer its
+-- max-frame-size, where that is at least 512 (part 2, 2.4.1, 2.7.1)
 abbrev pub agreed : ℕ → ℕ
 agreed n = if nat_lt n 512 then 512 else n
 
@@ -154,7 +205,8 @@ JudgedBy (piece ∷ pieces) limit =
 abbrev pub judge_limit : List ℕ → ℕ → Type 0
 judge_limit bytes limit =
     ((length bytes < 8) × (limit ≡ 512))
-    ⊎ ((header : List ℕ) × (pieces : List (List ℕ)) × (rest : List ℕ) × Cut bytes header pieces rest × JudgedBy pieces limit)
+    ⊎ ((header : List ℕ) × (pieces : List (List ℕ)) × (rest : List ℕ) × Cut bytes header pieces rest
+    × JudgedBy pieces limit)
 
 abbrev pub IsWithin : List ℕ → Said → Type 0
 IsWithin bytes (pulled (Some text)) = (limit : ℕ) → judge_limit bytes limit → length text ≤ limit

@@ -2,7 +2,11 @@
 use Rattle.std.specs.Prelude.{ℕ, Bool, true, false, List, [], ◌∷◌, length, Option, Some, None, nat_le}
 use Rattle.amqp_session_types.specs.declared.error.Error.{Error}
 use Rattle.amqp_session_frames.specs.declared.frame.Frame.{Frame}
-use Rattle.amqp_session_frames.specs.declared.frame.FrameBody.TheVariants.{Empty, Open, Close}
+use Rattle.amqp_session_frames.specs.declared.frame.FrameBody.{FrameBody}
+use Rattle.amqp_session_frames.specs.declared.frame.FrameBody.TheVariants.{Empty, Open, Begin, Attach, Flow, Transfer, Disposition, Detach, End, Close}
+use Rattle.amqp_session_performatives.specs.declared.session_frame.SessionFrame.{SessionFrame}
+use Rattle.amqp_session_performatives.specs.declared.session_frame.SessionFrameBody.{SessionFrameBody}
+use Rattle.amqp_session_performatives.specs.declared.session_frame.SessionFrameBody.TheVariants as session
 use Rattle.amqp_session_frames.specs.Text.{frame_text}
 use Rattle.amqp_endpoint_model.specs.declared.settings.Settings.{Settings}
 use Rattle.amqp_endpoint_model.specs.declared.phase.Phase.{Phase}
@@ -13,7 +17,8 @@ pub data Waiting : Type 0 where
   the_header : Waiting
   the_frame : Frame → Waiting
 
-pub record State : Type 0 where
+-- an endpoint whose sessions are an S
+pub record State (S : Type 0) : Type 0 where
   pub settings : Settings
   pub phase : Phase
   -- the max-frame-size of the peer's Open, since the latest connect
@@ -27,10 +32,23 @@ pub record State : Type 0 where
   pub rest : List ℕ
   -- what pull will give, each as its text
   pub queue : List Waiting
+  -- the sessions, on the connection that gives them channels
+  pub sessions : S
 
--- a new endpoint
-abbrev pub fresh : Settings → State
-fresh s = record { settings = s; phase = Unconnected; peer_limit = None; own_close = false; peer_close = false; close_told = false; rest = []; queue = [] }
+-- a new endpoint, with these sessions
+abbrev pub fresh : {S : Type 0} → Settings → S → State S
+fresh s sessions =
+    record {
+      settings = s;
+      phase = Unconnected;
+      peer_limit = None;
+      own_close = false;
+      peer_close = false;
+      close_told = false;
+      rest = [];
+      queue = [];
+      sessions = sessions;
+    }
 
 abbrev pub is_unconnected : Phase → Bool
 is_unconnected Unconnected = true
@@ -63,9 +81,41 @@ abbrev pub text_of : Waiting → List ℕ
 text_of the_header = protocol_header
 text_of (the_frame f) = written f
 
+-- a frame of a session (part 2, 2.3.2)
+abbrev pub body_of : SessionFrameBody → FrameBody
+body_of (session.Begin begin) = Begin begin
+body_of (session.Attach attach) = Attach attach
+body_of (session.Flow flow) = Flow flow
+body_of (session.Transfer transfer payload) = Transfer transfer payload
+body_of (session.Disposition disposition) = Disposition disposition
+body_of (session.Detach detach) = Detach detach
+body_of (session.End end) = End end
+
+abbrev pub frame_of : SessionFrame → Frame
+frame_of f = record { channel = f.channel; body = body_of f.body }
+
+abbrev pub waiting_of : SessionFrame → Waiting
+waiting_of f = the_frame (frame_of f)
+
 -- the own Open (part 2, 2.7.1)
 abbrev pub own_open : Settings → Frame
-own_open s = record { channel = 0; body = Open (record { container_id = s.container_id; hostname = None; max_frame_size = s.max_frame_size; channel_max = s.channel_max; idle_time_out = s.idle_time_out; outgoing_locales = []; incoming_locales = []; offered_capabilities = []; desired_capabilities = []; properties = None }) }
+own_open s =
+    record {
+      channel = 0;
+      body =
+          Open (record {
+            container_id = s.container_id;
+            hostname = None;
+            max_frame_size = s.max_frame_size;
+            channel_max = s.channel_max;
+            idle_time_out = s.idle_time_out;
+            outgoing_locales = [];
+            incoming_locales = [];
+            offered_capabilities = [];
+            desired_capabilities = [];
+            properties = None;
+          });
+    }
 
 -- the frame that keeps a connection alive (part 2, 2.4.5)
 abbrev pub heartbeat : Frame

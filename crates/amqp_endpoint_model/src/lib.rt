@@ -7,6 +7,7 @@ mod error;
 mod event;
 mod laws;
 mod phase;
+mod relay;
 mod settings;
 
 pub use answer::{Answer, Fed, Reply};
@@ -14,7 +15,8 @@ pub use call::Call;
 pub use error::{EndpointError, LinkError};
 pub use event::{Closed, Event, Opened};
 pub use laws::{
-    bytes_decide, judge_says_one_limit, limit_kept, pieces_of_all_bytes, recut, step_decides,
+    bytes_decide, judge_says_one_limit, limit_kept, pieces_of_all_bytes, recut, step_decides, uncut,
 };
 pub use phase::Phase;
+pub use relay::SessionRelay;
 pub use settings::Settings;

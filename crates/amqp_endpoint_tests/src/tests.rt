@@ -1,3 +1,4 @@
-//! What no row can say of an endpoint: texts of errors, and scripts whose reader or writer refuses.
+//! What no row can say of an endpoint: texts of errors, scripts whose reader or writer refuses, and two endpoints.
 mod errors;
 mod scenarios;
+mod worlds;

@@ -9,10 +9,13 @@ use Rattle.amqp_link_receiving.specs.Deliveries.{Entries, found, fresh, with_las
 use Rattle.amqp_link_receiving.specs.Steps.{Completes}
 
 -- what is said of no entries is said of entries that are none
-pub among_none : (attachment : Attachment) (entries : Entries) (t : Start) (payload : List ℕ) (result : Result Answer ReceiverTransferError)
+pub among_none : (attachment : Attachment) (entries : Entries) (t : Start) (payload : List ℕ)
+    (result : Result Answer ReceiverTransferError)
     → entries ≡ []
     → Completes attachment None [] (with_last attachment payload (fresh t None)) result []
-    → Completes attachment None entries (with_last attachment payload (fresh t (found entries t.delivery_tag))) result entries
+    → Completes attachment None entries (with_last attachment payload (fresh t (found entries t.delivery_tag))) result
+        entries
 among_none attachment entries t payload result none done =
-    let P : Entries → Type 0 = λ es. Completes attachment None es (with_last attachment payload (fresh t (found es t.delivery_tag))) result es in
+    let P : Entries → Type 0 = λ es. Completes attachment None es
+        (with_last attachment payload (fresh t (found es t.delivery_tag))) result es in
     subst P (sym none) done

@@ -44,4 +44,5 @@ pub is_whole : (first : Transfer) (payload : List ℕ) (room : ℕ) (batch : Tra
     → batch ≡ first_of (record first { more = false }) payload ∷ [] → Splits first payload room batch
 is_whole first payload room batch h short all =
     let P : Transfers → Type 0 = λ l. Splits first payload room l in
-    subst P (sym all) (split-of first payload payload [] (length payload) room [] h (sym (take-length payload)) (sym (drop_all (length payload) payload (omega arith))) (omega (arith, short)) (none-behind first room h))
+    subst P (sym all) (split-of first payload payload [] (length payload) room [] h (sym (take-length payload))
+        (sym (drop_all (length payload) payload (omega arith))) (omega (arith, short)) (none-behind first room h))

@@ -1,25 +1,27 @@
 ghost use Rattle.std.specs.Prelude.{◌≡◌, ◌++◌, [], true, Some, None, IsSome, IfOk, IfErr, OnOk, MatchOption, MatchResult};
 ghost use Rattle.amqp_endpoint_model.specs.State.{error_of, has_opened, own_close_with};
-ghost use Rattle.amqp_endpoint_model.specs.Step.{FeedsIn, FrontRefused, FrontUnread, Greets, ReadsOn, Waits, closed, opened as opened_state, session_refusal, with_close};
+ghost use Rattle.amqp_endpoint_model.specs.Step.{ClosesBoth, FeedsIn, FrontRefused, FrontUnread, Greets, ReadsOn, SendsClose, Waits, closed, opened as opened_state, with_close};
+ghost use Rattle.amqp_endpoint_model.specs.Relay.{IsOfSession};
 ghost use Rattle.amqp_endpoint_model.specs.declared.error.EndpointError.TheVariants.{Memory};
 ghost use Rattle.amqp_endpoint_model.specs.declared.phase.Phase.TheVariants.{Greeting, Running};
-ghost use Rattle.amqp_endpoint_core.specs.Reading.{BodyRefused, BodyTaken, EndsBy, FrameSplit, FrontTaken, HeaderRefused, HeaderTaken, PieceOf, SizeRefused, condition_text};
+ghost use Rattle.amqp_endpoint_core.specs.Reading.{BodyRefused, BodyTaken, EndsBy, FrameSplit, FrontTaken, GreetedOff, HeaderLeft, HeaderRefused, HeaderTaken, PieceOf, SizeRefused, condition_text, says_too_little};
 
 use super::Endpoint;
 use crate::coding::{MIN_MAX_FRAME_SIZE, PROTOCOL_HEADER, decoded, error_of_condition};
 use crate::condition::Condition;
-use crate::connecting::{close, find_session, hand_out_open, take_begin, take_close, take_end};
-use amqp_endpoint_model::{Closed, EndpointError, Event, Fed, Opened, Phase};
+use crate::connecting::{open, send_close, take_open, take_peers_close};
+use crate::queued::gather;
+use amqp_endpoint_model::{Closed, EndpointError, Event, Fed, Opened, Phase, SessionRelay};
 use amqp_session_frames::{Frame, FrameBody};
 use amqp_session_performatives::{Close, Open};
-use amqp_session_types::{ConnectionError, IncomingChannel};
+use amqp_session_types::IncomingChannel;
 use bytes::{Buf, BytesMut};
 use std::alloc::Global;
 
 /// The shortest frame: its header alone (part 2, 2.3.1).
 const FRAME_HEADER: u32 = 8;
 
-impl Endpoint {
+impl<S: SessionRelay> Endpoint<S> {
     /// Takes these bytes of the peer, and answers what the whole frames say, in order.
     ///
     /// The fault is `NotConnected` before `connect`, and nothing is taken then. Each other fault ends the
@@ -30,14 +32,13 @@ impl Endpoint {
     ///   2.3.1).
     /// - `PeerLimitUnder512`: what the peer's Open says (part 2, 2.7.1).
     /// - `Frame`: a whole piece that is no frame. `Connection(IllegalState)`: a second Open.
-    /// - `Connection(NotImplemented)`: a Begin that asks for a session (part 2, 2.7.2). `Connection(NotFound)`: any
-    ///   other performative of a session, as no session has its channel (part 2, 2.5.1).
+    /// - `Connection`, `Session`, `NumbersUsedUp`: what the sessions refuse so that the connection ends.
     /// - `Memory`: there was no memory. It is broken off, without a frame, before the frame that met it.
     ///
-    /// At all of these but the first and the last the own Close is queued, with the error, unless it was queued
-    /// before. The peer's Close ends the connection too, without a fault: it is answered by the own one.
+    /// At all of these but the first, `NumbersUsedUp` and the last the own Close is queued, with the error, unless it
+    /// was queued before. The peer's Close ends the connection too, without a fault: it is answered by the own one.
     pub fn feed(&mut self, bytes: &[u8]) -> Fed
-        ensures { FeedsIn self.old.phase self.old bytes.now (result.events.items) result.fault self.new }
+        ensures { FeedsIn S.does self.old.phase self.old bytes.now (result.events.items) result.fault self.new }
     {
         match self.phase {
             Phase::Unconnected => fault_alone(self.alloc, EndpointError::NotConnected),
@@ -50,13 +51,9 @@ impl Endpoint {
     #[inline(never)]
     fn feed_header(&mut self, bytes: &[u8]) -> Fed
         requires { self.old.phase ≡ Greeting }
-        ensures { Greets self.old (self.old.rest ++ bytes.now) (result.events.items) result.fault self.new }
+        ensures { Greets S.does self.old (self.old.rest ++ bytes.now) (result.events.items) result.fault self.new }
     {
-        if self.input.extend_from_slice(bytes).is_err() {
-            self.break_off();
-            return fault_alone(self.alloc, EndpointError::Memory);
-        }
-        match self.take_header() {
+        match self.take_in_header(bytes) {
             Ok(true) => self.read_frames(),
             Ok(false) => nothing_new(self.alloc),
             Err(fault) => {
@@ -66,11 +63,31 @@ impl Endpoint {
         }
     }
 
+    /// Takes these bytes, and the peer's protocol header once it is whole.
+    fn take_in_header(&mut self, bytes: &[u8]) -> Result<bool, EndpointError>
+        requires { self.old.phase ≡ Greeting }
+        ensures ok { IfOk result (λ whole.
+            HeaderTaken S.does whole (record self.old { rest = self.old.rest ++ bytes.now }) self.new) }
+        ensures err { IfErr result (λ e. HeaderLeft S.does self.old bytes.now e self.new) }
+    {
+        self.take_in(bytes)?;
+        self.take_header()
+    }
+
+    /// Puts these bytes behind those that are no whole frame yet. Nothing changes where there is no memory.
+    fn take_in(&mut self, bytes: &[u8]) -> Result<(), EndpointError>
+        ensures ok { OnOk result (self.new ≡ record self.old { rest = self.old.rest ++ bytes.now }) }
+        ensures err { IfErr result (λ e. (e ≡ Memory) × (self.new ≡ self.old)) }
+    {
+        self.input.extend_from_slice(bytes)?;
+        Ok(())
+    }
+
     /// Takes the peer's protocol header once it is whole, and queues the own Open.
     fn take_header(&mut self) -> Result<bool, EndpointError>
         requires { self.old.phase ≡ Greeting }
-        ensures ok { IfOk result (λ whole. HeaderTaken whole self.old self.new) }
-        ensures err { IfErr result (λ e. HeaderRefused self.old.rest e × (self.new ≡ self.old)) }
+        ensures ok { IfOk result (λ whole. HeaderTaken S.does whole self.old self.new) }
+        ensures err { IfErr result (λ e. HeaderRefused S.does self.old e self.new) }
     {
         let Some(header) = self.input.as_slice().get(..PROTOCOL_HEADER.len()) else {
             return Ok(false);
@@ -86,11 +103,14 @@ impl Endpoint {
     /// Queues the own Open, the headers being exchanged (part 2, 2.4.1): the connection begins.
     fn send_open(&mut self) -> Result<(), EndpointError>
         requires { self.old.phase ≡ Greeting }
-        ensures ok { OnOk result (self.new ≡ record (opened_state self.old) { rest = self.old.rest }) }
-        ensures err { IfErr result (λ e. (e ≡ Memory) × (self.new ≡ self.old)) }
+        ensures ok { OnOk result (self.new ≡ record (opened_state S.does self.old) { rest = self.old.rest }) }
+        ensures err { IfErr result (λ e. (e ≡ Memory) × GreetedOff S.does self.old self.new) }
     {
-        self.queue.reserve(1)?;
-        let open = hand_out_open(&mut *self.connection)?;
+        gather(&mut self.queue, &mut self.out)?;
+        let open = match open(&mut self.sessions) {
+            Ok(open) => open,
+            Err(_) => return Err(EndpointError::Memory),
+        };
         self.queue.push_back_reserved(open);
         self.phase = Phase::Running;
         Ok(())
@@ -99,13 +119,15 @@ impl Endpoint {
     #[inline(never)]
     fn feed_frames(&mut self, bytes: &[u8]) -> Fed
         requires { self.old.phase ≡ Running }
-        ensures { ReadsOn self.old (self.old.rest ++ bytes.now) (result.events.items) result.fault self.new }
+        ensures { ReadsOn S.does self.old (self.old.rest ++ bytes.now) (result.events.items) result.fault self.new }
     {
-        if self.input.extend_from_slice(bytes).is_err() {
-            self.break_off();
-            return fault_alone(self.alloc, EndpointError::Memory);
+        match self.take_in(bytes) {
+            Ok(()) => self.read_frames(),
+            Err(fault) => {
+                self.break_off();
+                fault_alone(self.alloc, fault)
+            }
         }
-        self.read_frames()
     }
 
     /// Takes the whole frames of the input, up to the peer's Close or a fault.
@@ -113,7 +135,7 @@ impl Endpoint {
     #[tactic(auto, using(crate::proofs::FeedLaws::so_far_none, crate::proofs::FeedLaws::so_far_more, crate::proofs::FeedLaws::front_shorter, crate::proofs::FeedLaws::ends_waiting, crate::proofs::FeedLaws::ends_closed, crate::proofs::FeedLaws::ends_by_fault))]
     fn read_frames(&mut self) -> Fed
         requires { self.old.phase ≡ Running }
-        ensures { ReadsOn self.old self.old.rest (result.events.items) result.fault self.new }
+        ensures { ReadsOn S.does self.old self.old.rest (result.events.items) result.fault self.new }
     {
         let mut events = Vec::new(self.alloc);
         while self.is_running() {
@@ -144,8 +166,11 @@ impl Endpoint {
     #[tactic(auto, using(crate::proofs::ReadingLaws::front_size, crate::proofs::ReadingLaws::front_not_read))]
     fn read_frame(&mut self, events: &mut Vec<Event>) -> Result<bool, EndpointError>
         requires { self.old.phase ≡ Running }
-        ensures ok { IfOk result (λ whole. FrontTaken whole self.old events.old.items events.new.items self.new) }
-        ensures err { IfErr result (λ e. FrontRefused self.old self.old.rest e × (events.new.items ≡ events.old.items) × (self.new ≡ record self.old { rest = self.new.rest })) }
+        ensures ok { IfOk result (λ whole. FrontTaken S.does whole self.old events.old.items events.new.items
+            self.new) }
+        ensures err { IfErr result (λ e. FrontRefused S.does self.old self.old.rest e self.new.sessions
+            × (events.new.items ≡ events.old.items)
+            × (self.new ≡ record self.old { rest = self.new.rest; sessions = self.new.sessions })) }
     {
         let Some(size) = self.next_size()? else {
             return Ok(false);
@@ -161,8 +186,10 @@ impl Endpoint {
     fn read_whole(&mut self, size: usize, events: &mut Vec<Event>) -> Result<(), EndpointError>
         requires running { self.old.phase ≡ Running }
         requires piece { PieceOf self.old.settings.max_frame_size self.old.rest size }
-        ensures ok { OnOk result (FrontTaken true self.old events.old.items events.new.items self.new) }
-        ensures err { IfErr result (λ e. FrontRefused self.old self.old.rest e × (events.new.items ≡ events.old.items) × (self.new ≡ record self.old { rest = self.new.rest })) }
+        ensures ok { OnOk result (FrontTaken S.does true self.old events.old.items events.new.items self.new) }
+        ensures err { IfErr result (λ e. FrontRefused S.does self.old self.old.rest e self.new.sessions
+            × (events.new.items ≡ events.old.items)
+            × (self.new ≡ record self.old { rest = self.new.rest; sessions = self.new.sessions })) }
     {
         let frame = self.next_frame(size)?;
         self.take(frame, events)
@@ -173,7 +200,8 @@ impl Endpoint {
     fn next_frame(&mut self, size: usize) -> Result<Frame, EndpointError>
         requires { PieceOf self.old.settings.max_frame_size self.old.rest size }
         ensures ok { IfOk result (λ f. FrameSplit self.old f self.new) }
-        ensures err { IfErr result (λ e. FrontUnread self.old.settings.max_frame_size self.old.rest e × (self.new ≡ record self.old { rest = self.new.rest })) }
+        ensures err { IfErr result (λ e. FrontUnread self.old.settings.max_frame_size self.old.rest e
+            × (self.new ≡ record self.old { rest = self.new.rest })) }
     {
         let piece = self.input.freeze_to(size)?;
         decoded(self.alloc, piece)
@@ -181,7 +209,8 @@ impl Endpoint {
 
     /// The size of the frame in front, if it is whole.
     fn next_size(&self) -> Result<Option<usize>, EndpointError>
-        ensures ok { IfOk result (λ size. MatchOption size (Waits self.now.settings.max_frame_size self.now.rest) (PieceOf self.now.settings.max_frame_size self.now.rest)) }
+        ensures ok { IfOk result (λ size. MatchOption size (Waits self.now.settings.max_frame_size self.now.rest)
+            (PieceOf self.now.settings.max_frame_size self.now.rest)) }
         ensures err { IfErr result (SizeRefused self.now.settings.max_frame_size self.now.rest) }
     {
         let mut ahead = self.input.as_slice();
@@ -200,25 +229,41 @@ impl Endpoint {
         Ok(Some(size as usize))
     }
 
-    /// Takes what a frame says. There are no sessions: what says something of one is refused.
+    /// Takes what a frame says.
     fn take(&mut self, frame: Frame, events: &mut Vec<Event>) -> Result<(), EndpointError>
         requires { self.old.phase ≡ Running }
-        ensures ok { OnOk result (BodyTaken self.old frame.body events.old.items events.new.items self.new) }
-        ensures err { IfErr result (λ e. BodyRefused self.old frame.body e × (events.new.items ≡ events.old.items) × (self.new ≡ self.old)) }
+        ensures ok { OnOk result (BodyTaken S.does self.old frame.channel frame.body events.old.items
+            events.new.items self.new) }
+        ensures err { IfErr result (λ e. BodyRefused S.does self.old frame.channel frame.body e self.new
+            × (events.new.items ≡ events.old.items)) }
     {
         let channel = IncomingChannel(frame.channel);
         match frame.body {
             FrameBody::Empty => Ok(()),
             FrameBody::Open(open) => self.take_open(channel, open, events),
             FrameBody::Close(close) => self.take_close(channel, close, events),
-            body @ (FrameBody::Begin(_)
-            | FrameBody::Attach(_)
-            | FrameBody::Flow(_)
-            | FrameBody::Transfer { .. }
-            | FrameBody::Disposition(_)
-            | FrameBody::Detach(_)
-            | FrameBody::End(_)) => self.route(channel, &body),
+            body => self.take_session(channel, body, events),
         }
+    }
+
+    /// The sessions take a frame of theirs.
+    #[inline(never)]
+    fn take_session(
+        &mut self,
+        channel: IncomingChannel,
+        body: FrameBody,
+        events: &mut Vec<Event>,
+    ) -> Result<(), EndpointError>
+        requires theirs { IsOfSession body }
+        requires running { self.old.phase ≡ Running }
+        ensures ok { OnOk result (BodyTaken S.does self.old channel.0 body events.old.items events.new.items self.new) }
+        ensures err { IfErr result (λ e. BodyRefused S.does self.old channel.0 body e self.new
+            × (events.new.items ≡ events.old.items)) }
+    {
+        let limit = self.limit();
+        self.sessions
+            .on_incoming(self.alloc, limit, channel, body, &mut self.out, events)?;
+        Ok(())
     }
 
     fn take_open(
@@ -228,19 +273,16 @@ impl Endpoint {
         events: &mut Vec<Event>,
     ) -> Result<(), EndpointError>
         requires { self.old.phase ≡ Running }
-        ensures ok { OnOk result (BodyTaken self.old (FrameBody.Open peer) events.old.items events.new.items self.new) }
-        ensures err { IfErr result (λ e. BodyRefused self.old (FrameBody.Open peer) e × (events.new.items ≡ events.old.items) × (self.new ≡ self.old)) }
+        ensures ok { OnOk result (BodyTaken S.does self.old channel.0 (FrameBody.Open peer) events.old.items
+            events.new.items self.new) }
+        ensures err { IfErr result (λ e. BodyRefused S.does self.old channel.0 (FrameBody.Open peer) e self.new
+            × (events.new.items ≡ events.old.items)) }
     {
-        match self.peer_limit {
-            None if peer.max_frame_size < MIN_MAX_FRAME_SIZE => {
-                return Err(EndpointError::PeerLimitUnder512);
-            }
-            _ => {}
+        if says_too_little(self.peer_limit, peer.max_frame_size) {
+            return Err(EndpointError::PeerLimitUnder512);
         }
         events.reserve(1)?;
-        if self.connection.on_incoming_open(channel, &peer).is_err() {
-            return Err(EndpointError::Connection(ConnectionError::IllegalState));
-        }
+        take_open(&mut self.sessions, channel, &peer)?;
         self.peer_limit = Some(peer.max_frame_size);
         events.push_reserved(Event::Opened(Opened {
             container_id: peer.container_id,
@@ -258,8 +300,10 @@ impl Endpoint {
         events: &mut Vec<Event>,
     ) -> Result<(), EndpointError>
         requires { self.old.phase ≡ Running }
-        ensures ok { OnOk result (BodyTaken self.old (FrameBody.Close close) events.old.items events.new.items self.new) }
-        ensures err { IfErr result (λ e. BodyRefused self.old (FrameBody.Close close) e × (events.new.items ≡ events.old.items) × (self.new ≡ self.old)) }
+        ensures ok { OnOk result (BodyTaken S.does self.old channel.0 (FrameBody.Close close) events.old.items
+            events.new.items self.new) }
+        ensures err { IfErr result (λ e. BodyRefused S.does self.old channel.0 (FrameBody.Close close) e self.new
+            × (events.new.items ≡ events.old.items)) }
     {
         events.reserve(1)?;
         self.close_both(channel, &close)?;
@@ -271,40 +315,29 @@ impl Endpoint {
     /// The peer's Close came: it is answered by the own one, unless that was queued.
     fn close_both(&mut self, channel: IncomingChannel, peer: &Close) -> Result<(), EndpointError>
         requires { self.old.phase ≡ Running }
-        ensures ok { OnOk result (self.new ≡ record (closed self.old) { rest = self.old.rest }) }
+        ensures ok { OnOk result (ClosesBoth S.does self.old.own_close self.old.sessions self.new.sessions
+            × (self.new ≡ record (closed self.old self.new.sessions) { rest = self.old.rest })) }
         ensures err { IfErr result (λ e. (e ≡ Memory) × (self.new ≡ self.old)) }
     {
         if self.own_close() {
-            take_close(&mut *self.connection, channel, peer)?;
+            take_peers_close(&mut self.sessions, channel, peer)?;
+            self.sessions.finish();
             self.phase = Phase::Over;
             return Ok(());
         }
-        self.queue.reserve(1)?;
-        take_close(&mut *self.connection, channel, peer)?;
-        let answer = close(&mut *self.connection, None)?;
+        gather(&mut self.queue, &mut self.out)?;
+        take_peers_close(&mut self.sessions, channel, peer)?;
+        let answer = send_close(&mut self.sessions, None)?;
+        self.sessions.finish();
         self.queue.push_back_reserved(answer);
         self.phase = Phase::Over;
         Ok(())
     }
 
-    /// Refuses what says something of a session.
-    #[tactic(auto, using(crate::proofs::ConnectedLaws::session_refused))]
-    fn route(&mut self, channel: IncomingChannel, body: &FrameBody) -> Result<(), EndpointError>
-        requires { IsSome (session_refusal body.now) }
-        ensures refused { MatchResult result (λ _. ⊥) (λ e. BodyRefused self.old body.now e) }
-        ensures same { self.new ≡ self.old }
-    {
-        match body {
-            FrameBody::Begin(begin) => take_begin(&mut *self.connection, channel, begin),
-            FrameBody::End(end) => take_end(&mut *self.connection, channel, end),
-            _ => find_session(&*self.connection, channel),
-        }
-    }
-
     /// Ends the connection by this fault, or by want of memory for the Close that tells of it.
     fn end_by(&mut self, fault: EndpointError) -> EndpointError
         requires { self.old.phase ≡ Running }
-        ensures { EndsBy fault result self.old self.new }
+        ensures { EndsBy S.does fault result self.old self.new }
     {
         let Some(condition) = Condition::of(&fault) else {
             self.break_off();
@@ -314,6 +347,7 @@ impl Endpoint {
             self.break_off();
             return EndpointError::Memory;
         }
+        self.sessions.finish();
         self.phase = Phase::Over;
         self.input = BytesMut::new(self.alloc);
         fault
@@ -322,17 +356,30 @@ impl Endpoint {
     /// Queues the own Close with this condition, unless the own Close is queued.
     fn close_with(&mut self, condition: Condition) -> Result<(), EndpointError>
         requires { has_opened self.old.phase ≡ true }
-        ensures ok { OnOk result (self.new ≡ record self.old {
-          own_close = true;
-          queue = with_close self.old (own_close_with (Some (error_of (condition_text condition))));
-        }) }
+        ensures ok { OnOk result (SendsClose S.does self.old.own_close true self.old.sessions self.new.sessions
+            × (self.new ≡ record self.old {
+              own_close = true;
+              queue = with_close self.old (own_close_with (Some (error_of (condition_text condition))));
+              sessions = self.new.sessions;
+            })) }
         ensures err { IfErr result (λ e. (e ≡ Memory) × (self.new ≡ self.old)) }
     {
         if self.own_close() {
             return Ok(());
         }
         let error = error_of_condition(self.alloc, condition.as_str())?;
-        self.send_close(Some(error))
+        self.send_close(Some(error))?;
+        Ok(())
+    }
+}
+
+/// Whether the peer's first Open has a limit of so many bytes that is too low.
+fn says_too_little(limit: Option<u32>, most: u32) -> bool
+    ensures { result ≡ says_too_little limit most }
+{
+    match limit {
+        None => most < MIN_MAX_FRAME_SIZE,
+        Some(_) => false,
     }
 }
 

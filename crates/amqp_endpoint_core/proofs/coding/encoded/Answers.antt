@@ -4,5 +4,6 @@ use Rattle.amqp_endpoint_core.proofs.coding.encoded.Goals as goal
 
 pub returns-in-Ok-clause-ok : goal.returns-in-Ok-clause-ok
 returns-in-Ok-clause-ok c =
-    encoded_is _ c.new-encoder.result 512 c.args.frame.now c.in-Ok.pieces _ _
-    c.in-Ok.ensures.text c.requires.own c.in-Ok.ensures.limit (omega (arith, c.new-encoder.ensures)) c.into_parts-piece.ensures
+    encoded_is c.new-encoder.result c.args.limit c.args.frame.now c.in-Ok.pieces _ _
+    c.in-Ok.ensures.text c.requires.whole c.in-Ok.ensures.limit (omega (arith, c.new-encoder.ensures))
+    c.into_parts-piece.ensures

@@ -1,4 +1,4 @@
-use Rattle.std.proofs.Common.{◌≡◌, List, [], ◌∷◌, ◌++◌, ap, subst, ◌∙◌}
+use Rattle.std.proofs.Common.{List, [], ◌∷◌, ◌++◌, ap, subst, ◌∙◌}
 use Rattle.std.specs.Global.{Box}
 use Rattle.amqp_session_types.specs.declared.channels.OutgoingChannel.{OutgoingChannel}
 use Rattle.amqp_session_performatives.specs.declared.session_frame.SessionFrame.{SessionFrame}
@@ -20,7 +20,8 @@ returns-in-Ok-clause-ok g c =
     made.wanted made.asked in
     let channel =
     has_channel c.args.self.now.sessions c.args.number incoming c.in-Ok.asked outgoing session c.accept.new.self stepped
-    c.in_ok-outgoing.outgoing (c.in_ok-outgoing.ensures.ok.2 ∙ ap (λ (s : channels.State). s.offered) c.connection.ensures) in
+    c.in_ok-outgoing.outgoing (c.in_ok-outgoing.ensures.ok.2
+    ∙ ap (λ (s : channels.State). s.offered) c.connection.ensures) in
     record {
       asked = c.requires;
       incoming = incoming;
@@ -37,7 +38,8 @@ returns-in-Ok-clause-ok g c =
       stepped = stepped;
       taken_over =
           c.take_over.ensures.taken session
-          (is_live c.args.self.now.sessions c.args.number incoming c.in-Ok.asked outgoing session c.accept.new.self stepped);
+          (is_live c.args.self.now.sessions c.args.number incoming c.in-Ok.asked outgoing session c.accept.new.self
+          stepped);
       rest = c.take_over.ensures.rest;
       queued = c.push_back_reserved.ensures.items ∙ ap (λ (fs : List SessionFrame). fs ++ frame ∷ []) c.reserve.ensures.items;
     }

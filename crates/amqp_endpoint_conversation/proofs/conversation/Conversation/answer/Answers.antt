@@ -1,4 +1,4 @@
-use Rattle.std.proofs.Common.{◌≡◌, Bool, true, false, Some, inr, refl, sym, ap, subst, ◌∙◌}
+use Rattle.std.proofs.Common.{◌≡◌, Bool, Some, inr, refl, sym, ap, subst, ◌∙◌}
 use Rattle.std.specs.Box.{with_value}
 use Rattle.amqp_session_core.specs.Table.{after_incoming_begin}
 use Rattle.amqp_endpoint_links.specs.declared.asking.AskingSession.{AskingSession}

@@ -6,7 +6,7 @@ returns-in-Ok-ask g c out = (
   record {
     names_none = c.requires;
     asked = c.in-Ok.asked;
-    by_begin = c.in-Ok.ensures.ok ∙ c.new.ensures;
+    by_begin = c.in-Ok.ensures ∙ c.new.ensures;
     stepped = c.in-Ok-ask.ensures.ok;
     rest = refl;
   },

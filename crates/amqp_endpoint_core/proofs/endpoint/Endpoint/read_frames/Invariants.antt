@@ -3,7 +3,7 @@ use Rattle.amqp_endpoint_core.specs.Reading.{SoFar}
 use Rattle.amqp_endpoint_core.proofs.endpoint.Endpoint.read_frames.Given as goal
 
 abbrev pub invariant-loop-self : goal.invariant-loop-self
-invariant-loop-self l = SoFar l.initial.self l.events.items l.self
+invariant-loop-self g l = SoFar g.S.SessionRelay.does l.initial.self l.events.items l.self
 
 abbrev pub decreases-loop-self : goal.decreases-loop-self
-decreases-loop-self l = length l.self.rest
+decreases-loop-self g l = length l.self.rest

@@ -1,18 +1,29 @@
-use Rattle.std.proofs.Common.{is_some, ◌∙◌, ap, sym, subst}
-use Rattle.amqp_session_connection.specs.State.{State as ConnectionFields}
-use Rattle.amqp_endpoint_model.specs.State.{State, has_opened}
-use Rattle.amqp_endpoint_core.specs.Connected.{Stands, sent_close}
+use Rattle.std.proofs.Common.{is_some, refl, ◌∙◌, ap}
+use Rattle.amqp_endpoint_model.specs.State.{State, has_opened, limit_of, own_close_with}
 use Rattle.amqp_endpoint_core.proofs.ConnectedLaws.{agrees_on, stands_moved}
+use Rattle.amqp_endpoint_core.proofs.QueueLaws.{frame-within, within-pushed}
 use Rattle.amqp_endpoint_core.proofs.endpoint.Endpoint.send_close.Goals as goal
 
 pub invariant_of-self-2 : goal.invariant_of-self-2
-invariant_of-self-2 g =
-    let (stands, fits, least) = g.self.invariant in
-    let lent = g.deref_mut.ensures.value in
-    let P : ConnectionFields → Type 0 = λ c. Stands g.self.inside.settings g.self.inside.phase g.self.inside.peer_limit c in
-    let before = subst P (sym lent) stands in
-    let first = ap (λ (c : ConnectionFields). sent_close c.local_state) lent ∙ ap (λ (s : State). s.own_close) g.self.view_is ∙ g.requires.first in
-    let agrees = agrees_on g.self.inside.phase g.self.inside.peer_limit g.deref_mut.result.now.local_state g.close.new.connection.local_state (is_some g.args.error) before.agrees
-    (ap (λ (s : State). has_opened s.phase) g.self.view_is ∙ g.requires.opened) first g.in_ok-close.ensures.ok.to in
-    let behind = stands_moved _ _ _ _ _ _ before g.in_ok-close.ensures.ok agrees in
-    (behind, fits, least)
+invariant_of-self-2 g c =
+    let (stands, fits, least, within) = c.self.invariant in
+    let (gathered, none, room) = c.in_ok-gather.ensures.ok in
+    let limit = limit_of c.self.inside.peer_limit in
+    let close = own_close_with c.args.error in
+    let one = frame-within limit close close c.in_ok-close.close c.in_ok-close.ensures.frame refl least
+    c.requires.short in
+    let moved = c.in_ok-close.ensures.connection in
+    let first = ap (λ (s : State g.row.S.Denot). s.own_close) c.self.view_is ∙ c.requires.first in
+    let opened = ap (λ (s : State g.row.S.Denot). has_opened s.phase) c.self.view_is ∙ c.requires.opened in
+    let agrees =
+    agrees_on c.self.inside.phase c.self.inside.peer_limit
+    (g.S.SessionRelay.does.connection c.self.inside.sessions).local_state
+    (g.S.SessionRelay.does.connection c.send_close.new.sessions).local_state (is_some c.args.error) stands.agrees
+    opened first
+    moved.to in (
+      stands_moved g.S.SessionRelay.does c.self.inside.settings c.self.inside.phase c.self.inside.phase
+          c.self.inside.peer_limit c.self.inside.sessions c.send_close.new.sessions stands moved.is agrees,
+      fits,
+      least,
+      within-pushed limit _ _ _ _ _ _ within gathered none one c.push_back_reserved.ensures.items,
+    )

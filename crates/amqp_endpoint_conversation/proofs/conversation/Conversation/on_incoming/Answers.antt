@@ -1,0 +1,17 @@
+use Rattle.std.proofs.Common.{true, false, refl, sym}
+use Rattle.amqp_endpoint_conversation.proofs.Hearings.{in_asked, in_live, is_there}
+use Rattle.amqp_endpoint_conversation.proofs.conversation.Conversation.on_incoming.Goals as goal
+
+pub returns-then-is_some-clause-step : goal.returns-then-is_some-clause-step
+returns-then-is_some-clause-step g c =
+    in_asked g.R.LinkRelay.gives c.args.self.now c.args.out.now.items c.args.channel c.args.said c.hear_in_asked.result
+    c.hear_in_asked.new.self c.args.out.now.items c.in-Some.number (sym c.in-Some.ensures)
+    (is_there c.asked.result _ true c.asked.ensures c.if-is_some.ensures) c.hear_in_asked.ensures
+    (refl {a = c.args.out.now.items})
+
+pub returns-then-is_some-2-clause-step : goal.returns-then-is_some-2-clause-step
+returns-then-is_some-2-clause-step g c =
+    in_live g.R.LinkRelay.gives c.args.self.now c.args.out.now.items c.args.channel c.args.said c.hear_in_live.result
+    c.hear_in_live.new.self c.hear_in_live.new.out.items c.in-Some.number (sym c.in-Some.ensures)
+    (is_there c.asked.result _ false c.asked.ensures c.if-is_some.ensures)
+    (is_there c.live.result _ true c.live.ensures c.if-is_some-2.ensures) c.hear_in_live.ensures.step

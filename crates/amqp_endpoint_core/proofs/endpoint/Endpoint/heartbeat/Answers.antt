@@ -1,0 +1,12 @@
+use Rattle.std.proofs.Common.{refl}
+use Rattle.amqp_endpoint_model.specs.State.{heartbeat, limit_of}
+use Rattle.amqp_endpoint_core.proofs.QueueLaws.{frame-within, within-pushed}
+use Rattle.amqp_endpoint_core.proofs.endpoint.Endpoint.heartbeat.Goals as goal
+
+pub invariant_of-self-2 : goal.invariant_of-self-2
+invariant_of-self-2 g c =
+    let (stands, fits, least, within) = c.self.invariant in
+    let (gathered, none, room) = c.in_ok-gather.ensures.ok in
+    let limit = limit_of c.self.inside.peer_limit in
+    let one = frame-within limit c.empty.result heartbeat c.frame.result c.frame.ensures c.empty.ensures least refl in
+    (stands, fits, least, within-pushed limit _ _ _ _ _ _ within gathered none one c.push_back_reserved.ensures.items)

@@ -1,0 +1,76 @@
+use Rattle.std.proofs.Common.{◌≡◌, inr, refl, ◌∙◌, ap}
+use Rattle.amqp_session_connection.specs.State.{State as ConnectionFields}
+use Rattle.amqp_session_connection.specs.declared.state.ConnectionState.TheVariants.{HeaderExchange}
+use Rattle.amqp_session_connection.specs.Steps.{frame_on}
+use Rattle.amqp_session_frames.specs.declared.frame.FrameBody.TheVariants as body
+use Rattle.amqp_endpoint_model.specs.declared.phase.Phase.TheVariants.{Greeting}
+use Rattle.amqp_endpoint_model.specs.State.{State, limit_of, own_open}
+use Rattle.amqp_endpoint_model.specs.Step.{at_state}
+use Rattle.amqp_endpoint_core.proofs.ConnectedLaws.{agrees_exchanged, greeting_of, runs_sent, seen_greeted}
+use Rattle.amqp_endpoint_core.proofs.QueueLaws.{frame-within, gathered-same, within-pushed, within-same}
+use Rattle.amqp_endpoint_core.proofs.endpoint.Endpoint.send_open.Goals as goal
+
+pub invariant_of-self-in-Err : goal.invariant_of-self-in-Err
+invariant_of-self-in-Err g c =
+    let (stands, fits, least, within) = c.self.invariant in
+    let (gathered, none, room) = c.in_ok-gather.ensures.ok in
+    let at : c.self.inside.phase ≡ Greeting = ap (λ (s : State g.row.S.Denot). s.phase) c.self.view_is ∙ c.requires in
+    let greets = greeting_of c.self.inside.phase c.self.inside.peer_limit _ at stands.agrees in
+    let still = c.in-Err.ensures.still in (
+      record {
+        opening = ap (λ (x : ConnectionFields). frame_on 0 (body.Open x.local_open)) still ∙ stands.opening;
+        agrees =
+            agrees_exchanged c.self.inside.phase c.self.inside.peer_limit _ at greets.0
+            (ap (λ (x : ConnectionFields). x.local_state) still);
+      },
+      fits,
+      least,
+      within-same (limit_of c.self.inside.peer_limit) _ _ (gathered-same _ _ _ _ gathered none) within,
+    )
+
+pub returns-in-Err : goal.returns-in-Err
+returns-in-Err g c =
+    let (stands, fits, least, within) = c.self.invariant in
+    let (gathered, none, room) = c.in_ok-gather.ensures.ok in
+    let does = g.S.SessionRelay.does in
+    let at : c.self.inside.phase ≡ Greeting = ap (λ (s : State g.row.S.Denot). s.phase) c.self.view_is ∙ c.requires in
+    let greets = greeting_of c.self.inside.phase c.self.inside.peer_limit _ at stands.agrees in
+    let exchanged = ap (λ (x : ConnectionFields). x.local_state) c.in-Err.ensures.still in
+    let seen =
+    seen_greeted does c.self.inside.settings c.self.inside.phase c.self.inside.peer_limit c.self.inside.close_told
+    c.self.inside.input.items _ _ c.self.inside.sessions c.open.new.sessions (gathered-same _ _ _ _ gathered none)
+    greets.1
+    exchanged in
+    record {
+      ok = tt;
+      err = (
+        refl,
+        inr (
+            seen
+            ∙ ap (λ (s : State g.row.S.Denot). record s { sessions = c.open.new.sessions }) c.self.view_is
+            ∙ ap (λ (x : g.row.S.Denot). record c.args.self.now { sessions = x }) c.in-Err.ensures.kept
+            ∙ ap (λ (s : State g.row.S.Denot). record c.args.self.now
+            { sessions = at_state does s.sessions HeaderExchange })
+            c.self.view_is
+            ),
+      );
+    }
+
+pub invariant_of-self-2 : goal.invariant_of-self-2
+invariant_of-self-2 g c =
+    let (stands, fits, least, within) = c.self.invariant in
+    let (gathered, none, room) = c.in_ok-gather.ensures.ok in
+    let limit = limit_of c.self.inside.peer_limit in
+    let own = own_open c.self.inside.settings in
+    let one = frame-within limit _ own c.in-Ok.open c.in-Ok.ensures.frame stands.opening least fits in
+    let at : c.self.inside.phase ≡ Greeting = ap (λ (s : State g.row.S.Denot). s.phase) c.self.view_is ∙ c.requires in
+    let greets = greeting_of c.self.inside.phase c.self.inside.peer_limit _ at stands.agrees in
+    let moved = c.in-Ok.ensures.connection in (
+      record {
+        opening = ap (λ (x : ConnectionFields). frame_on 0 (body.Open x.local_open)) moved ∙ stands.opening;
+        agrees = runs_sent c.self.inside.peer_limit _ greets.0 (ap (λ (x : ConnectionFields). x.local_state) moved);
+      },
+      fits,
+      least,
+      within-pushed limit _ _ _ _ _ _ within gathered none one c.push_back_reserved.ensures.items,
+    )

@@ -1,0 +1,32 @@
+-- The sessions of an endpoint that has none: whatever says something of one is refused.
+use Rattle.std.specs.Prelude.{◌≡◌, ℕ, Option, Some, None}
+use Rattle.amqp_session_types.specs.declared.refusals.ConnectionError.{ConnectionError}
+use Rattle.amqp_session_types.specs.declared.refusals.ConnectionError.TheVariants.{NotImplemented, NotFound}
+use Rattle.amqp_session_frames.specs.declared.frame.FrameBody.{FrameBody}
+use Rattle.amqp_session_frames.specs.declared.frame.FrameBody.TheVariants.{Begin}
+use Rattle.amqp_endpoint_model.specs.declared.error.EndpointError.TheVariants.{Connection}
+use Rattle.amqp_endpoint_model.specs.Relay.{Relations}
+use Rattle.amqp_endpoint_core.specs.declared.no_sessions.NoSessions.{NoSessions}
+
+-- a Begin that answers none asks for a session, which is not supported (part 2, 2.7.2); any other one is on a channel
+-- that no session has (part 2, 2.5.1)
+abbrev pub begin_refusal : Option ℕ → ConnectionError
+begin_refusal None = NotImplemented
+begin_refusal (Some channel) = NotFound
+
+-- why a performative of a session is refused: no session has its channel
+abbrev pub session_refusal : FrameBody → ConnectionError
+session_refusal (Begin b) = begin_refusal b.remote_channel
+session_refusal body = NotFound
+
+abbrev pub no_sessions : Relations NoSessions
+no_sessions =
+    record {
+      fresh = λ connection first window. record { connection = connection };
+      connection = λ s. s.connection;
+      moved = λ s connection. record { connection = connection };
+      takes = λ s limit channel body frames events new. ⊥;
+      refuses = λ s limit channel body e new. (e ≡ Connection (session_refusal body)) × (new ≡ s);
+      closes = λ s new. new ≡ s;
+      finishes = λ s new. new ≡ s;
+    }

@@ -1,0 +1,70 @@
+//! The sessions of an endpoint that has none.
+ghost use Rattle.std.specs.Prelude.{◌≡◌};
+ghost use Rattle.amqp_endpoint_core.specs.NoSessions.{session_refusal};
+
+use amqp_endpoint_model::{EndpointError, Event, SessionRelay};
+use amqp_session_connection::Connection;
+use amqp_session_frames::FrameBody;
+use amqp_session_performatives::SessionFrame;
+use amqp_session_types::{ConnectionError, IncomingChannel};
+use std::alloc::{AllocError, Global};
+use std::collections::VecDeque;
+
+/// The sessions of an endpoint that has none: a Begin that asks for one is refused with `NotImplemented`, and any other
+/// frame of a session with `NotFound`, as no session has its channel (part 2, 2.5.1).
+#[derive(Drop)]
+pub struct NoSessions {
+    /// The connection that has none.
+    pub connection: Connection,
+}
+
+impl SessionRelay for NoSessions {
+    ghost use Rattle.amqp_endpoint_core.specs.NoSessions.{no_sessions};
+
+    ghost does = { no_sessions };
+
+    fn new(
+        _alloc: Global,
+        connection: Connection,
+        _first_transfer_number: u32,
+        _incoming_window: u32,
+    ) -> Result<Self, AllocError> {
+        Ok(NoSessions { connection })
+    }
+
+    fn connection(&self) -> &Connection {
+        &self.connection
+    }
+
+    fn connection_mut(&mut self) -> &mut Connection {
+        &mut self.connection
+    }
+
+    fn on_incoming(
+        &mut self,
+        _alloc: Global,
+        _limit: u32,
+        _channel: IncomingChannel,
+        body: FrameBody,
+        _out: &mut VecDeque<SessionFrame>,
+        _events: &mut Vec<Event>,
+    ) -> Result<(), EndpointError> {
+        Err(EndpointError::Connection(refusal(&body)))
+    }
+
+    fn leave(&mut self) {}
+
+    fn finish(&mut self) {}
+}
+
+/// Why a performative of a session is refused.
+fn refusal(body: &FrameBody) -> ConnectionError
+    ensures { result ≡ session_refusal body.now }
+{
+    match body {
+        FrameBody::Begin(begin) if begin.remote_channel.is_none() => {
+            ConnectionError::NotImplemented
+        }
+        _ => ConnectionError::NotFound,
+    }
+}

@@ -1,0 +1,5 @@
+pub mod WorldState
+pub mod WorldSaid
+pub mod WorldStep
+pub mod EndHistory
+pub mod Pulling
