@@ -149,7 +149,7 @@ module _ {S : Type 0} (does : Relations S) where
 
   reads_connected : (old : State S) (bytes : List ℕ) (events : List Event) (fault : Option EndpointError)
       (new : State S) → fault_breaks_off fault ≡ false → ReadsOn does old bytes events fault new
-          → is_unconnected new.phase ≡ false
+      → is_unconnected new.phase ≡ false
   reads_connected old bytes events fault new kept r = ends_connected r.mid.phase r.mid r.left fault new refl kept r.ends
 
   greets_connected : (old : State S) (bytes : List ℕ) (events : List Event) (fault : Option EndpointError)

@@ -14,8 +14,8 @@ pub among_none : (attachment : Attachment) (entries : Entries) (t : Start) (payl
     → entries ≡ []
     → Completes attachment None [] (with_last attachment payload (fresh t None)) result []
     → Completes attachment None entries (with_last attachment payload (fresh t (found entries t.delivery_tag))) result
-        entries
+    entries
 among_none attachment entries t payload result none done =
     let P : Entries → Type 0 = λ es. Completes attachment None es
-        (with_last attachment payload (fresh t (found es t.delivery_tag))) result es in
+    (with_last attachment payload (fresh t (found es t.delivery_tag))) result es in
     subst P (sym none) done

@@ -45,4 +45,4 @@ pub is_whole : (first : Transfer) (payload : List ℕ) (room : ℕ) (batch : Tra
 is_whole first payload room batch h short all =
     let P : Transfers → Type 0 = λ l. Splits first payload room l in
     subst P (sym all) (split-of first payload payload [] (length payload) room [] h (sym (take-length payload))
-        (sym (drop_all (length payload) payload (omega arith))) (omega (arith, short)) (none-behind first room h))
+    (sym (drop_all (length payload) payload (omega arith))) (omega (arith, short)) (none-behind first room h))

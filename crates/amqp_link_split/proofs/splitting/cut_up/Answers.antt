@@ -17,15 +17,15 @@ returns c =
     let left : List ℕ = c.split_to.new.self in
     let front : List ℕ = c.in_ok-front.front in
     let least : c.min.result ≡ min (length c.args.payload) c.args.room = c.min.ensures
-        ∙ ap (λ (k : ℕ). min k c.args.room) c.len.ensures.value in
+    ∙ ap (λ (k : ℕ). min k c.args.room) c.len.ensures.value in
     let all : c.push_rest.new.batch
-        ≡ first_of (record c.args.first { more = some_left left }) front ∷ c.in_ok-push_rest.ensures.0 =
+    ≡ first_of (record c.args.first { more = some_left left }) front ∷ c.in_ok-push_rest.ensures.0 =
     c.in_ok-push_rest.ensures.1 ∙ ap (λ (l : Transfers). l ++ c.in_ok-push_rest.ensures.0)
-        (c.in_ok-push_first.ensures.ok
+    (c.in_ok-push_first.ensures.ok
     ∙ ap (λ (l : Transfers). l ++ first_of (record c.args.first { more = c.is_left.result }) front ∷ [])
-        c.new-batch.ensures
+    c.new-batch.ensures
     ∙ ap (λ (b : Bool). first_of (record c.args.first { more = b }) front ∷ []) c.is_left.ensures) in
     let P : Transfers → Type 0 = λ l. Splits c.args.first c.args.payload c.args.room l in
     subst P (sym all) (split-of c.args.first c.args.payload front left c.min.result c.args.room
-        c.in_ok-push_rest.ensures.0 c.requires c.in_ok-front.ensures.front c.in_ok-front.ensures.rest least
-        c.in_ok-push_rest.ensures.2)
+    c.in_ok-push_rest.ensures.0 c.requires c.in_ok-front.ensures.front c.in_ok-front.ensures.rest least
+    c.in_ok-push_rest.ensures.2)
