@@ -6,10 +6,12 @@ use Rattle.amqp_session_frames.specs.declared.frame.FrameBody.{FrameBody}
 use Rattle.amqp_session_frames.specs.declared.frame.FrameBody.TheVariants.{Begin, Attach, Flow, Transfer, Disposition, Detach, End}
 use Rattle.amqp_session_connection.specs.declared.state.ConnectionState.TheVariants.{Start}
 use Rattle.amqp_session_connection.specs.State as channels
+use Rattle.amqp_endpoint_model.specs.declared.call.Call.{Call}
 use Rattle.amqp_endpoint_model.specs.declared.error.EndpointError.{EndpointError}
 use Rattle.amqp_endpoint_model.specs.declared.error.EndpointError.TheVariants.{Memory, NumbersUsedUp, Connection, Session}
 use Rattle.amqp_endpoint_model.specs.declared.event.Event.{Event}
 use Rattle.amqp_endpoint_model.specs.declared.settings.Settings.{Settings}
+use Rattle.amqp_endpoint_model.specs.Said.{Said}
 use Rattle.amqp_endpoint_model.specs.State.{fits, frame_of, own_open}
 use Rattle.amqp_session_frames.specs.declared.frame.FrameBody.TheVariants as body
 use Rattle.amqp_session_performatives.specs.declared.open.Open.{Open}
@@ -27,6 +29,12 @@ pub record Relations (S : Type 0) : Type 1 where
   pub takes : S → ℕ → ℕ → FrameBody → List SessionFrame → List Event → S → Type 0
   -- a frame is refused, and ends the connection
   pub refuses : S → ℕ → ℕ → FrameBody → EndpointError → S → Type 0
+  -- a call of the owner is done, where written frames have a limit: it answers so, and these frames are to be sent then
+  pub calls : S → ℕ → Call → Said → List SessionFrame → S → Type 0
+  -- it is refused so, and changes nothing
+  pub bars : S → ℕ → Call → EndpointError → Type 0
+  -- each frame that waits in them for the peer's window fits this limit (part 2, 2.5.6)
+  pub within : ℕ → S → Type 0
   -- the own Close is sent: no session goes on here
   pub closes : S → S → Type 0
   -- the connection is over, and with it the sessions
@@ -74,6 +82,14 @@ module _ {S : Type 0} (does : Relations S) where
     pub queued : out_new ≡ out ++ frames
     pub are_told : told_new ≡ told ++ events
 
+  -- a call is done: what they send then is behind what was to be sent, and fits the limit
+  pub record Called (old : S) (limit : ℕ) (call : Call) (answer : Said) (out : List SessionFrame) (new : S)
+      (out_new : List SessionFrame) : Type 0 where
+    pub frames : List SessionFrame
+    pub calls : does.calls old limit call answer frames new
+    pub fit : All (λ f. fits limit (frame_of f) ≡ true) frames
+    pub queued : out_new ≡ out ++ frames
+
   -- a frame is refused: nothing is sent, and nothing told
   pub record Refused (old : S) (limit channel : ℕ) (said : FrameBody) (e : EndpointError) (new : S) : Type 0 where
     pub ends : IsSessionFault e
@@ -84,7 +100,7 @@ pub record StandsStill (old new : channels.State) : Type 0 where
   pub state : new.local_state ≡ old.local_state
   pub opening : new.local_open ≡ old.local_open
 
--- the sessions before decide what a frame does, and which sessions stand behind each step: want of memory aside
+-- the sessions before decide what a frame and a call do, and which sessions stand behind each step: want of memory aside
 pub record Decides {S : Type 0} (does : Relations S) : Type 0 where
   pub taken : (old new other : S) (limit channel : ℕ) (body : FrameBody) (frames more : List SessionFrame)
       (events told : List Event) → does.takes old limit channel body frames events new
@@ -95,5 +111,12 @@ pub record Decides {S : Type 0} (does : Relations S) : Type 0 where
   pub apart : (old new other : S) (limit channel : ℕ) (body : FrameBody) (frames : List SessionFrame)
       (events : List Event) (e : EndpointError) → does.takes old limit channel body frames events new
       → does.refuses old limit channel body e other → e ≢ Memory → ⊥
+  pub called : (old new other : S) (limit : ℕ) (call : Call) (a b : Said) (frames more : List SessionFrame)
+      → does.calls old limit call a frames new → does.calls old limit call b more other
+      → (a ≡ b) × (frames ≡ more) × (new ≡ other)
+  pub barred : (old : S) (limit : ℕ) (call : Call) (e why : EndpointError) → does.bars old limit call e
+      → does.bars old limit call why → e ≢ Memory → why ≢ Memory → e ≡ why
+  pub uncalled : (old new : S) (limit : ℕ) (call : Call) (a : Said) (frames : List SessionFrame) (e : EndpointError)
+      → does.calls old limit call a frames new → does.bars old limit call e → e ≢ Memory → ⊥
   pub closed : (old new other : S) → does.closes old new → does.closes old other → new ≡ other
   pub finished : (old new other : S) → does.finishes old new → does.finishes old other → new ≡ other

@@ -1,10 +1,11 @@
 -- What calls answer, as plain data.
-use Rattle.std.specs.Prelude.{ℕ, Bool, List, Option, Some, None, Ok, Err}
+use Rattle.std.specs.Prelude.{ℕ, Bool, List, Option, Some, None, Result, Ok, Err, ⊤}
 use Rattle.amqp_session_types.specs.declared.refusals.TryCloseError.{TryCloseError}
+use Rattle.amqp_session_types.specs.declared.refusals.TryEndError.{TryEndError}
 use Rattle.amqp_endpoint_model.specs.declared.error.EndpointError.{EndpointError}
 use Rattle.amqp_endpoint_model.specs.declared.event.Event.{Event}
 use Rattle.amqp_endpoint_model.specs.declared.answer.Answer.{Answer}
-use Rattle.amqp_endpoint_model.specs.declared.answer.Answer.TheVariants.{Done, Refused, Fed, Pulled, Count, Truth, TriedClose}
+use Rattle.amqp_endpoint_model.specs.declared.answer.Answer.TheVariants.{Done, Refused, Fed, Pulled, Count, Truth, TriedClose, Session, TriedEnd}
 use Rattle.amqp_endpoint_model.specs.declared.answer.Reply.{Reply}
 
 pub data Said : Type 0 where
@@ -18,6 +19,15 @@ pub data Said : Type 0 where
   truth : Bool → Said
   -- the refusal of try_close, if any
   tried_close : Option TryCloseError → Said
+  -- the number of a session that begins
+  session_begun : ℕ → Said
+  -- the refusal of try_end, if any
+  tried_end : Option TryEndError → Said
+
+-- why it is refused, if it is
+abbrev pub refusal_in : {E : Type 0} → Result ⊤ E → Option E
+refusal_in (Ok u) = None
+refusal_in (Err e) = Some e
 
 abbrev pub said : Answer → Said
 said Done = done
@@ -29,6 +39,9 @@ said (Count n) = count n
 said (Truth b) = truth b
 said (TriedClose (Ok u)) = tried_close None
 said (TriedClose (Err e)) = tried_close (Some e)
+said (Session number) = session_begun number
+said (TriedEnd (Ok u)) = tried_end None
+said (TriedEnd (Err e)) = tried_end (Some e)
 
 -- an answer, and how many answers of bytes pull still gives behind it
 pub record Told : Type 0 where

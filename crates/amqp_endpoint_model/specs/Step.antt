@@ -19,7 +19,7 @@ use Rattle.amqp_endpoint_model.specs.declared.settings.Settings.{Settings}
 use Rattle.amqp_endpoint_model.specs.declared.phase.Phase.{Phase}
 use Rattle.amqp_endpoint_model.specs.declared.phase.Phase.TheVariants.{Unconnected, Greeting, Running, Over}
 use Rattle.amqp_endpoint_model.specs.declared.call.Call.{Call}
-use Rattle.amqp_endpoint_model.specs.declared.call.Call.TheVariants.{Connect, Feed, Pull, Queued, IsIdle, Heartbeat, BreakOff, Close as CloseCall, IsClosed, TryClose}
+use Rattle.amqp_endpoint_model.specs.declared.call.Call.TheVariants.{Connect, Feed, Pull, Queued, IsIdle, Heartbeat, BreakOff, Close as CloseCall, IsClosed, TryClose, Begin, AcceptBegin, End, IsEnded, TryEnd}
 use Rattle.amqp_session_performatives.specs.declared.open.Open.{Open as OpenFields}
 use Rattle.amqp_session_performatives.specs.declared.session_frame.SessionFrame.{SessionFrame}
 use Rattle.amqp_session_connection.specs.declared.state.ConnectionState.{ConnectionState}
@@ -27,7 +27,7 @@ use Rattle.amqp_session_connection.specs.declared.state.ConnectionState.TheVaria
 use Rattle.amqp_session_connection.specs.State as channels
 use Rattle.amqp_session_connection.specs.Table.{after_incoming_close, after_incoming_open, after_send_close}
 use Rattle.amqp_endpoint_model.specs.Relay.{Relations, IsOfSession, IsSessionFault}
-use Rattle.amqp_endpoint_model.specs.Said.{Said, done, refused, fed, pulled, count, truth, tried_close}
+use Rattle.amqp_endpoint_model.specs.Said.{Said, done, refused, fed, pulled, count, truth, tried_close, session_begun, tried_end}
 use Rattle.amqp_endpoint_model.specs.State.{State, is_unconnected, is_running, has_opened, protocol_header, own_open, own_close_with, error_of, heartbeat, fits, frame_of, limit_of, Waiting, the_header, the_frame, text_of, waiting_of}
 
 -- the first refusal that applies to settings (part 2, 2.7.1; 2.5.6)
@@ -53,7 +53,7 @@ Grows Heartbeat = Unit {0}
 Grows CloseCall = Unit {0}
 Grows call = ⊥
 
--- a call is refused so
+-- a call of the connection is refused so
 abbrev pub MayRefuse : {S : Type 0} → State S → Call → EndpointError → Type 0
 MayRefuse s call e = (refusal s call ≡ Some e) ⊎ ((refusal s call ≡ None) × (e ≡ Memory) × Grows call)
 
@@ -370,9 +370,23 @@ module _ {S : Type 0} (does : Relations S) where
   FeedsIn Running old bytes events fault new = ReadsOn old (old.rest ++ bytes) events fault new
   FeedsIn Over old bytes events fault new = (events ≡ []) × (fault ≡ None) × (new ≡ old)
 
+  -- a call is refused so: one of the sessions' by them
+  abbrev pub IsRefused : State S → Call → EndpointError → Type 0
+  IsRefused s Begin e = does.bars s.sessions (limit_of s.peer_limit) Begin e
+  IsRefused s (AcceptBegin channel) e = does.bars s.sessions (limit_of s.peer_limit) (AcceptBegin channel) e
+  IsRefused s (End number) e = does.bars s.sessions (limit_of s.peer_limit) (End number) e
+  IsRefused s call e = MayRefuse s call e
+
+  -- the sessions do what they are called for: what they send then fits the limit of written frames
+  pub record SessionsDo (old : State S) (call : Call) (answer : Said) (new : State S) : Type 0 where
+    pub frames : List SessionFrame
+    pub calls : does.calls old.sessions (limit_of old.peer_limit) call answer frames new.sessions
+    pub fit : All (λ f. fits (limit_of old.peer_limit) (frame_of f) ≡ true) frames
+    pub queued : new ≡ record old { sessions = new.sessions; queue = old.queue ++ map waiting_of frames }
+
   -- from old, a call may answer so and lead to new; a refusal changes nothing
   abbrev pub Step : State S → Call → Said → State S → Type 0
-  Step old call (refused e) new = MayRefuse old call e × (new ≡ old)
+  Step old call (refused e) new = IsRefused old call e × (new ≡ old)
   Step old Connect done new = (refusal old Connect ≡ None) × (new ≡ connected old)
   Step old (Feed bytes) (fed events fault) new = FeedsIn old.phase old bytes events fault new
   Step old Pull (pulled o) new = Pulls old o new
@@ -392,4 +406,10 @@ module _ {S : Type 0} (does : Relations S) where
   Step old IsClosed (truth b) new = (b ≡ (old.own_close && old.peer_close)) × (new ≡ old)
   Step old TryClose (tried_close o) new =
       (o ≡ close_refusal old) × (new ≡ record old { close_told = old.close_told || is_none o })
+  Step old Begin (session_begun number) new = SessionsDo old Begin (session_begun number) new
+  Step old (AcceptBegin channel) (session_begun number) new =
+      SessionsDo old (AcceptBegin channel) (session_begun number) new
+  Step old (End number) done new = SessionsDo old (End number) done new
+  Step old (IsEnded number) (truth b) new = SessionsDo old (IsEnded number) (truth b) new
+  Step old (TryEnd number) (tried_end o) new = SessionsDo old (TryEnd number) (tried_end o) new
   Step old call said new = ⊥

@@ -3,7 +3,7 @@ ghost use Rattle.std.specs.Prelude.{◌≡◌};
 
 use crate::error::EndpointError;
 use crate::event::Event;
-use amqp_session_types::TryCloseError;
+use amqp_session_types::{TryCloseError, TryEndError};
 
 /// What `feed` answers.
 #[derive(Debug, Drop)]
@@ -27,10 +27,14 @@ pub enum Answer {
     Pulled(Option<Vec<u8>>),
     /// What `queued` answers.
     Count(usize),
-    /// What `is_idle` or `is_closed` answers.
+    /// What `is_idle`, `is_closed` or `is_ended` answers.
     Truth(bool),
     /// What `try_close` answers.
     TriedClose(Result<(), TryCloseError>),
+    /// What `begin` or `accept_begin` answers: the session's number.
+    Session(u64),
+    /// What `try_end` answers.
+    TriedEnd(Result<(), TryEndError>),
 }
 
 /// What a call answered, and how many answers of bytes `pull` still gives after it.

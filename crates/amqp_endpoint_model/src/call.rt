@@ -1,4 +1,5 @@
 //! The calls of an endpoint.
+use amqp_session_types::IncomingChannel;
 use bytes::Bytes;
 
 /// A call of an endpoint.
@@ -24,4 +25,14 @@ pub enum Call {
     IsClosed,
     /// `try_close`
     TryClose,
+    /// `begin`
+    Begin,
+    /// `accept_begin` on this channel of the peer
+    AcceptBegin(IncomingChannel),
+    /// `end` of the session with this number
+    End(u64),
+    /// `is_ended` of the session with this number
+    IsEnded(u64),
+    /// `try_end` of the session with this number
+    TryEnd(u64),
 }

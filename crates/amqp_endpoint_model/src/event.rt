@@ -1,5 +1,7 @@
 //! What an endpoint tells of its peer.
-use amqp_session_types::definitions;
+use crate::error::EndpointError;
+use amqp_session_performatives::Attach;
+use amqp_session_types::{Boxed, IncomingChannel, definitions};
 use serde_amqp_types::Text;
 
 /// What the peer's Open says (part 2, 2.7.1).
@@ -22,11 +24,69 @@ pub struct Closed {
     pub error: Option<definitions::Error>,
 }
 
+/// A session that the peer asks for: its Begin names no channel (part 2, 2.5.1, 2.7.2).
+#[derive(Debug, Drop)]
+pub struct SessionAsked {
+    /// The number that the session has from now on.
+    pub session: u64,
+    /// The peer's channel, on which `accept_begin` accepts it.
+    pub channel: IncomingChannel,
+}
+
+/// A session that began here and that the peer's Begin answered (part 2, 2.5.1).
+#[derive(Debug, Drop)]
+pub struct Begun {
+    /// The session's number.
+    pub session: u64,
+    /// The peer's channel.
+    pub channel: IncomingChannel,
+}
+
+/// A link that the peer asks for: no link here waits for its Attach (part 2, 2.6.3).
+#[derive(Debug, Drop)]
+pub struct LinkAsked {
+    /// The number of the session in which it is asked for.
+    pub session: u64,
+    /// The peer's Attach (part 2, 2.7.3).
+    pub attach: Boxed<Attach>,
+}
+
+/// A session that the peer ended (part 2, 2.5.2, 2.7.8). It is answered by the own End, where that hadn't gone and the
+/// session had begun.
+#[derive(Debug, Drop)]
+pub struct Ended {
+    /// The session's number.
+    pub session: u64,
+    /// Why the peer ends it, where it says so.
+    pub error: Option<definitions::Error>,
+}
+
+/// A session, or a link of it, that was ended here as the peer broke its rules (part 2, 2.5.2, 2.6.5).
+#[derive(Debug, Drop)]
+pub struct Refused {
+    /// The session's number.
+    pub session: u64,
+    /// The link's number, where the link alone was ended.
+    pub link: Option<u64>,
+    /// What was refused.
+    pub error: EndpointError,
+}
+
 /// What a feed found in the peer's frames.
 #[derive(Debug, Drop)]
 pub enum Event {
     /// The peer's Open came.
     Opened(Opened),
+    /// The peer asks for a session.
+    SessionAsked(SessionAsked),
+    /// The peer answered a session that began here.
+    Begun(Begun),
+    /// The peer asks for a link.
+    LinkAsked(LinkAsked),
+    /// The peer ended a session.
+    Ended(Ended),
+    /// The peer broke a rule of a session or a link, which ended here.
+    Refused(Refused),
     /// The peer's Close came. It is answered by the own one, where that hadn't gone.
     Closed(Closed),
 }

@@ -13,7 +13,7 @@ mod settings;
 pub use answer::{Answer, Fed, Reply};
 pub use call::Call;
 pub use error::{EndpointError, LinkError};
-pub use event::{Closed, Event, Opened};
+pub use event::{Begun, Closed, Ended, Event, LinkAsked, Opened, Refused, SessionAsked};
 pub use laws::{
     bytes_decide, judge_says_one_limit, limit_kept, pieces_of_all_bytes, recut, step_decides, uncut,
 };

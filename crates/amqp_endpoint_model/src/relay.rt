@@ -1,24 +1,29 @@
 //! What the sessions of an endpoint are to its connection.
-ghost use Rattle.std.specs.Prelude.{◌≡◌, IfErr, IfOk, OnErr, OnOk};
+ghost use Rattle.std.specs.Prelude.{◌≡◌, ◌≤◌, ℕ, [], IfErr, IfOk, OnErr, OnOk};
 ghost use Rattle.std.specs.Borrow.{Lends};
 ghost use types.Logic.{sem};
 ghost use Rattle.amqp_session_connection.specs.State as channels;
 ghost use Rattle.amqp_session_connection.specs.contracts.connection.Connection.{the_row as connection_row};
-ghost use Rattle.amqp_endpoint_model.specs.Relay.{IsOfSession, Refused, StandsStill, Taken};
+ghost use Rattle.amqp_endpoint_model.specs.Relay.{Called, IsOfSession, Refused, StandsStill, Taken};
+ghost use Rattle.amqp_endpoint_model.specs.Said.{done, session_begun, tried_end, truth, refusal_in};
+ghost use Rattle.amqp_endpoint_model.specs.declared.call.Call.TheVariants.{AcceptBegin, Begin, End, IsEnded, TryEnd};
 
 use crate::error::EndpointError;
 use crate::event::Event;
 use amqp_session_connection::Connection;
 use amqp_session_frames::FrameBody;
 use amqp_session_performatives::SessionFrame;
-use amqp_session_types::IncomingChannel;
+use amqp_session_types::{IncomingChannel, TryEndError};
 use std::alloc::{AllocError, Global};
 use std::collections::VecDeque;
 
 /// The sessions of an endpoint as its connection sees them (part 2, 2.5). They hold the connection, which gives them
-/// their channels; the endpoint moves it on by headers, Open and Close, and hands them the peer's other frames. A type
-/// that stands for sessions says by its relations, `does`, what these calls do, and an endpoint is proved for all of
-/// them.
+/// their channels; the endpoint moves it on by headers, Open and Close, and hands them the peer's other frames and the
+/// calls that concern sessions. A type that stands for sessions says by its relations, `does`, what these calls do, and
+/// an endpoint is proved for all of them.
+///
+/// A call that sends is handed the limit of written frames, which is 512 bytes at least (part 2, 2.4.1): what it hands
+/// out is no longer, and no frame that waits in a session is. A call that is refused changes nothing.
 pub trait SessionRelay: Drop {
     ghost use Rattle.amqp_endpoint_model.specs.Relay.{Relations};
 
@@ -35,7 +40,8 @@ pub trait SessionRelay: Drop {
     ) -> Result<Self, AllocError>
         ensures fresh { IfOk result (λ sessions. sessions
             ≡ does.fresh connection first_transfer_number incoming_window) }
-        ensures connection { IfOk result (λ sessions. does.connection sessions ≡ connection) };
+        ensures connection { IfOk result (λ sessions. does.connection sessions ≡ connection) }
+        ensures within { IfOk result (λ sessions. (limit : ℕ) → does.within limit sessions) };
 
     /// The connection.
     fn connection(&self) -> &Connection
@@ -46,7 +52,9 @@ pub trait SessionRelay: Drop {
         ensures* writes_back { sem 𝓛 (Lends Self.row connection_row self.entry result (does.moved self.old)) }
         ensures value { result.now ≡ does.connection self.old }
         ensures moved { (c : channels.State) → does.connection (does.moved self.old c) ≡ c }
-        ensures same { does.moved self.old (does.connection self.old) ≡ self.old };
+        ensures same { does.moved self.old (does.connection self.old) ≡ self.old }
+        ensures within { (limit wider : ℕ) (c : channels.State) → limit ≤ wider → does.within limit self.old
+            → does.within wider (does.moved self.old c) };
 
     /// Takes a frame of the peer that is neither Open nor Close, and hands out what is to be sent then: none of it is
     /// longer than `limit` bytes, the longest frame that the peer takes. What it tells is put behind `events`.
@@ -63,21 +71,92 @@ pub trait SessionRelay: Drop {
         out: &mut VecDeque<SessionFrame>,
         events: &mut Vec<Event>,
     ) -> Result<(), EndpointError>
-        requires { IsOfSession body }
+        requires theirs { IsOfSession body }
+        requires least { 512 ≤ limit }
+        requires waiting { does.within limit self.old }
         ensures ok { OnOk result (Taken does self.old limit channel.0 body out.old.items events.old.items
             self.new out.new.items events.new.items) }
         ensures err { IfErr result (λ e. Refused does self.old limit channel.0 body e self.new) }
         ensures kept { OnErr result ((out.new.items ≡ out.old.items) × (events.new.items ≡ events.old.items)) }
+        ensures within { does.within limit self.new }
+        ensures still { StandsStill (does.connection self.old) (does.connection self.new) };
+
+    /// Begins a session, and answers its number. Its Begin is handed out (part 2, 2.5.1, 2.7.2).
+    fn begin(
+        &mut self,
+        alloc: Global,
+        limit: u32,
+        out: &mut VecDeque<SessionFrame>,
+    ) -> Result<u64, EndpointError>
+        requires least { 512 ≤ limit }
+        requires waiting { does.within limit self.old }
+        ensures ok { IfOk result (λ number. Called does self.old limit Begin (session_begun number)
+            out.old.items self.new out.new.items) }
+        ensures err { IfErr result (does.bars self.old limit Begin) }
+        ensures kept { OnErr result ((self.new ≡ self.old) × (out.new.items ≡ out.old.items)) }
+        ensures within { does.within limit self.new }
+        ensures still { StandsStill (does.connection self.old) (does.connection self.new) };
+
+    /// Accepts the session that the peer asks for on this channel of its, and answers its number. Its Begin is handed
+    /// out (part 2, 2.5.1, 2.7.2).
+    fn accept_begin(
+        &mut self,
+        alloc: Global,
+        limit: u32,
+        channel: IncomingChannel,
+        out: &mut VecDeque<SessionFrame>,
+    ) -> Result<u64, EndpointError>
+        requires least { 512 ≤ limit }
+        requires waiting { does.within limit self.old }
+        ensures ok { IfOk result (λ number. Called does self.old limit (AcceptBegin channel)
+            (session_begun number) out.old.items self.new out.new.items) }
+        ensures err { IfErr result (does.bars self.old limit (AcceptBegin channel)) }
+        ensures kept { OnErr result ((self.new ≡ self.old) × (out.new.items ≡ out.old.items)) }
+        ensures within { does.within limit self.new }
+        ensures still { StandsStill (does.connection self.old) (does.connection self.new) };
+
+    /// Ends the session with this number. Its End is handed out (part 2, 2.5.2, 2.7.8).
+    fn end(
+        &mut self,
+        limit: u32,
+        number: u64,
+        out: &mut VecDeque<SessionFrame>,
+    ) -> Result<(), EndpointError>
+        requires least { 512 ≤ limit }
+        requires waiting { does.within limit self.old }
+        ensures ok { OnOk result
+            (Called does self.old limit (End number) done out.old.items self.new out.new.items) }
+        ensures err { IfErr result (does.bars self.old limit (End number)) }
+        ensures kept { OnErr result ((self.new ≡ self.old) × (out.new.items ≡ out.old.items)) }
+        ensures within { does.within limit self.new }
+        ensures still { StandsStill (does.connection self.old) (does.connection self.new) };
+
+    /// Whether both End of the session with this number have passed, or its connection is over. False where there is
+    /// none (part 2, 2.5.2).
+    fn is_ended(&self, number: u64) -> bool
+        ensures { (limit : ℕ) → does.calls self.now limit (IsEnded number) (truth result) [] self.now };
+
+    /// Tells once that the peer's End of the session with this number came (part 2, 2.5.2).
+    ///
+    /// It is refused with `RemoteEndNotReceived` where it did not come, or there is no such session, and with
+    /// `AlreadyEnded` where that was told before. Nothing changes then.
+    fn try_end(&mut self, number: u64) -> Result<(), TryEndError>
+        ensures called { (limit : ℕ) →
+            does.calls self.old limit (TryEnd number) (tried_end (refusal_in result)) [] self.new }
+        ensures kept { OnErr result (self.new ≡ self.old) }
+        ensures within { (limit : ℕ) → does.within limit self.old → does.within limit self.new }
         ensures still { StandsStill (does.connection self.old) (does.connection self.new) };
 
     /// The own Close was sent: no session goes on here, and none sends anything more (part 2, 2.4.3). It takes no
     /// memory.
     fn leave(&mut self)
         ensures closes { does.closes self.old self.new }
+        ensures within { (limit : ℕ) → does.within limit self.new }
         ensures still { StandsStill (does.connection self.old) (does.connection self.new) };
 
     /// The connection is over, and with it all sessions: nothing is sent. It takes no memory.
     fn finish(&mut self)
         ensures finishes { does.finishes self.old self.new }
+        ensures within { (limit : ℕ) → does.within limit self.new }
         ensures still { StandsStill (does.connection self.old) (does.connection self.new) };
 }
