@@ -1,0 +1,6 @@
+pub mod NoLink
+pub mod Hearing
+pub mod Calling
+pub mod Ending
+pub mod Handed
+pub mod Does

@@ -1,0 +1,110 @@
+//! What the sessions do for their connection.
+use crate::calling::{accept_begin, begin, end};
+use crate::hearing::hear;
+use crate::no_link::NoLink;
+use crate::over::{finish, leave};
+use amqp_endpoint_conversation::Conversation;
+use amqp_endpoint_model::{EndpointError, Event, SessionRelay};
+use amqp_endpoint_sessions::Sessions;
+use amqp_session_connection::Connection;
+use amqp_session_frames::FrameBody;
+use amqp_session_performatives::SessionFrame;
+use amqp_session_types::{IncomingChannel, TryEndError};
+use std::alloc::{AllocError, Global};
+use std::collections::VecDeque;
+
+/// The sessions of an endpoint that attaches no link. The peer may begin sessions, ask for links in them, and end them;
+/// whatever it says of a link that isn't there is a fault of its session (part 2, 2.8.17).
+#[derive(Drop)]
+pub struct UnlinkedSessions {
+    /// The sessions.
+    pub conversation: Conversation<NoLink>,
+}
+
+impl SessionRelay for UnlinkedSessions {
+    ghost use Rattle.amqp_endpoint_unlinked.specs.Does.{unlinked};
+
+    ghost does = { unlinked };
+
+    fn new(
+        alloc: Global,
+        connection: Connection,
+        first_transfer_number: u32,
+        incoming_window: u32,
+    ) -> Result<Self, AllocError> {
+        Ok(UnlinkedSessions {
+            conversation: Conversation {
+                sessions: Sessions::new(alloc, connection),
+                first_transfer_number,
+                incoming_window,
+            },
+        })
+    }
+
+    fn connection(&self) -> &Connection {
+        self.conversation.sessions.connection()
+    }
+
+    fn connection_mut(&mut self) -> &mut Connection {
+        self.conversation.sessions.connection_mut()
+    }
+
+    fn on_incoming(
+        &mut self,
+        alloc: Global,
+        _limit: u32,
+        channel: IncomingChannel,
+        body: FrameBody,
+        out: &mut VecDeque<SessionFrame>,
+        events: &mut Vec<Event>,
+    ) -> Result<(), EndpointError> {
+        hear(&mut self.conversation, alloc, channel, body, out, events)?;
+        Ok(())
+    }
+
+    fn begin(
+        &mut self,
+        alloc: Global,
+        _limit: u32,
+        out: &mut VecDeque<SessionFrame>,
+    ) -> Result<u64, EndpointError> {
+        begin(&mut self.conversation, alloc, out)
+    }
+
+    fn accept_begin(
+        &mut self,
+        alloc: Global,
+        _limit: u32,
+        channel: IncomingChannel,
+        out: &mut VecDeque<SessionFrame>,
+    ) -> Result<u64, EndpointError> {
+        accept_begin(&mut self.conversation, alloc, channel, out)
+    }
+
+    fn end(
+        &mut self,
+        _limit: u32,
+        number: u64,
+        out: &mut VecDeque<SessionFrame>,
+    ) -> Result<(), EndpointError> {
+        end(&mut self.conversation, number, out)?;
+        Ok(())
+    }
+
+    fn is_ended(&self, number: u64) -> bool {
+        self.conversation.sessions.is_ended(number)
+    }
+
+    fn try_end(&mut self, number: u64) -> Result<(), TryEndError> {
+        self.conversation.sessions.try_end(number)?;
+        Ok(())
+    }
+
+    fn leave(&mut self) {
+        leave(&mut self.conversation.sessions);
+    }
+
+    fn finish(&mut self) {
+        finish(&mut self.conversation.sessions);
+    }
+}
