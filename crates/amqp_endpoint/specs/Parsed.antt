@@ -1,17 +1,32 @@
 -- What the code's script is, as plain data.
 use Rattle.amqp_endpoint.specs.declared.scenario.script.NumberedLine.{NumberedLine}
-use Rattle.amqp_endpoint.specs.declared.scenario.script.Script.{Script}
+use Rattle.amqp_endpoint.specs.declared.scenario.script.Given.{Given as GivenSettings}
+use Rattle.amqp_endpoint.specs.declared.scenario.script.OneScript.{OneScript as ScriptOfOne}
+use Rattle.amqp_endpoint.specs.declared.scenario.script.TwoScript.{TwoScript as ScriptOfTwo}
 use Rattle.amqp_endpoint.specs.declared.scenario.script.Parsed.{Parsed}
-use Rattle.amqp_endpoint.specs.declared.scenario.script.Parsed.TheVariants.{Nothing, Unreadable, Whole as WholeScript}
-use Rattle.amqp_endpoint.specs.Script.{Line, Whole, Reading, nothing, unreadable, whole}
+use Rattle.amqp_endpoint.specs.declared.scenario.script.Parsed.TheVariants.{Nothing, Unreadable, One, Two}
+use Rattle.amqp_endpoint.specs.Script.{Line, Given, OneScript, TwoScript, Reading, nothing, unreadable, of_one, of_two}
 
 abbrev pub line_of : NumberedLine → Line
 line_of l = record { number = l.number; text = l.text.now }
 
-abbrev pub script_of : Script → Whole
-script_of s = record { settings_line = s.settings_line; settings = s.settings; lines = s.lines.items; calls = s.calls.items }
+abbrev pub given_of : GivenSettings → Given
+given_of g = record { line = g.line; settings = g.settings }
+
+abbrev pub one_of : ScriptOfOne → OneScript
+one_of s = record { given = given_of s.given; lines = s.lines.items; calls = s.calls.items }
+
+abbrev pub two_of : ScriptOfTwo → TwoScript
+two_of s =
+    record {
+      given_a = given_of s.given_a;
+      given_b = given_of s.given_b;
+      lines = s.lines.items;
+      steps = s.steps.items;
+    }
 
 abbrev pub parsed : Parsed → Reading
 parsed Nothing = nothing
 parsed (Unreadable n) = unreadable n
-parsed (WholeScript s) = whole (script_of s)
+parsed (One s) = of_one (one_of s)
+parsed (Two s) = of_two (two_of s)

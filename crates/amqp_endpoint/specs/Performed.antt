@@ -9,30 +9,60 @@ use Rattle.amqp_endpoint_model.specs.Step.{refusal_of_settings}
 use Rattle.amqp_endpoint_model.specs.History.{Run}
 use Rattle.amqp_endpoint_core.specs.declared.no_sessions.NoSessions.{NoSessions}
 use Rattle.amqp_endpoint_core.specs.NoSessions.{no_sessions}
-use Rattle.amqp_endpoint.specs.Script.{Whole, Reading, nothing, unreadable, whole, reading}
-use Rattle.amqp_endpoint.specs.Printed.{printed, line_end}
+use Rattle.amqp_endpoint_world.specs.WorldSaid.{WorldTold}
+use Rattle.amqp_endpoint_world.specs.WorldState.{IsNewWorld, WorldState}
+use Rattle.amqp_endpoint_world.specs.WorldStep.{WorldRun}
+use Rattle.amqp_endpoint.specs.Script.{Given, OneScript, TwoScript, Reading, nothing, unreadable, of_one, of_two, reading}
+use Rattle.amqp_endpoint.specs.Printed.{printed, world_printed, line_end}
 
 -- the endpoint of these settings may answer the steps so, and that is printed
-pub record Plays (script : Whole) (output : List ℕ) : Type 0 where
+pub record Plays (script : OneScript) (output : List ℕ) : Type 0 where
   pub tolds : List Told
   pub sessions : NoSessions
   pub last : State NoSessions
-  pub new : IsNew no_sessions script.settings sessions
-  pub run : Run no_sessions (fresh script.settings sessions) script.calls tolds last
+  pub new : IsNew no_sessions (script.given).settings sessions
+  pub run : Run no_sessions (fresh (script.given).settings sessions) script.calls tolds last
   pub output_is : output ≡ printed script.lines tolds
 
--- a script that was read, with the first refusal of its settings
-abbrev pub script_comes_to : Whole → Option EndpointError → List ℕ → ℕ → Type 0
-script_comes_to script (Some e) output status = (output ≡ decimal script.settings_line ++ (codes " refused " ++ (decimal (number e) ++ line_end))) × (status ≡ 1)
-script_comes_to script None output status = Plays script output × (status ≡ 0)
+-- two endpoints of these settings may do the steps so, and that is printed
+pub record PlaysTwo (script : TwoScript) (output : List ℕ) : Type 0 where
+  pub tolds : List WorldTold
+  pub start : WorldState NoSessions
+  pub last : WorldState NoSessions
+  pub new : IsNewWorld no_sessions (script.given_a).settings (script.given_b).settings start
+  pub run : WorldRun no_sessions start script.steps tolds last
+  pub output_is : output ≡ world_printed script.lines script.steps tolds
 
-abbrev pub whole_comes_to : Whole → List ℕ → ℕ → Type 0
-whole_comes_to script output status = script_comes_to script (refusal_of_settings script.settings) output status
+-- settings are refused
+abbrev pub refused_by : Given → EndpointError → List ℕ → ℕ → Type 0
+refused_by given e output status =
+    (output ≡ decimal given.line ++ (codes " refused " ++ (decimal (number e) ++ line_end))) × (status ≡ 1)
+
+-- a script of one end that was read, with the first refusal of its settings
+abbrev pub one_with : OneScript → Option EndpointError → List ℕ → ℕ → Type 0
+one_with script (Some e) output status = refused_by script.given e output status
+one_with script None output status = Plays script output × (status ≡ 0)
+
+abbrev pub one_comes_to : OneScript → List ℕ → ℕ → Type 0
+one_comes_to script output status = one_with script (refusal_of_settings (script.given).settings) output status
+
+-- a script of two ends: those of the first are refused first
+abbrev pub two_with : TwoScript → Option EndpointError → Option EndpointError → List ℕ → ℕ → Type 0
+two_with script (Some e) other output status = refused_by script.given_a e output status
+two_with script None (Some e) output status = refused_by script.given_b e output status
+two_with script None None output status = PlaysTwo script output × (status ≡ 0)
+
+abbrev pub two_comes_to : TwoScript → List ℕ → ℕ → Type 0
+two_comes_to script output status =
+    two_with script (refusal_of_settings (script.given_a).settings) (refusal_of_settings (script.given_b).settings)
+    output status
 
 abbrev pub reading_comes_to : Reading → List ℕ → ℕ → Type 0
 reading_comes_to nothing output status = (output ≡ []) × (status ≡ 1)
-reading_comes_to (unreadable line) output status = (output ≡ decimal line ++ (codes " unreadable" ++ line_end)) × (status ≡ 1)
-reading_comes_to (whole script) output status = whole_comes_to script output status
+reading_comes_to (unreadable line) output status =
+    (output ≡ decimal line ++ (codes " unreadable" ++ line_end)) × (status ≡ 1)
+reading_comes_to (of_one script) output status = one_comes_to script output status
+reading_comes_to (of_two script) output status = two_comes_to script output status
 
 -- this script prints this, with this status
 abbrev pub comes_to : List ℕ → List ℕ → ℕ → Type 0

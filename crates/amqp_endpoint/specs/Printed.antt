@@ -1,54 +1,104 @@
 -- What a script prints: a line for each step, and for each of its events.
 use Rattle.std.specs.Prelude.{ℕ, ◌==◌, List, [], ◌∷◌, ◌++◌, length, Option, Some, None, if◌then◌else◌, codes, decimal}
 use Rattle.hex.specs.Hex.{encode_lower}
+use Rattle.amqp_session_types.specs.declared.modes.Role.{Role}
+use Rattle.amqp_session_types.specs.declared.modes.Role.TheVariants.{Sender, Receiver}
 use Rattle.amqp_endpoint_model.specs.declared.error.EndpointError.{EndpointError}
 use Rattle.amqp_endpoint_model.specs.declared.event.Event.{Event}
-use Rattle.amqp_endpoint_model.specs.declared.event.Event.TheVariants.{Opened, Closed}
+use Rattle.amqp_endpoint_model.specs.declared.event.Event.TheVariants as event
 use Rattle.amqp_endpoint_model.specs.Numbers.{number}
-use Rattle.amqp_endpoint_model.specs.Said.{Said, done, refused, fed, pulled, count, truth, tried_close, Told}
+use Rattle.amqp_endpoint_model.specs.Said.{Said, done, refused, fed, pulled, count, truth, tried_close, session_begun, tried_end, Told}
+use Rattle.amqp_endpoint_world.specs.declared.step.End.{End}
+use Rattle.amqp_endpoint_world.specs.declared.step.End.TheVariants.{A}
+use Rattle.amqp_endpoint_world.specs.declared.step.Step.{Step}
+use Rattle.amqp_endpoint_world.specs.declared.step.Step.TheVariants as world
+use Rattle.amqp_endpoint_world.specs.WorldSaid.{WorldSaid, WorldTold, called, moved, broken}
+use Rattle.amqp_endpoint_world.specs.WorldState.{other}
+use Rattle.amqp_endpoint.specs.Script.{letter}
 
 -- a line feed
 abbrev pub line_end : List ℕ
 line_end = 10 ∷ []
 
--- a line of the script, its end, and what this is told of it
-abbrev pub of_line : ℕ → List ℕ → List ℕ
-of_line line text = decimal line ++ (codes " a " ++ (text ++ line_end))
+-- a line of the script, an end, and what this is told of it
+abbrev pub of_line : ℕ → End → List ℕ → List ℕ
+of_line line end text = decimal line ++ (codes " " ++ (letter end ++ (codes " " ++ (text ++ line_end))))
 
-abbrev pub ok_text : ℕ → List ℕ
-ok_text line = of_line line (codes "ok")
+abbrev pub ok_text : ℕ → End → List ℕ
+ok_text line end = of_line line end (codes "ok")
 
 -- bytes in hex digits, `-` where there is none
 unfoldable pub hex_word : List ℕ → List ℕ
 hex_word bytes = if length bytes == 0 then codes "-" else encode_lower bytes
 
-abbrev pub bytes_text : ℕ → List ℕ → List ℕ
-bytes_text line bytes = of_line line (codes "ok bytes " ++ hex_word bytes)
+abbrev pub bytes_text : ℕ → End → List ℕ → List ℕ
+bytes_text line end bytes = of_line line end (codes "ok bytes " ++ hex_word bytes)
 
-abbrev pub event_text : ℕ → Event → List ℕ
-event_text line (Opened o) = of_line line (codes "opened " ++ (decimal o.max_frame_size ++ (codes " " ++ decimal o.channel_max)))
-event_text line (Closed c) = of_line line (codes "closed")
+-- a word, and two numbers
+abbrev pub two_numbers : List ℕ → ℕ → ℕ → List ℕ
+two_numbers word first second = word ++ (codes " " ++ (decimal first ++ (codes " " ++ decimal second)))
 
-abbrev pub events_text : ℕ → List Event → List ℕ
-events_text line [] = []
-events_text line (event ∷ events) = event_text line event ++ events_text line events
+-- the role of who asks for a link
+abbrev pub role_word : Role → List ℕ
+role_word Sender = codes "sender"
+role_word Receiver = codes "receiver"
 
-abbrev pub fault_text : ℕ → Option EndpointError → List ℕ
-fault_text line (Some e) = of_line line (codes "fault " ++ decimal (number e))
-fault_text line None = []
+-- a link's number, `-` where there is none
+abbrev pub link_word : Option ℕ → List ℕ
+link_word None = codes "-"
+link_word (Some link) = decimal link
 
--- what is printed of a step on this line: its answer, and behind it the events and the fault
-abbrev pub step_text : ℕ → Said → List ℕ
-step_text line (refused e) = of_line line (codes "refused " ++ decimal (number e))
-step_text line (fed events fault) = ok_text line ++ (events_text line events ++ fault_text line fault)
-step_text line (pulled None) = of_line line (codes "ok none")
-step_text line (pulled (Some bytes)) = bytes_text line bytes
-step_text line done = ok_text line
-step_text line (count n) = ok_text line
-step_text line (truth b) = ok_text line
-step_text line (tried_close e) = ok_text line
+-- what an event says
+abbrev pub event_words : Event → List ℕ
+event_words (event.Opened o) = two_numbers (codes "opened") o.max_frame_size o.channel_max
+event_words (event.SessionAsked s) = two_numbers (codes "session-asked") s.session (s.channel).0
+event_words (event.Begun s) = two_numbers (codes "begun") s.session (s.channel).0
+event_words (event.LinkAsked l) =
+    codes "link-asked "
+    ++ (decimal l.session ++ (codes " " ++ (role_word (l.attach).role ++ (codes " " ++ (l.attach).name))))
+event_words (event.Ended s) = codes "ended " ++ decimal s.session
+event_words (event.Refused r) =
+    codes "refused "
+    ++ (decimal r.session ++ (codes " " ++ (link_word r.link ++ (codes " " ++ decimal (number r.error)))))
+event_words (event.Closed c) = codes "closed"
 
--- steps on these lines are answered so
+abbrev pub event_text : ℕ → End → Event → List ℕ
+event_text line end it = of_line line end (event_words it)
+
+abbrev pub events_text : ℕ → End → List Event → List ℕ
+events_text line end [] = []
+events_text line end (it ∷ events) = event_text line end it ++ events_text line end events
+
+abbrev pub fault_text : ℕ → End → Option EndpointError → List ℕ
+fault_text line end (Some e) = of_line line end (codes "fault " ++ decimal (number e))
+fault_text line end None = []
+
+-- what is printed of a step on this line, at this end: its answer, and behind it the events and the fault
+abbrev pub step_text : ℕ → End → Said → List ℕ
+step_text line end (refused e) = of_line line end (codes "refused " ++ decimal (number e))
+step_text line end (fed events fault) = ok_text line end ++ (events_text line end events ++ fault_text line end fault)
+step_text line end (pulled None) = of_line line end (codes "ok none")
+step_text line end (pulled (Some bytes)) = bytes_text line end bytes
+step_text line end (session_begun session) = of_line line end (codes "ok session " ++ decimal session)
+step_text line end done = ok_text line end
+step_text line end (count n) = ok_text line end
+step_text line end (truth b) = ok_text line end
+step_text line end (tried_close e) = ok_text line end
+step_text line end (tried_end e) = ok_text line end
+
+-- steps of one end on these lines are answered so
 abbrev pub printed : List ℕ → List Told → List ℕ
-printed (line ∷ lines) (told ∷ tolds) = step_text line told.answer ++ printed lines tolds
+printed (line ∷ lines) (told ∷ tolds) = step_text line A told.answer ++ printed lines tolds
 printed lines tolds = []
+
+-- what is printed of a step of two ends: of a call at its end, of bytes that are moved at the end that they are fed to
+abbrev pub world_text : ℕ → Step → WorldSaid → List ℕ
+world_text line (world.Call end call) (called answer) = step_text line end answer
+world_text line (world.Move end n) (moved bytes answer) = step_text line (other end) answer
+world_text line world.Break broken = decimal line ++ (codes " ok" ++ line_end)
+world_text line step did = []
+
+abbrev pub world_printed : List ℕ → List Step → List WorldTold → List ℕ
+world_printed (line ∷ lines) (step ∷ steps) (told ∷ tolds) =
+    world_text line step told.did ++ world_printed lines steps tolds
+world_printed lines steps tolds = []

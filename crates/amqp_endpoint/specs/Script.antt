@@ -1,5 +1,5 @@
--- The script of one endpoint: what its bytes say. A script is made of lines, and a line of words.
-use Rattle.std.specs.Prelude.{ℕ, ◌+◌, ◌^◌, ◌==◌, ◌&&◌, Bool, true, not, List, [], ◌∷◌, length, Option, Some, None, if◌then◌else◌, nat_lt, codes}
+-- A script of one endpoint or of two: what its bytes say. It is made of lines, and a line of words.
+use Rattle.std.specs.Prelude.{ℕ, ◌+◌, ◌-◌, ◌^◌, ◌==◌, ◌&&◌, Bool, true, false, not, List, [], ◌∷◌, length, Option, Some, None, if◌then◌else◌, nat_lt, codes}
 use Rattle.std.specs.List.{slice_split, list_any}
 use Rattle.std.specs.Option.{option_map}
 use Rattle.std.specs.Result.{result_ok}
@@ -8,9 +8,15 @@ use Rattle.std.specs.Str.Parse.{digits_value}
 use Rattle.hex.specs.Hex.{decode_of}
 use Rattle.amqp_endpoint_model.specs.declared.settings.Settings.{Settings}
 use Rattle.amqp_endpoint_model.specs.declared.call.Call.{Call}
-use Rattle.amqp_endpoint_model.specs.declared.call.Call.TheVariants.{Connect, Feed, Pull, Heartbeat, BreakOff, Close}
+use Rattle.amqp_endpoint_model.specs.declared.call.Call.TheVariants.{Connect, Feed, Pull, Heartbeat, BreakOff, Close, Begin, AcceptBegin, End as EndCall}
+use Rattle.amqp_endpoint_world.specs.declared.step.End.{End}
+use Rattle.amqp_endpoint_world.specs.declared.step.End.TheVariants.{A, B}
+use Rattle.amqp_endpoint_world.specs.declared.step.Step.{Step}
+use Rattle.amqp_endpoint_world.specs.declared.step.Step.TheVariants as world
+use Rattle.amqp_endpoint_world.specs.WorldState.{other}
+use Rattle.amqp_endpoint_world.specs.WorldStep.{is_the_worlds}
 use Rattle.amqp_endpoint.specs.declared.scenario.statement.Statement.{Statement}
-use Rattle.amqp_endpoint.specs.declared.scenario.statement.Statement.TheVariants.{One, Settings as SettingsAre, Step}
+use Rattle.amqp_endpoint.specs.declared.scenario.statement.Statement.TheVariants.{One, Two, Settings as SettingsAre, Call as CallAt, Move, Break}
 
 -- the parts of a text, between the bytes of this kind
 abbrev pub parts_at : ℕ → List ℕ → List (List ℕ)
@@ -24,15 +30,33 @@ number_under limit word = if all_ascii_digits word && not (length word == 0) && 
 abbrev pub bytes_of : List ℕ → Option (List ℕ)
 bytes_of word = if bytes_eq word (codes "-") then Some [] else result_ok (decode_of word)
 
+-- the end that a word names
+abbrev pub end_of : List ℕ → Option End
+end_of word = if bytes_eq word (codes "a") then Some A else if bytes_eq word (codes "b") then Some B else None
+
 -- the calls that one word names
 abbrev pub call_of : List ℕ → Option Call
 call_of verb =
     if bytes_eq verb (codes "connect") then Some Connect else
     if bytes_eq verb (codes "close") then Some Close else
     if bytes_eq verb (codes "heartbeat") then Some Heartbeat else
+    if bytes_eq verb (codes "begin") then Some Begin else
     if bytes_eq verb (codes "pull") then Some Pull else
     if bytes_eq verb (codes "break") then Some BreakOff else
     None
+
+-- the calls that a word names, with what stands behind it: bytes, a channel of the peer's, or a session
+abbrev pub call_with : List ℕ → List ℕ → Option Call
+call_with verb word =
+    if bytes_eq verb (codes "feed") then option_map Feed (bytes_of word) else
+    if bytes_eq verb (codes "accept") then
+    option_map (λ n. AcceptBegin (record { 0 = n })) (number_under (2 ^ 16) word) else
+    if bytes_eq verb (codes "end") then option_map EndCall (number_under (2 ^ 64) word) else
+    None
+
+-- how many bytes are moved: so many, or all that there are
+abbrev pub count_of : List ℕ → Option ℕ
+count_of word = if bytes_eq word (codes "all") then Some (2 ^ 64 - 1) else number_under (2 ^ 64) word
 
 -- settings, where each number is one
 abbrev pub settings_from : List ℕ → Option ℕ → Option ℕ → Option ℕ → Option ℕ → Option Settings
@@ -42,26 +66,44 @@ settings_from container limit channels window first = None
 abbrev pub settings_of : List ℕ → List ℕ → List ℕ → List ℕ → List ℕ → Option Settings
 settings_of container limit channels window first = settings_from container (number_under (2 ^ 32) limit) (number_under (2 ^ 16) channels) (number_under (2 ^ 32) window) (number_under (2 ^ 32) first)
 
--- the first line of a script
-abbrev pub opening_said : List ℕ → Option Statement
-opening_said word = if bytes_eq word (codes "one") then Some One else None
+-- a line of one word: the first line of a script, or a break of both ends
+abbrev pub word_said : List ℕ → Option Statement
+word_said word =
+    if bytes_eq word (codes "one") then Some One else
+    if bytes_eq word (codes "two") then Some Two else
+    if bytes_eq word (codes "break") then Some Break else
+    None
 
--- there is one end, `a`
-abbrev pub call_said : List ℕ → List ℕ → Option Statement
-call_said end verb = if bytes_eq end (codes "a") then option_map Step (call_of verb) else None
+-- a call of an end
+abbrev pub call_at : Option End → Option Call → Option Statement
+call_at (Some end) (Some call) = Some (CallAt end call)
+call_at end call = None
 
-abbrev pub feed_said : List ℕ → List ℕ → List ℕ → Option Statement
-feed_said end verb bytes = if bytes_eq end (codes "a") && bytes_eq verb (codes "feed") then option_map (λ b. Step (Feed b)) (bytes_of bytes) else None
+abbrev pub move_from : Option End → Option ℕ → Option Statement
+move_from (Some end) (Some count) = Some (Move end count)
+move_from end count = None
+
+-- bytes are moved from an end, or an end is called
+abbrev pub three_said : List ℕ → List ℕ → List ℕ → Option Statement
+three_said first second third =
+    if bytes_eq first (codes "move") then move_from (end_of second) (count_of third) else
+    call_at (end_of first) (call_with second third)
+
+abbrev pub settings_at : Option End → Option Settings → Option Statement
+settings_at (Some end) (Some settings) = Some (SettingsAre end settings)
+settings_at end settings = None
 
 abbrev pub settings_said : List ℕ → List ℕ → Option Settings → Option Statement
-settings_said verb end settings = if bytes_eq verb (codes "settings") && bytes_eq end (codes "a") then option_map SettingsAre settings else None
+settings_said verb end settings =
+    if bytes_eq verb (codes "settings") then settings_at (end_of end) settings else None
 
 -- what words say
 abbrev pub words_said : List (List ℕ) → Option Statement
-words_said (word ∷ []) = opening_said word
-words_said (end ∷ verb ∷ []) = call_said end verb
-words_said (end ∷ verb ∷ bytes ∷ []) = feed_said end verb bytes
-words_said (verb ∷ end ∷ container ∷ limit ∷ channels ∷ window ∷ first ∷ []) = settings_said verb end (settings_of container limit channels window first)
+words_said (word ∷ []) = word_said word
+words_said (end ∷ verb ∷ []) = call_at (end_of end) (call_of verb)
+words_said (first ∷ second ∷ third ∷ []) = three_said first second third
+words_said (verb ∷ end ∷ container ∷ limit ∷ channels ∷ window ∷ first ∷ []) =
+    settings_said verb end (settings_of container limit channels window first)
 words_said words = None
 
 -- what a line says: text in UTF-8, of words that are parted by one space each, none of them empty
@@ -87,56 +129,137 @@ lines_from n (text ∷ texts) = if is_skipped text then lines_from (n + 1) texts
 abbrev pub script_lines : List ℕ → List Line
 script_lines text = lines_from 1 (parts_at 10 text)
 
--- a script that was read
-pub record Whole : Type 0 where
-  -- the line that settings are refused by
-  pub settings_line : ℕ
+-- settings, and the line that they are refused by: their own, or the script's first one where they have none
+pub record Given : Type 0 where
+  pub line : ℕ
   pub settings : Settings
+
+-- a script of one end
+pub record OneScript : Type 0 where
+  pub given : Given
   -- the steps, and the line of each
   pub lines : List ℕ
   pub calls : List Call
+
+-- a script of two ends
+pub record TwoScript : Type 0 where
+  pub given_a : Given
+  pub given_b : Given
+  pub lines : List ℕ
+  pub steps : List Step
 
 pub data Reading : Type 0 where
   -- there is no line to be read
   nothing : Reading
   -- the first line that can't be read
   unreadable : ℕ → Reading
-  whole : Whole → Reading
+  of_one : OneScript → Reading
+  of_two : TwoScript → Reading
+
+-- the container of an end without a settings line
+abbrev pub letter : End → List ℕ
+letter A = codes "a"
+letter B = codes "b"
 
 -- the settings of an end without a settings line
-abbrev pub default_settings : Settings
-default_settings = record { container_id = codes "a"; max_frame_size = 262144; channel_max = 255; incoming_window = 2048; idle_time_out = None; first_transfer_number = 0 }
+abbrev pub default_settings : End → Settings
+default_settings end =
+    record {
+      container_id = letter end;
+      max_frame_size = 262144;
+      channel_max = 255;
+      incoming_window = 2048;
+      idle_time_out = None;
+      first_transfer_number = 0;
+    }
+
+abbrev pub given_none : ℕ → End → Given
+given_none first end = record { line = first; settings = default_settings end }
+
+abbrev pub given_on : Line → Settings → Given
+given_on line settings = record { line = line.number; settings = settings }
+
+-- a step of one end: a call of it
+abbrev pub one_step : Option Statement → Option Call
+one_step (Some (CallAt A call)) = Some call
+one_step said = None
+
+-- a step of two ends. There bytes and breaks are the world's
+abbrev pub two_call : Bool → End → Call → Option Step
+two_call true end call = None
+two_call false end call = Some (world.Call end call)
+
+abbrev pub two_step : Option Statement → Option Step
+two_step (Some (CallAt end call)) = two_call (is_the_worlds call) end call
+two_step (Some (Move end count)) = Some (world.Move end count)
+two_step (Some Break) = Some world.Break
+two_step said = None
 
 -- a step before others
-abbrev pub step_before : ℕ → Call → Reading → Reading
-step_before n call (whole s) = whole (record s { lines = n ∷ s.lines; calls = call ∷ s.calls })
-step_before n call reading = reading
+abbrev pub one_before : ℕ → Option Call → Reading → Reading
+one_before n (Some call) (of_one s) = of_one (record s { lines = n ∷ s.lines; calls = call ∷ s.calls })
+one_before n (Some call) others = others
+one_before n None others = unreadable n
 
-abbrev pub step_then : ℕ → Option Statement → Reading → Reading
-step_then n (Some (Step call)) others = step_before n call others
-step_then n said others = unreadable n
+abbrev pub two_before : ℕ → Option Step → Reading → Reading
+two_before n (Some step) (of_two s) = of_two (record s { lines = n ∷ s.lines; steps = step ∷ s.steps })
+two_before n (Some step) others = others
+two_before n None others = unreadable n
 
 -- each line is a step
-abbrev pub steps : ℕ → Settings → List Line → Reading
-steps settings_line settings [] = whole (record { settings_line = settings_line; settings = settings; lines = []; calls = [] })
-steps settings_line settings (line ∷ lines) = step_then line.number (statement line.text) (steps settings_line settings lines)
+abbrev pub one_steps : Given → List Line → Reading
+one_steps given [] = of_one (record { given = given; lines = []; calls = [] })
+one_steps given (line ∷ lines) = one_before line.number (one_step (statement line.text)) (one_steps given lines)
 
-abbrev pub settings_then : ℕ → Option Statement → Line → List Line → Reading
-settings_then first (Some (SettingsAre settings)) line lines = steps line.number settings lines
-settings_then first said line lines = steps first default_settings (line ∷ lines)
+abbrev pub two_steps : Given → Given → List Line → Reading
+two_steps given_a given_b [] =
+    of_two (record { given_a = given_a; given_b = given_b; lines = []; steps = [] })
+two_steps given_a given_b (line ∷ lines) =
+    two_before line.number (two_step (statement line.text)) (two_steps given_a given_b lines)
 
--- behind the line `one`: at most one settings line, and steps
+-- behind the line `one`, which is the first: at most one settings line, and steps
+abbrev pub one_given : ℕ → Option Statement → Line → List Line → Reading
+one_given first (Some (SettingsAre A settings)) line lines = one_steps (given_on line settings) lines
+one_given first said line lines = one_steps (given_none first A) (line ∷ lines)
+
 abbrev pub behind_one : ℕ → List Line → Reading
-behind_one first [] = steps first default_settings []
-behind_one first (line ∷ lines) = settings_then first (statement line.text) line lines
+behind_one first [] = one_steps (given_none first A) []
+behind_one first (line ∷ lines) = one_given first (statement line.text) line lines
 
-abbrev pub one_then : ℕ → Option Statement → List Line → Reading
-one_then n (Some One) lines = behind_one n lines
-one_then n said lines = unreadable n
+-- with the settings of an end, and of the other one
+abbrev pub steps_with : End → Given → Given → List Line → Reading
+steps_with A given given_other lines = two_steps given given_other lines
+steps_with B given given_other lines = two_steps given_other given lines
+
+-- behind the settings line of an end: at most one of the other end, and steps
+abbrev pub other_given : ℕ → End → Given → Option Statement → Line → List Line → Reading
+other_given first A given (Some (SettingsAre B settings)) line lines = two_steps given (given_on line settings) lines
+other_given first B given (Some (SettingsAre A settings)) line lines = two_steps (given_on line settings) given lines
+other_given first end given said line lines =
+    steps_with end given (given_none first (other end)) (line ∷ lines)
+
+abbrev pub behind_given : ℕ → End → Given → List Line → Reading
+behind_given first end given [] = steps_with end given (given_none first (other end)) []
+behind_given first end given (line ∷ lines) = other_given first end given (statement line.text) line lines
+
+-- behind the line `two`, which is the first: at most one settings line of each end, and steps
+abbrev pub two_given : ℕ → Option Statement → Line → List Line → Reading
+two_given first (Some (SettingsAre end settings)) line lines = behind_given first end (given_on line settings) lines
+two_given first said line lines = two_steps (given_none first A) (given_none first B) (line ∷ lines)
+
+abbrev pub behind_two : ℕ → List Line → Reading
+behind_two first [] = two_steps (given_none first A) (given_none first B) []
+behind_two first (line ∷ lines) = two_given first (statement line.text) line lines
+
+-- the first line says which
+abbrev pub form_then : ℕ → Option Statement → List Line → Reading
+form_then n (Some One) lines = behind_one n lines
+form_then n (Some Two) lines = behind_two n lines
+form_then n said lines = unreadable n
 
 abbrev pub reading_of : List Line → Reading
 reading_of [] = nothing
-reading_of (line ∷ lines) = one_then line.number (statement line.text) lines
+reading_of (line ∷ lines) = form_then line.number (statement line.text) lines
 
 -- what a script says
 abbrev pub reading : List ℕ → Reading
