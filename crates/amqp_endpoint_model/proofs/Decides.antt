@@ -8,14 +8,14 @@ use Rattle.amqp_endpoint_model.specs.declared.event.Event.{Event}
 use Rattle.amqp_endpoint_model.specs.declared.phase.Phase.{Phase}
 use Rattle.amqp_endpoint_model.specs.declared.phase.Phase.TheVariants.{Unconnected, Greeting, Running, Over}
 use Rattle.amqp_endpoint_model.specs.declared.call.Call.{Call}
-use Rattle.amqp_endpoint_model.specs.declared.call.Call.TheVariants.{Connect, Feed, Pull, Queued, IsIdle, Heartbeat, BreakOff, Close as CloseCall, IsClosed, TryClose}
-use Rattle.amqp_endpoint_model.specs.Said.{Said, done, refused, fed, pulled, count, truth, tried_close, Told}
+use Rattle.amqp_endpoint_model.specs.declared.call.Call.TheVariants.{Connect, Feed, Pull, Queued, IsIdle, Heartbeat, BreakOff, Close as CloseCall, IsClosed, TryClose, Begin, AcceptBegin, End, IsEnded, TryEnd}
+use Rattle.amqp_endpoint_model.specs.Said.{Said, done, refused, fed, pulled, count, truth, tried_close, session_begun, tried_end, Told}
 use Rattle.amqp_endpoint_model.specs.Relay.{Relations, Decides}
-use Rattle.amqp_endpoint_model.specs.State.{State, Waiting, the_frame, text_of, heartbeat, own_close_with}
-use Rattle.amqp_endpoint_model.specs.Step.{refusal, MayRefuse, Breaks, ClosesOwn, connected, opened, close_refusal, Greets, FeedsIn, Pulls, Step}
+use Rattle.amqp_endpoint_model.specs.State.{State, Waiting, the_frame, text_of, heartbeat, own_close_with, limit_of}
+use Rattle.amqp_endpoint_model.specs.Step.{refusal, MayRefuse, Breaks, ClosesOwn, connected, opened, close_refusal, Greets, FeedsIn, Pulls, SessionsDo, Step}
 use Rattle.amqp_endpoint_model.specs.History.{Run, HasMemory, AllHaveMemory, feeds_joined, told_joined}
 use Rattle.amqp_endpoint_model.proofs.Joins.{header_long}
-use Rattle.amqp_endpoint_model.proofs.Moves.{breaks-unique, closes_own-unique}
+use Rattle.amqp_endpoint_model.proofs.Moves.{breaks-unique, closes_own-unique, sent-same}
 use Rattle.amqp_endpoint_model.proofs.Recuts.{FeedSaid, feed_said, has_memory, Joined, joined-run}
 use Rattle.amqp_endpoint_model.proofs.Endings.{SameRead, reads_on-unique}
 
@@ -45,6 +45,11 @@ abbrev IsPlain : Call → Type 0
 IsPlain (Feed bytes) = ⊥
 IsPlain BreakOff = ⊥
 IsPlain CloseCall = ⊥
+IsPlain Begin = ⊥
+IsPlain (AcceptBegin channel) = ⊥
+IsPlain (End number) = ⊥
+IsPlain (IsEnded number) = ⊥
+IsPlain (TryEnd number) = ⊥
 IsPlain call = Unit {0}
 
 module _ {S : Type 0} where
@@ -118,6 +123,11 @@ module _ {S : Type 0} (does : Relations S) where
   decided s (Feed bytes) a m plain step h = absurd plain
   decided s BreakOff a m plain step h = absurd plain
   decided s CloseCall a m plain step h = absurd plain
+  decided s Begin a m plain step h = absurd plain
+  decided s (AcceptBegin channel) a m plain step h = absurd plain
+  decided s (End number) a m plain step h = absurd plain
+  decided s (IsEnded number) a m plain step h = absurd plain
+  decided s (TryEnd number) a m plain step h = absurd plain
   decided s Connect (refused e) m plain (may, same) h = refused-decided s Connect e done m (connected does s) may same h
   decided s Connect done m plain (none, after) h = done-decided s Connect done m (connected does s) none after
   decided s Heartbeat (refused e) m plain (may, same) h = refused-decided s Heartbeat e done m (beaten s) may same h
@@ -159,6 +169,37 @@ module _ {S : Type 0} (does : Relations S) where
   close_said s (refused e) m (may, same) h = close_refused s e m may same h
   close_said s done m (none, closes, after) h = has_closed none refl closes after
   close_said s a m step h = absurd step
+
+  -- a step of a call that the sessions answer
+  abbrev TheirStep : State S → Call → Said → State S → Type 0
+  TheirStep s Begin a m = Step does s Begin a m
+  TheirStep s (AcceptBegin channel) a m = Step does s (AcceptBegin channel) a m
+  TheirStep s (End number) a m = Step does s (End number) a m
+  TheirStep s (IsEnded number) a m = Step does s (IsEnded number) a m
+  TheirStep s (TryEnd number) a m = Step does s (TryEnd number) a m
+  TheirStep s call a m = ⊥
+
+  -- the sessions refuse a call, or do it
+  data SessionsSaid (s : State S) (call : Call) (a : Said) (m : State S) : Type 0 where
+    barred : (e : EndpointError) → does.bars s.sessions (limit_of s.peer_limit) call e → e ≢ Memory → a ≡ refused e
+        → m ≡ s → SessionsSaid s call a m
+    called : SessionsDo does s call a m → SessionsSaid s call a m
+
+  sessions_said : (s : State S) (call : Call) (a : Said) (m : State S) → TheirStep s call a m → HasMemory a
+      → SessionsSaid s call a m
+  sessions_said s Begin (refused e) m (bars, same) h = barred e bars h refl same
+  sessions_said s Begin (session_begun number) m step h = called step
+  sessions_said s (AcceptBegin channel) (refused e) m (bars, same) h = barred e bars h refl same
+  sessions_said s (AcceptBegin channel) (session_begun number) m step h = called step
+  sessions_said s (End number) (refused e) m (bars, same) h = barred e bars h refl same
+  sessions_said s (End number) done m step h = called step
+  sessions_said s (IsEnded number) (refused e) m (may, same) h =
+      absurd (no_refusal s (IsEnded number) e refl may h)
+  sessions_said s (IsEnded number) (truth b) m step h = called step
+  sessions_said s (TryEnd number) (refused e) m (may, same) h =
+      absurd (no_refusal s (TryEnd number) e refl may h)
+  sessions_said s (TryEnd number) (tried_end o) m step h = called step
+  sessions_said s call a m step h = absurd step
 
 module _ {S : Type 0} (does : Relations S) (law : Decides does) where
   greets-unique : (s : State S) (bytes : List ℕ) (es ds : List Event) (f g : Option EndpointError) (a b : State S)
@@ -230,6 +271,25 @@ module _ {S : Type 0} (does : Relations S) (law : Decides does) where
       = closes_own-unique does law s.sessions m.sessions n.sessions closes closes2 in
       (is ∙ sym is2, after ∙ ap (λ (x : S). closing s x) same ∙ sym after2)
 
+  sessions-decide : (s : State S) (call : Call) (a b : Said) (m n : State S) → SessionsSaid does s call a m
+      → SessionsSaid does s call b n → (a ≡ b) × (m ≡ n)
+  sessions-decide s call a b m n (barred e bars h is same) (barred d bars2 k is2 same2) =
+      let x : e ≡ d = law.barred s.sessions (limit_of s.peer_limit) call e d bars bars2 h k in
+      (is ∙ ap refused x ∙ sym is2, same ∙ sym same2)
+  sessions-decide s call a b m n (barred e bars h is same) (called t) =
+      absurd (law.uncalled s.sessions n.sessions (limit_of s.peer_limit) call b t.frames e t.calls bars h)
+  sessions-decide s call a b m n (called r) (barred e bars h is same) =
+      absurd (law.uncalled s.sessions m.sessions (limit_of s.peer_limit) call a r.frames e r.calls bars h)
+  sessions-decide s call a b m n (called r) (called t) =
+      let (answer, frames, sessions) = law.called s.sessions m.sessions n.sessions (limit_of s.peer_limit) call a b
+      r.frames t.frames r.calls t.calls in
+      (answer, sent-same s m n r.frames t.frames sessions frames r.queued t.queued)
+
+  theirs-decide : (s : State S) (call : Call) (a b : Said) (m n : State S) → TheirStep does s call a m
+      → TheirStep does s call b n → HasMemory a → HasMemory b → (a ≡ b) × (m ≡ n)
+  theirs-decide s call a b m n r t h k =
+      sessions-decide s call a b m n (sessions_said does s call a m r h) (sessions_said does s call b n t k)
+
   plain-decides : (s : State S) (call : Call) (a b : Said) (m n : State S) → IsPlain call → Step does s call a m
       → Step does s call b n → HasMemory a → HasMemory b → (a ≡ b) × (m ≡ n)
   plain-decides s call a b m n plain r t h k =
@@ -243,6 +303,11 @@ module _ {S : Type 0} (does : Relations S) (law : Decides does) where
   step-decides s BreakOff a b m n r t h k = break-decides s a b m n r t h k
   step-decides s CloseCall a b m n r t h k =
       closes-decide s a b m n (close_said does s a m r h) (close_said does s b n t k)
+  step-decides s Begin a b m n r t h k = theirs-decide s Begin a b m n r t h k
+  step-decides s (AcceptBegin channel) a b m n r t h k = theirs-decide s (AcceptBegin channel) a b m n r t h k
+  step-decides s (End number) a b m n r t h k = theirs-decide s (End number) a b m n r t h k
+  step-decides s (IsEnded number) a b m n r t h k = theirs-decide s (IsEnded number) a b m n r t h k
+  step-decides s (TryEnd number) a b m n r t h k = theirs-decide s (TryEnd number) a b m n r t h k
   step-decides s call a b m n r t h k = plain-decides s call a b m n tt r t h k
 
   told-same : (t u : Told) → t.answer ≡ u.answer → t.queued ≡ u.queued → t ≡ u

@@ -6,14 +6,14 @@ use Rattle.amqp_endpoint_model.specs.declared.phase.Phase.{Phase}
 use Rattle.amqp_endpoint_model.specs.declared.phase.Phase.TheVariants.{Unconnected, Greeting, Running, Over}
 use Rattle.amqp_endpoint_model.specs.declared.settings.Settings.{Settings}
 use Rattle.amqp_endpoint_model.specs.declared.call.Call.{Call}
-use Rattle.amqp_endpoint_model.specs.declared.call.Call.TheVariants.{Connect, Feed, Pull, Queued, IsIdle, Heartbeat, BreakOff, Close as CloseCall, IsClosed, TryClose}
+use Rattle.amqp_endpoint_model.specs.declared.call.Call.TheVariants.{Connect, Feed, Pull, Queued, IsIdle, Heartbeat, BreakOff, Close as CloseCall, IsClosed, TryClose, Begin, AcceptBegin, End, IsEnded, TryEnd}
 use Rattle.amqp_endpoint_model.specs.Relay.{Relations}
-use Rattle.amqp_endpoint_model.specs.Said.{Said, done, refused, fed, pulled, count, truth, tried_close, Told}
+use Rattle.amqp_endpoint_model.specs.Said.{Said, done, refused, fed, pulled, count, truth, tried_close, session_begun, tried_end, Told}
 use Rattle.amqp_endpoint_model.specs.State.{State, fresh}
 use Rattle.amqp_endpoint_model.specs.Step.{AfterFault, EndsRunning, Ends, ReadsOn, FeedsIn, condition_of, opened, Step}
 use Rattle.amqp_endpoint_model.specs.History.{Run, Summary, nothing, note, summary, Pieces}
 use Rattle.amqp_endpoint_model.proofs.Takings.{same_settings}
-use Rattle.amqp_endpoint_model.proofs.PieceLaws.{StandsAt, greeting_broken, stands-pieces, step-stands}
+use Rattle.amqp_endpoint_model.proofs.PieceLaws.{StandsAt, greeting_broken, stands-pieces, step-stands, unopened-judged}
 
 module _ {S : Type 0} (does : Relations S) where
   fault-settings : (condition : Option (List ℕ)) (s new : State S) → AfterFault does condition s new
@@ -67,6 +67,11 @@ module _ {S : Type 0} (does : Relations S) where
   step-settings old CloseCall done new (none, closes, after) = ap (λ s. s.settings) after
   step-settings old IsClosed (truth b) new (is, same) = ap (λ s. s.settings) same
   step-settings old TryClose (tried_close o) new (is, after) = ap (λ s. s.settings) after
+  step-settings old Begin (session_begun number) new step = ap (λ s. s.settings) step.queued
+  step-settings old (AcceptBegin channel) (session_begun number) new step = ap (λ s. s.settings) step.queued
+  step-settings old (End number) done new step = ap (λ s. s.settings) step.queued
+  step-settings old (IsEnded number) (truth b) new step = ap (λ s. s.settings) step.queued
+  step-settings old (TryEnd number) (tried_end o) new step = ap (λ s. s.settings) step.queued
   step-settings old call answer new step = absurd step
 
   run-stands : (limit : ℕ) (σ : Summary) (old : State S) (calls : List Call) (ts : List Told) (new : State S)
@@ -83,7 +88,8 @@ module _ {S : Type 0} (does : Relations S) where
       (step-stands does limit σ old call t.answer mid l h one) rest
 
   pub fresh-stands : (s : Settings) (sessions : S) → StandsAt does s.max_frame_size nothing (fresh s sessions)
-  fresh-stands s sessions = inl (let short : 0 < 8 = omega arith in short, refl, refl)
+  fresh-stands s sessions =
+      (inl (let short : 0 < 8 = omega arith in short, refl, refl), unopened-judged None nothing refl)
 
   -- all bytes fed are frames one behind the other
   pub pieces : (sessions : S) (s : Settings) (calls : List Call) (ts : List Told) (end : State S)

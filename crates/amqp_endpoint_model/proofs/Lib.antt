@@ -6,10 +6,10 @@ pub mod Moves
 pub mod Endings
 pub mod Decides
 pub mod Stepped
+pub mod JudgeReads
 pub mod PieceLaws
 pub mod Keeping
 pub mod StandardFacts
-pub mod JudgeReads
 pub mod LimitLaws
 pub mod BytesDecide
 pub mod JudgeLaws

@@ -1,6 +1,6 @@
 -- What is pulled is within the limit of a judge of the wire.
-use Rattle.std.proofs.Common.{◌≡◌, ◌≢◌, ℕ, ◌≤◌, Bool, true, false, List, [], ◌∷◌, ◌++◌, length, refl, sym, ◌∙◌, ap, arith, subst, Option, Some, None, inl, inr}
-use Rattle.std.specs.Prelude.{if◌then◌else◌, ◌==◌, ◌&&◌, ◌||◌, not, is_none, nat_lt, nat_le, ◌^◌, map, All}
+use Rattle.std.proofs.Common.{◌≡◌, ℕ, ◌≤◌, Bool, true, false, List, [], ◌∷◌, ◌++◌, length, refl, sym, ◌∙◌, ap, arith, subst, Option, Some, None, inl, inr}
+use Rattle.std.specs.Prelude.{if◌then◌else◌, ◌==◌, ◌||◌, is_none, nat_lt, nat_le, ◌^◌, map, All}
 use Rattle.std.proofs.lemmas.Bool.Decides.{nat_tests}
 use Rattle.std.proofs.lemmas.List.Elements.{All-head, All-tail}
 use Rattle.amqp_session_types.specs.declared.refusals.ConnectionError.{ConnectionError}
@@ -13,21 +13,20 @@ use Rattle.amqp_session_frames.specs.declared.frame.FrameBody.{FrameBody}
 use Rattle.amqp_session_frames.specs.declared.frame.FrameBody.TheVariants.{Empty, Open, Close}
 use Rattle.amqp_session_frames.specs.Text.{frame_text}
 use Rattle.amqp_endpoint_model.specs.declared.error.EndpointError.{EndpointError}
-use Rattle.amqp_endpoint_model.specs.declared.error.EndpointError.TheVariants.{LimitUnder512, WindowOutOfRange, FrameTooLarge, SizeUnder8, SizeOverLimit, PeerLimitUnder512, NotConnected, IllegalState, Frame as FrameFault, Connection, Session}
+use Rattle.amqp_endpoint_model.specs.declared.error.EndpointError.TheVariants.{LimitUnder512, WindowOutOfRange, FrameTooLarge, SizeUnder8, SizeOverLimit, PeerLimitUnder512, Frame as FrameFault, Connection, Session}
 use Rattle.amqp_endpoint_model.specs.declared.event.Event.{Event}
 use Rattle.amqp_endpoint_model.specs.declared.phase.Phase.{Phase}
 use Rattle.amqp_endpoint_model.specs.declared.phase.Phase.TheVariants.{Unconnected, Greeting, Running, Over}
 use Rattle.amqp_endpoint_model.specs.declared.settings.Settings.{Settings}
 use Rattle.amqp_endpoint_model.specs.declared.call.Call.{Call}
-use Rattle.amqp_endpoint_model.specs.declared.call.Call.TheVariants.{Connect, Feed, Pull, Queued, IsIdle, Heartbeat, BreakOff, Close as CloseCall, IsClosed, TryClose}
+use Rattle.amqp_endpoint_model.specs.declared.call.Call.TheVariants.{Connect, Feed, Pull, Queued, IsIdle, Heartbeat, BreakOff, Close as CloseCall, IsClosed, TryClose, Begin, AcceptBegin, End, IsEnded, TryEnd}
 use Rattle.amqp_endpoint_model.specs.Relay.{Relations}
-use Rattle.amqp_endpoint_model.specs.Said.{Said, done, refused, fed, pulled, count, truth, tried_close, Told}
-use Rattle.amqp_endpoint_model.specs.State.{State, Waiting, the_frame, text_of, fresh, written, text_or_nothing, text_fits, fits, frame_of, waiting_of, own_open, own_close_with, heartbeat, error_of, limit_of, is_running, has_opened}
-use Rattle.amqp_endpoint_model.specs.Step.{SessionsTake, TakesBody, TakesAll, AfterFault, EndsRunning, Ends, ReadsOn, Greets, FeedsIn, opened, cut_off, faulted, condition_of, condition_of_frame, condition_of_connection, framing_error, decode_error, not_allowed, not_found, refusal_of_settings, Step}
-use Rattle.amqp_endpoint_model.specs.History.{Run, Summary, nothing, note, judge_limit, IsWithin, KeepsLimit}
-use Rattle.amqp_endpoint_model.proofs.JudgeReads.{limit-least, read-limit}
+use Rattle.amqp_endpoint_model.specs.Said.{Said, done, refused, fed, pulled, count, truth, tried_close, session_begun, tried_end, Told}
+use Rattle.amqp_endpoint_model.specs.State.{State, Waiting, the_frame, text_of, fresh, written, text_or_nothing, text_fits, fits, frame_of, waiting_of, own_open, own_close_with, heartbeat, error_of, limit_of}
+use Rattle.amqp_endpoint_model.specs.Step.{TakesBody, TakesAll, AfterFault, EndsRunning, Ends, ReadsOn, Greets, FeedsIn, opened, cut_off, faulted, condition_of, condition_of_frame, condition_of_connection, framing_error, decode_error, not_allowed, not_found, refusal_of_settings, Step}
+use Rattle.amqp_endpoint_model.specs.History.{Run, Summary, nothing, note, IsWithin, KeepsLimit}
 use Rattle.amqp_endpoint_model.proofs.Keeping.{fresh-stands, step-settings}
-use Rattle.amqp_endpoint_model.proofs.PieceLaws.{Stands, StandsAt, greeting_broken, step-stands}
+use Rattle.amqp_endpoint_model.proofs.PieceLaws.{Judged, StandsAt, greeting_broken, stands-judged, step-stands}
 use Rattle.amqp_endpoint_model.proofs.StandardFacts.{heartbeat_text, close_text, framing_error_text, decode_error_text, not_allowed_text, not_found_text}
 
 -- a text is no longer than this
@@ -125,17 +124,10 @@ tail-fits : (limit : ℕ) (queue : List Waiting) (first : Waiting) (others : Lis
     → AllFit limit queue → Fits limit (text_of first) × AllFit limit others
 tail-fits limit queue first others is h = let P : List Waiting → Type 0 = λ x. AllFit limit x in subst P is h
 
-no_first : (queue : List Waiting) (first : Waiting) (others : List Waiting) → queue ≡ first ∷ others → queue ≡ [] → ⊥
-no_first queue first others is none = let x : [] ≡ first ∷ others = sym none ∙ is in cc
-
 -- what waits fits the limit of written frames
 pub record QueueFits {S : Type 0} (s : State S) : Type 0 where
   pub all : AllFit (limit_of s.peer_limit) s.queue
   pub least : 512 ≤ limit_of s.peer_limit
-
--- where there is no connection nothing waits
-abbrev pub NoneWaits : {S : Type 0} → State S → Type 0
-NoneWaits s = s.phase ≡ Unconnected → s.queue ≡ []
 
 module _ {S : Type 0} where
   to : (s t : State S) → t ≡ s → QueueFits s → QueueFits t
@@ -165,6 +157,17 @@ module _ {S : Type 0} where
       = all-push (limit_of s.peer_limit) s.queue w h.least h.all short in
       record { all = subst R (sym queued) (subst Q (sym same) all); least = subst P (sym same) h.least }
 
+  -- what the sessions send is queued
+  sent-fits : (s t : State S) (frames : List SessionFrame) → QueueFits s
+      → All (λ f. fits (limit_of s.peer_limit) (frame_of f) ≡ true) frames
+      → t ≡ record s { sessions = t.sessions; queue = s.queue ++ map waiting_of frames } → QueueFits t
+  sent-fits s t frames h fit queued =
+      let limit : ℕ = limit_of s.peer_limit in
+      to _ t queued (record {
+        all = all-append limit s.queue (map waiting_of frames) h.all (frames-fit limit frames fit);
+        least = h.least;
+      })
+
   -- the text of what was queued first
   given-fits : (s : State S) (bytes : List ℕ) (first : Waiting) (others : List Waiting) → s.queue ≡ first ∷ others
       → bytes ≡ text_of first → QueueFits s → Fits (limit_of s.peer_limit) bytes
@@ -181,15 +184,6 @@ module _ {S : Type 0} (does : Relations S) where
       to (record old { peer_limit = Some n; sessions = new.sessions }) new after
       (record { all = all-more 512 n old.queue least all; least = least })
 
-  sessions-fit : (old : State S) (channel : ℕ) (body : FrameBody) (es : List Event) (new : State S) → QueueFits old
-      → SessionsTake does old channel body es new → QueueFits new
-  sessions-fit old channel body es new h t =
-      let limit : ℕ = limit_of old.peer_limit in
-      to _ new t.queued (record {
-        all = all-append limit old.queue (map waiting_of t.frames) h.all (frames-fit limit t.frames t.fit);
-        least = h.least;
-      })
-
   body-fits : (body : FrameBody) (old : State S) (channel : ℕ) (es : List Event) (new : State S) → QueueFits old
       → TakesBody does old channel body es new → QueueFits new
   body-fits Empty old channel es new h (told, same) = to old new same h
@@ -200,7 +194,7 @@ module _ {S : Type 0} (does : Relations S) where
         close-short;
     least = h.least;
   })
-  body-fits body old channel es new h t = sessions-fit old channel body es new h t
+  body-fits body old channel es new h t = sent-fits old new t.frames h t.fit t.queued
 
   all-fit : (old : State S) (fs : List Frame) (es : List Event) (new : State S) → QueueFits old
       → TakesAll does old fs es new → QueueFits new
@@ -285,129 +279,42 @@ module _ {S : Type 0} (does : Relations S) where
   step-fits old IsClosed (truth b) new o h (is, same) = to old new same h
   step-fits old TryClose (tried_close x) new o h (is, after) =
       to (record old { close_told = old.close_told || is_none x }) new after (record { all = h.all; least = h.least })
+  step-fits old Begin (session_begun number) new o h step = sent-fits old new step.frames h step.fit step.queued
+  step-fits old (AcceptBegin channel) (session_begun number) new o h step =
+      sent-fits old new step.frames h step.fit step.queued
+  step-fits old (End number) done new o h step = sent-fits old new step.frames h step.fit step.queued
+  step-fits old (IsEnded number) (truth b) new o h step = sent-fits old new step.frames h step.fit step.queued
+  step-fits old (TryEnd number) (tried_end x) new o h step = sent-fits old new step.frames h step.fit step.queued
   step-fits old call answer new o h step = absurd step
 
-  after_fault-none : (condition : Option (List ℕ)) (s new : State S) → AfterFault does condition s new → NoneWaits new
-  after_fault-none (Some condition) s new (closes, after) e =
-      absurd (let x : Over ≡ Unconnected = sym (ap (λ s. s.phase) after) ∙ e in cc)
-  after_fault-none None s new (finishes, after) e = ap (λ s. s.queue) after
-
-  ends-none : (p : Phase) (mid : State S) (left : List ℕ) (fault : Option EndpointError) (new : State S)
-      → mid.phase ≡ p → Ends does mid p left fault new → NoneWaits new
-  ends-none Running mid left None new is (waits, after) e =
-      absurd (let x : Running ≡ Unconnected = sym (ap (λ s. s.phase) after ∙ is) ∙ e in cc)
-  ends-none Running mid left (Some why) new is r e =
-      after_fault-none (condition_of why) (record mid { sessions = r.sessions }) new r.after e
-  ends-none Over mid left None new is same e =
-      absurd (let x : Over ≡ Unconnected = sym (ap (λ s. s.phase) same ∙ is) ∙ e in cc)
-  ends-none Over mid left (Some f) new is r e = absurd r
-  ends-none p mid left fault new is r e = absurd r
-
-  greets-none : (old : State S) (bytes : List ℕ) (es : List Event) (fault : Option EndpointError) (new : State S)
-      → old.phase ≡ Greeting → Greets does old bytes es fault new → NoneWaits new
-  greets-none old bytes es fault new is (inl (short, none, clean, after)) e =
-      absurd (let x : Greeting ≡ Unconnected = sym (ap (λ s. s.phase) after ∙ is) ∙ e in cc)
-  greets-none old bytes es fault new is (inr (inl (long, other, none, mismatch, breaks))) e =
-      ap (λ s. s.queue) breaks.1
-  greets-none old bytes es fault new is (inr (inr (inl (header, r)))) e =
-      ends-none r.mid.phase r.mid r.left fault new refl r.ends e
-  greets-none old bytes es fault new is (inr (inr (inr (none, memory, breaks)))) e =
-      ap (λ s. s.queue) (greeting_broken does old new breaks)
-
-  feed-none : (p : Phase) (old : State S) (bytes : List ℕ) (es : List Event) (fault : Option EndpointError)
-      (new : State S) → old.phase ≡ p → NoneWaits old → FeedsIn does p old bytes es fault new → NoneWaits new
-  feed-none Unconnected old bytes es fault new is h (none, refuses, after) e = ap (λ s. s.queue) after ∙ h is
-  feed-none Greeting old bytes es fault new is h g e = greets-none old (old.rest ++ bytes) es fault new is g e
-  feed-none Running old bytes es fault new is h r e = ends-none r.mid.phase r.mid r.left fault new refl r.ends e
-  feed-none Over old bytes es fault new is h (none, well, after) e =
-      absurd (let x : Over ≡ Unconnected = sym (ap (λ s. s.phase) after ∙ is) ∙ e in cc)
-
-  -- without a connection there is no heartbeat and no own Close
-  no_beat : (p : Phase) (own_close : Bool) → p ≡ Unconnected
-      → (if is_running p && not own_close then None else Some NotConnected) ≡ None → ⊥
-  no_beat Unconnected own_close is e = cc
-  no_beat Greeting own_close is e = cc
-  no_beat Running own_close is e = cc
-  no_beat Over own_close is e = cc
-
-  no_close : (p : Phase) (own_close : Bool) → p ≡ Unconnected
-      → (if has_opened p then (if own_close then Some IllegalState else None) else Some NotConnected) ≡ None → ⊥
-  no_close Unconnected own_close is e = cc
-  no_close Greeting own_close is e = cc
-  no_close Running own_close is e = cc
-  no_close Over own_close is e = cc
-
-  same-none : (old new : State S) → NoneWaits old → new.phase ≡ old.phase → new.queue ≡ old.queue → NoneWaits new
-  same-none old new h phase queue e = queue ∙ h (sym phase ∙ e)
-
-  equal-none : (old new : State S) → NoneWaits old → new ≡ old → NoneWaits new
-  equal-none old new h same = same-none old new h (ap (λ s. s.phase) same) (ap (λ s. s.queue) same)
-
-  step-none : (old : State S) (call : Call) (answer : Said) (new : State S) → NoneWaits old
-      → Step does old call answer new → NoneWaits new
-  step-none old call (refused e) new h (may, same) = equal-none old new h same
-  step-none old (Feed bytes) (fed es fault) new h step = feed-none old.phase old bytes es fault new refl h step
-  step-none old Connect done new h (none, after) =
-      λ e. absurd (let x : Greeting ≡ Unconnected = sym (ap (λ s. s.phase) after) ∙ e in cc)
-  step-none old Pull (pulled None) new h (empty, same) = equal-none old new h same
-  step-none old Pull (pulled (Some bytes)) new h (first, others, is, text, after) =
-      λ e. absurd (no_first old.queue first others is (h (sym (ap (λ s. s.phase) after) ∙ e)))
-  step-none old Queued (count n) new h (is, same) = equal-none old new h same
-  step-none old IsIdle (truth b) new h (is, same) = equal-none old new h same
-  step-none old Heartbeat done new h (none, after) =
-      λ e. absurd (no_beat old.phase old.own_close (sym (ap (λ s. s.phase) after) ∙ e) none)
-  step-none old BreakOff done new h breaks = λ e. ap (λ s. s.queue) breaks.1
-  step-none old CloseCall done new h (none, closes, after) =
-      λ e. absurd (no_close old.phase old.own_close (sym (ap (λ s. s.phase) after) ∙ e) none)
-  step-none old IsClosed (truth b) new h (is, same) = equal-none old new h same
-  step-none old TryClose (tried_close x) new h (is, after) =
-      same-none old new h (ap (λ s. s.phase) after) (ap (λ s. s.queue) after)
-  step-none old call answer new h step = absurd step
-
-  -- the limit of written frames is no more than the judge's
-  stands-limit : (p : Phase) (most : ℕ) (rest : List ℕ) (peer_limit : Option ℕ) (σ : Summary) (limit : ℕ)
-      → p ≢ Unconnected → Stands does p most rest peer_limit σ → judge_limit σ.fed limit → limit_of peer_limit ≤ limit
-  stands-limit Unconnected most rest peer_limit σ limit n h j = absurd (n refl)
-  stands-limit Greeting most rest peer_limit σ limit n (is, short, none, well, unopened) j =
-      let same : limit_of peer_limit ≡ 512 = ap limit_of unopened in
-      omega (arith, same, limit-least σ.fed limit j)
-  stands-limit Running most rest peer_limit σ limit n h j =
-      let P : Option ℕ → Type 0 = λ o. limit_of o ≤ limit in
-      subst P h.limit_is (read-limit most σ.fed h.body h.frames rest limit h.header h.read j)
-  stands-limit Over most rest peer_limit σ limit n h j =
-      let P : Option ℕ → Type 0 = λ o. limit_of o ≤ limit in
-      let f = h.framed in
-      subst P h.limit_is (read-limit most σ.fed f.body f.frames f.left limit f.header f.read j)
-
   pull-within : (most : ℕ) (σ : Summary) (s : State S) (bytes : List ℕ) (first : Waiting) (others : List Waiting)
-      → StandsAt does most σ s → QueueFits s → NoneWaits s → s.queue ≡ first ∷ others → bytes ≡ text_of first
+      → StandsAt does most σ s → QueueFits s → s.queue ≡ first ∷ others → bytes ≡ text_of first
       → IsWithin σ.fed (pulled (Some bytes))
-  pull-within most σ s bytes first others stands h none is text limit j =
-      let there : s.phase ≢ Unconnected = λ e. no_first s.queue first others is (none e) in
+  pull-within most σ s bytes first others stands h is text limit j =
+      let judged : Judged s.peer_limit σ = stands-judged does s.phase most s.rest s.peer_limit σ stands in
       let fit : Fits (limit_of s.peer_limit) bytes = given-fits s bytes first others is text h in
-      omega (arith, fit.short, stands-limit s.phase most s.rest s.peer_limit σ limit there stands j)
+      omega (arith, fit.short, judged.no_more limit j)
 
   step-within : (most : ℕ) (σ : Summary) (old : State S) (call : Call) (answer : Said) (new : State S)
-      → StandsAt does most σ old → QueueFits old → NoneWaits old → Step does old call answer new → IsWithin σ.fed answer
-  step-within most σ old Pull (pulled (Some bytes)) new stands h none (first, others, is, text, after) =
-      pull-within most σ old bytes first others stands h none is text
-  step-within most σ old call (pulled (Some text)) new stands h none step = absurd step
-  step-within most σ old call answer new stands h none step = tt
+      → StandsAt does most σ old → QueueFits old → Step does old call answer new → IsWithin σ.fed answer
+  step-within most σ old Pull (pulled (Some bytes)) new stands h (first, others, is, text, after) =
+      pull-within most σ old bytes first others stands h is text
+  step-within most σ old call (pulled (Some text)) new stands h step = absurd step
+  step-within most σ old call answer new stands h step = tt
 
   run-within : (most : ℕ) (σ : Summary) (old : State S) (calls : List Call) (ts : List Told) (new : State S)
       → old.settings.max_frame_size ≡ most → Fits 512 (written (own_open old.settings)) → StandsAt does most σ old
-      → QueueFits old → NoneWaits old → Run does old calls ts new → KeepsLimit σ calls ts
-  run-within most σ old [] [] new l o stands h none run = tt
-  run-within most σ old [] (t ∷ ts) new l o stands h none run = tt
-  run-within most σ old (call ∷ calls) [] new l o stands h none run = absurd run
-  run-within most σ old (call ∷ calls) (t ∷ ts) new l o stands h none (mid, one, queued, rest) =
+      → QueueFits old → Run does old calls ts new → KeepsLimit σ calls ts
+  run-within most σ old [] [] new l o stands h run = tt
+  run-within most σ old [] (t ∷ ts) new l o stands h run = tt
+  run-within most σ old (call ∷ calls) [] new l o stands h run = absurd run
+  run-within most σ old (call ∷ calls) (t ∷ ts) new l o stands h (mid, one, queued, rest) =
       let P : Settings → Type 0 = λ x. Fits 512 (written (own_open x)) in
       let kept : mid.settings ≡ old.settings = step-settings does old call t.answer mid one in (
-        step-within most σ old call t.answer mid stands h none one,
+        step-within most σ old call t.answer mid stands h one,
         run-within most (note σ call t.answer) mid calls ts new (ap (λ s. s.max_frame_size) kept ∙ l)
             (subst P (sym kept) o) (step-stands does most σ old call t.answer mid l stands one)
-            (step-fits old call t.answer mid o h one)
-            (step-none old call t.answer mid none one) rest,
+            (step-fits old call t.answer mid o h one) rest,
       )
 
   -- each answer of bytes is within the judge's limit
@@ -416,4 +323,4 @@ module _ {S : Type 0} (does : Relations S) where
   limit_kept sessions s calls ts end ok run =
       let start : QueueFits (fresh s sessions) = record { all = tt; least = omega arith } in
       run-within s.max_frame_size nothing (fresh s sessions) calls ts end refl (open-short s ok)
-      (fresh-stands does s sessions) start (λ e. refl) run
+      (fresh-stands does s sessions) start run

@@ -15,6 +15,17 @@ use Rattle.amqp_endpoint_model.specs.Step.{MovesBy, MovesByOpen, SendsClose, Clo
 same-some : (x y : ConnectionState) → Some x ≡ Some y → x ≡ y
 same-some x y e = cc
 
+module _ {S : Type 0} where
+  -- the same sessions that sent the same stand in the same state
+  pub sent-same : (s a b : State S) (frames more : List SessionFrame) → a.sessions ≡ b.sessions → frames ≡ more
+      → a ≡ record s { sessions = a.sessions; queue = s.queue ++ map waiting_of frames }
+      → b ≡ record s { sessions = b.sessions; queue = s.queue ++ map waiting_of more } → a ≡ b
+  sent-same s a b frames more sessions same r t =
+      let to : S → List SessionFrame → State S
+      = λ x fs. record s { sessions = x; queue = s.queue ++ map waiting_of fs } in
+      let theirs : to a.sessions frames ≡ to b.sessions frames = ap (λ (x : S). to x frames) sessions in
+      r ∙ theirs ∙ ap (to b.sessions) same ∙ sym t
+
 module _ {S : Type 0} (does : Relations S) where
   moves-unique : (row : ConnectionState → Option ConnectionState) (old a b : S) → MovesBy does row old a
       → MovesBy does row old b → a ≡ b
@@ -83,11 +94,7 @@ module _ {S : Type 0} (does : Relations S) (law : Decides does) where
   taken-unique s channel body es ds a b r t =
       let (frames, events, sessions) = law.taken s.sessions a.sessions b.sessions (limit_of s.peer_limit) channel body
       r.frames t.frames es ds r.takes t.takes in
-      let to : S → List SessionFrame → State S
-      = λ x fs. record s { sessions = x; queue = s.queue ++ map waiting_of fs } in
-      let theirs : to a.sessions r.frames ≡ to b.sessions r.frames = ap (λ (x : S). to x r.frames) sessions in
-      let sent : to b.sessions r.frames ≡ to b.sessions t.frames = ap (to b.sessions) frames in
-      (events, r.queued ∙ theirs ∙ sent ∙ sym t.queued)
+      (events, sent-same s a b r.frames t.frames sessions frames r.queued t.queued)
 
   pub body-unique : (body : FrameBody) (s : State S) (channel : ℕ) (es ds : List Event) (a b : State S)
       → TakesBody does s channel body es a → TakesBody does s channel body ds b → (es ≡ ds) × (a ≡ b)

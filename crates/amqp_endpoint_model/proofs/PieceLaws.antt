@@ -1,5 +1,5 @@
 -- What was fed since the latest connect is frames one behind the other.
-use Rattle.std.proofs.Common.{◌≡◌, ◌≢◌, ◌⊎◌, ℕ, ◌<◌, Bool, true, false, List, [], ◌++◌, length, drop, refl, sym, ◌∙◌, ap, arith, length-append, subst, Option, Some, None, inl, inr, take-append-drop}
+use Rattle.std.proofs.Common.{◌≡◌, ◌≢◌, ◌⊎◌, ℕ, ◌≤◌, ◌<◌, Bool, true, false, List, [], ◌++◌, length, drop, refl, sym, ◌∙◌, ap, arith, length-append, subst, Option, Some, None, inl, inr, take-append-drop}
 use Rattle.std.specs.Prelude.{◌||◌, is_some}
 use Rattle.std.proofs.lemmas.List.{append-nil}
 use Rattle.amqp_session_types.specs.declared.refusals.ConnectionError.{ConnectionError}
@@ -17,14 +17,15 @@ use Rattle.amqp_endpoint_model.specs.declared.event.Event.{Event}
 use Rattle.amqp_endpoint_model.specs.declared.phase.Phase.{Phase}
 use Rattle.amqp_endpoint_model.specs.declared.phase.Phase.TheVariants.{Unconnected, Greeting, Running, Over}
 use Rattle.amqp_endpoint_model.specs.declared.call.Call.{Call}
-use Rattle.amqp_endpoint_model.specs.declared.call.Call.TheVariants.{Connect, Feed, Pull, Queued, IsIdle, Heartbeat, BreakOff, Close as CloseCall, IsClosed, TryClose}
+use Rattle.amqp_endpoint_model.specs.declared.call.Call.TheVariants.{Connect, Feed, Pull, Queued, IsIdle, Heartbeat, BreakOff, Close as CloseCall, IsClosed, TryClose, Begin, AcceptBegin, End, IsEnded, TryEnd}
 use Rattle.amqp_endpoint_model.specs.Relay.{Relations}
-use Rattle.amqp_endpoint_model.specs.Said.{Said, done, refused, pulled, count, truth, tried_close}
+use Rattle.amqp_endpoint_model.specs.Said.{Said, done, refused, pulled, count, truth, tried_close, session_begun, tried_end}
 use Rattle.amqp_endpoint_model.specs.State.{State, protocol_header, limit_of}
-use Rattle.amqp_endpoint_model.specs.Step.{Admits, Waits, Front, FrontUnread, FrontRefused, SessionsRefuse, RefusesBody, AfterFault, TakesAll, EndsRunning, Ends, ReadsOn, Greets, BreaksGreeting, FeedsIn, condition_of, cut_off, opened, Step}
-use Rattle.amqp_endpoint_model.specs.History.{Summary, nothing, first_fault, note_fed, note, FramesTell, has_open, has_close, CloseIsLast, OpenIsOnce, Next, NextOpen, NextRefused, Stops, Framed, Pieces}
+use Rattle.amqp_endpoint_model.specs.Step.{Admits, Waits, Front, FrontUnread, FrontRefused, SessionsRefuse, RefusesBody, AfterFault, TakesAll, EndsRunning, Ends, ReadsOn, Greets, BreaksGreeting, FeedsIn, SessionsDo, condition_of, cut_off, opened, Step}
+use Rattle.amqp_endpoint_model.specs.History.{Summary, nothing, first_fault, note_fed, note, FramesTell, has_open, has_close, CloseIsLast, OpenIsOnce, Next, NextOpen, NextRefused, Stops, Framed, Pieces, judge_limit}
 use Rattle.amqp_endpoint_model.proofs.Takings.{same_settings}
 use Rattle.amqp_endpoint_model.proofs.Joins.{Front-more, none_later, fault-phase}
+use Rattle.amqp_endpoint_model.proofs.JudgeReads.{limit-least, read-limit}
 use Rattle.amqp_endpoint_model.proofs.Recuts.{FeedSaid, feed_said}
 use Rattle.amqp_endpoint_model.proofs.Stepped.{phase_after, first_limit, or_later, Stepped, stepped, FramesTell-append, first_limit-append, has_open-limit, has_close-append, CloseIsLast-append, OpenIsOnce-append, no_open_behind}
 
@@ -82,6 +83,24 @@ note-taken : (σ : Summary) (bytes : List ℕ) (es : List Event) (fault : Option
 note-taken σ bytes es (Some NotConnected) n = absurd (n refl)
 note-taken σ bytes es fault n = refl
 
+-- the limit of written frames is no more than the judge's
+pub record Judged (peer_limit : Option ℕ) (σ : Summary) : Type 0 where
+  pub no_more : (limit : ℕ) → judge_limit σ.fed limit → limit_of peer_limit ≤ limit
+
+same-judged : (old new : Option ℕ) (σ : Summary) → new ≡ old → Judged old σ → Judged new σ
+same-judged old new σ same h = let P : Option ℕ → Type 0 = λ o. Judged o σ in subst P (sym same) h
+
+pub unopened-judged : (peer_limit : Option ℕ) (σ : Summary) → peer_limit ≡ None → Judged peer_limit σ
+unopened-judged peer_limit σ is = same-judged None peer_limit σ is (record { no_more = limit-least σ.fed })
+
+read-judged : (most : ℕ) (σ : Summary) (body : List ℕ) (frames : List Frame) (left : List ℕ) (peer_limit : Option ℕ)
+    → σ.fed ≡ protocol_header ++ body → ReadsAs (Admits most) body frames left → first_limit frames ≡ peer_limit
+    → Judged peer_limit σ
+read-judged most σ body frames left peer_limit header read is =
+    same-judged (first_limit frames) peer_limit σ (sym is) (record {
+      no_more = λ limit j. read-limit most σ.fed body frames left limit header read j;
+    })
+
 -- the calls that leave what is read as it is
 abbrev IsQuiet : Call → Type 0
 IsQuiet Connect = ⊥
@@ -112,7 +131,7 @@ module _ {S : Type 0} (does : Relations S) where
 
   -- what stands in each phase
   abbrev pub Stands : Phase → ℕ → List ℕ → Option ℕ → Summary → Type 0
-  Stands Unconnected limit rest peer_limit σ = Pieces does limit σ
+  Stands Unconnected limit rest peer_limit σ = Pieces does limit σ × Judged peer_limit σ
   Stands Greeting limit rest peer_limit σ =
       (rest ≡ σ.fed) × (length σ.fed < 8) × (σ.events ≡ []) × (σ.fault ≡ None) × (peer_limit ≡ None)
   Stands Running limit rest peer_limit σ = Reading limit rest peer_limit σ
@@ -123,7 +142,7 @@ module _ {S : Type 0} (does : Relations S) where
 
   pub stands-pieces : (p : Phase) (limit : ℕ) (rest : List ℕ) (peer_limit : Option ℕ) (σ : Summary)
       → Stands p limit rest peer_limit σ → Pieces does limit σ
-  stands-pieces Unconnected limit rest peer_limit σ h = h
+  stands-pieces Unconnected limit rest peer_limit σ h = h.0
   stands-pieces Greeting limit rest peer_limit σ (is, short, none, well, unopened) = inl (short, none, well)
   stands-pieces Running limit rest peer_limit σ h =
       let P : Option EndpointError → Type 0 = λ o. Stops does limit h.frames rest o in
@@ -140,6 +159,17 @@ module _ {S : Type 0} (does : Relations S) where
         stops = subst P (sym h.well) (inl h.waits);
       })))
   stands-pieces Over limit rest peer_limit σ h = inr (inr (inr h.framed))
+
+  pub stands-judged : (p : Phase) (limit : ℕ) (rest : List ℕ) (peer_limit : Option ℕ) (σ : Summary)
+      → Stands p limit rest peer_limit σ → Judged peer_limit σ
+  stands-judged Unconnected limit rest peer_limit σ h = h.1
+  stands-judged Greeting limit rest peer_limit σ (is, short, none, well, unopened) =
+      unopened-judged peer_limit σ unopened
+  stands-judged Running limit rest peer_limit σ h =
+      read-judged limit σ h.body h.frames rest peer_limit h.header h.read h.limit_is
+  stands-judged Over limit rest peer_limit σ h =
+      let f : Framed does limit σ = h.framed in
+      read-judged limit σ f.body f.frames f.left peer_limit f.header f.read h.limit_is
 
   next_refused-more : (limit : ℕ) (left more : List ℕ) (e : EndpointError) → NextRefused does limit left e
       → NextRefused does limit (left ++ more) e
@@ -259,7 +289,8 @@ module _ {S : Type 0} (does : Relations S) where
   pub data HowEnded (limit : ℕ) (s : State S) (frames : List Frame) (left : List ℕ) (fault : Option EndpointError)
       (new : State S) : Type 0 where
     goes_on : fault ≡ None → Waits limit left → new ≡ record s { rest = left } → HowEnded limit s frames left fault new
-    lost : Stops does limit frames left fault → new.phase ≡ Unconnected → HowEnded limit s frames left fault new
+    lost : Stops does limit frames left fault → new.phase ≡ Unconnected → new.peer_limit ≡ s.peer_limit
+        → HowEnded limit s frames left fault new
     ends : (fault ≡ None → ⊥) → Stops does limit frames left fault → new.phase ≡ Over → new.peer_limit ≡ s.peer_limit
         → HowEnded limit s frames left fault new
 
@@ -275,7 +306,7 @@ module _ {S : Type 0} (does : Relations S) where
       → Stops does limit frames left (Some e) → (new.phase ≡ Over) ⊎ (new.phase ≡ Unconnected)
       → new.peer_limit ≡ s.peer_limit → HowEnded limit s frames left (Some e) new
   ended-fault limit s frames left e new stops (inl over) limit_is = ends (no_none e) stops over limit_is
-  ended-fault limit s frames left e new stops (inr none) limit_is = lost stops none
+  ended-fault limit s frames left e new stops (inr none) limit_is = lost stops none limit_is
 
   ended : (s : State S) (frames : List Frame) (left : List ℕ) (fault : Option EndpointError) (new : State S)
       → has_open frames ≡ is_some s.peer_limit → EndsRunning does s left fault new
@@ -358,13 +389,15 @@ module _ {S : Type 0} (does : Relations S) where
         waits = w;
         well = none;
       }))
-  all-running limit fs body left mid events fault new a is (lost stops none) =
+  all-running limit fs body left mid events fault new a is (lost stops none limit_is) =
       let τ : Summary = record { fed = protocol_header ++ body; events = events; fault = fault } in
       let Q : Phase → Type 0 = λ q. Stands q limit new.rest new.peer_limit τ in
       let still : has_close fs ≡ false = running-open (has_close fs) mid.phase a.phase_is is in
       let framed : Framed does limit τ = framed-by limit fs body left mid.peer_limit mid.phase events fault a
       (λ e. absurd (let x : true ≡ false = sym e ∙ still in cc)) stops in
-      subst Q (sym none) (inr (inr (inr framed)))
+      let judged : Judged new.peer_limit τ
+      = read-judged limit τ body fs left new.peer_limit refl a.read (a.limit_is ∙ sym limit_is) in
+      subst Q (sym none) (inr (inr (inr framed)), judged)
   all-running limit fs body left mid events fault new a is (ends some stops over limit_is) =
       let τ : Summary = record { fed = protocol_header ++ body; events = events; fault = fault } in
       let Q : Phase → Type 0 = λ q. Stands q limit new.rest new.peer_limit τ in
@@ -458,13 +491,22 @@ module _ {S : Type 0} (does : Relations S) where
       let Q : Phase → Type 0 = λ p. Stands p limit new.rest new.peer_limit τ in
       let no_events : σ.events ++ es ≡ [] = ap (λ x. x ++ es) none ∙ silent in
       let phase : Unconnected ≡ new.phase = sym (ap (λ s. s.phase) breaks.1) in
-      subst Q phase (inr (inl (long, other, no_events, ap (λ x. first_fault x fault) well ∙ mismatch)))
+      let no_limit : new.peer_limit ≡ None = ap (λ s. s.peer_limit) breaks.1 ∙ unopened in
+      subst Q phase (
+        inr (inl (long, other, no_events, ap (λ x. first_fault x fault) well ∙ mismatch)),
+        unopened-judged new.peer_limit τ no_limit,
+      )
   greeting-feed limit σ old bytes es fault new l is none well unopened (inr (inr (inr (silent, memory, breaks)))) =
       let τ : Summary = record { fed = σ.fed ++ bytes; events = σ.events ++ es; fault = first_fault σ.fault fault } in
       let Q : Phase → Type 0 = λ p. Stands p limit new.rest new.peer_limit τ in
       let no_events : σ.events ++ es ≡ [] = ap (λ x. x ++ es) none ∙ silent in
-      let phase : Unconnected ≡ new.phase = sym (ap (λ s. s.phase) (greeting_broken old new breaks)) in
-      subst Q phase (inr (inr (inl (no_events, ap (λ x. first_fault x fault) well ∙ memory))))
+      let broken = greeting_broken old new breaks in
+      let phase : Unconnected ≡ new.phase = sym (ap (λ s. s.phase) broken) in
+      let no_limit : new.peer_limit ≡ None = ap (λ s. s.peer_limit) broken ∙ unopened in
+      subst Q phase (
+        inr (inr (inl (no_events, ap (λ x. first_fault x fault) well ∙ memory))),
+        unopened-judged new.peer_limit τ no_limit,
+      )
   greeting-feed limit σ old bytes es fault new l is none well unopened (inr (inr (inl (header, r)))) =
       let body : List ℕ = drop 8 (σ.fed ++ bytes) in
       let a : SoFar limit [] [] [] old.peer_limit Running [] = record {
@@ -514,7 +556,8 @@ module _ {S : Type 0} (does : Relations S) where
   feed-stands limit σ old bytes es fault new Unconnected l is h (none, unconnected, same) =
       let P : State S → Type 0 = λ s. StandsAt limit (note_fed σ bytes es fault) s in
       let Q : Phase → Type 0 = λ q. Stands q limit old.rest old.peer_limit (note_fed σ bytes es fault) in
-      let R : Option EndpointError → Type 0 = λ x. Pieces does limit (note_fed σ bytes es x) in
+      let R : Option EndpointError → Type 0
+      = λ x. Stands Unconnected limit old.rest old.peer_limit (note_fed σ bytes es x) in
       subst P (sym same) (subst Q (sym is) (subst R (sym unconnected) h))
   feed-stands limit σ old bytes es fault new Greeting l is (rest_is, short, none, well, unopened) f =
       let P : Summary → Type 0 = λ x. StandsAt limit x new in
@@ -546,6 +589,15 @@ module _ {S : Type 0} (does : Relations S) where
     phase = ap (λ s. s.phase) same;
     rest = ap (λ s. s.rest) same;
     peer_limit = ap (λ s. s.peer_limit) same;
+  }
+
+  quiet-sessions : (σ : Summary) (old : State S) (call : Call) (answer : Said) (new : State S)
+      → SessionsDo does old call answer new → Quiet σ σ old new
+  quiet-sessions σ old call answer new d = record {
+    summary_is = refl;
+    phase = ap (λ s. s.phase) d.queued;
+    rest = ap (λ s. s.rest) d.queued;
+    peer_limit = ap (λ s. s.peer_limit) d.queued;
   }
 
   quiet : (σ : Summary) (old : State S) (call : Call) (answer : Said) (new : State S) → IsQuiet call
@@ -588,6 +640,18 @@ module _ {S : Type 0} (does : Relations S) where
     rest = ap (λ s. s.rest) after;
     peer_limit = ap (λ s. s.peer_limit) after;
   }
+  quiet σ old Begin (refused e) new q (bars, same) = quiet-same σ old new same
+  quiet σ old Begin (session_begun number) new q step =
+      quiet-sessions σ old Begin (session_begun number) new step
+  quiet σ old (AcceptBegin channel) (refused e) new q (bars, same) = quiet-same σ old new same
+  quiet σ old (AcceptBegin channel) (session_begun number) new q step =
+      quiet-sessions σ old (AcceptBegin channel) (session_begun number) new step
+  quiet σ old (End number) (refused e) new q (bars, same) = quiet-same σ old new same
+  quiet σ old (End number) done new q step = quiet-sessions σ old (End number) done new step
+  quiet σ old (IsEnded number) (refused e) new q (may, same) = quiet-same σ old new same
+  quiet σ old (IsEnded number) (truth b) new q step = quiet-sessions σ old (IsEnded number) (truth b) new step
+  quiet σ old (TryEnd number) (refused e) new q (may, same) = quiet-same σ old new same
+  quiet σ old (TryEnd number) (tried_end o) new q step = quiet-sessions σ old (TryEnd number) (tried_end o) new step
   quiet σ old call answer new q step = absurd step
 
   same-stands : (limit : ℕ) (σ : Summary) (old new : State S) → StandsAt limit σ old → new ≡ old → StandsAt limit σ new
@@ -624,7 +688,11 @@ module _ {S : Type 0} (does : Relations S) where
   step-stands limit σ old BreakOff done new l h breaks =
       let Q : Phase → Type 0 = λ p. Stands p limit new.rest new.peer_limit σ in
       let phase : Unconnected ≡ new.phase = sym (ap (λ s. s.phase) breaks.1) in
-      subst Q phase (stands-pieces old.phase limit old.rest old.peer_limit σ h)
+      let judged : Judged old.peer_limit σ = stands-judged old.phase limit old.rest old.peer_limit σ h in
+      subst Q phase (
+        stands-pieces old.phase limit old.rest old.peer_limit σ h,
+        same-judged old.peer_limit new.peer_limit σ (ap (λ s. s.peer_limit) breaks.1) judged,
+      )
   step-stands limit σ old BreakOff answer new l h step = absurd step
   step-stands limit σ old call answer new l h step =
       quiet-stands limit σ (note σ call answer) old new h (quiet σ old call answer new tt step)
