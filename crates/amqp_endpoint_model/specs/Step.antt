@@ -38,11 +38,17 @@ refusal_of_settings s =
     if nat_le (2 ^ 31) s.incoming_window then Some WindowOutOfRange else
     if fits 512 (own_open s) then None else Some FrameTooLarge
 
--- the first refusal that applies to a call, want of memory aside
+-- the own Open is queued, and no Close of either end is
+abbrev pub goes_on : {S : Type 0} → State S → Bool
+goes_on s = is_running s.phase && not s.own_close
+
+-- the first refusal of the endpoint's own that applies to a call, want of memory aside
 abbrev pub refusal : {S : Type 0} → State S → Call → Option EndpointError
 refusal s Connect = if is_unconnected s.phase then None else Some AlreadyConnected
-refusal s Heartbeat = if is_running s.phase && not s.own_close then None else Some NotConnected
+refusal s Heartbeat = if goes_on s then None else Some NotConnected
 refusal s CloseCall = if has_opened s.phase then (if s.own_close then Some IllegalState else None) else Some NotConnected
+refusal s Begin = if goes_on s then None else Some NotConnected
+refusal s (AcceptBegin channel) = if goes_on s then None else Some NotConnected
 refusal s call = None
 
 -- the calls that may be refused for want of memory
@@ -246,6 +252,8 @@ module _ {S : Type 0} (does : Relations S) where
       : Type 0 where
     pub theirs : IsOfSession body
     pub frames : List SessionFrame
+    -- no session sends behind the own Close
+    pub quiet : goes_on old ≡ false → frames ≡ []
     pub takes : does.takes old.sessions (limit_of old.peer_limit) channel body frames events new.sessions
     pub fit : All (λ f. fits (limit_of old.peer_limit) (frame_of f) ≡ true) frames
     pub queued : new ≡ record old { sessions = new.sessions; queue = old.queue ++ map waiting_of frames }
@@ -370,16 +378,25 @@ module _ {S : Type 0} (does : Relations S) where
   FeedsIn Running old bytes events fault new = ReadsOn old (old.rest ++ bytes) events fault new
   FeedsIn Over old bytes events fault new = (events ≡ []) × (fault ≡ None) × (new ≡ old)
 
-  -- a call is refused so: one of the sessions' by them
+  -- a call that concerns sessions is refused so: here, or by them
+  abbrev pub SessionsRefuseCall : State S → Call → EndpointError → Type 0
+  SessionsRefuseCall s call e =
+      (refusal s call ≡ Some e)
+      ⊎ ((refusal s call ≡ None) × does.bars s.sessions (limit_of s.peer_limit) call e)
+
+  -- a call is refused so
   abbrev pub IsRefused : State S → Call → EndpointError → Type 0
-  IsRefused s Begin e = does.bars s.sessions (limit_of s.peer_limit) Begin e
-  IsRefused s (AcceptBegin channel) e = does.bars s.sessions (limit_of s.peer_limit) (AcceptBegin channel) e
-  IsRefused s (End number) e = does.bars s.sessions (limit_of s.peer_limit) (End number) e
+  IsRefused s Begin e = SessionsRefuseCall s Begin e
+  IsRefused s (AcceptBegin channel) e = SessionsRefuseCall s (AcceptBegin channel) e
+  IsRefused s (End number) e = SessionsRefuseCall s (End number) e
   IsRefused s call e = MayRefuse s call e
 
   -- the sessions do what they are called for: what they send then fits the limit of written frames
   pub record SessionsDo (old : State S) (call : Call) (answer : Said) (new : State S) : Type 0 where
+    pub allowed : refusal old call ≡ None
     pub frames : List SessionFrame
+    -- no session sends before the own Open, or behind a Close
+    pub quiet : goes_on old ≡ false → frames ≡ []
     pub calls : does.calls old.sessions (limit_of old.peer_limit) call answer frames new.sessions
     pub fit : All (λ f. fits (limit_of old.peer_limit) (frame_of f) ≡ true) frames
     pub queued : new ≡ record old { sessions = new.sessions; queue = old.queue ++ map waiting_of frames }

@@ -23,7 +23,8 @@ use std::collections::VecDeque;
 /// an endpoint is proved for all of them.
 ///
 /// A call that sends is handed the limit of written frames, which is 512 bytes at least (part 2, 2.4.1): what it hands
-/// out is no longer, and no frame that waits in a session is. A call that is refused changes nothing.
+/// out is no longer, and no frame that waits in a session is. A call that is refused changes nothing. Where no session
+/// goes on here, nothing is handed out but by `begin` and `accept_begin`.
 pub trait SessionRelay: Drop {
     ghost use Rattle.amqp_endpoint_model.specs.Relay.{Relations};
 
@@ -41,7 +42,8 @@ pub trait SessionRelay: Drop {
         ensures fresh { IfOk result (λ sessions. sessions
             ≡ does.fresh connection first_transfer_number incoming_window) }
         ensures connection { IfOk result (λ sessions. does.connection sessions ≡ connection) }
-        ensures within { IfOk result (λ sessions. (limit : ℕ) → does.within limit sessions) };
+        ensures within { IfOk result (λ sessions. (limit : ℕ) → does.within limit sessions) }
+        ensures idle { IfOk result does.idle };
 
     /// The connection.
     fn connection(&self) -> &Connection
@@ -54,7 +56,8 @@ pub trait SessionRelay: Drop {
         ensures moved { (c : channels.State) → does.connection (does.moved self.old c) ≡ c }
         ensures same { does.moved self.old (does.connection self.old) ≡ self.old }
         ensures within { (limit wider : ℕ) (c : channels.State) → limit ≤ wider → does.within limit self.old
-            → does.within wider (does.moved self.old c) };
+            → does.within wider (does.moved self.old c) }
+        ensures idle { (c : channels.State) → does.idle self.old → does.idle (does.moved self.old c) };
 
     /// Takes a frame of the peer that is neither Open nor Close, and hands out what is to be sent then: none of it is
     /// longer than `limit` bytes, the longest frame that the peer takes. What it tells is put behind `events`.
@@ -79,6 +82,7 @@ pub trait SessionRelay: Drop {
         ensures err { IfErr result (λ e. Refused does self.old limit channel.0 body e self.new) }
         ensures kept { OnErr result ((out.new.items ≡ out.old.items) × (events.new.items ≡ events.old.items)) }
         ensures within { does.within limit self.new }
+        ensures idle { does.idle self.old → does.idle self.new }
         ensures still { StandsStill (does.connection self.old) (does.connection self.new) };
 
     /// Begins a session, and answers its number. Its Begin is handed out (part 2, 2.5.1, 2.7.2).
@@ -129,6 +133,8 @@ pub trait SessionRelay: Drop {
         ensures err { IfErr result (does.bars self.old limit (End number)) }
         ensures kept { OnErr result ((self.new ≡ self.old) × (out.new.items ≡ out.old.items)) }
         ensures within { does.within limit self.new }
+        ensures quiet { does.idle self.old → out.new.items ≡ out.old.items }
+        ensures idle { does.idle self.old → does.idle self.new }
         ensures still { StandsStill (does.connection self.old) (does.connection self.new) };
 
     /// Whether both End of the session with this number have passed, or its connection is over. False where there is
@@ -145,18 +151,21 @@ pub trait SessionRelay: Drop {
             does.calls self.old limit (TryEnd number) (tried_end (refusal_in result)) [] self.new }
         ensures kept { OnErr result (self.new ≡ self.old) }
         ensures within { (limit : ℕ) → does.within limit self.old → does.within limit self.new }
+        ensures idle { does.idle self.old → does.idle self.new }
         ensures still { StandsStill (does.connection self.old) (does.connection self.new) };
 
     /// The own Close was sent: no session goes on here, and none sends anything more (part 2, 2.4.3). It takes no
     /// memory.
     fn leave(&mut self)
         ensures closes { does.closes self.old self.new }
+        ensures idle { does.idle self.new }
         ensures within { (limit : ℕ) → does.within limit self.new }
         ensures still { StandsStill (does.connection self.old) (does.connection self.new) };
 
     /// The connection is over, and with it all sessions: nothing is sent. It takes no memory.
     fn finish(&mut self)
         ensures finishes { does.finishes self.old self.new }
+        ensures idle { does.idle self.new }
         ensures within { (limit : ℕ) → does.within limit self.new }
         ensures still { StandsStill (does.connection self.old) (does.connection self.new) };
 }
