@@ -12,7 +12,7 @@ use Rattle.amqp_endpoint_model.specs.declared.call.Call.TheVariants.{Connect, Fe
 use Rattle.amqp_endpoint_model.specs.Said.{Said, done, refused, fed, pulled, count, truth, tried_close, session_begun, tried_end, Told}
 use Rattle.amqp_endpoint_model.specs.Relay.{Relations, Decides}
 use Rattle.amqp_endpoint_model.specs.State.{State, Waiting, the_frame, text_of, heartbeat, own_close_with, limit_of}
-use Rattle.amqp_endpoint_model.specs.Step.{refusal, MayRefuse, Breaks, ClosesOwn, connected, opened, close_refusal, Greets, FeedsIn, Pulls, SessionsDo, Step}
+use Rattle.amqp_endpoint_model.specs.Step.{refusal, MayRefuse, Breaks, ClosesOwn, connected, opened, close_refusal, Greets, FeedsIn, Pulls, SessionsDo, SessionsRefuseCall, Step}
 use Rattle.amqp_endpoint_model.specs.History.{Run, HasMemory, AllHaveMemory, feeds_joined, told_joined}
 use Rattle.amqp_endpoint_model.proofs.Joins.{header_long}
 use Rattle.amqp_endpoint_model.proofs.Moves.{breaks-unique, closes_own-unique, sent-same}
@@ -179,19 +179,25 @@ module _ {S : Type 0} (does : Relations S) where
   TheirStep s (TryEnd number) a m = Step does s (TryEnd number) a m
   TheirStep s call a m = ⊥
 
-  -- the sessions refuse a call, or do it
+  -- a call that concerns sessions is refused here, or the sessions refuse it, or do it
   data SessionsSaid (s : State S) (call : Call) (a : Said) (m : State S) : Type 0 where
-    barred : (e : EndpointError) → does.bars s.sessions (limit_of s.peer_limit) call e → e ≢ Memory → a ≡ refused e
-        → m ≡ s → SessionsSaid s call a m
+    not_allowed : (e : EndpointError) → refusal s call ≡ Some e → a ≡ refused e → m ≡ s → SessionsSaid s call a m
+    barred : (e : EndpointError) → refusal s call ≡ None → does.bars s.sessions (limit_of s.peer_limit) call e
+        → e ≢ Memory → a ≡ refused e → m ≡ s → SessionsSaid s call a m
     called : SessionsDo does s call a m → SessionsSaid s call a m
+
+  refused_said : (s : State S) (call : Call) (e : EndpointError) (m : State S) → SessionsRefuseCall does s call e
+      → m ≡ s → e ≢ Memory → SessionsSaid s call (refused e) m
+  refused_said s call e m (inl is) same h = not_allowed e is refl same
+  refused_said s call e m (inr (none, bars)) same h = barred e none bars h refl same
 
   sessions_said : (s : State S) (call : Call) (a : Said) (m : State S) → TheirStep s call a m → HasMemory a
       → SessionsSaid s call a m
-  sessions_said s Begin (refused e) m (bars, same) h = barred e bars h refl same
+  sessions_said s Begin (refused e) m (refuses, same) h = refused_said s Begin e m refuses same h
   sessions_said s Begin (session_begun number) m step h = called step
-  sessions_said s (AcceptBegin channel) (refused e) m (bars, same) h = barred e bars h refl same
+  sessions_said s (AcceptBegin channel) (refused e) m (refuses, same) h = refused_said s (AcceptBegin channel) e m refuses same h
   sessions_said s (AcceptBegin channel) (session_begun number) m step h = called step
-  sessions_said s (End number) (refused e) m (bars, same) h = barred e bars h refl same
+  sessions_said s (End number) (refused e) m (refuses, same) h = refused_said s (End number) e m refuses same h
   sessions_said s (End number) done m step h = called step
   sessions_said s (IsEnded number) (refused e) m (may, same) h =
       absurd (no_refusal s (IsEnded number) e refl may h)
@@ -273,12 +279,21 @@ module _ {S : Type 0} (does : Relations S) (law : Decides does) where
 
   sessions-decide : (s : State S) (call : Call) (a b : Said) (m n : State S) → SessionsSaid does s call a m
       → SessionsSaid does s call b n → (a ≡ b) × (m ≡ n)
-  sessions-decide s call a b m n (barred e bars h is same) (barred d bars2 k is2 same2) =
+  sessions-decide s call a b m n (not_allowed e why is same) (not_allowed d why2 is2 same2) =
+      let x : e ≡ d = (let y : Some e ≡ Some d = sym why ∙ why2 in cc) in
+      (is ∙ ap refused x ∙ sym is2, same ∙ sym same2)
+  sessions-decide s call a b m n (not_allowed e why is same) (barred d none bars k is2 same2) = absurd (cc)
+  sessions-decide s call a b m n (not_allowed e why is same) (called t) =
+      let none : refusal s call ≡ None = t.allowed in absurd (cc)
+  sessions-decide s call a b m n (barred d none bars k is2 same2) (not_allowed e why is same) = absurd (cc)
+  sessions-decide s call a b m n (called t) (not_allowed e why is same) =
+      let none : refusal s call ≡ None = t.allowed in absurd (cc)
+  sessions-decide s call a b m n (barred e none bars h is same) (barred d none2 bars2 k is2 same2) =
       let x : e ≡ d = law.barred s.sessions (limit_of s.peer_limit) call e d bars bars2 h k in
       (is ∙ ap refused x ∙ sym is2, same ∙ sym same2)
-  sessions-decide s call a b m n (barred e bars h is same) (called t) =
+  sessions-decide s call a b m n (barred e none bars h is same) (called t) =
       absurd (law.uncalled s.sessions n.sessions (limit_of s.peer_limit) call b t.frames e t.calls bars h)
-  sessions-decide s call a b m n (called r) (barred e bars h is same) =
+  sessions-decide s call a b m n (called r) (barred e none bars h is same) =
       absurd (law.uncalled s.sessions m.sessions (limit_of s.peer_limit) call a r.frames e r.calls bars h)
   sessions-decide s call a b m n (called r) (called t) =
       let (answer, frames, sessions) = law.called s.sessions m.sessions n.sessions (limit_of s.peer_limit) call a b
