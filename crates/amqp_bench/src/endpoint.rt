@@ -53,6 +53,7 @@ impl Found {
             match event {
                 Event::Opened(_) => self.opened = self.opened.saturating_add(1),
                 Event::Closed(_) => self.closed = self.closed.saturating_add(1),
+                _ => {}
             }
         }
         if fed.fault.is_some() {
@@ -131,27 +132,39 @@ fn feed_block(endpoint: &mut Endpoint, block: &[u8], piece: usize, found: &mut F
 
 /// An endpoint behind both headers and both Open frames.
 fn opened(alloc: Global, found: &mut Found) -> Result<Endpoint, EndpointError> {
-    let mut endpoint = Endpoint::new(
-        alloc,
-        Settings {
-            container_id: Text::new(String::from_str(alloc, "a")?),
-            max_frame_size: 65_536,
-            channel_max: 255,
-            incoming_window: 2048,
-            idle_time_out: None,
-            first_transfer_number: 0,
-        },
-    )?;
+    let mut endpoint = Endpoint::new(alloc, settings(alloc)?)?;
+    exchange(&mut endpoint, found)?;
+    Ok(endpoint)
+}
+
+fn settings(alloc: Global) -> Result<Settings, EndpointError> {
+    Ok(Settings {
+        container_id: Text::new(String::from_str(alloc, "a")?),
+        max_frame_size: 65_536,
+        channel_max: 255,
+        incoming_window: 2048,
+        idle_time_out: None,
+        first_transfer_number: 0,
+    })
+}
+
+/// Both headers and both Open frames go.
+fn exchange(endpoint: &mut Endpoint, found: &mut Found) -> Result<(), EndpointError> {
     endpoint.connect()?;
     found.note(&endpoint.feed(HEADER));
     found.note(&endpoint.feed(OPEN));
     let _header = endpoint.pull()?;
     let _open = endpoint.pull()?;
-    Ok(endpoint)
+    Ok(())
 }
 
 fn open_and_close(alloc: Global, found: &mut Found) -> Result<(), EndpointError> {
     let mut endpoint = opened(alloc, found)?;
+    close(&mut endpoint, found)
+}
+
+/// Both Close frames go.
+fn close(endpoint: &mut Endpoint, found: &mut Found) -> Result<(), EndpointError> {
     endpoint.close()?;
     let _close = endpoint.pull()?;
     found.note(&endpoint.feed(CLOSE));

@@ -1,8 +1,9 @@
 -- What an end was fed since the latest break is what its connection was fed.
-use Rattle.std.proofs.Common.{◌≡◌, ℕ, Bool, true, false, not, ◌&&◌, List, [], ◌∷◌, ◌++◌, take, drop, refl, sym, ◌∙◌, ap, subst, Option, Some, None, inl, inr, if◌then◌else◌}
+use Rattle.std.proofs.Common.{◌≡◌, ℕ, Bool, true, false, not, ◌&&◌, List, [], ◌∷◌, ◌++◌, map, take, drop, refl, sym, ◌∙◌, ap, subst, Option, Some, None, inl, inr, if◌then◌else◌}
+use Rattle.std.proofs.lemmas.List.{append-nil}
 use Rattle.amqp_session_frames.specs.Cutting.{joined}
 use Rattle.amqp_endpoint_model.specs.declared.call.Call.{Call}
-use Rattle.amqp_endpoint_model.specs.declared.call.Call.TheVariants.{Connect, Feed, Pull, Queued, IsIdle, Heartbeat, BreakOff, Close, IsClosed, TryClose}
+use Rattle.amqp_endpoint_model.specs.declared.call.Call.TheVariants.{Connect, Feed, Pull, Queued, IsIdle, Heartbeat, BreakOff, Close, IsClosed, TryClose, Begin, AcceptBegin, End as EndCall, IsEnded, TryEnd}
 use Rattle.amqp_endpoint_model.specs.declared.error.EndpointError.{EndpointError}
 use Rattle.amqp_endpoint_model.specs.declared.error.EndpointError.TheVariants.{Memory, AlreadyConnected, NotConnected, IllegalState, NumbersUsedUp, ProtocolHeaderMismatch, SizeUnder8, SizeOverLimit, PeerLimitUnder512, Frame as FrameFault, Connection, Session}
 use Rattle.amqp_endpoint_model.specs.declared.event.Event.{Event}
@@ -10,9 +11,9 @@ use Rattle.amqp_endpoint_model.specs.declared.phase.Phase.{Phase}
 use Rattle.amqp_endpoint_model.specs.declared.phase.Phase.TheVariants.{Unconnected, Greeting, Running, Over}
 use Rattle.amqp_endpoint_model.specs.declared.settings.Settings.{Settings}
 use Rattle.amqp_endpoint_model.specs.Relay.{Relations}
-use Rattle.amqp_endpoint_model.specs.Said.{Said, done, refused, fed, count, truth, tried_close, Told}
-use Rattle.amqp_endpoint_model.specs.State.{State, is_unconnected, is_running, has_opened}
-use Rattle.amqp_endpoint_model.specs.Step.{Breaks, Ends, EndsByFault, FeedsIn, Greets, Pulls, ReadsOn, Step as EndpointStep, opened}
+use Rattle.amqp_endpoint_model.specs.Said.{Said, done, refused, fed, count, truth, tried_close, session_begun, tried_end, Told}
+use Rattle.amqp_endpoint_model.specs.State.{State, is_unconnected, is_running, has_opened, waiting_of}
+use Rattle.amqp_endpoint_model.specs.Step.{Breaks, Ends, EndsByFault, FeedsIn, Greets, Pulls, ReadsOn, SessionsDo, Step as EndpointStep, opened}
 use Rattle.amqp_endpoint_model.specs.History.{Summary, note, note_fed, nothing, summary}
 use Rattle.amqp_endpoint_world.specs.declared.step.End.{End}
 use Rattle.amqp_endpoint_world.specs.declared.step.End.TheVariants.{A, B}
@@ -48,6 +49,13 @@ close_connected Unconnected own e = cc
 close_connected Greeting own e = refl
 close_connected Running own e = refl
 close_connected Over own e = refl
+
+-- no session goes on without a connection
+none_goes_on : (p : Phase) (own : Bool) → is_unconnected p ≡ true → (is_running p && not own) ≡ false
+none_goes_on Unconnected own e = refl
+none_goes_on Greeting own e = cc
+none_goes_on Running own e = cc
+none_goes_on Over own e = cc
 
 connect_unconnected : (b : Bool) → (if b then None else Some AlreadyConnected) ≡ None → b ≡ true
 connect_unconnected true e = refl
@@ -230,6 +238,22 @@ module _ {S : Type 0} (does : Relations S) where
       subst R (sym (ap (λ x. x.fed) (summary-append σ calls ts more us m)))
       (subst Q (sym (fed-append f calls ts more us m)) (subst P (sym (pulled-append p calls ts more us m)) s))
 
+  -- the sessions do what they are called for, and send nothing without a connection
+  sessions-at : (b : Bool) (call : Call) (answer : Said) (old new : State S) (p f c : List ℕ)
+      → is_unconnected old.phase ≡ b → SessionsDo does old call answer new → Stands old p f c → Stands new p f c
+  sessions-at true call answer old new p f c is d s =
+      let none : d.frames ≡ [] = d.quiet (none_goes_on old.phase old.own_close is) in
+      stands-same old new p f c (ap (λ x. x.phase) d.queued)
+      (ap (λ x. x.queue) d.queued ∙ ap (λ fs. old.queue ++ map waiting_of fs) none ∙ append-nil old.queue) s
+  sessions-at false call answer old new p f c is d s =
+      stands_connected new p f c (ap (λ x. is_unconnected x.phase) d.queued ∙ is)
+      (fed_is (is_unconnected old.phase) old p f c is s)
+
+  sessions-stand : (call : Call) (answer : Said) (old new : State S) (p f c : List ℕ)
+      → SessionsDo does old call answer new → Stands old p f c → Stands new p f c
+  sessions-stand call answer old new p f c d s =
+      sessions-at (is_unconnected old.phase) call answer old new p f c refl d s
+
   -- a call that isn't the world's own
   own-stands : (call : Call) (said : Said) (old new : State S) (p f : List ℕ) (σ : Summary)
       → is_the_worlds call ≡ false → EndpointStep does old call said new → Stands old p f σ.fed
@@ -267,6 +291,21 @@ module _ {S : Type 0} (does : Relations S) where
   own-stands TryClose (tried_close o) old new p f σ own (is, same) s =
       stands-same old new p f σ.fed (ap (λ x. x.phase) same) (ap (λ x. x.queue) same) s
   own-stands TryClose said old new p f σ own step s = absurd step
+  own-stands Begin (session_begun n) old new p f σ own step s =
+      sessions-stand Begin (session_begun n) old new p f σ.fed step s
+  own-stands Begin said old new p f σ own step s = absurd step
+  own-stands (AcceptBegin channel) (session_begun n) old new p f σ own step s =
+      sessions-stand (AcceptBegin channel) (session_begun n) old new p f σ.fed step s
+  own-stands (AcceptBegin channel) said old new p f σ own step s = absurd step
+  own-stands (EndCall number) done old new p f σ own step s =
+      sessions-stand (EndCall number) done old new p f σ.fed step s
+  own-stands (EndCall number) said old new p f σ own step s = absurd step
+  own-stands (IsEnded number) (truth b) old new p f σ own step s =
+      sessions-stand (IsEnded number) (truth b) old new p f σ.fed step s
+  own-stands (IsEnded number) said old new p f σ own step s = absurd step
+  own-stands (TryEnd number) (tried_end o) old new p f σ own step s =
+      sessions-stand (TryEnd number) (tried_end o) old new p f σ.fed step s
+  own-stands (TryEnd number) said old new p f σ own step s = absurd step
 
   unpulled : (p : List ℕ) (call : Call) (said : Said) → is_the_worlds call ≡ false → then_pulled p call said ≡ p
   unpulled p Pull said own = cc
