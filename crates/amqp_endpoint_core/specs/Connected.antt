@@ -1,5 +1,5 @@
 -- How an endpoint and its connection agree.
-use Rattle.std.specs.Prelude.{◌≡◌, ◌≤◌, ℕ, Bool, true, false, Option, Some, None}
+use Rattle.std.specs.Prelude.{◌≡◌, ◌≤◌, ◌&&◌, ℕ, Bool, true, false, not, Option, Some, None}
 use Rattle.amqp_session_frames.specs.declared.frame.FrameBody.TheVariants as body
 use Rattle.amqp_session_connection.specs.declared.state.ConnectionState.{ConnectionState}
 use Rattle.amqp_session_connection.specs.declared.state.ConnectionState.TheVariants.{HeaderSent, HeaderExchange, OpenClosePipe, OpenSent, ClosePipe, Opened, CloseReceived, CloseSent, Discarding, End}
@@ -10,7 +10,7 @@ use Rattle.amqp_endpoint_model.specs.declared.phase.Phase.{Phase}
 use Rattle.amqp_endpoint_model.specs.declared.phase.Phase.TheVariants.{Unconnected, Greeting, Running, Over}
 use Rattle.amqp_endpoint_model.specs.declared.settings.Settings.{Settings}
 use Rattle.amqp_endpoint_model.specs.Relay.{Relations}
-use Rattle.amqp_endpoint_model.specs.State.{limit_of, own_open}
+use Rattle.amqp_endpoint_model.specs.State.{is_running, limit_of, own_open}
 
 -- the own Close was sent (part 2, 2.4.6)
 abbrev pub sent_close : ConnectionState → Bool
@@ -61,6 +61,15 @@ pub record Stands {S : Type 0} (does : Relations S) (settings : Settings) (phase
 abbrev pub WaitWithin : {S : Type 0} → Relations S → Phase → Option ℕ → S → Type 0
 WaitWithin does phase limit sessions =
     does.within (limit_of limit) sessions × (phase ≡ Unconnected → does.within 512 sessions)
+
+-- before the own Open and behind a Close no session of an endpoint which stands so goes on
+abbrev pub RestIdle : {S : Type 0} → Relations S → Phase → S → Type 0
+RestIdle does phase sessions =
+    (is_running phase && not (sent_close (does.connection sessions).local_state)) ≡ false → does.idle sessions
+
+-- where no session went on, none does
+abbrev pub StayIdle : {S : Type 0} → Relations S → S → S → Type 0
+StayIdle does old new = does.idle old → does.idle new
 
 -- what waits in sessions stays within each limit that it was within, and those that are wider
 abbrev pub StayWithin : {S : Type 0} → Relations S → S → S → Type 0

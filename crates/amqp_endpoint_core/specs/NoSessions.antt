@@ -48,6 +48,7 @@ no_sessions =
       calls = λ s limit call answer frames new. (no_session_says call ≡ Some answer) × (frames ≡ []) × (new ≡ s);
       bars = λ s limit call e. call_refusal call ≡ Some e;
       within = λ limit s. Unit {0};
+      idle = λ s. Unit {0};
       closes = λ s new. new ≡ s;
       finishes = λ s new. new ≡ s;
     }

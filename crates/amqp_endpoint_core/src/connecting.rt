@@ -8,7 +8,7 @@ ghost use Rattle.amqp_session_frames.specs.declared.frame.FrameBody.TheVariants 
 ghost use Rattle.amqp_endpoint_model.specs.State.{fits, own_close_with, own_open, the_frame};
 ghost use Rattle.amqp_endpoint_model.specs.Step as step;
 ghost use Rattle.amqp_endpoint_model.specs.declared.error.EndpointError.TheVariants.{Memory, FrameTooLarge};
-ghost use Rattle.amqp_endpoint_core.specs.Connected.{BeginsWith, IsGreeting, MovesBy, StayWithin, sent_close, took_close};
+ghost use Rattle.amqp_endpoint_core.specs.Connected.{BeginsWith, IsGreeting, MovesBy, StayIdle, StayWithin, sent_close, took_close};
 
 use crate::coding::{MIN_MAX_FRAME_SIZE, encoded, open_of};
 use crate::queued::Queued;
@@ -105,6 +105,7 @@ pub(crate) fn greet_anew<S: SessionRelay>(alloc: Global, sessions: &mut S)
     ensures sessions { sessions.new ≡ step.anew S.does sessions.old }
     ensures connection { S.does.connection sessions.new ≡ fresh HeaderSent (S.does.connection sessions.old).local_open }
     ensures within { StayWithin S.does sessions.old sessions.new }
+    ensures idle { StayIdle S.does sessions.old sessions.new }
 {
     greet(alloc, sessions.connection_mut());
 }
@@ -123,6 +124,7 @@ pub(crate) fn open<S: SessionRelay>(sessions: &mut S) -> Result<Queued, Endpoint
     ensures still { OnErr result (S.does.connection sessions.new
         ≡ record (S.does.connection sessions.old) { local_state = HeaderExchange }) }
     ensures within { StayWithin S.does sessions.old sessions.new }
+    ensures idle { StayIdle S.does sessions.old sessions.new }
 {
     hand_out_open(sessions.connection_mut())
 }
@@ -142,6 +144,7 @@ pub(crate) fn take_open<S: SessionRelay>(
     ensures err { IfErr result (λ e. (e ≡ EndpointError.Connection IllegalState)
         × (after_incoming_open (S.does.connection sessions.old).local_state ≡ None) × (sessions.new ≡ sessions.old)) }
     ensures within { StayWithin S.does sessions.old sessions.new }
+    ensures idle { StayIdle S.does sessions.old sessions.new }
 {
     match sessions.connection_mut().on_incoming_open(channel, peer) {
         Ok(()) => Ok(()),
@@ -165,6 +168,7 @@ pub(crate) fn send_close<S: SessionRelay>(
         × (after_send_close (is_some error) (S.does.connection sessions.old).local_state ≡ None)
         × (sessions.new ≡ sessions.old)) }
     ensures within { StayWithin S.does sessions.old sessions.new }
+    ensures idle { StayIdle S.does sessions.old sessions.new }
 {
     close(sessions.connection_mut(), error)
 }
@@ -181,6 +185,7 @@ pub(crate) fn take_peers_close<S: SessionRelay>(
     ensures err { IfErr result (λ e. (e ≡ EndpointError.Connection IllegalState)
         × (after_incoming_close (S.does.connection sessions.old).local_state ≡ None) × (sessions.new ≡ sessions.old)) }
     ensures within { StayWithin S.does sessions.old sessions.new }
+    ensures idle { StayIdle S.does sessions.old sessions.new }
 {
     take_close(sessions.connection_mut(), channel, closing)
 }

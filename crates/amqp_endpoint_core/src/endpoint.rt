@@ -4,7 +4,7 @@ ghost use Rattle.amqp_endpoint_model.specs.Relay.{IsNew};
 ghost use Rattle.amqp_endpoint_model.specs.State.{Waiting, fresh, has_opened, is_running, limit_of, text_of, the_frame, the_header, heartbeat, fits, own_close_with};
 ghost use Rattle.amqp_endpoint_core.specs.Queue.{IsFirst};
 ghost use Rattle.amqp_endpoint_model.specs.Said.{said};
-ghost use Rattle.amqp_endpoint_model.specs.Step.{refusal_of_settings, refusal, Breaks, ClosesOwn, MayRefuse, MovesBy, Pulls, Step, close_refusal, connected};
+ghost use Rattle.amqp_endpoint_model.specs.Step.{refusal_of_settings, refusal, Breaks, ClosesOwn, MayRefuse, MovesBy, Pulls, Step, close_refusal, connected, goes_on};
 ghost use Rattle.amqp_endpoint_model.specs.declared.error.EndpointError.TheVariants.{Memory};
 ghost use Rattle.amqp_endpoint_model.specs.declared.settings.Settings.{Settings};
 
@@ -50,7 +50,7 @@ pub struct Endpoint<S: SessionRelay> {
 impl<S: SessionRelay> Model for Endpoint<S> {
     ghost use Rattle.std.specs.Prelude.{◌≡◌, ◌≤◌, ◌++◌, true};
     ghost use Rattle.amqp_endpoint_model.specs.State.{State, fits, own_open, limit_of};
-    ghost use Rattle.amqp_endpoint_core.specs.Connected.{Stands, WaitWithin, sent_close, took_close};
+    ghost use Rattle.amqp_endpoint_core.specs.Connected.{RestIdle, Stands, WaitWithin, sent_close, took_close};
     ghost use Rattle.amqp_endpoint_core.specs.Queue.{AllWithin, frames_waiting};
 
     ghost Value = { State S };
@@ -72,7 +72,8 @@ impl<S: SessionRelay> Model for Endpoint<S> {
         × (fits 512 (own_open a.settings) ≡ true)
         × (512 ≤ limit_of a.peer_limit)
         × AllWithin (limit_of a.peer_limit) (a.queue.items ++ frames_waiting a.out.items)
-        × WaitWithin S.does a.phase a.peer_limit a.sessions };
+        × WaitWithin S.does a.phase a.peer_limit a.sessions
+        × RestIdle S.does a.phase a.sessions };
 }
 
 impl<S: SessionRelay> Endpoint<S> {
@@ -196,10 +197,7 @@ impl<S: SessionRelay> Endpoint<S> {
             × (self.new ≡ record self.old { queue = self.old.queue ++ the_frame heartbeat ∷ [] })) }
         ensures err { IfErr result (λ e. MayRefuse self.old Call.Heartbeat e × (self.new ≡ self.old)) }
     {
-        if !self.is_running() {
-            return Err(EndpointError::NotConnected);
-        }
-        if self.own_close() {
+        if !self.goes_on() {
             return Err(EndpointError::NotConnected);
         }
         gather(&mut self.queue, &mut self.out)?;
@@ -303,6 +301,16 @@ impl<S: SessionRelay> Endpoint<S> {
         ensures { result ≡ is_running self.now.phase }
     {
         self.phase == Phase::Running
+    }
+
+    /// Whether the own Open is queued, and no Close of either end is.
+    fn goes_on(&self) -> bool
+        ensures { result ≡ goes_on self.now }
+    {
+        if !self.is_running() {
+            return false;
+        }
+        !self.own_close()
     }
 
     /// Whether the own Close was queued since the latest `connect`.

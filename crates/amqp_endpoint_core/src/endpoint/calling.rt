@@ -17,6 +17,9 @@ impl<S: SessionRelay> Endpoint<S> {
         ensures ok { IfOk result (λ number. SessionsDo S.does self.old Call.Begin (session_begun number) self.new) }
         ensures err { IfErr result (λ e. IsRefused S.does self.old Call.Begin e × (self.new ≡ self.old)) }
     {
+        if !self.goes_on() {
+            return Err(EndpointError::NotConnected);
+        }
         let limit = self.limit();
         let number = self.sessions.begin(self.alloc, limit, &mut self.out)?;
         Ok(number)
@@ -34,6 +37,9 @@ impl<S: SessionRelay> Endpoint<S> {
         ensures err { IfErr result (λ e.
             IsRefused S.does self.old (Call.AcceptBegin channel) e × (self.new ≡ self.old)) }
     {
+        if !self.goes_on() {
+            return Err(EndpointError::NotConnected);
+        }
         let limit = self.limit();
         let number = self
             .sessions
