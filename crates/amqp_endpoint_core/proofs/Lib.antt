@@ -3,6 +3,7 @@ pub mod CodingLaws
 pub mod QueueLaws
 pub mod ReadingLaws
 pub mod FeedLaws
+pub mod IdleLaws
 pub mod RunLaws
 pub mod SessionLaws
 pub mod WithinLaws

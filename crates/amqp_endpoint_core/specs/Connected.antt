@@ -1,5 +1,5 @@
 -- How an endpoint and its connection agree.
-use Rattle.std.specs.Prelude.{◌≡◌, ◌≤◌, ◌&&◌, ℕ, Bool, true, false, not, Option, Some, None}
+use Rattle.std.specs.Prelude.{◌≡◌, ◌≤◌, ℕ, Bool, true, false, Option, Some, None}
 use Rattle.amqp_session_frames.specs.declared.frame.FrameBody.TheVariants as body
 use Rattle.amqp_session_connection.specs.declared.state.ConnectionState.{ConnectionState}
 use Rattle.amqp_session_connection.specs.declared.state.ConnectionState.TheVariants.{HeaderSent, HeaderExchange, OpenClosePipe, OpenSent, ClosePipe, Opened, CloseReceived, CloseSent, Discarding, End}
@@ -62,10 +62,9 @@ abbrev pub WaitWithin : {S : Type 0} → Relations S → Phase → Option ℕ �
 WaitWithin does phase limit sessions =
     does.within (limit_of limit) sessions × (phase ≡ Unconnected → does.within 512 sessions)
 
--- before the own Open and behind a Close no session of an endpoint which stands so goes on
+-- no session of an endpoint goes on that stands so that it reads no frames
 abbrev pub RestIdle : {S : Type 0} → Relations S → Phase → S → Type 0
-RestIdle does phase sessions =
-    (is_running phase && not (sent_close (does.connection sessions).local_state)) ≡ false → does.idle sessions
+RestIdle does phase sessions = is_running phase ≡ false → does.idle sessions
 
 -- where no session went on, none does
 abbrev pub StayIdle : {S : Type 0} → Relations S → S → S → Type 0

@@ -1,5 +1,5 @@
 -- What an endpoint's sessions are to its connection (part 2, 2.5).
-use Rattle.std.specs.Prelude.{◌≡◌, ◌≢◌, ℕ, List, [], ◌++◌, true, All}
+use Rattle.std.specs.Prelude.{◌≡◌, ◌≢◌, ℕ, List, ◌++◌, true, All}
 use Rattle.amqp_session_types.specs.declared.refusals.ConnectionError.TheVariants.{NotImplemented, NotFound, NotAllowed}
 use Rattle.amqp_session_performatives.specs.declared.session_frame.SessionFrame.{SessionFrame}
 use Rattle.amqp_session_frames.specs.declared.frame.FrameBody.{FrameBody}
@@ -83,8 +83,6 @@ module _ {S : Type 0} (does : Relations S) where
     pub fit : All (λ f. fits limit (frame_of f) ≡ true) frames
     pub queued : out_new ≡ out ++ frames
     pub are_told : told_new ≡ told ++ events
-    -- where no session goes on here, nothing is sent
-    pub quiet : does.idle old → frames ≡ []
 
   -- a call is done: what they send then is behind what was to be sent, and fits the limit
   pub record Called (old : S) (limit : ℕ) (call : Call) (answer : Said) (out : List SessionFrame) (new : S)

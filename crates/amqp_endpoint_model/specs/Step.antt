@@ -252,8 +252,6 @@ module _ {S : Type 0} (does : Relations S) where
       : Type 0 where
     pub theirs : IsOfSession body
     pub frames : List SessionFrame
-    -- no session sends behind the own Close
-    pub quiet : goes_on old ≡ false → frames ≡ []
     pub takes : does.takes old.sessions (limit_of old.peer_limit) channel body frames events new.sessions
     pub fit : All (λ f. fits (limit_of old.peer_limit) (frame_of f) ≡ true) frames
     pub queued : new ≡ record old { sessions = new.sessions; queue = old.queue ++ map waiting_of frames }
@@ -395,8 +393,8 @@ module _ {S : Type 0} (does : Relations S) where
   pub record SessionsDo (old : State S) (call : Call) (answer : Said) (new : State S) : Type 0 where
     pub allowed : refusal old call ≡ None
     pub frames : List SessionFrame
-    -- no session sends before the own Open, or behind a Close
-    pub quiet : goes_on old ≡ false → frames ≡ []
+    -- nothing is sent where no frames are read
+    pub quiet : is_running old.phase ≡ false → frames ≡ []
     pub calls : does.calls old.sessions (limit_of old.peer_limit) call answer frames new.sessions
     pub fit : All (λ f. fits (limit_of old.peer_limit) (frame_of f) ≡ true) frames
     pub queued : new ≡ record old { sessions = new.sessions; queue = old.queue ++ map waiting_of frames }

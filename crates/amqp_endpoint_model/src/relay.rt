@@ -24,7 +24,7 @@ use std::collections::VecDeque;
 ///
 /// A call that sends is handed the limit of written frames, which is 512 bytes at least (part 2, 2.4.1): what it hands
 /// out is no longer, and no frame that waits in a session is. A call that is refused changes nothing. Where no session
-/// goes on here, nothing is handed out but by `begin` and `accept_begin`.
+/// goes on here, no call hands out anything but `begin` and `accept_begin`.
 pub trait SessionRelay: Drop {
     ghost use Rattle.amqp_endpoint_model.specs.Relay.{Relations};
 
@@ -82,7 +82,6 @@ pub trait SessionRelay: Drop {
         ensures err { IfErr result (λ e. Refused does self.old limit channel.0 body e self.new) }
         ensures kept { OnErr result ((out.new.items ≡ out.old.items) × (events.new.items ≡ events.old.items)) }
         ensures within { does.within limit self.new }
-        ensures idle { does.idle self.old → does.idle self.new }
         ensures still { StandsStill (does.connection self.old) (does.connection self.new) };
 
     /// Begins a session, and answers its number. Its Begin is handed out (part 2, 2.5.1, 2.7.2).

@@ -51,11 +51,11 @@ close_connected Running own e = refl
 close_connected Over own e = refl
 
 -- no session goes on without a connection
-none_goes_on : (p : Phase) (own : Bool) → is_unconnected p ≡ true → (is_running p && not own) ≡ false
-none_goes_on Unconnected own e = refl
-none_goes_on Greeting own e = cc
-none_goes_on Running own e = cc
-none_goes_on Over own e = cc
+none_goes_on : (p : Phase) → is_unconnected p ≡ true → is_running p ≡ false
+none_goes_on Unconnected e = refl
+none_goes_on Greeting e = cc
+none_goes_on Running e = cc
+none_goes_on Over e = cc
 
 connect_unconnected : (b : Bool) → (if b then None else Some AlreadyConnected) ≡ None → b ≡ true
 connect_unconnected true e = refl
@@ -242,7 +242,7 @@ module _ {S : Type 0} (does : Relations S) where
   sessions-at : (b : Bool) (call : Call) (answer : Said) (old new : State S) (p f c : List ℕ)
       → is_unconnected old.phase ≡ b → SessionsDo does old call answer new → Stands old p f c → Stands new p f c
   sessions-at true call answer old new p f c is d s =
-      let none : d.frames ≡ [] = d.quiet (none_goes_on old.phase old.own_close is) in
+      let none : d.frames ≡ [] = d.quiet (none_goes_on old.phase is) in
       stands-same old new p f c (ap (λ x. x.phase) d.queued)
       (ap (λ x. x.queue) d.queued ∙ ap (λ fs. old.queue ++ map waiting_of fs) none ∙ append-nil old.queue) s
   sessions-at false call answer old new p f c is d s =

@@ -9,11 +9,12 @@ use Rattle.amqp_endpoint_model.specs.Step.{at_state}
 use Rattle.amqp_endpoint_core.proofs.ConnectedLaws.{agrees_exchanged, greeting_of, runs_sent, seen_greeted}
 use Rattle.amqp_endpoint_core.proofs.QueueLaws.{frame-within, gathered-same, within-pushed, within-same}
 use Rattle.amqp_endpoint_core.proofs.WithinLaws.{wait_still}
+use Rattle.amqp_endpoint_core.proofs.IdleLaws.{idle_running, idle_still}
 use Rattle.amqp_endpoint_core.proofs.endpoint.Endpoint.send_open.Goals as goal
 
 pub invariant_of-self-in-Err : goal.invariant_of-self-in-Err
 invariant_of-self-in-Err g c =
-    let (stands, fits, least, within, waits) = c.self.invariant in
+    let (stands, fits, least, within, waits, idle) = c.self.invariant in
     let (gathered, none, room) = c.in_ok-gather.ensures.ok in
     let at : c.self.inside.phase ≡ Greeting = ap (λ (s : State g.row.S.Denot). s.phase) c.self.view_is ∙ c.requires in
     let greets = greeting_of c.self.inside.phase c.self.inside.peer_limit _ at stands.agrees in
@@ -29,11 +30,13 @@ invariant_of-self-in-Err g c =
       within-same (limit_of c.self.inside.peer_limit) _ _ (gathered-same _ _ _ _ gathered none) within,
       wait_still g.S.SessionRelay.does c.self.inside.phase c.self.inside.peer_limit c.self.inside.sessions
           c.open.new.sessions c.in-Err.ensures.within waits,
+      idle_still g.S.SessionRelay.does c.self.inside.phase c.self.inside.sessions c.open.new.sessions
+          c.in-Err.ensures.idle idle,
     )
 
 pub returns-in-Err : goal.returns-in-Err
 returns-in-Err g c =
-    let (stands, fits, least, within, waits) = c.self.invariant in
+    let (stands, fits, least, within, waits, idle) = c.self.invariant in
     let (gathered, none, room) = c.in_ok-gather.ensures.ok in
     let does = g.S.SessionRelay.does in
     let at : c.self.inside.phase ≡ Greeting = ap (λ (s : State g.row.S.Denot). s.phase) c.self.view_is ∙ c.requires in
@@ -61,7 +64,7 @@ returns-in-Err g c =
 
 pub invariant_of-self-2 : goal.invariant_of-self-2
 invariant_of-self-2 g c =
-    let (stands, fits, least, within, waits) = c.self.invariant in
+    let (stands, fits, least, within, waits, idle) = c.self.invariant in
     let (gathered, none, room) = c.in_ok-gather.ensures.ok in
     let limit = limit_of c.self.inside.peer_limit in
     let own = own_open c.self.inside.settings in
@@ -80,4 +83,5 @@ invariant_of-self-2 g c =
         c.in-Ok.ensures.within limit limit (omega arith) waits.0,
         λ un. let wrong : Running ≡ Unconnected = un in absurd (cc),
       ),
+      idle_running g.S.SessionRelay.does Running c.self.inside.sessions c.open.new.sessions refl,
     )

@@ -3,11 +3,12 @@ use Rattle.amqp_endpoint_model.specs.declared.phase.Phase.TheVariants.{Running}
 use Rattle.amqp_endpoint_model.specs.State.{State, limit_of}
 use Rattle.amqp_endpoint_core.proofs.ConnectedLaws.{first_open, says_enough, stands_opened}
 use Rattle.amqp_endpoint_core.proofs.QueueLaws.{within-more}
+use Rattle.amqp_endpoint_core.proofs.IdleLaws.{idle_running}
 use Rattle.amqp_endpoint_core.proofs.endpoint.Endpoint.take_open.Goals as goal
 
 pub invariant_of-self-2 : goal.invariant_of-self-2
 invariant_of-self-2 g c =
-    let (stands, fits, least, within, waits) = c.self.invariant in
+    let (stands, fits, least, within, waits, idle) = c.self.invariant in
     let does = g.S.SessionRelay.does in
     let limit = c.self.inside.peer_limit in
     let most = c.args.peer.max_frame_size in
@@ -28,4 +29,5 @@ invariant_of-self-2 g c =
         c.in_ok-take_open.ensures.within (limit_of limit) most wider waits.0,
         λ un. c.in_ok-take_open.ensures.within 512 512 (omega arith) (waits.1 un),
       ),
+      idle_running does c.self.inside.phase c.self.inside.sessions c.take_open.new.sessions at,
     )

@@ -6,11 +6,12 @@ use Rattle.amqp_endpoint_core.proofs.ConnectedLaws.{seen_still, stands_still}
 use Rattle.amqp_endpoint_core.proofs.QueueLaws.{within-same, within-sent}
 use Rattle.amqp_endpoint_core.proofs.SessionLaws.{fit_at, session_taken}
 use Rattle.amqp_endpoint_core.proofs.WithinLaws.{wait_told}
+use Rattle.amqp_endpoint_core.proofs.IdleLaws.{idle_running}
 use Rattle.amqp_endpoint_core.proofs.endpoint.Endpoint.take_session.Goals as goal
 
 pub invariant_of-self-2 : goal.invariant_of-self-2
 invariant_of-self-2 g c =
-    let (stands, fits, least, within, waits) = c.self.invariant in
+    let (stands, fits, least, within, waits, idle) = c.self.invariant in
     let taken = c.in_ok-on_incoming.ensures.ok in
     let still = c.in_ok-on_incoming.ensures.still in
     let limit = limit_of c.self.inside.peer_limit in
@@ -28,6 +29,7 @@ invariant_of-self-2 g c =
           (fit_at c.limit-limit.result limit taken.frames limit_is taken.fit)),
       wait_told g.S.SessionRelay.does c.self.inside.phase c.self.inside.peer_limit c.self.inside.sessions
           c.on_incoming.new.self c.limit-limit.result limit_is running c.in_ok-on_incoming.ensures.within,
+      idle_running g.S.SessionRelay.does c.self.inside.phase c.self.inside.sessions c.on_incoming.new.self running,
     )
 
 pub returns-clause-ok : goal.returns-clause-ok
