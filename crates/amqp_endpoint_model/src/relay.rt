@@ -126,12 +126,11 @@ pub trait SessionRelay: Drop {
         out: &mut VecDeque<SessionFrame>,
     ) -> Result<(), EndpointError>
         requires least { 512 ≤ limit }
-        requires waiting { does.within limit self.old }
         ensures ok { OnOk result
             (Called does self.old limit (End number) done out.old.items self.new out.new.items) }
         ensures err { IfErr result (does.bars self.old limit (End number)) }
         ensures kept { OnErr result ((self.new ≡ self.old) × (out.new.items ≡ out.old.items)) }
-        ensures within { does.within limit self.new }
+        ensures within { (most : ℕ) → does.within most self.old → does.within most self.new }
         ensures quiet { does.idle self.old → out.new.items ≡ out.old.items }
         ensures idle { does.idle self.old → does.idle self.new }
         ensures still { StandsStill (does.connection self.old) (does.connection self.new) };
