@@ -13,10 +13,6 @@ goes_running Greeting own is = absurd (cc)
 goes_running Running own is = refl
 goes_running Over own is = absurd (cc)
 
-pub not_not : (b : Bool) → not b ≡ false → b ≡ true
-not_not true is = refl
-not_not false is = absurd (cc)
-
 module _ {S : Type 0} (does : Relations S) (phase : Phase) (s new : S) where
   -- none goes on behind a step that has none go on
   pub idle_still : StayIdle does s new → RestIdle does phase s → RestIdle does phase new

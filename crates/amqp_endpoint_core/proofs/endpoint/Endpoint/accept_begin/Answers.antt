@@ -11,7 +11,7 @@ use Rattle.amqp_endpoint_model.specs.Step.{goes_on}
 use Rattle.amqp_endpoint_core.specs.Queue.{frames_waiting}
 use Rattle.amqp_endpoint_core.proofs.CallLaws.{called, queue_called}
 use Rattle.amqp_endpoint_core.proofs.ConnectedLaws.{seen_still, stands_still}
-use Rattle.amqp_endpoint_core.proofs.IdleLaws.{goes_running, idle_running, not_not}
+use Rattle.amqp_endpoint_core.proofs.IdleLaws.{goes_running, idle_running}
 use Rattle.amqp_endpoint_core.proofs.WithinLaws.{wait_told}
 use Rattle.amqp_endpoint_core.proofs.endpoint.Endpoint.accept_begin.Goals as goal
 
@@ -22,7 +22,7 @@ invariant_of-self-2 g c =
     let limit = limit_of c.self.inside.peer_limit in
     let limit_is : c.limit-limit.result ≡ limit =
     c.limit-limit.ensures ∙ ap (λ (s : State g.row.S.Denot). limit_of s.peer_limit) (sym c.self.view_is) in
-    let goes : goes_on c.args.self.now ≡ true = sym c.goes_on.ensures ∙ not_not c.goes_on.result c.if-not-goes_on.false
+    let goes : goes_on c.args.self.now ≡ true = sym c.goes_on.ensures ∙ c.if-not-goes_on.false
     in
     let running : c.self.inside.phase ≡ Running = ap (λ (s : State g.row.S.Denot). s.phase) c.self.view_is
     ∙ goes_running c.args.self.now.phase c.args.self.now.own_close goes in (
@@ -41,7 +41,7 @@ invariant_of-self-2 g c =
 pub returns-clause-ok : goal.returns-clause-ok
 returns-clause-ok g c =
     let more = c.self.inside.queue.items ++ frames_waiting c.accept_begin.new.out.items in
-    let goes : goes_on c.args.self.now ≡ true = sym c.goes_on.ensures ∙ not_not c.goes_on.result c.if-not-goes_on.false
+    let goes : goes_on c.args.self.now ≡ true = sym c.goes_on.ensures ∙ c.if-not-goes_on.false
     in
     let running : c.args.self.now.phase ≡ Running =
     goes_running c.args.self.now.phase c.args.self.now.own_close goes in
