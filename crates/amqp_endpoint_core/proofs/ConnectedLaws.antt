@@ -111,6 +111,34 @@ module _ {S : Type 0} (does : Relations S) where
         agrees = agrees;
       }
 
+  -- the connection is in this state now
+  pub stands_at : (settings : Settings) (phase phase_new : Phase) (limit : Option ℕ) (s new : S)
+      (state : ConnectionState) → Stands does settings phase limit s
+      → does.connection new ≡ record (does.connection s) { local_state = state } → Agrees phase_new limit state
+      → Stands does settings phase_new limit new
+  stands_at settings phase phase_new limit s new state stands is agrees =
+      let at = ap (λ (x : State). x.local_state) is in
+      record {
+        opening = ap (λ (x : State). frame_on 0 (body.Open x.local_open)) is ∙ stands.opening;
+        agrees = subst (λ (c : ConnectionState). Agrees phase_new limit c) (sym at) agrees;
+      }
+
+  -- both Close went
+  pub stands_over : (settings : Settings) (phase : Phase) (limit : Option ℕ) (s taken sent new : S)
+      → Stands does settings phase limit s
+      → does.connection taken ≡ record (does.connection s) { local_state = (does.connection taken).local_state }
+      → does.connection sent ≡ record (does.connection taken) { local_state = (does.connection sent).local_state }
+      → sent_close (does.connection sent).local_state ≡ true
+      → StandsStill (does.connection sent) (does.connection new) → Stands does settings Over limit new
+  stands_over settings phase limit s taken sent new stands took went own still =
+      record {
+        opening =
+            ap (λ (o : OpenFields). frame_on 0 (body.Open o)) still.opening
+            ∙ (ap (λ (x : State). frame_on 0 (body.Open x.local_open)) went
+            ∙ (ap (λ (x : State). frame_on 0 (body.Open x.local_open)) took ∙ stands.opening));
+        agrees = ap sent_close still.state ∙ own;
+      }
+
   -- the connection stands still
   pub stands_still : (settings : Settings) (phase phase_new : Phase) (limit limit_new : Option ℕ) (s new : S)
       → Stands does settings phase limit s

@@ -1,5 +1,5 @@
 -- Laws of what waits in sessions, which is within the limit.
-use Rattle.std.proofs.Common.{◌≡◌, ◌≤◌, arith, ℕ, Option, refl, sym, ◌∙◌, subst}
+use Rattle.std.proofs.Common.{◌≡◌, arith, ℕ, Option, sym, ◌∙◌, subst}
 use Rattle.amqp_endpoint_model.specs.declared.phase.Phase.{Phase}
 use Rattle.amqp_endpoint_model.specs.declared.phase.Phase.TheVariants.{Unconnected, Running}
 use Rattle.amqp_endpoint_model.specs.Relay.{Relations}
@@ -12,6 +12,13 @@ module _ {S : Type 0} (does : Relations S) (phase : Phase) (limit : Option ℕ) 
   wait_still stay waits = (
     stay (limit_of limit) (limit_of limit) (omega arith) waits.0,
     λ un. stay 512 512 (omega arith) (waits.1 un),
+  )
+
+  -- the connection is open now
+  pub wait_opened : StayWithin does s new → WaitWithin does phase limit s → WaitWithin does Running limit new
+  wait_opened stay waits = (
+    stay (limit_of limit) (limit_of limit) (omega arith) waits.0,
+    λ un. let wrong : Running ≡ Unconnected = un in absurd (cc),
   )
 
   -- it stays within each limit

@@ -1,15 +1,13 @@
-use Rattle.std.proofs.Common.{◌≡◌, arith, inr, refl, ◌∙◌, ap}
+use Rattle.std.proofs.Common.{◌≡◌, inr, refl, ◌∙◌, ap}
 use Rattle.amqp_session_connection.specs.State.{State as ConnectionFields}
-use Rattle.amqp_session_connection.specs.declared.state.ConnectionState.TheVariants.{HeaderExchange}
-use Rattle.amqp_session_connection.specs.Steps.{frame_on}
-use Rattle.amqp_session_frames.specs.declared.frame.FrameBody.TheVariants as body
-use Rattle.amqp_endpoint_model.specs.declared.phase.Phase.TheVariants.{Greeting, Running, Unconnected}
+use Rattle.amqp_session_connection.specs.declared.state.ConnectionState.TheVariants.{HeaderExchange, OpenSent}
+use Rattle.amqp_endpoint_model.specs.declared.phase.Phase.TheVariants.{Greeting, Running}
 use Rattle.amqp_endpoint_model.specs.State.{State, limit_of, own_open}
 use Rattle.amqp_endpoint_model.specs.Step.{at_state}
-use Rattle.amqp_endpoint_core.proofs.ConnectedLaws.{agrees_exchanged, greeting_of, runs_sent, seen_greeted}
-use Rattle.amqp_endpoint_core.proofs.QueueLaws.{frame-within, gathered-same, within-pushed, within-same}
-use Rattle.amqp_endpoint_core.proofs.WithinLaws.{wait_still}
+use Rattle.amqp_endpoint_core.proofs.ConnectedLaws.{agrees_exchanged, greeting_of, runs_sent, seen_greeted, stands_at}
 use Rattle.amqp_endpoint_core.proofs.IdleLaws.{idle_running, idle_still}
+use Rattle.amqp_endpoint_core.proofs.QueueLaws.{frame-within, gathered-same, within-pushed, within-same}
+use Rattle.amqp_endpoint_core.proofs.WithinLaws.{wait_opened, wait_still}
 use Rattle.amqp_endpoint_core.proofs.endpoint.Endpoint.send_open.Goals as goal
 
 pub invariant_of-self-in-Err : goal.invariant_of-self-in-Err
@@ -18,13 +16,11 @@ invariant_of-self-in-Err g c =
     let (gathered, none, room) = c.in_ok-gather.ensures.ok in
     let at : c.self.inside.phase ≡ Greeting = ap (λ (s : State g.row.S.Denot). s.phase) c.self.view_is ∙ c.requires in
     let greets = greeting_of c.self.inside.phase c.self.inside.peer_limit _ at stands.agrees in
-    let still = c.in-Err.ensures.still in (
-      record {
-        opening = ap (λ (x : ConnectionFields). frame_on 0 (body.Open x.local_open)) still ∙ stands.opening;
-        agrees =
-            agrees_exchanged c.self.inside.phase c.self.inside.peer_limit _ at greets.0
-            (ap (λ (x : ConnectionFields). x.local_state) still);
-      },
+    let agrees =
+    agrees_exchanged c.self.inside.phase c.self.inside.peer_limit HeaderExchange at greets.0 refl in (
+      stands_at g.S.SessionRelay.does c.self.inside.settings c.self.inside.phase c.self.inside.phase
+          c.self.inside.peer_limit c.self.inside.sessions c.open.new.sessions HeaderExchange stands
+          c.in-Err.ensures.still agrees,
       fits,
       least,
       within-same (limit_of c.self.inside.peer_limit) _ _ (gathered-same _ _ _ _ gathered none) within,
@@ -71,17 +67,13 @@ invariant_of-self-2 g c =
     let one = frame-within limit _ own c.in-Ok.open c.in-Ok.ensures.frame stands.opening least fits in
     let at : c.self.inside.phase ≡ Greeting = ap (λ (s : State g.row.S.Denot). s.phase) c.self.view_is ∙ c.requires in
     let greets = greeting_of c.self.inside.phase c.self.inside.peer_limit _ at stands.agrees in
-    let moved = c.in-Ok.ensures.connection in (
-      record {
-        opening = ap (λ (x : ConnectionFields). frame_on 0 (body.Open x.local_open)) moved ∙ stands.opening;
-        agrees = runs_sent c.self.inside.peer_limit _ greets.0 (ap (λ (x : ConnectionFields). x.local_state) moved);
-      },
+    let runs = runs_sent c.self.inside.peer_limit OpenSent greets.0 refl in (
+      stands_at g.S.SessionRelay.does c.self.inside.settings c.self.inside.phase Running c.self.inside.peer_limit
+          c.self.inside.sessions c.open.new.sessions OpenSent stands c.in-Ok.ensures.connection runs,
       fits,
       least,
       within-pushed limit _ _ _ _ _ _ within gathered none one c.push_back_reserved.ensures.items,
-      (
-        c.in-Ok.ensures.within limit limit (omega arith) waits.0,
-        λ un. let wrong : Running ≡ Unconnected = un in absurd (cc),
-      ),
+      wait_opened g.S.SessionRelay.does c.self.inside.phase c.self.inside.peer_limit c.self.inside.sessions
+          c.open.new.sessions c.in-Ok.ensures.within waits,
       idle_running g.S.SessionRelay.does Running c.self.inside.sessions c.open.new.sessions refl,
     )
