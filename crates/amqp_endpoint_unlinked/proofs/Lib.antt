@@ -1,3 +1,4 @@
 mod Places
 mod OverLaws
 mod Calls
+mod Related
