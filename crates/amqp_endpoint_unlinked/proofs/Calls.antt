@@ -1,9 +1,9 @@
 -- What the calls that concern sessions hand out is short, and behind them no frame waits in a session.
-use Rattle.std.proofs.Common.{◌≡◌, ◌≢◌, ◌⊎◌, inl, inr, ℕ, ◌<◌, ◌≤◌, Bool, true, false, ◌==◌, List, [], ◌∷◌, ◌++◌, Option, Some, None, refl, sym, ap, subst, ◌∙◌, length, slice_get, slice_index_or, arith}
-use Rattle.std.specs.Prelude.{◌-◌, ◌^◌, All, IfSome}
+use Rattle.std.proofs.Common.{◌≡◌, ◌≢◌, ◌⊎◌, inl, inr, ℕ, ◌<◌, true, false, ◌==◌, List, [], ◌∷◌, ◌++◌, Option, Some, None, refl, sym, ap, subst, ◌∙◌, slice_get, slice_index_or, arith}
+use Rattle.std.specs.Prelude.{◌-◌, ◌^◌, IfSome}
 use Rattle.std.specs.Global.{Box}
 use Rattle.std.proofs.lemmas.Bool.Decides.{eqb_tells}
-use Rattle.std.proofs.lemmas.List.Elements.{All-cons, All-nil, All-weaker}
+use Rattle.std.proofs.lemmas.List.Elements.{All-cons, All-nil}
 use Rattle.std.proofs.lemmas.Option.{none-some, same_Some, get_or_from_slice_get}
 use Rattle.amqp_session_types.specs.declared.channels.IncomingChannel.{IncomingChannel}
 use Rattle.amqp_session_types.specs.declared.channels.OutgoingChannel.{OutgoingChannel}
@@ -11,7 +11,6 @@ use Rattle.amqp_session_performatives.specs.declared.begin.Begin.{Begin as Begin
 use Rattle.amqp_session_performatives.specs.declared.end.End.{End as EndPerformative}
 use Rattle.amqp_session_performatives.specs.declared.session_frame.SessionFrame.{SessionFrame}
 use Rattle.amqp_session_performatives.specs.declared.session_frame.SessionFrameBody.TheVariants as body
-use Rattle.amqp_session_connection.specs.State as channels
 use Rattle.amqp_session_core.specs.State as session_state
 use Rattle.amqp_endpoint_asked.specs.declared.session.AskedSession.{AskedSession}
 use Rattle.amqp_endpoint_asked.specs.declared.session.SessionFlow.{SessionFlow}
@@ -21,7 +20,7 @@ use Rattle.amqp_endpoint_links.proofs.Standing.{accepted-stands, begun-stands}
 use Rattle.amqp_endpoint_sessions.specs.declared.place.PeerEnd.TheVariants.{Missing}
 use Rattle.amqp_endpoint_sessions.specs.declared.place.Place.{Place}
 use Rattle.amqp_endpoint_sessions.specs.declared.place.Place.TheVariants.{Asked, Live, Ending, Over}
-use Rattle.amqp_endpoint_sessions.specs.State.{State, live_of, place_at, with_live}
+use Rattle.amqp_endpoint_sessions.specs.State.{live_of, place_at, with_live}
 use Rattle.amqp_endpoint_conversation.specs.Beginning.{AcceptsHere, BeginsHere, Sessions, with_links}
 use Rattle.amqp_endpoint_conversation.specs.Ending.{EndsHere, IsMapped, end_frame}
 use Rattle.amqp_endpoint_lengths.specs.Plain.{IsPlainBegin, IsPlainEnd}
@@ -50,7 +49,8 @@ pub one-short : (frame : SessionFrame) → fits 512 (frame_of frame) ≡ true �
 one-short frame short =
     let P : SessionFrame → Type 0 = λ f. fits 512 (frame_of f) ≡ true in All-cons P frame [] short (All-nil P)
 
-is-short : (frame said : SessionFrame) → frame ≡ said → fits 512 (frame_of said) ≡ true → fits 512 (frame_of frame) ≡ true
+is-short : (frame said : SessionFrame) → frame ≡ said → fits 512 (frame_of said) ≡ true
+    → fits 512 (frame_of frame) ≡ true
 is-short frame said is short = subst (λ (f : SessionFrame). fits 512 (frame_of f) ≡ true) (sym is) short
 
 -- an own Begin
@@ -127,7 +127,8 @@ module _ (old new : Talk) (waits : NothingWaits old) (number : ℕ) where
   begun-waits out out_new b =
       let places : List Where = (old.sessions).places in
       let (given, last, is) = b.stepped in
-      let stands = begun-stands no_link b.channel old.first_transfer_number old.incoming_window b.frame (b.session).value b.begun in
+      let stands =
+      begun-stands no_link b.channel old.first_transfer_number old.incoming_window b.frame (b.session).value b.begun in
       others-wait (Some (Live b.channel b.session))
       (ap (λ (s : Sessions NoLink). place_at s number) is
       ∙ ap (λ (n : ℕ). slice_get (places ++ Live b.channel b.session ∷ []) n) last
@@ -145,7 +146,9 @@ module _ (old new : Talk) (waits : NothingWaits old) (number : ℕ) where
       let after : Session = with_links a.session ((a.wanted).value).links in
       let (had, gives, is) = a.stepped in
       let (lives, over) = a.taken_over in
-      let stands = accepted-stands no_link (a.wanted).value a.outgoing channel old.first_transfer_number old.incoming_window a.frame (a.session).value a.accepted in
+      let stands =
+      accepted-stands no_link (a.wanted).value a.outgoing channel old.first_transfer_number old.incoming_window a.frame
+      (a.session).value a.accepted in
       let placed : place_at mid number ≡ Some (Live a.outgoing a.session) =
       ap (λ (s : Sessions NoLink). place_at s number) is
       ∙ get-same places number (Asked a.incoming a.wanted) (Live a.outgoing a.session) had in
@@ -156,7 +159,8 @@ module _ (old new : Talk) (waits : NothingWaits old) (number : ℕ) where
       ∙ ap (λ (p : Where). Some (with_live p after))
       (get_or_from_slice_get mid.places number (Live a.outgoing a.session) (Over Missing false) placed))
       (idle-live a.outgoing after
-      (accepted-idle a.outgoing channel ((a.wanted).value).begin ((a.wanted).value).flow old.first_transfer_number old.incoming_window ((a.session).value).session stands.0))
+      (accepted-idle a.outgoing channel ((a.wanted).value).begin ((a.wanted).value).flow old.first_transfer_number
+      old.incoming_window ((a.session).value).session stands.0))
       (λ k apart. ap (λ (s : Sessions NoLink). place_at s k) over
       ∙ get-other mid.places number k (with_live (slice_index_or mid.places number (Over Missing false)) after) apart
       ∙ ap (λ (s : Sessions NoLink). place_at s k) is
@@ -178,7 +182,8 @@ module _ (old new : Talk) (out out_new : List SessionFrame) (number : ℕ) where
   pub begun-hands : old.first_transfer_number < 2 ^ 32 → old.incoming_window < 2 ^ 32
       → BeginsHere no_link old out number new out_new → Hands old Begin (session_begun number) out new out_new
   begun-hands numbers takes b =
-      let stands = begun-stands no_link b.channel old.first_transfer_number old.incoming_window b.frame (b.session).value b.begun in
+      let stands =
+      begun-stands no_link b.channel old.first_transfer_number old.incoming_window b.frame (b.session).value b.begun in
       record {
         frames = b.frame ∷ [];
         calls =
@@ -193,7 +198,8 @@ module _ (old new : Talk) (out out_new : List SessionFrame) (number : ℕ) where
             };
         short =
             one-short b.frame
-            (begin-short b.frame b.channel None old.first_transfer_number old.incoming_window tt numbers takes stands.1);
+            (begin-short b.frame b.channel None old.first_transfer_number old.incoming_window tt numbers takes
+            stands.1);
         queued = b.queued;
       }
 
@@ -201,7 +207,9 @@ module _ (old new : Talk) (out out_new : List SessionFrame) (number : ℕ) where
       → old.incoming_window < 2 ^ 32 → AcceptsHere no_link old out channel number new out_new
       → Hands old (AcceptBegin channel) (session_begun number) out new out_new
   accepted-hands channel names numbers takes a =
-      let stands = accepted-stands no_link (a.wanted).value a.outgoing channel old.first_transfer_number old.incoming_window a.frame (a.session).value a.accepted in
+      let stands =
+      accepted-stands no_link (a.wanted).value a.outgoing channel old.first_transfer_number old.incoming_window a.frame
+      (a.session).value a.accepted in
       record {
         frames = a.frame ∷ [];
         calls =
@@ -221,7 +229,8 @@ module _ (old new : Talk) (out out_new : List SessionFrame) (number : ℕ) where
             };
         short =
             one-short a.frame
-            (begin-short a.frame a.outgoing (Some channel.0) old.first_transfer_number old.incoming_window names numbers takes stands.1);
+            (begin-short a.frame a.outgoing (Some channel.0) old.first_transfer_number old.incoming_window names numbers
+            takes stands.1);
         queued = a.queued;
       }
 

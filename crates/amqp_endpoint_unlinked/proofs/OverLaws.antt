@@ -1,13 +1,10 @@
 -- How the sessions of a connection end with it, one after the other.
-use Rattle.std.proofs.Common.{◌≡◌, ◌≢◌, ◌⊎◌, inl, inr, ℕ, zero, suc, ◌<◌, ◌≤◌, Bool, true, false, ◌==◌, List, Option, Some, None, refl, sym, ap, ◌∙◌, length, slice_get, slice_set, arith}
+use Rattle.std.proofs.Common.{◌≡◌, ◌≢◌, ◌⊎◌, inl, inr, ℕ, zero, suc, ◌<◌, ◌≤◌, true, false, ◌==◌, List, Option, Some, None, refl, ap, ◌∙◌, length, slice_get, slice_set, arith}
 use Rattle.std.proofs.lemmas.Bool.Decides.{eqb_tells}
 use Rattle.std.proofs.lemmas.List.{length-set}
 use Rattle.std.proofs.lemmas.Option.{slice_get_past}
-use Rattle.std.specs.Global.{Box}
 use Rattle.amqp_session_types.specs.declared.channels.OutgoingChannel.{OutgoingChannel}
 use Rattle.amqp_session_connection.specs.State as channels
-use Rattle.amqp_endpoint_asked.specs.declared.session.AskedSession.{AskedSession}
-use Rattle.amqp_endpoint_links.specs.declared.asking.AskingSession.{AskingSession}
 use Rattle.amqp_endpoint_sessions.specs.declared.place.Place.{Place}
 use Rattle.amqp_endpoint_sessions.specs.declared.place.Place.TheVariants.{Asked, Live, Ending, Over}
 use Rattle.amqp_endpoint_sessions.specs.State.{State, finished_place, live_at, live_of, place_at}
@@ -49,7 +46,8 @@ module _ {A S : Type 0} (old : State A S) (number : ℕ) where
         still = still;
       }
 
-  left-clears : (new : State A S) (left : Option (OutgoingChannel × S)) → EndSent old number left new → Clears old number new
+  left-clears : (new : State A S) (left : Option (OutgoingChannel × S)) → EndSent old number left new
+      → Clears old number new
   left-clears new None s = unchanged new s.0 s.1
   left-clears new (Some given) s =
       put new (Live given.0 given.1) (Ending given.0) s.0 refl (ap (λ (x : State A S). x.places) s.1)
@@ -68,7 +66,8 @@ module _ {A S : Type 0} (old : State A S) (number : ℕ) where
   finished-none (Ending channel) = refl
   finished-none (Over peer_end complete) = refl
 
-  finished-clears : (new : State A S) (stood : Option (Place A S)) → Finished old number stood new → Clears old number new
+  finished-clears : (new : State A S) (stood : Option (Place A S)) → Finished old number stood new
+      → Clears old number new
   finished-clears new None s = unchanged new (ap live_of s.0) s.1
   finished-clears new (Some stood) s =
       put new stood (finished_place stood) s.0 (finished-none stood) (ap (λ (x : State A S). x.places) s.2)
@@ -106,7 +105,8 @@ module _ {A S : Type 0} where
           less : (k : ℕ) → k < suc number → k ≢ number → k < number
           less k below apart = omega (arith, apart)
 
-  pub all-cleared : (old new : State A S) → ClearsFirst (length old.places) old new → (number : ℕ) → live_at new number ≡ None
+  pub all-cleared : (old new : State A S) → ClearsFirst (length old.places) old new → (number : ℕ)
+      → live_at new number ≡ None
   all-cleared old new c number = by (cases number (length old.places))
     where
       cases : (k n : ℕ) → (k < n) ⊎ (n ≤ k)
@@ -127,7 +127,8 @@ left-first zero old new is = nothing-cleared old new is
 left-first (suc number) old new (mid, left, first, sent) =
     one-more number old mid new (left-first number old mid first) (left-clears mid number new left sent)
 
-pub finished-first : (number : ℕ) (old new : Sessions NoLink) → FinishesFirst number old new → ClearsFirst number old new
+pub finished-first : (number : ℕ) (old new : Sessions NoLink) → FinishesFirst number old new
+    → ClearsFirst number old new
 finished-first zero old new is = nothing-cleared old new is
 finished-first (suc number) old new (mid, stood, first, finished) =
     one-more number old mid new (finished-first number old mid first) (finished-clears mid number new stood finished)

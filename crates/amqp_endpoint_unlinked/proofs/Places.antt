@@ -1,5 +1,5 @@
 -- Lists of places, where one is put or comes behind, and what a connection keeps as a channel comes back.
-use Rattle.std.proofs.Common.{◌≡◌, ◌≢◌, ℕ, zero, suc, List, [], ◌∷◌, ◌++◌, Option, Some, None, refl, sym, ap, ◌∙◌, length, slice_get, slice_set}
+use Rattle.std.proofs.Common.{◌≡◌, ◌≢◌, ℕ, zero, suc, List, [], ◌∷◌, ◌++◌, Option, Some, None, refl, ap, ◌∙◌, length, slice_get, slice_set}
 use Rattle.std.proofs.lemmas.Option.{none-some}
 use Rattle.amqp_session_connection.specs.State as channels
 use Rattle.amqp_session_connection.specs.Steps.{DeallocateSession}
@@ -31,7 +31,10 @@ module _ {X : Type 0} where
 -- a connection that is as another was stands still, and so on
 pub still-same : (old new : channels.State) → new ≡ old → StandsStill old new
 still-same old new e =
-    record { state = ap (λ (c : channels.State). c.local_state) e; opening = ap (λ (c : channels.State). c.local_open) e }
+    record {
+      state = ap (λ (c : channels.State). c.local_state) e;
+      opening = ap (λ (c : channels.State). c.local_open) e;
+    }
 
 pub still-on : (old mid new : channels.State) → StandsStill old mid → StandsStill mid new → StandsStill old new
 still-on old mid new a b = record { state = b.state ∙ a.state; opening = b.opening ∙ a.opening }

@@ -1,5 +1,5 @@
 -- The calls of the sessions of an endpoint that attaches no link are those of their conversation.
-use Rattle.std.proofs.Common.{◌≡◌, ◌≢◌, ◌⊎◌, inl, inr, ℕ, ◌≤◌, Bool, true, false, ◌==◌, List, Result, Ok, Err, Option, Some, None, refl, sym, ap, ◌∙◌}
+use Rattle.std.proofs.Common.{◌≡◌, ◌≢◌, ◌⊎◌, inl, inr, ℕ, ◌≤◌, true, false, ◌==◌, List, Result, Ok, Err, Some, None, refl, sym, ap, ◌∙◌}
 use Rattle.std.specs.Prelude.{⊤, All, IfOk}
 use Rattle.std.proofs.lemmas.Bool.Decides.{eqb_tells}
 use Rattle.std.proofs.lemmas.List.Elements.{All-weaker}
@@ -14,9 +14,10 @@ use Rattle.amqp_endpoint_sessions.specs.State.{State, live_at, live_of, told_pla
 use Rattle.amqp_endpoint_sessions.specs.Steps.{EndTold}
 use Rattle.amqp_endpoint_lengths.proofs.Frames.{larger_fits}
 use Rattle.amqp_endpoint_model.specs.declared.call.Call.{Call}
+use Rattle.amqp_endpoint_model.specs.declared.error.EndpointError.{EndpointError}
 use Rattle.amqp_endpoint_model.specs.declared.event.Event.{Event}
 use Rattle.amqp_endpoint_model.specs.Relay.{Called, Taken}
-use Rattle.amqp_endpoint_model.specs.Said.{Said}
+use Rattle.amqp_endpoint_model.specs.Said.{Said, session_begun}
 use Rattle.amqp_endpoint_model.specs.State.{fits, frame_of}
 use Rattle.amqp_endpoint_unlinked.specs.declared.unlinked.UnlinkedSessions.{UnlinkedSessions}
 use Rattle.amqp_endpoint_unlinked.specs.Does.{unlinked}
@@ -58,10 +59,14 @@ taken old new limit channel body out out_new told told_new least h =
       are_told = h.are_told;
     }
 
--- what follows of an answer
-pub if-ok : {X E : Type 0} (P Q : X → Type 0) (r : Result X E) → ((x : X) → P x → Q x) → IfOk r P → IfOk r Q
-if-ok P Q (Ok x) gives of = gives x of
-if-ok P Q (Err e) gives of = tt
+-- a session begins, and its number is the answer
+pub begun-called : (old new : UnlinkedSessions) (limit : ℕ) (call : Call) (out out_new : List SessionFrame) → 512 ≤ limit
+    → (answer : Result ℕ EndpointError)
+    → IfOk answer (λ number. Hands old.conversation call (session_begun number) out new.conversation out_new)
+    → IfOk answer (λ number. Called unlinked old limit call (session_begun number) out new out_new)
+begun-called old new limit call out out_new least (Ok number) h =
+    called old new limit call (session_begun number) out out_new least h
+begun-called old new limit call out out_new least (Err e) h = tt
 
 -- no session that has begun changes as the peer's End is told
 live-told : {A S : Type 0} (stood : Place A S) → live_of (Some (told_place stood)) ≡ live_of (Some stood)
@@ -74,7 +79,8 @@ told-live : {A S : Type 0} (old new : State A S) (number : ℕ) (r : Result ⊤ 
     → (k : ℕ) → live_at new k ≡ live_at old k
 told-live {A} {S} old new number (Ok u) (stood, had, came, is) k = by (eqb_tells k number)
   where
-    by : (((k == number) ≡ true) × (k ≡ number)) ⊎ (((k == number) ≡ false) × (k ≢ number)) → live_at new k ≡ live_at old k
+    by : (((k == number) ≡ true) × (k ≡ number)) ⊎ (((k == number) ≡ false) × (k ≢ number))
+        → live_at new k ≡ live_at old k
     by (inl p) =
         ap (λ (n : ℕ). live_at new n) p.1 ∙ ap (λ (s : State A S). live_at s number) is
         ∙ ap live_of (get-same old.places number stood (told_place stood) had) ∙ live-told stood ∙ sym (ap live_of had)

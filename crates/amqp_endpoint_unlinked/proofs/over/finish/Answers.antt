@@ -22,8 +22,11 @@ returns-clause-none c =
     let all : c.loop-number.number ≡ length c.args.sessions.now.places = omega arith in
     all-cleared c.args.sessions.now c.loop-number.sessions
     (finished-first (length c.args.sessions.now.places) c.args.sessions.now c.loop-number.sessions
-    (subst (λ (n : ℕ). FinishesFirst n c.args.sessions.now c.loop-number.sessions) all c.loop-number.invariant.finished))
+    (subst (λ (n : ℕ). FinishesFirst n c.args.sessions.now c.loop-number.sessions) all
+    c.loop-number.invariant.finished))
 
 pub returns-clause-still : goal.returns-clause-still
 returns-clause-still c =
-    (finished-first c.loop-number.number c.args.sessions.now c.loop-number.sessions c.loop-number.invariant.finished).still
+    let first =
+    finished-first c.loop-number.number c.args.sessions.now c.loop-number.sessions c.loop-number.invariant.finished in
+    first.still

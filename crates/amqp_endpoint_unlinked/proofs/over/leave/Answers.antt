@@ -22,8 +22,11 @@ returns-clause-none c =
     let all : c.loop-number.number ≡ length c.args.sessions.now.places = omega arith in
     all-cleared c.args.sessions.now c.loop-number.sessions
     (left-first (length c.args.sessions.now.places) c.args.sessions.now c.loop-number.sessions
-    (subst (λ (n : ℕ). LeavesFirst n c.args.sessions.now c.loop-number.sessions) all c.loop-number.invariant.left))
+    (subst (λ (n : ℕ). LeavesFirst n c.args.sessions.now c.loop-number.sessions) all
+    c.loop-number.invariant.left))
 
 pub returns-clause-still : goal.returns-clause-still
 returns-clause-still c =
-    (left-first c.loop-number.number c.args.sessions.now c.loop-number.sessions c.loop-number.invariant.left).still
+    let first =
+    left-first c.loop-number.number c.args.sessions.now c.loop-number.sessions c.loop-number.invariant.left in
+    first.still

@@ -1,20 +1,8 @@
-use Rattle.std.proofs.Common.{ℕ}
 use Rattle.amqp_endpoint_model.specs.declared.call.Call.TheVariants.{AcceptBegin}
-use Rattle.amqp_endpoint_model.specs.Relay.{Called}
-use Rattle.amqp_endpoint_model.specs.Said.{session_begun}
-use Rattle.amqp_endpoint_unlinked.specs.Does.{unlinked}
-use Rattle.amqp_endpoint_unlinked.specs.Handed.{Hands}
-use Rattle.amqp_endpoint_unlinked.proofs.Related.{called, if-ok}
+use Rattle.amqp_endpoint_unlinked.proofs.Related.{begun-called}
 use Rattle.amqp_endpoint_unlinked.proofs.unlinked.UnlinkedSessionsSessionRelay.accept_begin.Goals as goal
 
 pub returns-clause-ok : goal.returns-clause-ok
 returns-clause-ok c =
-    if-ok
-    (λ (number : ℕ). Hands c.args.self.now.conversation (AcceptBegin c.args.channel) (session_begun number) c.args.out.now.items c.accept_begin.new.talk
-    c.accept_begin.new.out.items)
-    (λ (number : ℕ). Called unlinked c.args.self.now c.args._limit (AcceptBegin c.args.channel) (session_begun number) c.args.out.now.items
-    (record { conversation = c.accept_begin.new.talk }) c.accept_begin.new.out.items)
-    c.accept_begin.result
-    (λ number hands. called c.args.self.now (record { conversation = c.accept_begin.new.talk }) c.args._limit (AcceptBegin c.args.channel) (session_begun number)
-    c.args.out.now.items c.accept_begin.new.out.items c.requires.least hands)
-    c.accept_begin.ensures.ok
+    begun-called c.args.self.now (record { conversation = c.accept_begin.new.talk }) c.args._limit (AcceptBegin c.args.channel)
+    c.args.out.now.items c.accept_begin.new.out.items c.requires.least c.accept_begin.result c.accept_begin.ensures.ok
