@@ -60,8 +60,8 @@ taken old new limit channel body out out_new told told_new least h =
     }
 
 -- a session begins, and its number is the answer
-pub begun-called : (old new : UnlinkedSessions) (limit : ℕ) (call : Call) (out out_new : List SessionFrame) → 512 ≤ limit
-    → (answer : Result ℕ EndpointError)
+pub begun-called : (old new : UnlinkedSessions) (limit : ℕ) (call : Call) (out out_new : List SessionFrame)
+    → 512 ≤ limit → (answer : Result ℕ EndpointError)
     → IfOk answer (λ number. Hands old.conversation call (session_begun number) out new.conversation out_new)
     → IfOk answer (λ number. Called unlinked old limit call (session_begun number) out new out_new)
 begun-called old new limit call out out_new least (Ok number) h =
