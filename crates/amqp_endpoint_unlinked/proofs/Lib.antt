@@ -1,0 +1,4 @@
+mod Places
+mod OverLaws
+mod Calls
+mod Related

@@ -1,5 +1,5 @@
 //! The calls that concern sessions (part 2, 2.5.1, 2.5.2).
-ghost use Rattle.std.specs.Prelude.{◌≡◌, OnErr, OnOk, IfErr, IfOk};
+ghost use Rattle.std.specs.Prelude.{◌≡◌, ◌<◌, ◌^◌, OnErr, OnOk, IfErr, IfOk};
 ghost use Rattle.amqp_endpoint_model.specs.declared.call.Call.TheVariants.{AcceptBegin, Begin, End};
 ghost use Rattle.amqp_endpoint_model.specs.Relay.{StandsStill};
 ghost use Rattle.amqp_endpoint_model.specs.Said.{done, session_begun};
@@ -29,6 +29,7 @@ pub(crate) fn begin(
     ensures waits { NothingWaits talk.new }
     ensures still { StandsStill talk.old.sessions.connection talk.new.sessions.connection }
 {
+    numbers_are_short(talk);
     match talk.begin(alloc, out) {
         Ok(number) => Ok(number),
         Err(error) => Err(of_begin(&error)),
@@ -50,6 +51,8 @@ pub(crate) fn accept_begin(
     ensures waits { NothingWaits talk.new }
     ensures still { StandsStill talk.old.sessions.connection talk.new.sessions.connection }
 {
+    numbers_are_short(talk);
+    channel_is_short(channel);
     match talk.accept(alloc, out, channel) {
         Ok(number) => Ok(number),
         Err(AcceptRefusal::NotAsked) => Err(EndpointError::NotAsked),
@@ -80,6 +83,22 @@ pub(crate) fn end(
         Ok(_) => Ok(()),
         Err(_) => Err(EndpointError::Memory),
     }
+}
+
+/// The numbers that each session begins with are those of a uint (part 2, 2.7.2): whoever reads them sees it.
+fn numbers_are_short(talk: &Conversation<NoLink>)
+    ensures first { talk.now.first_transfer_number < 2 ^ 32 }
+    ensures window { talk.now.incoming_window < 2 ^ 32 }
+{
+    let _first = talk.first_transfer_number;
+    let _window = talk.incoming_window;
+}
+
+/// The number of a channel is that of a ushort (part 2, 2.7.2).
+fn channel_is_short(channel: IncomingChannel)
+    ensures { channel.0 < 2 ^ 16 }
+{
+    let _number = channel.0;
 }
 
 /// The endpoint's name for why no session begins.

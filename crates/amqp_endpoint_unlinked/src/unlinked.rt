@@ -46,7 +46,9 @@ impl SessionRelay for UnlinkedSessions {
     }
 
     fn connection_mut(&mut self) -> &mut Connection {
-        self.conversation.sessions.connection_mut()
+        let conversation = &mut self.conversation;
+        let sessions = &mut conversation.sessions;
+        sessions.connection_mut()
     }
 
     fn on_incoming(

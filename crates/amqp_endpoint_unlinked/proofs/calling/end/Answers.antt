@@ -1,0 +1,12 @@
+use Rattle.amqp_endpoint_unlinked.proofs.Calls.{ended-hands, ended-waits}
+use Rattle.amqp_endpoint_unlinked.proofs.calling.end.Goals as goal
+
+pub returns-in-Ok-clause-ok : goal.returns-in-Ok-clause-ok
+returns-in-Ok-clause-ok c =
+    ended-hands c.args.talk.now c.end.new.self c.args.out.now.items c.end.new.out.items c.args.number
+    c.in-Ok.field-0 (c.is_mapped.ensures.0 c.if-not-is_mapped.false) c.in-Ok.ensures.ok
+
+pub returns-in-Ok-clause-waits : goal.returns-in-Ok-clause-waits
+returns-in-Ok-clause-waits c =
+    ended-waits c.args.talk.now c.end.new.self c.requires c.args.number c.args.out.now.items c.end.new.out.items
+    c.in-Ok.field-0 c.in-Ok.ensures.ok
