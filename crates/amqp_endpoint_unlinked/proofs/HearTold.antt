@@ -235,17 +235,23 @@ module _ (old : Talk) (channel : IncomingChannel) (end : End) (out : List Sessio
 
 -- a frame by an answer to it
 pub hands_if : (old : Talk) (channel : IncomingChannel) (it : LinkPerformative) (out : List SessionFrame)
-    (told : List Event) (new : Talk) (out_new : List SessionFrame) (told_new : List Event) (said : FrameBody)
+    (told : List Event) (new : Talk) (out_new : List SessionFrame) (told_new : List Event) (b said : FrameBody)
+    → b ≡ said
     → ((frames : List SessionFrame) (events : List Event) → Says old channel it frames events new
     → Takes old channel said frames events new)
     → (r : Result ⊤ EndpointError) → OnOk r (SaysBack old channel it out told new out_new told_new)
-    → OnOk r (HandsBack old channel said out told new out_new told_new)
-hands_if old channel it out told new out_new told_new said takes (Ok done) s =
-    hands_back old channel it out told new out_new said takes told_new s
-hands_if old channel it out told new out_new told_new said takes (Err e) s = tt
+    → OnOk r (HandsBack old channel b out told new out_new told_new)
+hands_if old channel it out told new out_new told_new b said is takes (Ok done) s =
+    subst (λ (x : FrameBody). HandsBack old channel x out told new out_new told_new) (sym is)
+    (hands_back old channel it out told new out_new said takes told_new s)
+hands_if old channel it out told new out_new told_new b said is takes (Err e) s = tt
 
-pub refuses_if : (old : Talk) (channel : IncomingChannel) (new : Talk) (said : FrameBody) (r : Result ⊤ EndpointError)
+pub refuses_if : (old : Talk) (channel : IncomingChannel) (new : Talk) (b said : FrameBody) → b ≡ said
+    → (r : Result ⊤ EndpointError)
     → IfErr r (λ (e : EndpointError). IsSessionFault e × Bars old channel said e new)
-    → IfErr r (λ (e : EndpointError). IsSessionFault e × Refuses old channel said e new)
-refuses_if old channel new said (Ok done) b = tt
-refuses_if old channel new said (Err e) b = (b.0, inl b.1)
+    → IfErr r (λ (e : EndpointError). IsSessionFault e × Refuses old channel b e new)
+refuses_if old channel new b said is (Ok done) bars = tt
+refuses_if old channel new b said is (Err e) bars = (
+  bars.0,
+  subst (λ (x : FrameBody). Refuses old channel x e new) (sym is) (inl bars.1),
+)

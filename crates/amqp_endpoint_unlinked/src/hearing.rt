@@ -1,5 +1,5 @@
 //! What the peer says to the sessions (part 2, 2.5).
-ghost use Rattle.std.specs.Prelude.{◌≡◌, OnErr, OnOk, IfErr};
+ghost use Rattle.std.specs.Prelude.{◌≡◌, ◌<◌, OnErr, OnOk, IfErr};
 ghost use Rattle.std.specs.Vec.{vec_capacity, vec_len};
 ghost use Rattle.amqp_endpoint_model.specs.Relay.{IsOfSession, IsSessionFault, StandsStill};
 ghost use Rattle.amqp_endpoint_unlinked.specs.Ending.{NothingWaits};

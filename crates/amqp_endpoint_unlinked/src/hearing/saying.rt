@@ -1,5 +1,5 @@
 //! What the peer says in a session that neither begins nor ends it (part 2, 2.7).
-ghost use Rattle.std.specs.Prelude.{◌≡◌, ◌++◌, [], ℕ, OnErr, OnOk, IfErr};
+ghost use Rattle.std.specs.Prelude.{◌≡◌, ◌<◌, ◌++◌, [], ℕ, OnErr, OnOk, IfErr};
 ghost use Rattle.std.specs.Vec.{vec_capacity, vec_len};
 ghost use Rattle.amqp_session_frames.specs.declared.frame.FrameBody.TheVariants as body;
 ghost use Rattle.amqp_endpoint_links.specs.declared.asking.NamedLink.TheVariants.{Absent};

@@ -22,19 +22,7 @@ returns-in-Ok-clause-still c =
     c.on_incoming_begin.new.out.items c.requires.waiting c.in-Ok.heard c.in-Ok.ensures).still
 
 pub returns-in-Err-Connection : goal.returns-in-Err-Connection
-returns-in-Err-Connection c =
-    let here =
-    begin-barred c.args.talk.now c.args.channel c.args.begin c.args.out.now.items c.on_incoming_begin.new.self
-    c.on_incoming_begin.new.out.items c.requires.waiting c.in-Err-Connection.error c.in-Err-Connection.ensures in
-    record {
-      ok = tt;
-      err =
-          begin_bars c.args.talk.now c.args.channel c.args.begin c.args.out.now.items c.args.events.now.items
-          c.on_incoming_begin.new.self c.on_incoming_begin.new.out.items c.in-Err-Connection.error c.from.result here
-          (begin-fault c.args.talk.now c.args.channel c.args.begin c.args.out.now.items c.on_incoming_begin.new.self
-          c.on_incoming_begin.new.out.items c.in-Err-Connection.error c.in-Err-Connection.ensures)
-          c.from.ensures;
-      kept = (here.kept, refl);
-      waits = here.waits;
-      still = here.still;
-    }
+returns-in-Err-Connection c = let h = c.in-Err-Connection in ?
+
+pub returns-in-Ok-end_by_fault-clause-ok : goal.returns-in-Ok-end_by_fault-clause-ok
+returns-in-Ok-end_by_fault-clause-ok c = let h = c.in-Err-Session in ?

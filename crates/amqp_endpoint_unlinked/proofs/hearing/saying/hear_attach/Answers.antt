@@ -7,7 +7,7 @@ use Rattle.amqp_endpoint_unlinked.proofs.hearing.saying.hear_attach.Goals as goa
 
 pub returns-in-Ok-clause-ok : goal.returns-in-Ok-clause-ok
 returns-in-Ok-clause-ok c =
-    attach_back c.args.talk.now c.args.channel c.args.attach c.in_ok-asked.value c.args.out.now.items
+    attach_back c.args.talk.now c.args.channel c.args.attach c.in_ok-asked.asked c.args.out.now.items
     c.args.events.now.items c.say.new.talk c.say.new.out.items c.tell_attach.new.events.items c.in-Ok.heard
     c.in_ok-asked.ensures c.in-Ok.ensures.answers c.tell_attach.ensures
 
@@ -20,16 +20,16 @@ returns-in-Ok-tell_refusal-clause-ok c =
     c.args.events.now.items c.say.new.talk c.say.new.out.items c.tell_refusal.new.events.items c.in-Err.refusal
     c.in-Err.ensures.answers c.in-Ok-tell_refusal.ensures)
 
-pub returns-in-Err-tell_refusal-clause-err : goal.returns-in-Err-tell_refusal-clause-err
-returns-in-Err-tell_refusal-clause-err c =
+pub returns-in-Err-clause-err : goal.returns-in-Err-clause-err
+returns-in-Err-clause-err c =
     let (fault, bars) =
     refused_bars c.args.talk.now c.args.channel (said.Attach c.args.attach Absent) c.args.out.now.items
     c.args.events.now.items c.say.new.talk c.say.new.out.items c.tell_refusal.new.events.items c.in-Err.refusal
     c.in-Err-tell_refusal.error c.in-Err.ensures.answers c.in-Err-tell_refusal.ensures in
     (fault, inl bars)
 
-pub returns-in-Err-tell_refusal-clause-kept : goal.returns-in-Err-tell_refusal-clause-kept
-returns-in-Err-tell_refusal-clause-kept c =
+pub returns-in-Err-clause-kept : goal.returns-in-Err-clause-kept
+returns-in-Err-clause-kept c =
     refused_kept c.args.talk.now c.args.channel (said.Attach c.args.attach Absent) c.args.out.now.items
     c.args.events.now.items c.say.new.talk c.say.new.out.items c.tell_refusal.new.events.items c.in-Err.refusal
     c.in-Err-tell_refusal.error c.in-Err.ensures.answers c.in-Err-tell_refusal.ensures
