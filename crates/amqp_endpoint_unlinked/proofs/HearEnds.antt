@@ -212,3 +212,9 @@ idle_same old new is idle = (same old new is).waits idle
 
 pub still_same : (old new : Talk) → new ≡ old → StandsStill (old.sessions).connection (new.sessions).connection
 still_same old new is = (same old new is).still
+
+-- a connection that stands from one to the next
+pub still_on : (old mid new : Talk) → StandsStill (old.sessions).connection (mid.sessions).connection
+    → StandsStill (mid.sessions).connection (new.sessions).connection
+    → StandsStill (old.sessions).connection (new.sessions).connection
+still_on old mid new a b = record { state = b.state ∙ a.state; opening = b.opening ∙ a.opening }

@@ -9,7 +9,7 @@ pub returns-in-Ok-clause-ok : goal.returns-in-Ok-clause-ok
 returns-in-Ok-clause-ok c =
     attach_back c.args.talk.now c.args.channel c.args.attach c.in_ok-asked.asked c.args.out.now.items
     c.args.events.now.items c.say.new.talk c.say.new.out.items c.tell_attach.new.events.items c.in-Ok.heard
-    c.in_ok-asked.ensures c.in-Ok.ensures.answers c.tell_attach.ensures
+    c.in_ok-asked.ensures.cases c.in-Ok.ensures.answers c.tell_attach.ensures
 
 pub returns-in-Ok-tell_refusal-clause-ok : goal.returns-in-Ok-tell_refusal-clause-ok
 returns-in-Ok-tell_refusal-clause-ok c =
@@ -20,16 +20,16 @@ returns-in-Ok-tell_refusal-clause-ok c =
     c.args.events.now.items c.say.new.talk c.say.new.out.items c.tell_refusal.new.events.items c.in-Err.refusal
     c.in-Err.ensures.answers c.in-Ok-tell_refusal.ensures)
 
-pub returns-in-Err-clause-err : goal.returns-in-Err-clause-err
-returns-in-Err-clause-err c =
+pub returns-clause-err : goal.returns-clause-err
+returns-clause-err c =
     let (fault, bars) =
     refused_bars c.args.talk.now c.args.channel (said.Attach c.args.attach Absent) c.args.out.now.items
     c.args.events.now.items c.say.new.talk c.say.new.out.items c.tell_refusal.new.events.items c.in-Err.refusal
     c.in-Err-tell_refusal.error c.in-Err.ensures.answers c.in-Err-tell_refusal.ensures in
     (fault, inl bars)
 
-pub returns-in-Err-clause-kept : goal.returns-in-Err-clause-kept
-returns-in-Err-clause-kept c =
+pub returns-clause-kept : goal.returns-clause-kept
+returns-clause-kept c =
     refused_kept c.args.talk.now c.args.channel (said.Attach c.args.attach Absent) c.args.out.now.items
     c.args.events.now.items c.say.new.talk c.say.new.out.items c.tell_refusal.new.events.items c.in-Err.refusal
     c.in-Err-tell_refusal.error c.in-Err.ensures.answers c.in-Err-tell_refusal.ensures

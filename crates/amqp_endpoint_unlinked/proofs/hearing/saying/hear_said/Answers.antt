@@ -12,14 +12,14 @@ returns-in-Ok-tell_refusal-clause-ok c =
     c.say.new.out.items c.tell_refusal.new.events.items c.in-Err.refusal c.in-Err.ensures.answers
     c.in-Ok-tell_refusal.ensures
 
-pub returns-in-Err-clause-err : goal.returns-in-Err-clause-err
-returns-in-Err-clause-err c =
+pub returns-clause-err : goal.returns-clause-err
+returns-clause-err c =
     refused_bars c.args.talk.now c.args.channel c.args.said c.args.out.now.items c.args.events.now.items c.say.new.talk
     c.say.new.out.items c.tell_refusal.new.events.items c.in-Err.refusal c.in-Err-tell_refusal.error
     c.in-Err.ensures.answers c.in-Err-tell_refusal.ensures
 
-pub returns-in-Err-clause-kept : goal.returns-in-Err-clause-kept
-returns-in-Err-clause-kept c =
+pub returns-clause-kept : goal.returns-clause-kept
+returns-clause-kept c =
     refused_kept c.args.talk.now c.args.channel c.args.said c.args.out.now.items c.args.events.now.items c.say.new.talk
     c.say.new.out.items c.tell_refusal.new.events.items c.in-Err.refusal c.in-Err-tell_refusal.error
     c.in-Err.ensures.answers c.in-Err-tell_refusal.ensures
