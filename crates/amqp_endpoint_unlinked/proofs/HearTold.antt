@@ -185,17 +185,6 @@ module _ (old : Talk) (channel : IncomingChannel) (begin : Begin) (out : List Se
         are_told = f.are_told;
       }
 
-  -- the same by equal numbers and faults
-  pub begin_failed_so : (mid : Talk) (out_mid : List SessionFrame) (new : Talk) (out_new : List SessionFrame)
-      (told_new : List Event) (n number : ℕ) (f fault : SessionError) → n ≡ number → f ≡ fault
-      → BeginHere old channel begin (Err (begin_refusal.Session number fault)) out mid out_mid
-      → FaultEnds mid n f out_mid told new out_new told_new
-      → HandsBack old channel (body.Begin begin) out told new out_new told_new
-  begin_failed_so mid out_mid new out_new told_new n number f fault same is b ended =
-      begin_failed mid out_mid new out_new told_new number fault b
-      (subst (λ (m : ℕ). FaultEnds mid m fault out_mid told new out_new told_new) same
-      (subst (λ (w : SessionError). FaultEnds mid n w out_mid told new out_new told_new) is ended))
-
   pub begin_untold : (mid : Talk) (out_mid : List SessionFrame) (new : Talk) (number : ℕ) (fault : SessionError)
       (e : EndpointError) → BeginHere old channel begin (Err (begin_refusal.Session number fault)) out mid out_mid
       → e ≡ Memory → new ≡ mid → IsSessionFault e × Bars old channel (body.Begin begin) e new

@@ -40,13 +40,15 @@ pub(super) fn hear_begin(
             tell_begin(heard, channel, events);
             Ok(())
         }
-        Err(BeginRefusal::Connection(error)) => Err(EndpointError::from(error)),
-        Err(BeginRefusal::Session(number, fault)) => {
-            match end_by_fault(talk, alloc, number, fault, out, events) {
-                Ok(()) => Ok(()),
-                Err(error) => Err(error),
+        Err(refusal) => match refusal {
+            BeginRefusal::Connection(error) => Err(EndpointError::from(error)),
+            BeginRefusal::Session(number, fault) => {
+                match end_by_fault(talk, alloc, number, fault, out, events) {
+                    Ok(()) => Ok(()),
+                    Err(error) => Err(error),
+                }
             }
-        }
+        },
     }
 }
 

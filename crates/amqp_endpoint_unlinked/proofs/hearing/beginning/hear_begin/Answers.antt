@@ -8,7 +8,7 @@ use Rattle.amqp_endpoint_conversation.specs.Beginning.{BeginAnswered}
 use Rattle.amqp_endpoint_model.specs.Refusals.{of_connection}
 use Rattle.amqp_endpoint_unlinked.specs.NoLink.{no_link}
 use Rattle.amqp_endpoint_unlinked.proofs.HearEnds.{BeginHere, begin-barred, begin-fault, begin-refused, begin-taken, still_on}
-use Rattle.amqp_endpoint_unlinked.proofs.HearTold.{begin_back, begin_bars, begin_failed_so, begin_untold}
+use Rattle.amqp_endpoint_unlinked.proofs.HearTold.{begin_back, begin_bars, begin_failed, begin_untold}
 use Rattle.amqp_endpoint_unlinked.proofs.hearing.beginning.hear_begin.Goals as goal
 
 pub returns-in-Ok-clause-ok : goal.returns-in-Ok-clause-ok
@@ -30,13 +30,13 @@ returns-in-Ok-clause-still c =
     c.on_incoming_begin.new.out.items c.requires.waiting c.in-Ok.heard c.in-Ok.ensures).still
 
 -- the connection refuses it
-pub returns-in-Err-Connection : goal.returns-in-Err-Connection
-returns-in-Err-Connection c =
-    let arm = c.in-Err-Connection in
+pub returns-in-Connection : goal.returns-in-Connection
+returns-in-Connection c =
+    let arm = c.in-Connection in
     let answered =
-    subst (λ (r : Result BeginHeard BeginRefusal). BeginAnswered no_link c.args.talk.now c.args.out.now.items
-    c.args.channel c.args.begin r c.on_incoming_begin.new.self c.on_incoming_begin.new.out.items)
-    (arm.is ∙ ap (λ (r : BeginRefusal). Err r) arm.field-0-is) c.on_incoming_begin.ensures in
+    subst (λ (r : BeginRefusal). BeginAnswered no_link c.args.talk.now c.args.out.now.items
+    c.args.channel c.args.begin (Err r) c.on_incoming_begin.new.self c.on_incoming_begin.new.out.items)
+    arm.is c.in-Err.ensures in
     let here =
     begin-barred c.args.talk.now c.args.channel c.args.begin c.args.out.now.items c.on_incoming_begin.new.self
     c.on_incoming_begin.new.out.items c.requires.waiting arm.error answered in
@@ -47,23 +47,72 @@ returns-in-Err-Connection c =
           c.on_incoming_begin.new.self c.on_incoming_begin.new.out.items arm.error c.from.result here
           (begin-fault c.args.talk.now c.args.channel c.args.begin c.args.out.now.items c.on_incoming_begin.new.self
           c.on_incoming_begin.new.out.items arm.error answered)
-          (c.from.ensures ∙ ap of_connection arm.error-is);
-      kept = (here.kept, refl);
+          c.from.ensures;
+      kept = (here.kept, refl {a = c.args.events.now.items});
       waits = here.waits;
       still = here.still;
     }
 
--- the session does: it ended by its fault, unless there was no memory for that
+-- the session does: it ends by its fault, unless there is no memory for that
+pub end_by_fault-requires-clause-waiting : goal.end_by_fault-requires-clause-waiting
+end_by_fault-requires-clause-waiting c =
+    (begin-refused c.args.talk.now c.args.channel c.args.begin c.args.out.now.items c.on_incoming_begin.new.self
+    c.on_incoming_begin.new.out.items c.requires.waiting c.in-Session.number c.in-Session.fault
+    (subst (λ (r : BeginRefusal). BeginAnswered no_link c.args.talk.now c.args.out.now.items
+    c.args.channel c.args.begin (Err r) c.on_incoming_begin.new.self c.on_incoming_begin.new.out.items)
+    c.in-Session.is c.in-Err.ensures)).waits
+
 pub returns-in-Ok-end_by_fault-clause-ok : goal.returns-in-Ok-end_by_fault-clause-ok
 returns-in-Ok-end_by_fault-clause-ok c =
-    let arm = c.in-Err-Session in
-    let answered =
-    subst (λ (r : Result BeginHeard BeginRefusal). BeginAnswered no_link c.args.talk.now c.args.out.now.items
-    c.args.channel c.args.begin r c.on_incoming_begin.new.self c.on_incoming_begin.new.out.items)
-    (arm.is ∙ ap (λ (r : BeginRefusal). Err r) arm.field-0-is) c.on_incoming_begin.ensures in
-    begin_failed_so c.args.talk.now c.args.channel c.args.begin c.args.out.now.items c.args.events.now.items
+    begin_failed c.args.talk.now c.args.channel c.args.begin c.args.out.now.items c.args.events.now.items
     c.on_incoming_begin.new.self c.on_incoming_begin.new.out.items c.end_by_fault.new.talk
-    c.end_by_fault.new.out.items c.end_by_fault.new.events.items _ arm.number _ arm.fault arm.number-is arm.fault-is
+    c.end_by_fault.new.out.items c.end_by_fault.new.events.items c.in-Session.number c.in-Session.fault
     (begin-refused c.args.talk.now c.args.channel c.args.begin c.args.out.now.items c.on_incoming_begin.new.self
-    c.on_incoming_begin.new.out.items c.requires.waiting arm.number arm.fault answered)
+    c.on_incoming_begin.new.out.items c.requires.waiting c.in-Session.number c.in-Session.fault
+    (subst (λ (r : BeginRefusal). BeginAnswered no_link c.args.talk.now c.args.out.now.items
+    c.args.channel c.args.begin (Err r) c.on_incoming_begin.new.self c.on_incoming_begin.new.out.items)
+    c.in-Session.is c.in-Err.ensures))
     c.in-Ok-end_by_fault.ensures.ok
+
+pub returns-in-Ok-end_by_fault-clause-still : goal.returns-in-Ok-end_by_fault-clause-still
+returns-in-Ok-end_by_fault-clause-still c =
+    still_on c.args.talk.now c.on_incoming_begin.new.self c.end_by_fault.new.talk
+    (begin-refused c.args.talk.now c.args.channel c.args.begin c.args.out.now.items c.on_incoming_begin.new.self
+    c.on_incoming_begin.new.out.items c.requires.waiting c.in-Session.number c.in-Session.fault
+    (subst (λ (r : BeginRefusal). BeginAnswered no_link c.args.talk.now c.args.out.now.items
+    c.args.channel c.args.begin (Err r) c.on_incoming_begin.new.self c.on_incoming_begin.new.out.items)
+    c.in-Session.is c.in-Err.ensures)).still
+    c.end_by_fault.ensures.still
+
+pub returns-in-Err-end_by_fault-clause-err : goal.returns-in-Err-end_by_fault-clause-err
+returns-in-Err-end_by_fault-clause-err c =
+    begin_untold c.args.talk.now c.args.channel c.args.begin c.args.out.now.items c.args.events.now.items
+    c.on_incoming_begin.new.self c.on_incoming_begin.new.out.items c.end_by_fault.new.talk c.in-Session.number
+    c.in-Session.fault c.in-Err-end_by_fault.error
+    (begin-refused c.args.talk.now c.args.channel c.args.begin c.args.out.now.items c.on_incoming_begin.new.self
+    c.on_incoming_begin.new.out.items c.requires.waiting c.in-Session.number c.in-Session.fault
+    (subst (λ (r : BeginRefusal). BeginAnswered no_link c.args.talk.now c.args.out.now.items
+    c.args.channel c.args.begin (Err r) c.on_incoming_begin.new.self c.on_incoming_begin.new.out.items)
+    c.in-Session.is c.in-Err.ensures))
+    c.in-Err-end_by_fault.ensures.err c.in-Err-end_by_fault.ensures.kept.0
+
+pub returns-in-Err-end_by_fault-clause-kept : goal.returns-in-Err-end_by_fault-clause-kept
+returns-in-Err-end_by_fault-clause-kept c =
+    let kept = c.in-Err-end_by_fault.ensures.kept in (
+      kept.1 ∙ (begin-refused c.args.talk.now c.args.channel c.args.begin c.args.out.now.items c.on_incoming_begin.new.self
+          c.on_incoming_begin.new.out.items c.requires.waiting c.in-Session.number c.in-Session.fault
+          (subst (λ (r : BeginRefusal). BeginAnswered no_link c.args.talk.now c.args.out.now.items
+          c.args.channel c.args.begin (Err r) c.on_incoming_begin.new.self c.on_incoming_begin.new.out.items)
+          c.in-Session.is c.in-Err.ensures)).kept,
+      kept.2,
+    )
+
+pub returns-in-Err-end_by_fault-clause-still : goal.returns-in-Err-end_by_fault-clause-still
+returns-in-Err-end_by_fault-clause-still c =
+    still_on c.args.talk.now c.on_incoming_begin.new.self c.end_by_fault.new.talk
+    (begin-refused c.args.talk.now c.args.channel c.args.begin c.args.out.now.items c.on_incoming_begin.new.self
+    c.on_incoming_begin.new.out.items c.requires.waiting c.in-Session.number c.in-Session.fault
+    (subst (λ (r : BeginRefusal). BeginAnswered no_link c.args.talk.now c.args.out.now.items
+    c.args.channel c.args.begin (Err r) c.on_incoming_begin.new.self c.on_incoming_begin.new.out.items)
+    c.in-Session.is c.in-Err.ensures)).still
+    c.end_by_fault.ensures.still
