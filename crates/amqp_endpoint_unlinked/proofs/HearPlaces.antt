@@ -1,5 +1,5 @@
 -- Where nothing waits in a session: what steps of the sessions keep so, and of their connection.
-use Rattle.std.proofs.Common.{◌≡◌, ℕ, zero, suc, List, [], ◌∷◌, ◌++◌, Option, Some, None, Result, Ok, refl, sym, ap, subst, ◌∙◌, slice_get, slice_set, slice_index_or, false}
+use Rattle.std.proofs.Common.{◌≡◌, ℕ, zero, suc, List, [], ◌∷◌, ◌++◌, Option, Some, None, sym, ap, subst, ◌∙◌, slice_get, slice_set, slice_index_or, false}
 use Rattle.std.specs.FinMap as map
 use Rattle.std.specs.Global.{Box}
 use Rattle.std.proofs.lemmas.Option.{none-some, same_Some}
@@ -9,14 +9,12 @@ use Rattle.amqp_session_performatives.specs.declared.begin.Begin.{Begin}
 use Rattle.amqp_session_performatives.specs.declared.end.End.{End}
 use Rattle.amqp_session_connection.specs.State as channels
 use Rattle.amqp_session_connection.specs.Steps.{DeallocateSession}
-use Rattle.amqp_session_core.specs.State as session
-use Rattle.amqp_session_outgoing.specs.State as sending
 use Rattle.amqp_endpoint_asked.specs.declared.session.AskedSession.{AskedSession}
 use Rattle.amqp_endpoint_links.specs.declared.asking.AskingSession.{AskingSession}
 use Rattle.amqp_endpoint_sessions.specs.declared.place.PeerEnd.TheVariants.{Missing}
 use Rattle.amqp_endpoint_sessions.specs.declared.place.Place.{Place}
 use Rattle.amqp_endpoint_sessions.specs.declared.place.Place.TheVariants.{Asked, Live, Ending, Over}
-use Rattle.amqp_endpoint_sessions.specs.State.{State, ended_place, live_at, live_of, with_asked, with_live}
+use Rattle.amqp_endpoint_sessions.specs.State.{ended_place, live_of, with_asked, with_live}
 use Rattle.amqp_endpoint_sessions.specs.Steps.{Steps, Asks, ChangesAsked, ChangesLive, Ends, TakesBegin, TakesChannelBack, TakesEnd}
 use Rattle.amqp_endpoint_conversation.specs.Beginning.{Sessions}
 use Rattle.amqp_endpoint_model.specs.Relay.{StandsStill}

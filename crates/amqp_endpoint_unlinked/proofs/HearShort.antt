@@ -1,14 +1,12 @@
 -- The frames that sessions without links hand out are short: Ends of their own, and Flows of a session.
-use Rattle.std.proofs.Common.{◌≡◌, inl, inr, ℕ, zero, suc, ◌<◌, List, [], ◌∷◌, ◌++◌, length, Option, Some, None, false, true, refl, sym, ap, subst, arith, ◌∙◌, slice_index_or}
-use Rattle.std.specs.Prelude.{◌+◌, ◌-◌, ◌⊎◌, All}
+use Rattle.std.proofs.Common.{◌≡◌, inl, inr, ℕ, zero, suc, List, [], ◌∷◌, ◌++◌, length, Some, None, false, true, refl, sym, ap, subst, arith, ◌∙◌, slice_index_or}
+use Rattle.std.specs.Prelude.{◌+◌, ◌-◌, ◌⊎◌}
 use Rattle.std.proofs.lemmas.List.{get_or_push, length-append}
 use Rattle.amqp_session_types.specs.declared.channels.OutgoingChannel.{OutgoingChannel}
-use Rattle.amqp_session_types.specs.declared.error.Error.{Error}
 use Rattle.amqp_session_types.specs.declared.refusals.SessionError.{SessionError}
 use Rattle.amqp_session_types.specs.declared.refusals.SessionError.TheVariants.{HandleInUse, UnattachedHandle}
 use Rattle.amqp_session_performatives.specs.declared.flow.Flow.{Flow}
 use Rattle.amqp_session_performatives.specs.declared.session_frame.SessionFrame.{SessionFrame}
-use Rattle.amqp_session_performatives.specs.declared.session_frame.SessionFrameBody.{SessionFrameBody}
 use Rattle.amqp_session_performatives.specs.declared.session_frame.SessionFrameBody.TheVariants as body
 use Rattle.amqp_session_core.specs.declared.fields.SessionFields.{SessionFields}
 use Rattle.amqp_session_core.specs.Frames.{session_flow}

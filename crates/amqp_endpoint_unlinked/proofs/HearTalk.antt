@@ -6,7 +6,6 @@ use Rattle.amqp_session_types.specs.declared.refusals.SessionError.{SessionError
 use Rattle.amqp_session_types.specs.declared.refusals.SessionError.TheVariants.{Memory as NoMemory}
 use Rattle.amqp_session_performatives.specs.declared.session_frame.SessionFrame.{SessionFrame}
 use Rattle.amqp_endpoint_asked.specs.declared.session.AskedSession.{AskedSession}
-use Rattle.amqp_endpoint_links.specs.declared.asking.AskingSession.{AskingSession}
 use Rattle.amqp_endpoint_links.specs.declared.hearing.LinkPerformative.{LinkPerformative}
 use Rattle.amqp_endpoint_links.specs.Hearing.{Hears}
 use Rattle.amqp_endpoint_sessions.specs.State.{asked_at, live_at, reached}
@@ -14,13 +13,11 @@ use Rattle.amqp_endpoint_conversation.specs.declared.hearing.Heard.{Heard}
 use Rattle.amqp_endpoint_conversation.specs.declared.hearing.Heard.TheVariants.{Live, Asked, Dropped}
 use Rattle.amqp_endpoint_conversation.specs.declared.hearing.HearRefusal.{HearRefusal}
 use Rattle.amqp_endpoint_conversation.specs.declared.hearing.HearRefusal.TheVariants.{Memory, NotFound, Asked as AskedRefuses, Session}
-use Rattle.amqp_endpoint_conversation.specs.Ending.{EndsHere, end_frame}
+use Rattle.amqp_endpoint_conversation.specs.Ending.{end_frame}
 use Rattle.amqp_endpoint_conversation.specs.Faults.{fault_error}
-use Rattle.amqp_endpoint_conversation.specs.Hearing.{Answered, AnsweredAt, AnsweredIn, AskedAnswered, LiveAnswered, LiveGoesOn, LiveHears, LiveRefuses}
-use Rattle.amqp_endpoint_model.specs.Relay.{StandsStill}
+use Rattle.amqp_endpoint_conversation.specs.Hearing.{Answered, AnsweredAt, AnsweredIn, AskedAnswered, LiveAnswered, LiveHears, LiveRefuses}
 use Rattle.amqp_endpoint_unlinked.specs.declared.no_link.NoLink.{NoLink}
 use Rattle.amqp_endpoint_unlinked.specs.NoLink.{Talk, no_link}
-use Rattle.amqp_endpoint_unlinked.specs.Ending.{NothingWaits}
 use Rattle.amqp_endpoint_unlinked.specs.Handed.{AllShort}
 use Rattle.amqp_endpoint_unlinked.specs.Saying.{Answers, IsSilent}
 use Rattle.amqp_endpoint_unlinked.proofs.HearPlaces.{AllIdle, Goes, IsQuiet, Lone, Own, changes_asked, changes_live, ends, on, stays}

@@ -1,6 +1,6 @@
 -- What the sessions' answers to the peer's frames come to, and what is told of them.
 use Rattle.std.specs.Prelude.{⊤, IfErr, OnOk}
-use Rattle.std.proofs.Common.{◌≡◌, inl, inr, ℕ, List, [], ◌∷◌, ◌++◌, Option, Some, None, Result, Ok, Err, refl, sym, ap, subst, ◌∙◌, append-nil}
+use Rattle.std.proofs.Common.{◌≡◌, inl, inr, ℕ, List, [], ◌∷◌, ◌++◌, Result, Ok, Err, refl, sym, ap, subst, ◌∙◌, append-nil}
 use Rattle.amqp_session_types.specs.declared.channels.IncomingChannel.{IncomingChannel}
 use Rattle.amqp_session_types.specs.declared.refusals.ConnectionError.{ConnectionError}
 use Rattle.amqp_session_types.specs.declared.refusals.SessionError.{SessionError}

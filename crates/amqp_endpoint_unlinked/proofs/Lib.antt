@@ -1,6 +1,6 @@
-pub mod HearPlaces
-pub mod HearSession
-pub mod HearShort
-pub mod HearTalk
-pub mod HearEnds
-pub mod HearTold
+mod HearPlaces
+mod HearSession
+mod HearShort
+mod HearTalk
+mod HearEnds
+mod HearTold

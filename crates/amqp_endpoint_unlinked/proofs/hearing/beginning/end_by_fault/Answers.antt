@@ -1,4 +1,3 @@
-use Rattle.std.proofs.Common.{refl}
 use Rattle.amqp_endpoint_unlinked.proofs.HearEnds.{fault-ends, fault-goes, idle_same, still_same}
 use Rattle.amqp_endpoint_unlinked.proofs.hearing.beginning.end_by_fault.Goals as goal
 

@@ -1,13 +1,8 @@
-use Rattle.std.proofs.Common.{◌≡◌, Err, refl, ap, subst, ◌∙◌}
-use Rattle.std.specs.Prelude.{Result}
-use Rattle.amqp_session_types.specs.declared.refusals.ConnectionError.{ConnectionError}
-use Rattle.amqp_endpoint_conversation.specs.declared.beginning.BeginHeard.{BeginHeard}
+use Rattle.std.proofs.Common.{Err, refl, subst, ◌∙◌}
 use Rattle.amqp_endpoint_conversation.specs.declared.beginning.BeginRefusal.{BeginRefusal}
-use Rattle.amqp_endpoint_conversation.specs.declared.beginning.BeginRefusal.TheVariants.{Connection, Session}
 use Rattle.amqp_endpoint_conversation.specs.Beginning.{BeginAnswered}
-use Rattle.amqp_endpoint_model.specs.Refusals.{of_connection}
 use Rattle.amqp_endpoint_unlinked.specs.NoLink.{no_link}
-use Rattle.amqp_endpoint_unlinked.proofs.HearEnds.{BeginHere, begin-barred, begin-fault, begin-refused, begin-taken, still_on}
+use Rattle.amqp_endpoint_unlinked.proofs.HearEnds.{begin-barred, begin-fault, begin-refused, begin-taken, still_on}
 use Rattle.amqp_endpoint_unlinked.proofs.HearTold.{begin_back, begin_bars, begin_failed, begin_untold}
 use Rattle.amqp_endpoint_unlinked.proofs.hearing.beginning.hear_begin.Goals as goal
 

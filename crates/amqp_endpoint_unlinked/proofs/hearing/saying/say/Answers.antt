@@ -1,4 +1,4 @@
-use Rattle.amqp_endpoint_unlinked.proofs.HearTalk.{Answer, Answering, answering, answers_so}
+use Rattle.amqp_endpoint_unlinked.proofs.HearTalk.{answering, answers_so}
 use Rattle.amqp_endpoint_unlinked.proofs.hearing.saying.say.Goals as goal
 
 pub returns-clause-answers : goal.returns-clause-answers
