@@ -46,7 +46,8 @@ module _ (old new : AskingSession NoLink) (out out_new : List SessionFrame) (cha
 
   begun-alone : BeginTaken no_link old.session [] channel begin new.session []
   begun-alone =
-      subst (λ (fs : List SessionFrame). BeginTaken no_link old.session [] channel begin new.session fs) begun-still.1 moved
+      subst (λ (fs : List SessionFrame). BeginTaken no_link old.session [] channel begin new.session fs) begun-still.1
+      moved
 
   begun-silent : out_new ≡ out
   begun-silent = t.added ∙ ap (λ (fs : List SessionFrame). out ++ fs) begun-still.1 ∙ append-nil out
@@ -109,13 +110,21 @@ module _ (old : Talk) (channel : IncomingChannel) (begin : Begin) (out : List Se
       (takes_begin old.sessions new.sessions number channel begin led.stepped)
   begin-barred e t = here (Err (Connection e)) (t.0, t.1, refl) t.2 (same old new t.1)
 
-  pub begin-refused : (number : ℕ) (fault : SessionError)
+  barred-here : (number : ℕ) (fault : SessionError)
       → BeginAnswered no_link old out channel begin (Err (Session number fault)) new out_new
       → BeginHere old channel begin (Err (Session number fault)) out new out_new
-  begin-refused number IllegalState t =
+  barred-here number IllegalState t =
       here (Err (Session number IllegalState)) (t.0, refl) t.1
       (takes_begin old.sessions new.sessions number channel begin (((t.0).led).stepped))
-  begin-refused number e t = absurd t
+  barred-here number e t = absurd t
+
+  -- the session refuses it
+  pub begin-refused : (refusal : BeginRefusal) (number : ℕ) (fault : SessionError) → refusal ≡ Session number fault
+      → BeginAnswered no_link old out channel begin (Err refusal) new out_new
+      → BeginHere old channel begin (Err (Session number fault)) out new out_new
+  begin-refused refusal number fault is t =
+      barred-here number fault
+      (subst (λ (r : BeginRefusal). BeginAnswered no_link old out channel begin (Err r) new out_new) is t)
 
 -- why the connection refuses it
 named-fault : (old : Talk) (channel : IncomingChannel) (begin : Begin) (e : ConnectionError) (named : Option ℕ)

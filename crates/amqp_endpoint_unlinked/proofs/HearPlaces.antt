@@ -38,7 +38,8 @@ abbrev pub Idle : Stood → Type 0
 Idle place = (session : Lone) → live_of (Some place) ≡ Some session → IsQuiet session.value
 
 abbrev pub AllIdle : List Stood → Type 0
-AllIdle places = (number : ℕ) (session : Lone) → live_of (slice_get places number) ≡ Some session → IsQuiet session.value
+AllIdle places =
+    (number : ℕ) (session : Lone) → live_of (slice_get places number) ≡ Some session → IsQuiet session.value
 
 put : (places : List Stood) (i : ℕ) (x : Stood) → AllIdle places → Idle x → AllIdle (slice_set places i x)
 put [] i x all idle n session live = all n session live
@@ -165,9 +166,15 @@ changes_live old new number before after s keeps =
 given-back : (old : channels.State) (channel : ℕ) (had : Option ℕ) (new : channels.State)
     → DeallocateSession old channel had new → StandsStill old new
 given-back old channel None new d =
-    record { state = ap (λ (c : channels.State). c.local_state) d; opening = ap (λ (c : channels.State). c.local_open) d }
+    record {
+      state = ap (λ (c : channels.State). c.local_state) d;
+      opening = ap (λ (c : channels.State). c.local_open) d;
+    }
 given-back old channel (Some n) new d =
-    record { state = ap (λ (c : channels.State). c.local_state) d; opening = ap (λ (c : channels.State). c.local_open) d }
+    record {
+      state = ap (λ (c : channels.State). c.local_state) d;
+      opening = ap (λ (c : channels.State). c.local_open) d;
+    }
 
 back : (old new : channels.State) (incoming : IncomingChannel) (end : End) (number : ℕ) (outgoing : OutgoingChannel)
     → TakesChannelBack old incoming end number outgoing new → StandsStill old new

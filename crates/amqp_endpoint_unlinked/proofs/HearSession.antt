@@ -1,5 +1,5 @@
--- What a session without links makes of what the peer says in it: nothing but an answered Flow leaves by it, and nothing
--- waits then that didn't wait before.
+-- What a session without links makes of what the peer says in it: nothing leaves by it but the session's own Flow, and
+-- nothing waits then that didn't wait before.
 use Rattle.std.proofs.Common.{◌≡◌, inl, inr, ℕ, List, [], ◌∷◌, ◌++◌, Bool, true, false, Option, Some, None, Result, Ok, Err, refl, sym, ap, subst, ◌∙◌, append-nil}
 use Rattle.std.specs.Prelude.{◌⊎◌, ⊤, OnErr, is_some}
 use Rattle.std.specs.FinMap as map
@@ -115,8 +115,9 @@ none-leaves old new (s ∷ more) empty (mid, sends, rest) =
     absurd (subst (λ (qs : List _). TakesTurn qs (s.handle).0 sends.taken mid.queues) empty sends.turn)
 
 -- a Flow reaches no link
-unlinked : (links : List (Option NoLink)) (routes : RouteTable) (flow : FlowFrame) (handle : Option Handle) (told : Told)
-    (new : List (Option NoLink)) → FlowAt no_link links routes flow handle told new → (handle ≡ None) × (told ≡ None)
+unlinked : (links : List (Option NoLink)) (routes : RouteTable) (flow : FlowFrame) (handle : Option Handle)
+    (told : Told) (new : List (Option NoLink)) → FlowAt no_link links routes flow handle told new
+    → (handle ≡ None) × (told ≡ None)
 unlinked links routes flow None None new at = (refl, refl)
 unlinked links routes flow None (Some told) new at = absurd at
 unlinked links routes flow (Some handle) None new at = absurd at
@@ -152,11 +153,13 @@ flow-taken old new flow r out out_new still t =
     let reply = own-reply flow t.reply (subst (λ (told : Told). IsReply flow told t.reply) alone.1 step.is_reply) in
     let mid : step.mid ≡ old.outgoing = stands old.outgoing step.mid t.reply reply step.replied in
     let waits : (step.mid).queues ≡ [] = ap (λ (s : Side). s.queues) mid ∙ still in
-    let none = none-leaves (sending.with_window step.mid t.base flow.incoming_window) new.outgoing t.left waits (step.window.0) in
-    let said : t.frames ≡ reply_frames new.fields (old.outgoing).next_outgoing_id t.reply =
+    let none =
+    none-leaves (sending.with_window step.mid t.base flow.incoming_window) new.outgoing t.left waits (step.window.0) in
+    let number = (old.outgoing).next_outgoing_id in
+    let said : t.frames ≡ reply_frames new.fields number t.reply =
     step.frames_are
-    ∙ ap (λ (left : Left). reply_frames new.fields (old.outgoing).next_outgoing_id t.reply ++ frames_left new.fields left) none.0
-    ∙ append-nil (reply_frames new.fields (old.outgoing).next_outgoing_id t.reply) in
+    ∙ ap (λ (left : Left). reply_frames new.fields number t.reply ++ frames_left new.fields left) none.0
+    ∙ append-nil (reply_frames new.fields number t.reply) in
     record {
       frames = t.frames;
       says =
@@ -173,12 +176,15 @@ flow-taken old new flow r out out_new still t =
       waits = ap (λ (s : Side). s.queues) none.1 ∙ waits;
       queued = t.added;
       flow = own-frames new.fields (old.outgoing).next_outgoing_id t.reply t.frames said reply;
-      silent = no-error (t.frames ≡ []) t.told r alone.1 (subst (λ (h : Option Handle). flow_answer h t.told r) alone.0 t.answered);
+      silent =
+          no-error (t.frames ≡ []) t.told r alone.1
+          (subst (λ (h : Option Handle). flow_answer h t.told r) alone.0 t.answered);
     }
 
 flow-unattached : (old new : Lone) (flow : FlowFrame) (r : Result ⊤ SessionError) (out out_new : List SessionFrame)
     → IsStill old → FlowUnattached no_link old out flow r new out_new
-    → Behind r (λ (frames : List SessionFrame). FlowUnattached no_link old [] flow r new frames) (IsStill new) out out_new
+    → Behind r (λ (frames : List SessionFrame). FlowUnattached no_link old [] flow r new frames) (IsStill new) out
+    out_new
 flow-unattached old new flow r out out_new still t =
     quiet r (λ (frames : List SessionFrame). FlowUnattached no_link old [] flow r new frames) (IsStill new) out out_new
     (record { refused = t.refused; base = t.base; stepped = t.stepped; same = refl })
@@ -258,8 +264,8 @@ flow-heard old new flow (Err e) out out_new still h =
     (flow-at (is_asked old.asked flow.handle) old new flow (Err e) out out_new still h)
 
 -- what isn't a Flow leaves what waits as it was
-attach-still : (old new : AskingSession NoLink) (attach : AttachFrame) (named : NamedLink) (r : Result Taken SessionError)
-    → HearsAttach no_link old attach named r new → IsQuiet old → IsQuiet new
+attach-still : (old new : AskingSession NoLink) (attach : AttachFrame) (named : NamedLink)
+    (r : Result Taken SessionError) → HearsAttach no_link old attach named r new → IsQuiet old → IsQuiet new
 attach-still old new attach named (Ok (taken.Attach told)) h still =
     (attach-waits no_link old attach named (Ok told) new h).queues ∙ still
 attach-still old new attach named (Ok other) h still = absurd h
@@ -332,8 +338,8 @@ hearing old new (Attach attach named) r out out_new still h =
     out out_new (h.0, refl) (attach-still old new attach named r h.0 still) h.1
 hearing old new (Flow flow) r out out_new still h = flow-heard old new flow r out out_new still h
 hearing old new (Transfer transfer payload) r out out_new still h =
-    quiet r (λ (frames : List SessionFrame). Hears no_link old [] (Transfer transfer payload) r new frames) (IsQuiet new)
-    out out_new (h.0, refl) (transfer-still old new transfer payload r h.0 still) h.1
+    quiet r (λ (frames : List SessionFrame). Hears no_link old [] (Transfer transfer payload) r new frames)
+    (IsQuiet new) out out_new (h.0, refl) (transfer-still old new transfer payload r h.0 still) h.1
 hearing old new (Disposition disposition) r out out_new still h =
     quiet r (λ (frames : List SessionFrame). Hears no_link old [] (Disposition disposition) r new frames) (IsQuiet new)
     out out_new (h.0, refl) (disposition-still old new disposition r h.0 still) h.1

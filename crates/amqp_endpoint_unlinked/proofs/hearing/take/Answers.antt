@@ -15,48 +15,60 @@ returns-in-End-clause-err c =
 
 pub returns-in-Flow-clause-ok : goal.returns-in-Flow-clause-ok
 returns-in-Flow-clause-ok c =
-    hands_if c.args.talk.now c.args.channel (said.Flow c.in-Flow.flow) c.args.out.now.items
-    c.args.events.now.items c.hear_said.new.talk c.hear_said.new.out.items c.hear_said.new.events.items
-    c.args.body (body.Flow c.in-Flow.flow) c.in-Flow.is (λ frames events says. says)
-    c.hear_said.result c.hear_said.ensures.ok
+    let arm = c.in-Flow in
+    let heard = c.hear_said in
+    hands_if c.args.talk.now c.args.channel (said.Flow arm.flow) c.args.out.now.items
+    c.args.events.now.items heard.new.talk heard.new.out.items heard.new.events.items c.args.body
+    (body.Flow arm.flow) arm.is (λ frames events says. says) heard.result heard.ensures.ok
 
 pub returns-in-Flow-clause-err : goal.returns-in-Flow-clause-err
 returns-in-Flow-clause-err c =
-    refuses_if c.args.talk.now c.args.channel c.hear_said.new.talk c.args.body
-    (body.Flow c.in-Flow.flow) c.in-Flow.is c.hear_said.result c.hear_said.ensures.err
+    let arm = c.in-Flow in
+    let heard = c.hear_said in
+    refuses_if c.args.talk.now c.args.channel heard.new.talk c.args.body (body.Flow arm.flow) arm.is
+    heard.result heard.ensures.err
 
 pub returns-in-Transfer-clause-ok : goal.returns-in-Transfer-clause-ok
 returns-in-Transfer-clause-ok c =
-    hands_if c.args.talk.now c.args.channel (said.Transfer c.in-Transfer.performative c.in-Transfer.payload) c.args.out.now.items
-    c.args.events.now.items c.hear_said-in-Transfer.new.talk c.hear_said-in-Transfer.new.out.items c.hear_said-in-Transfer.new.events.items
-    c.args.body (body.Transfer c.in-Transfer.performative c.in-Transfer.payload) c.in-Transfer.is (λ frames events says. says)
-    c.hear_said-in-Transfer.result c.hear_said-in-Transfer.ensures.ok
+    let arm = c.in-Transfer in
+    let heard = c.hear_said-in-Transfer in
+    hands_if c.args.talk.now c.args.channel (said.Transfer arm.performative arm.payload) c.args.out.now.items
+    c.args.events.now.items heard.new.talk heard.new.out.items heard.new.events.items c.args.body
+    (body.Transfer arm.performative arm.payload) arm.is (λ frames events says. says) heard.result heard.ensures.ok
 
 pub returns-in-Transfer-clause-err : goal.returns-in-Transfer-clause-err
 returns-in-Transfer-clause-err c =
-    refuses_if c.args.talk.now c.args.channel c.hear_said-in-Transfer.new.talk c.args.body
-    (body.Transfer c.in-Transfer.performative c.in-Transfer.payload) c.in-Transfer.is c.hear_said-in-Transfer.result c.hear_said-in-Transfer.ensures.err
+    let arm = c.in-Transfer in
+    let heard = c.hear_said-in-Transfer in
+    refuses_if c.args.talk.now c.args.channel heard.new.talk c.args.body
+    (body.Transfer arm.performative arm.payload) arm.is heard.result heard.ensures.err
 
 pub returns-in-Disposition-clause-ok : goal.returns-in-Disposition-clause-ok
 returns-in-Disposition-clause-ok c =
-    hands_if c.args.talk.now c.args.channel (said.Disposition c.in-Disposition.disposition) c.args.out.now.items
-    c.args.events.now.items c.hear_said-in-Disposition.new.talk c.hear_said-in-Disposition.new.out.items c.hear_said-in-Disposition.new.events.items
-    c.args.body (body.Disposition c.in-Disposition.disposition) c.in-Disposition.is (λ frames events says. says)
-    c.hear_said-in-Disposition.result c.hear_said-in-Disposition.ensures.ok
+    let arm = c.in-Disposition in
+    let heard = c.hear_said-in-Disposition in
+    hands_if c.args.talk.now c.args.channel (said.Disposition arm.disposition) c.args.out.now.items
+    c.args.events.now.items heard.new.talk heard.new.out.items heard.new.events.items c.args.body
+    (body.Disposition arm.disposition) arm.is (λ frames events says. says) heard.result heard.ensures.ok
 
 pub returns-in-Disposition-clause-err : goal.returns-in-Disposition-clause-err
 returns-in-Disposition-clause-err c =
-    refuses_if c.args.talk.now c.args.channel c.hear_said-in-Disposition.new.talk c.args.body
-    (body.Disposition c.in-Disposition.disposition) c.in-Disposition.is c.hear_said-in-Disposition.result c.hear_said-in-Disposition.ensures.err
+    let arm = c.in-Disposition in
+    let heard = c.hear_said-in-Disposition in
+    refuses_if c.args.talk.now c.args.channel heard.new.talk c.args.body (body.Disposition arm.disposition) arm.is
+    heard.result heard.ensures.err
 
 pub returns-in-Detach-clause-ok : goal.returns-in-Detach-clause-ok
 returns-in-Detach-clause-ok c =
-    hands_if c.args.talk.now c.args.channel (said.Detach c.in-Detach.detach) c.args.out.now.items
-    c.args.events.now.items c.hear_said-in-Detach.new.talk c.hear_said-in-Detach.new.out.items c.hear_said-in-Detach.new.events.items
-    c.args.body (body.Detach c.in-Detach.detach) c.in-Detach.is (λ frames events says. says)
-    c.hear_said-in-Detach.result c.hear_said-in-Detach.ensures.ok
+    let arm = c.in-Detach in
+    let heard = c.hear_said-in-Detach in
+    hands_if c.args.talk.now c.args.channel (said.Detach arm.detach) c.args.out.now.items
+    c.args.events.now.items heard.new.talk heard.new.out.items heard.new.events.items c.args.body
+    (body.Detach arm.detach) arm.is (λ frames events says. says) heard.result heard.ensures.ok
 
 pub returns-in-Detach-clause-err : goal.returns-in-Detach-clause-err
 returns-in-Detach-clause-err c =
-    refuses_if c.args.talk.now c.args.channel c.hear_said-in-Detach.new.talk c.args.body
-    (body.Detach c.in-Detach.detach) c.in-Detach.is c.hear_said-in-Detach.result c.hear_said-in-Detach.ensures.err
+    let arm = c.in-Detach in
+    let heard = c.hear_said-in-Detach in
+    refuses_if c.args.talk.now c.args.channel heard.new.talk c.args.body (body.Detach arm.detach) arm.is
+    heard.result heard.ensures.err

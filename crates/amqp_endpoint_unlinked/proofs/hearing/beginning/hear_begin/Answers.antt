@@ -52,10 +52,8 @@ returns-in-Connection c =
 pub end_by_fault-requires-clause-waiting : goal.end_by_fault-requires-clause-waiting
 end_by_fault-requires-clause-waiting c =
     (begin-refused c.args.talk.now c.args.channel c.args.begin c.args.out.now.items c.on_incoming_begin.new.self
-    c.on_incoming_begin.new.out.items c.requires.waiting c.in-Session.number c.in-Session.fault
-    (subst (λ (r : BeginRefusal). BeginAnswered no_link c.args.talk.now c.args.out.now.items
-    c.args.channel c.args.begin (Err r) c.on_incoming_begin.new.self c.on_incoming_begin.new.out.items)
-    c.in-Session.is c.in-Err.ensures)).waits
+    c.on_incoming_begin.new.out.items c.requires.waiting c.in-Err.refusal c.in-Session.number c.in-Session.fault
+    c.in-Session.is c.in-Err.ensures).waits
 
 pub returns-in-Ok-end_by_fault-clause-ok : goal.returns-in-Ok-end_by_fault-clause-ok
 returns-in-Ok-end_by_fault-clause-ok c =
@@ -63,20 +61,16 @@ returns-in-Ok-end_by_fault-clause-ok c =
     c.on_incoming_begin.new.self c.on_incoming_begin.new.out.items c.end_by_fault.new.talk
     c.end_by_fault.new.out.items c.end_by_fault.new.events.items c.in-Session.number c.in-Session.fault
     (begin-refused c.args.talk.now c.args.channel c.args.begin c.args.out.now.items c.on_incoming_begin.new.self
-    c.on_incoming_begin.new.out.items c.requires.waiting c.in-Session.number c.in-Session.fault
-    (subst (λ (r : BeginRefusal). BeginAnswered no_link c.args.talk.now c.args.out.now.items
-    c.args.channel c.args.begin (Err r) c.on_incoming_begin.new.self c.on_incoming_begin.new.out.items)
-    c.in-Session.is c.in-Err.ensures))
+    c.on_incoming_begin.new.out.items c.requires.waiting c.in-Err.refusal c.in-Session.number c.in-Session.fault
+    c.in-Session.is c.in-Err.ensures)
     c.in-Ok-end_by_fault.ensures.ok
 
 pub returns-in-Ok-end_by_fault-clause-still : goal.returns-in-Ok-end_by_fault-clause-still
 returns-in-Ok-end_by_fault-clause-still c =
     still_on c.args.talk.now c.on_incoming_begin.new.self c.end_by_fault.new.talk
     (begin-refused c.args.talk.now c.args.channel c.args.begin c.args.out.now.items c.on_incoming_begin.new.self
-    c.on_incoming_begin.new.out.items c.requires.waiting c.in-Session.number c.in-Session.fault
-    (subst (λ (r : BeginRefusal). BeginAnswered no_link c.args.talk.now c.args.out.now.items
-    c.args.channel c.args.begin (Err r) c.on_incoming_begin.new.self c.on_incoming_begin.new.out.items)
-    c.in-Session.is c.in-Err.ensures)).still
+    c.on_incoming_begin.new.out.items c.requires.waiting c.in-Err.refusal c.in-Session.number c.in-Session.fault
+    c.in-Session.is c.in-Err.ensures).still
     c.end_by_fault.ensures.still
 
 pub returns-in-Err-end_by_fault-clause-err : goal.returns-in-Err-end_by_fault-clause-err
@@ -85,29 +79,23 @@ returns-in-Err-end_by_fault-clause-err c =
     c.on_incoming_begin.new.self c.on_incoming_begin.new.out.items c.end_by_fault.new.talk c.in-Session.number
     c.in-Session.fault c.in-Err-end_by_fault.error
     (begin-refused c.args.talk.now c.args.channel c.args.begin c.args.out.now.items c.on_incoming_begin.new.self
-    c.on_incoming_begin.new.out.items c.requires.waiting c.in-Session.number c.in-Session.fault
-    (subst (λ (r : BeginRefusal). BeginAnswered no_link c.args.talk.now c.args.out.now.items
-    c.args.channel c.args.begin (Err r) c.on_incoming_begin.new.self c.on_incoming_begin.new.out.items)
-    c.in-Session.is c.in-Err.ensures))
+    c.on_incoming_begin.new.out.items c.requires.waiting c.in-Err.refusal c.in-Session.number c.in-Session.fault
+    c.in-Session.is c.in-Err.ensures)
     c.in-Err-end_by_fault.ensures.err c.in-Err-end_by_fault.ensures.kept.0
 
 pub returns-in-Err-end_by_fault-clause-kept : goal.returns-in-Err-end_by_fault-clause-kept
 returns-in-Err-end_by_fault-clause-kept c =
-    let kept = c.in-Err-end_by_fault.ensures.kept in (
-      kept.1 ∙ (begin-refused c.args.talk.now c.args.channel c.args.begin c.args.out.now.items c.on_incoming_begin.new.self
-          c.on_incoming_begin.new.out.items c.requires.waiting c.in-Session.number c.in-Session.fault
-          (subst (λ (r : BeginRefusal). BeginAnswered no_link c.args.talk.now c.args.out.now.items
-          c.args.channel c.args.begin (Err r) c.on_incoming_begin.new.self c.on_incoming_begin.new.out.items)
-          c.in-Session.is c.in-Err.ensures)).kept,
-      kept.2,
-    )
+    let kept = c.in-Err-end_by_fault.ensures.kept in
+    let here =
+    begin-refused c.args.talk.now c.args.channel c.args.begin c.args.out.now.items c.on_incoming_begin.new.self
+    c.on_incoming_begin.new.out.items c.requires.waiting c.in-Err.refusal c.in-Session.number c.in-Session.fault
+    c.in-Session.is c.in-Err.ensures in
+    (kept.1 ∙ here.kept, kept.2)
 
 pub returns-in-Err-end_by_fault-clause-still : goal.returns-in-Err-end_by_fault-clause-still
 returns-in-Err-end_by_fault-clause-still c =
     still_on c.args.talk.now c.on_incoming_begin.new.self c.end_by_fault.new.talk
     (begin-refused c.args.talk.now c.args.channel c.args.begin c.args.out.now.items c.on_incoming_begin.new.self
-    c.on_incoming_begin.new.out.items c.requires.waiting c.in-Session.number c.in-Session.fault
-    (subst (λ (r : BeginRefusal). BeginAnswered no_link c.args.talk.now c.args.out.now.items
-    c.args.channel c.args.begin (Err r) c.on_incoming_begin.new.self c.on_incoming_begin.new.out.items)
-    c.in-Session.is c.in-Err.ensures)).still
+    c.on_incoming_begin.new.out.items c.requires.waiting c.in-Err.refusal c.in-Session.number c.in-Session.fault
+    c.in-Session.is c.in-Err.ensures).still
     c.end_by_fault.ensures.still
