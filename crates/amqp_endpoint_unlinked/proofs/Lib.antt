@@ -2,3 +2,9 @@ mod Places
 mod OverLaws
 mod Calls
 mod Related
+mod HearPlaces
+mod HearSession
+mod HearShort
+mod HearTalk
+mod HearEnds
+mod HearTold
