@@ -22,7 +22,7 @@ use Rattle.amqp_endpoint_sessions.specs.declared.place.Place.{Place}
 use Rattle.amqp_endpoint_sessions.specs.declared.place.Place.TheVariants.{Asked, Live, Ending, Over}
 use Rattle.amqp_endpoint_sessions.specs.State.{live_of, place_at, with_live}
 use Rattle.amqp_endpoint_conversation.specs.Beginning.{AcceptsHere, BeginsHere, Sessions, with_links}
-use Rattle.amqp_endpoint_conversation.specs.Ending.{EndsHere, IsMapped, end_frame}
+use Rattle.amqp_endpoint_conversation.specs.Ending.{EndsHere, IsMapped, end_frame, state_of}
 use Rattle.amqp_endpoint_lengths.specs.Plain.{IsPlainBegin, IsPlainEnd}
 use Rattle.amqp_endpoint_lengths.proofs.Frames.{begin_fits, end_fits}
 use Rattle.amqp_endpoint_model.specs.declared.call.Call.TheVariants.{AcceptBegin, Begin, End}
@@ -30,7 +30,7 @@ use Rattle.amqp_endpoint_model.specs.Said.{done, session_begun}
 use Rattle.amqp_endpoint_model.specs.State.{fits, frame_of}
 use Rattle.amqp_endpoint_unlinked.specs.declared.no_link.NoLink.{NoLink}
 use Rattle.amqp_endpoint_unlinked.specs.NoLink.{Talk, no_link}
-use Rattle.amqp_endpoint_unlinked.specs.Ending.{NothingWaits}
+use Rattle.amqp_endpoint_unlinked.specs.Ending.{NoneLive, NothingWaits}
 use Rattle.amqp_endpoint_unlinked.specs.Handed.{AllShort, Hands}
 use Rattle.amqp_endpoint_unlinked.proofs.Places.{get-before, get-other, get-pushed, get-same}
 
@@ -177,6 +177,10 @@ module _ (old new : Talk) (waits : NothingWaits old) (number : ℕ) where
       (λ other none. absurd (none-some other none))
       (λ k apart. ap (λ (s : Sessions NoLink). place_at s k) is
       ∙ get-other places number k (Ending e.channel) apart)
+
+-- a session that has begun at both ends goes on
+pub goes-on : (old : Talk) (number : ℕ) → NoneLive old → IsMapped old number → ⊥
+goes-on old number none mapped = none-some _ (sym (ap state_of (none number)) ∙ mapped)
 
 module _ (old new : Talk) (out out_new : List SessionFrame) (number : ℕ) where
   pub begun-hands : old.first_transfer_number < 2 ^ 32 → old.incoming_window < 2 ^ 32

@@ -1,6 +1,6 @@
 -- What the sessions' answers to the peer's frames come to, and what is told of them.
 use Rattle.std.specs.Prelude.{⊤, IfErr, OnOk}
-use Rattle.std.proofs.Common.{◌≡◌, inl, inr, ℕ, List, [], ◌∷◌, ◌++◌, Result, Ok, Err, refl, sym, ap, subst, ◌∙◌, append-nil}
+use Rattle.std.proofs.Common.{◌≡◌, inl, inr, ℕ, List, [], ◌∷◌, ◌++◌, Result, Ok, Err, refl, sym, ap, subst, ◌∙◌, append-nil, Bool}
 use Rattle.amqp_session_types.specs.declared.channels.IncomingChannel.{IncomingChannel}
 use Rattle.amqp_session_types.specs.declared.refusals.ConnectionError.{ConnectionError}
 use Rattle.amqp_session_types.specs.declared.refusals.SessionError.{SessionError}
@@ -31,7 +31,7 @@ use Rattle.amqp_endpoint_model.specs.Relay.{IsSessionFault}
 use Rattle.amqp_endpoint_unlinked.specs.declared.no_link.NoLink.{NoLink}
 use Rattle.amqp_endpoint_unlinked.specs.NoLink.{Talk, no_link}
 use Rattle.amqp_endpoint_unlinked.specs.Handed.{HandsBack}
-use Rattle.amqp_endpoint_unlinked.specs.Hearing.{Bars, BarsSaid, EndsBy, Refuses, Says, Takes, begin_told, fault_told, heard_told, said_told}
+use Rattle.amqp_endpoint_unlinked.specs.Hearing.{Bars, BarsSaid, EndsBy, Refuses, Says, Takes, begin_told, end_told, fault_told, heard_told, is_closing, is_told, said_told}
 use Rattle.amqp_endpoint_unlinked.specs.Saying.{Answers, FaultEnds, RefusalTold, SaysBack}
 use Rattle.amqp_endpoint_unlinked.proofs.HearEnds.{BeginHere, EndHere}
 use Rattle.amqp_endpoint_unlinked.proofs.HearShort.{none-short}
@@ -213,14 +213,21 @@ module _ (old : Talk) (channel : IncomingChannel) (begin : Begin) (out : List Se
 -- the peer's End
 module _ (old : Talk) (channel : IncomingChannel) (end : End) (out : List SessionFrame) (told : List Event) (new : Talk)
     (out_new : List SessionFrame) where
-  pub end_back : (told_new : List Event) (heard : EndHeard NoLink) → EndHere old channel end heard out new out_new
-      → told_new ≡ told ++ event.Ended (record { session = heard.number; error = end.error }) ∷ []
+  pub end_back : (told_new : List Event) (heard : EndHeard NoLink) (tells : Bool)
+      → (h : EndHere old channel end heard out new out_new)
+      → tells ≡ is_told (is_closing ((old.sessions).connection).local_state) (h.answered).stood
+      → told_new ≡ told ++ end_told tells heard.number end.error
       → HandsBack old channel (body.End end) out told new out_new told_new
-  end_back told_new heard h are =
+  end_back told_new heard tells h said are =
       record {
         frames = h.frames;
-        events = event.Ended (record { session = heard.number; error = end.error }) ∷ [];
-        takes = record { heard = heard; answered = h.answered; told = refl };
+        events = end_told tells heard.number end.error;
+        takes =
+            record {
+              heard = heard;
+              answered = h.answered;
+              told = ap (λ (b : Bool). end_told b heard.number end.error) said;
+            };
         short = h.short;
         queued = h.queued;
         are_told = are;

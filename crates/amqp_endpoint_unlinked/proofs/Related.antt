@@ -21,7 +21,7 @@ use Rattle.amqp_endpoint_model.specs.Said.{Said, session_begun}
 use Rattle.amqp_endpoint_model.specs.State.{fits, frame_of}
 use Rattle.amqp_endpoint_unlinked.specs.declared.unlinked.UnlinkedSessions.{UnlinkedSessions}
 use Rattle.amqp_endpoint_unlinked.specs.Does.{unlinked}
-use Rattle.amqp_endpoint_unlinked.specs.Ending.{NothingWaits}
+use Rattle.amqp_endpoint_unlinked.specs.Ending.{NoneLive, NothingWaits}
 use Rattle.amqp_endpoint_unlinked.specs.Handed.{AllShort, Hands, HandsBack}
 use Rattle.amqp_endpoint_unlinked.specs.NoLink.{Talk}
 use Rattle.amqp_endpoint_unlinked.proofs.Places.{get-other, get-same}
@@ -93,6 +93,10 @@ pub told-waits : (old new : Talk) (number : ℕ) (r : Result ⊤ TryEndError) �
     → NothingWaits old → NothingWaits new
 told-waits old new number r told waits k session live =
     waits k session (sym (told-live old.sessions new.sessions number r told k) ∙ live)
+
+pub told-idle : (old new : Talk) (number : ℕ) (r : Result ⊤ TryEndError) → EndTold old.sessions number r new.sessions
+    → NoneLive old → NoneLive new
+told-idle old new number r told none k = told-live old.sessions new.sessions number r told k ∙ none k
 
 -- no frame waits where no session has begun
 pub none-waits : (talk : Talk) → ((number : ℕ) → live_at talk.sessions number ≡ None) → NothingWaits talk

@@ -4,7 +4,7 @@ use Rattle.amqp_endpoint_model.specs.Relay.{Relations}
 use Rattle.amqp_endpoint_unlinked.specs.declared.unlinked.UnlinkedSessions.{UnlinkedSessions}
 use Rattle.amqp_endpoint_unlinked.specs.Hearing.{Refuses, Takes}
 use Rattle.amqp_endpoint_unlinked.specs.Calling.{BarsCall, Calls}
-use Rattle.amqp_endpoint_unlinked.specs.Ending.{Finishes, Leaves, NothingWaits}
+use Rattle.amqp_endpoint_unlinked.specs.Ending.{Finishes, Leaves, NoneLive, NothingWaits}
 
 abbrev pub unlinked : Relations UnlinkedSessions
 unlinked =
@@ -28,6 +28,7 @@ unlinked =
       calls = λ s limit call answer frames new. Calls s.conversation call answer frames new.conversation;
       bars = λ s limit call e. BarsCall s.conversation call e;
       within = λ limit s. NothingWaits s.conversation;
+      idle = λ s. NoneLive s.conversation;
       closes = λ s new. Leaves s.conversation new.conversation;
       finishes = λ s new. Finishes s.conversation new.conversation;
     }

@@ -1,5 +1,5 @@
 -- How sessions end with their connection (part 2, 2.4.3, 2.5.2).
-use Rattle.std.specs.Prelude.{◌≡◌, ℕ, zero, suc, length, List, [], Option, Some}
+use Rattle.std.specs.Prelude.{◌≡◌, ℕ, zero, suc, length, [], Option, Some, None}
 use Rattle.std.specs.Global.{Box}
 use Rattle.amqp_session_types.specs.declared.channels.OutgoingChannel.{OutgoingChannel}
 use Rattle.amqp_endpoint_asked.specs.declared.session.AskedSession.{AskedSession}
@@ -35,6 +35,10 @@ pub record Leaves (old new : Talk) : Type 0 where
 pub record Finishes (old new : Talk) : Type 0 where
   pub each : FinishesFirst (length (old.sessions).places) old.sessions new.sessions
   pub rest : new ≡ record old { sessions = new.sessions }
+
+-- no session has begun that its own side didn't end
+abbrev pub NoneLive : Talk → Type 0
+NoneLive talk = (number : ℕ) → live_at talk.sessions number ≡ None
 
 -- no frame waits in a session that has begun: only links have frames wait (part 2, 2.5.6)
 abbrev pub NothingWaits : Talk → Type 0

@@ -1,5 +1,5 @@
 -- What the peer's frames of sessions do, and what is told of them (part 2, 2.5).
-use Rattle.std.specs.Prelude.{◌≡◌, ◌⊎◌, ℕ, List, [], ◌∷◌, Option, Some, None, Ok, Err}
+use Rattle.std.specs.Prelude.{◌≡◌, ◌⊎◌, ℕ, Bool, true, false, List, [], ◌∷◌, Option, Some, None, Ok, Err}
 use Rattle.std.specs.Global.{Box}
 use Rattle.amqp_session_types.specs.declared.channels.IncomingChannel.{IncomingChannel}
 use Rattle.amqp_session_types.specs.declared.refusals.ConnectionError.{ConnectionError}
@@ -10,6 +10,13 @@ use Rattle.amqp_session_performatives.specs.declared.end.End.{End}
 use Rattle.amqp_session_performatives.specs.declared.session_frame.SessionFrame.{SessionFrame}
 use Rattle.amqp_session_frames.specs.declared.frame.FrameBody.{FrameBody}
 use Rattle.amqp_session_frames.specs.declared.frame.FrameBody.TheVariants as body
+use Rattle.amqp_session_types.specs.declared.error.Error.{Error}
+use Rattle.amqp_session_connection.specs.declared.state.ConnectionState.{ConnectionState}
+use Rattle.amqp_session_connection.specs.declared.state.ConnectionState.TheVariants.{OpenClosePipe, ClosePipe, CloseSent, Discarding}
+use Rattle.amqp_session_connection.specs.declared.state.ConnectionState.TheVariants as state
+use Rattle.amqp_endpoint_asked.specs.declared.session.AskedSession.{AskedSession}
+use Rattle.amqp_endpoint_sessions.specs.declared.place.Place.{Place}
+use Rattle.amqp_endpoint_sessions.specs.declared.place.Place.TheVariants as place
 use Rattle.amqp_endpoint_links.specs.declared.asking.AskingSession.{AskingSession}
 use Rattle.amqp_endpoint_links.specs.declared.asking.NamedLink.TheVariants.{Absent}
 use Rattle.amqp_endpoint_links.specs.declared.hearing.LinkPerformative.{LinkPerformative}
@@ -57,6 +64,26 @@ heard_told (Asked number) it = said_told number it
 heard_told (Live number taken) it = said_told number it
 heard_told (Dropped number) it = []
 
+-- the own Close was sent (part 2, 2.4.6)
+abbrev pub is_closing : ConnectionState → Bool
+is_closing OpenClosePipe = true
+is_closing ClosePipe = true
+is_closing CloseSent = true
+is_closing Discarding = true
+is_closing state.End = true
+is_closing it = false
+
+-- whether the peer's End is told of: behind the own Close only that of a session that is asked for, as the others ended
+-- with the Close
+abbrev pub is_told : Bool → Place (Box AskedSession) (Box (AskingSession NoLink)) → Bool
+is_told false stood = true
+is_told true (place.Asked channel a) = true
+is_told closing stood = false
+
+abbrev pub end_told : Bool → ℕ → Option Error → List Event
+end_told true number error = event.Ended (record { session = number; error = error }) ∷ []
+end_told false number error = []
+
 -- the peer's Begin is taken
 pub record TakesBegin (old : Talk) (channel : IncomingChannel) (begin : Begin) (frames : List SessionFrame)
     (events : List Event) (new : Talk) : Type 0 where
@@ -80,7 +107,9 @@ pub record TakesEnd (old : Talk) (channel : IncomingChannel) (end : End) (frames
     (events : List Event) (new : Talk) : Type 0 where
   pub heard : EndHeard NoLink
   pub answered : EndAnswered old [] channel end (Ok heard) new frames
-  pub told : events ≡ event.Ended (record { session = heard.number; error = end.error }) ∷ []
+  pub told :
+      events
+      ≡ end_told (is_told (is_closing ((old.sessions).connection).local_state) answered.stood) heard.number end.error
 
 -- what the peer says in a session is taken, or dropped
 pub record TakesSaid (old : Talk) (channel : IncomingChannel) (it : LinkPerformative) (frames : List SessionFrame)

@@ -4,7 +4,7 @@ ghost use Rattle.amqp_endpoint_model.specs.declared.call.Call.TheVariants.{Accep
 ghost use Rattle.amqp_endpoint_model.specs.Relay.{StandsStill};
 ghost use Rattle.amqp_endpoint_model.specs.Said.{done, session_begun};
 ghost use Rattle.amqp_endpoint_unlinked.specs.Calling.{BarsAccepting, BarsBeginning, BarsEnding, of_accept, of_begin};
-ghost use Rattle.amqp_endpoint_unlinked.specs.Ending.{NothingWaits};
+ghost use Rattle.amqp_endpoint_unlinked.specs.Ending.{NoneLive, NothingWaits};
 ghost use Rattle.amqp_endpoint_unlinked.specs.Handed.{Hands};
 
 use crate::no_link::NoLink;
@@ -66,11 +66,12 @@ pub(crate) fn end(
     number: u64,
     out: &mut VecDeque<SessionFrame>,
 ) -> Result<(), EndpointError>
-    requires { NothingWaits talk.old }
     ensures ok { OnOk result (Hands talk.old (End number) done out.old.items talk.new out.new.items) }
     ensures err { IfErr result (BarsEnding talk.old number) }
     ensures kept { OnErr result ((talk.new ≡ talk.old) × (out.new.items ≡ out.old.items)) }
-    ensures waits { NothingWaits talk.new }
+    ensures waits { NothingWaits talk.old → NothingWaits talk.new }
+    ensures quiet { NoneLive talk.old → out.new.items ≡ out.old.items }
+    ensures idle { NoneLive talk.old → NoneLive talk.new }
     ensures still { StandsStill talk.old.sessions.connection talk.new.sessions.connection }
 {
     if talk.sessions.place(number).is_none() {
