@@ -5,3 +5,6 @@ pub mod ReadingLaws
 pub mod FeedLaws
 pub mod RunLaws
 pub mod SessionLaws
+pub mod WithinLaws
+pub mod CallLaws
+pub mod NoSessionLaws

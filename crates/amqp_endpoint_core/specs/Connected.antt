@@ -1,5 +1,5 @@
 -- How an endpoint and its connection agree.
-use Rattle.std.specs.Prelude.{◌≡◌, ℕ, Bool, true, false, Option, Some, None}
+use Rattle.std.specs.Prelude.{◌≡◌, ◌≤◌, ℕ, Bool, true, false, Option, Some, None}
 use Rattle.amqp_session_frames.specs.declared.frame.FrameBody.TheVariants as body
 use Rattle.amqp_session_connection.specs.declared.state.ConnectionState.{ConnectionState}
 use Rattle.amqp_session_connection.specs.declared.state.ConnectionState.TheVariants.{HeaderSent, HeaderExchange, OpenClosePipe, OpenSent, ClosePipe, Opened, CloseReceived, CloseSent, Discarding, End}
@@ -10,7 +10,7 @@ use Rattle.amqp_endpoint_model.specs.declared.phase.Phase.{Phase}
 use Rattle.amqp_endpoint_model.specs.declared.phase.Phase.TheVariants.{Unconnected, Greeting, Running, Over}
 use Rattle.amqp_endpoint_model.specs.declared.settings.Settings.{Settings}
 use Rattle.amqp_endpoint_model.specs.Relay.{Relations}
-use Rattle.amqp_endpoint_model.specs.State.{own_open}
+use Rattle.amqp_endpoint_model.specs.State.{limit_of, own_open}
 
 -- the own Close was sent (part 2, 2.4.6)
 abbrev pub sent_close : ConnectionState → Bool
@@ -55,6 +55,17 @@ pub record Stands {S : Type 0} (does : Relations S) (settings : Settings) (phase
     : Type 0 where
   pub opening : frame_on 0 (body.Open (does.connection sessions).local_open) ≡ own_open settings
   pub agrees : Agrees phase limit (does.connection sessions).local_state
+
+-- what waits in the sessions of an endpoint which stands so is within the peer's limit, and where there is no connection
+-- within any peer's (part 2, 2.4.1, 2.5.6)
+abbrev pub WaitWithin : {S : Type 0} → Relations S → Phase → Option ℕ → S → Type 0
+WaitWithin does phase limit sessions =
+    does.within (limit_of limit) sessions × (phase ≡ Unconnected → does.within 512 sessions)
+
+-- what waits in sessions stays within each limit that it was within, and those that are wider
+abbrev pub StayWithin : {S : Type 0} → Relations S → S → S → Type 0
+StayWithin does old new =
+    (limit wider : ℕ) → limit ≤ wider → does.within limit old → does.within wider new
 
 -- a new connection in this state, which will send the Open of these settings
 pub record BeginsWith (state : ConnectionState) (settings : Settings) (connection : State) : Type 0 where

@@ -8,7 +8,7 @@ ghost use Rattle.amqp_session_frames.specs.declared.frame.FrameBody.TheVariants 
 ghost use Rattle.amqp_endpoint_model.specs.State.{fits, own_close_with, own_open, the_frame};
 ghost use Rattle.amqp_endpoint_model.specs.Step as step;
 ghost use Rattle.amqp_endpoint_model.specs.declared.error.EndpointError.TheVariants.{Memory, FrameTooLarge};
-ghost use Rattle.amqp_endpoint_core.specs.Connected.{BeginsWith, IsGreeting, MovesBy, sent_close, took_close};
+ghost use Rattle.amqp_endpoint_core.specs.Connected.{BeginsWith, IsGreeting, MovesBy, StayWithin, sent_close, took_close};
 
 use crate::coding::{MIN_MAX_FRAME_SIZE, encoded, open_of};
 use crate::queued::Queued;
@@ -104,6 +104,7 @@ pub(crate) fn take_close(
 pub(crate) fn greet_anew<S: SessionRelay>(alloc: Global, sessions: &mut S)
     ensures sessions { sessions.new ≡ step.anew S.does sessions.old }
     ensures connection { S.does.connection sessions.new ≡ fresh HeaderSent (S.does.connection sessions.old).local_open }
+    ensures within { StayWithin S.does sessions.old sessions.new }
 {
     greet(alloc, sessions.connection_mut());
 }
@@ -121,6 +122,7 @@ pub(crate) fn open<S: SessionRelay>(sessions: &mut S) -> Result<Queued, Endpoint
     ensures kept { OnErr result (sessions.new ≡ step.at_state S.does sessions.old HeaderExchange) }
     ensures still { OnErr result (S.does.connection sessions.new
         ≡ record (S.does.connection sessions.old) { local_state = HeaderExchange }) }
+    ensures within { StayWithin S.does sessions.old sessions.new }
 {
     hand_out_open(sessions.connection_mut())
 }
@@ -139,6 +141,7 @@ pub(crate) fn take_open<S: SessionRelay>(
         }) }
     ensures err { IfErr result (λ e. (e ≡ EndpointError.Connection IllegalState)
         × (after_incoming_open (S.does.connection sessions.old).local_state ≡ None) × (sessions.new ≡ sessions.old)) }
+    ensures within { StayWithin S.does sessions.old sessions.new }
 {
     match sessions.connection_mut().on_incoming_open(channel, peer) {
         Ok(()) => Ok(()),
@@ -161,6 +164,7 @@ pub(crate) fn send_close<S: SessionRelay>(
     ensures err { IfErr result (λ e. (e ≡ EndpointError.Connection IllegalState)
         × (after_send_close (is_some error) (S.does.connection sessions.old).local_state ≡ None)
         × (sessions.new ≡ sessions.old)) }
+    ensures within { StayWithin S.does sessions.old sessions.new }
 {
     close(sessions.connection_mut(), error)
 }
@@ -176,6 +180,7 @@ pub(crate) fn take_peers_close<S: SessionRelay>(
         (S.does.connection sessions.old) (S.does.connection sessions.new)) }
     ensures err { IfErr result (λ e. (e ≡ EndpointError.Connection IllegalState)
         × (after_incoming_close (S.does.connection sessions.old).local_state ≡ None) × (sessions.new ≡ sessions.old)) }
+    ensures within { StayWithin S.does sessions.old sessions.new }
 {
     take_close(sessions.connection_mut(), channel, closing)
 }

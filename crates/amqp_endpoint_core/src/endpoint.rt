@@ -21,6 +21,7 @@ use std::alloc::Global;
 use std::collections::VecDeque;
 use std::marker::Model;
 
+mod calling;
 mod feeding;
 
 /// The greatest incoming-window, in transfers (part 2, 2.8.10).
@@ -49,7 +50,7 @@ pub struct Endpoint<S: SessionRelay> {
 impl<S: SessionRelay> Model for Endpoint<S> {
     ghost use Rattle.std.specs.Prelude.{◌≡◌, ◌≤◌, ◌++◌, true};
     ghost use Rattle.amqp_endpoint_model.specs.State.{State, fits, own_open, limit_of};
-    ghost use Rattle.amqp_endpoint_core.specs.Connected.{Stands, sent_close, took_close};
+    ghost use Rattle.amqp_endpoint_core.specs.Connected.{Stands, WaitWithin, sent_close, took_close};
     ghost use Rattle.amqp_endpoint_core.specs.Queue.{AllWithin, frames_waiting};
 
     ghost Value = { State S };
@@ -70,7 +71,8 @@ impl<S: SessionRelay> Model for Endpoint<S> {
         Stands S.does a.settings a.phase a.peer_limit a.sessions
         × (fits 512 (own_open a.settings) ≡ true)
         × (512 ≤ limit_of a.peer_limit)
-        × AllWithin (limit_of a.peer_limit) (a.queue.items ++ frames_waiting a.out.items) };
+        × AllWithin (limit_of a.peer_limit) (a.queue.items ++ frames_waiting a.out.items)
+        × WaitWithin S.does a.phase a.peer_limit a.sessions };
 }
 
 impl<S: SessionRelay> Endpoint<S> {
@@ -289,6 +291,11 @@ impl<S: SessionRelay> Endpoint<S> {
             Call::Close => done(self.close()),
             Call::IsClosed => Answer::Truth(self.is_closed()),
             Call::TryClose => Answer::TriedClose(self.try_close()),
+            Call::Begin => begun(self.begin()),
+            Call::AcceptBegin(channel) => begun(self.accept_begin(*channel)),
+            Call::End(session) => done(self.end(*session)),
+            Call::IsEnded(session) => Answer::Truth(self.is_ended(*session)),
+            Call::TryEnd(session) => Answer::TriedEnd(self.try_end(*session)),
         }
     }
 
@@ -368,6 +375,15 @@ fn done(outcome: Result<(), EndpointError>) -> Answer
 {
     match outcome {
         Ok(()) => Answer::Done,
+        Err(error) => Answer::Refused(error),
+    }
+}
+
+fn begun(outcome: Result<u64, EndpointError>) -> Answer
+    ensures { MatchResult outcome (λ number. result ≡ Answer.Session number) (λ e. result ≡ Answer.Refused e) }
+{
+    match outcome {
+        Ok(number) => Answer::Session(number),
         Err(error) => Answer::Refused(error),
     }
 }

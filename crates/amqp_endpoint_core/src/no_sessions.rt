@@ -6,12 +6,13 @@ use amqp_endpoint_model::{EndpointError, Event, SessionRelay};
 use amqp_session_connection::Connection;
 use amqp_session_frames::FrameBody;
 use amqp_session_performatives::SessionFrame;
-use amqp_session_types::{ConnectionError, IncomingChannel};
+use amqp_session_types::{ConnectionError, IncomingChannel, TryEndError};
 use std::alloc::{AllocError, Global};
 use std::collections::VecDeque;
 
 /// The sessions of an endpoint that has none: a Begin that asks for one is refused with `NotImplemented`, and any other
-/// frame of a session with `NotFound`, as no session has its channel (part 2, 2.5.1).
+/// frame of a session with `NotFound`, as no session has its channel (part 2, 2.5.1). No session begins here either:
+/// that is refused with `NotImplemented`, too. Whatever number a call says, no session has it.
 #[derive(Drop)]
 pub struct NoSessions {
     /// The connection that has none.
@@ -50,6 +51,42 @@ impl SessionRelay for NoSessions {
         _events: &mut Vec<Event>,
     ) -> Result<(), EndpointError> {
         Err(EndpointError::Connection(refusal(&body)))
+    }
+
+    fn begin(
+        &mut self,
+        _alloc: Global,
+        _limit: u32,
+        _out: &mut VecDeque<SessionFrame>,
+    ) -> Result<u64, EndpointError> {
+        Err(EndpointError::Connection(ConnectionError::NotImplemented))
+    }
+
+    fn accept_begin(
+        &mut self,
+        _alloc: Global,
+        _limit: u32,
+        _channel: IncomingChannel,
+        _out: &mut VecDeque<SessionFrame>,
+    ) -> Result<u64, EndpointError> {
+        Err(EndpointError::Connection(ConnectionError::NotImplemented))
+    }
+
+    fn end(
+        &mut self,
+        _limit: u32,
+        _number: u64,
+        _out: &mut VecDeque<SessionFrame>,
+    ) -> Result<(), EndpointError> {
+        Err(EndpointError::UnknownSession)
+    }
+
+    fn is_ended(&self, _number: u64) -> bool {
+        false
+    }
+
+    fn try_end(&mut self, _number: u64) -> Result<(), TryEndError> {
+        Err(TryEndError::RemoteEndNotReceived)
     }
 
     fn leave(&mut self) {}

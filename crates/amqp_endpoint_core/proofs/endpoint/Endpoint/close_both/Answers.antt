@@ -7,11 +7,12 @@ use Rattle.amqp_endpoint_core.specs.Connected.{sent_close}
 use Rattle.amqp_endpoint_model.specs.State.{limit_of, own_close_with}
 use Rattle.std.proofs.Common.{None}
 use Rattle.amqp_endpoint_core.proofs.QueueLaws.{frame-within, within-pushed}
+use Rattle.amqp_endpoint_core.proofs.WithinLaws.{wait_none}
 use Rattle.amqp_endpoint_core.proofs.endpoint.Endpoint.close_both.Goals as goal
 
 pub invariant_of-self-2 : goal.invariant_of-self-2
 invariant_of-self-2 g c =
-    let (stands, fits, least, within) = c.self.invariant in
+    let (stands, fits, least, within, waits) = c.self.invariant in
     let (gathered, none, room) = c.in_ok-gather.ensures.ok in
     let limit = limit_of c.self.inside.peer_limit in
     let close = own_close_with None in
@@ -29,4 +30,5 @@ invariant_of-self-2 g c =
       fits,
       least,
       within-pushed limit _ _ _ _ _ _ within gathered none one c.push_back_reserved.ensures.items,
+      wait_none g.S.SessionRelay.does _ c.self.inside.peer_limit c.self.inside.sessions _ c.finish-2.ensures.within,
     )

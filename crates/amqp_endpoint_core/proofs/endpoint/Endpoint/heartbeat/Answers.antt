@@ -5,8 +5,13 @@ use Rattle.amqp_endpoint_core.proofs.endpoint.Endpoint.heartbeat.Goals as goal
 
 pub invariant_of-self-2 : goal.invariant_of-self-2
 invariant_of-self-2 g c =
-    let (stands, fits, least, within) = c.self.invariant in
+    let (stands, fits, least, within, waits) = c.self.invariant in
     let (gathered, none, room) = c.in_ok-gather.ensures.ok in
     let limit = limit_of c.self.inside.peer_limit in
-    let one = frame-within limit c.empty.result heartbeat c.frame.result c.frame.ensures c.empty.ensures least refl in
-    (stands, fits, least, within-pushed limit _ _ _ _ _ _ within gathered none one c.push_back_reserved.ensures.items)
+    let one = frame-within limit c.empty.result heartbeat c.frame.result c.frame.ensures c.empty.ensures least refl in (
+      stands,
+      fits,
+      least,
+      within-pushed limit _ _ _ _ _ _ within gathered none one c.push_back_reserved.ensures.items,
+      waits,
+    )

@@ -1,18 +1,19 @@
-use Rattle.std.proofs.Common.{◌≡◌, inr, refl, ◌∙◌, ap}
+use Rattle.std.proofs.Common.{◌≡◌, arith, inr, refl, ◌∙◌, ap}
 use Rattle.amqp_session_connection.specs.State.{State as ConnectionFields}
 use Rattle.amqp_session_connection.specs.declared.state.ConnectionState.TheVariants.{HeaderExchange}
 use Rattle.amqp_session_connection.specs.Steps.{frame_on}
 use Rattle.amqp_session_frames.specs.declared.frame.FrameBody.TheVariants as body
-use Rattle.amqp_endpoint_model.specs.declared.phase.Phase.TheVariants.{Greeting}
+use Rattle.amqp_endpoint_model.specs.declared.phase.Phase.TheVariants.{Greeting, Running, Unconnected}
 use Rattle.amqp_endpoint_model.specs.State.{State, limit_of, own_open}
 use Rattle.amqp_endpoint_model.specs.Step.{at_state}
 use Rattle.amqp_endpoint_core.proofs.ConnectedLaws.{agrees_exchanged, greeting_of, runs_sent, seen_greeted}
 use Rattle.amqp_endpoint_core.proofs.QueueLaws.{frame-within, gathered-same, within-pushed, within-same}
+use Rattle.amqp_endpoint_core.proofs.WithinLaws.{wait_still}
 use Rattle.amqp_endpoint_core.proofs.endpoint.Endpoint.send_open.Goals as goal
 
 pub invariant_of-self-in-Err : goal.invariant_of-self-in-Err
 invariant_of-self-in-Err g c =
-    let (stands, fits, least, within) = c.self.invariant in
+    let (stands, fits, least, within, waits) = c.self.invariant in
     let (gathered, none, room) = c.in_ok-gather.ensures.ok in
     let at : c.self.inside.phase ≡ Greeting = ap (λ (s : State g.row.S.Denot). s.phase) c.self.view_is ∙ c.requires in
     let greets = greeting_of c.self.inside.phase c.self.inside.peer_limit _ at stands.agrees in
@@ -26,11 +27,13 @@ invariant_of-self-in-Err g c =
       fits,
       least,
       within-same (limit_of c.self.inside.peer_limit) _ _ (gathered-same _ _ _ _ gathered none) within,
+      wait_still g.S.SessionRelay.does c.self.inside.phase c.self.inside.peer_limit c.self.inside.sessions
+          c.open.new.sessions c.in-Err.ensures.within waits,
     )
 
 pub returns-in-Err : goal.returns-in-Err
 returns-in-Err g c =
-    let (stands, fits, least, within) = c.self.invariant in
+    let (stands, fits, least, within, waits) = c.self.invariant in
     let (gathered, none, room) = c.in_ok-gather.ensures.ok in
     let does = g.S.SessionRelay.does in
     let at : c.self.inside.phase ≡ Greeting = ap (λ (s : State g.row.S.Denot). s.phase) c.self.view_is ∙ c.requires in
@@ -58,7 +61,7 @@ returns-in-Err g c =
 
 pub invariant_of-self-2 : goal.invariant_of-self-2
 invariant_of-self-2 g c =
-    let (stands, fits, least, within) = c.self.invariant in
+    let (stands, fits, least, within, waits) = c.self.invariant in
     let (gathered, none, room) = c.in_ok-gather.ensures.ok in
     let limit = limit_of c.self.inside.peer_limit in
     let own = own_open c.self.inside.settings in
@@ -73,4 +76,8 @@ invariant_of-self-2 g c =
       fits,
       least,
       within-pushed limit _ _ _ _ _ _ within gathered none one c.push_back_reserved.ensures.items,
+      (
+        c.in-Ok.ensures.within limit limit (omega arith) waits.0,
+        λ un. let wrong : Running ≡ Unconnected = un in absurd (cc),
+      ),
     )

@@ -6,11 +6,12 @@ use Rattle.amqp_endpoint_core.proofs.endpoint.Endpoint.take_first.Goals as goal
 
 pub invariant_of-self : goal.invariant_of-self
 invariant_of-self g c =
-    let (stands, fits, least, within) = c.self.invariant in
+    let (stands, fits, least, within, waits) = c.self.invariant in
     let limit = limit_of c.self.inside.peer_limit in (
       stands,
       fits,
       least,
       within-same limit _ _ c.drop_first.ensures
           (within-drop limit (c.self.inside.queue.items ++ frames_waiting c.self.inside.out.items) within),
+      waits,
     )

@@ -1,0 +1,62 @@
+-- Laws of calls that sessions answer.
+use Rattle.std.proofs.Common.{◌≡◌, arith, ℕ, List, [], ◌++◌, refl, sym, ◌∙◌, ap, subst, append_assoc, append-nil}
+use Rattle.amqp_session_performatives.specs.declared.session_frame.SessionFrame.{SessionFrame}
+use Rattle.amqp_endpoint_model.specs.declared.call.Call.{Call}
+use Rattle.amqp_endpoint_model.specs.Relay.{Called, Relations}
+use Rattle.amqp_endpoint_model.specs.Said.{Said}
+use Rattle.amqp_endpoint_model.specs.State.{State, Waiting, limit_of}
+use Rattle.amqp_endpoint_model.specs.Step.{SessionsDo}
+use Rattle.amqp_endpoint_core.specs.Queue.{AllWithin, frames_waiting}
+use Rattle.amqp_endpoint_core.proofs.QueueLaws.{frames_waiting-append, within-same, within-sent}
+use Rattle.amqp_endpoint_core.proofs.SessionLaws.{fit_at}
+
+module _ {S : Type 0} (does : Relations S) (old : State S) where
+  -- sessions do what they are called for, and what they send waits behind what waited
+  pub called : (limit : ℕ) (call : Call) (answer : Said) (queue : List Waiting) (out out_new : List SessionFrame)
+      (s new : S) (behind : State S) → s ≡ old.sessions → limit ≡ limit_of old.peer_limit
+      → queue ++ frames_waiting out ≡ old.queue → Called does s limit call answer out new out_new
+      → behind ≡ record old { sessions = new; queue = queue ++ frames_waiting out_new }
+      → SessionsDo does old call answer behind
+  called limit call answer queue out out_new s new behind s_is limit_is queue_is t is =
+      let P : State S → Type 0 = λ x. SessionsDo does old call answer x in
+      let T : S → Type 0 = λ x. does.calls x limit call answer t.frames new in
+      let L : ℕ → Type 0 = λ n. does.calls old.sessions n call answer t.frames new in
+      let whole : queue ++ frames_waiting out_new ≡ old.queue ++ frames_waiting t.frames =
+      ap (λ (o : List SessionFrame). queue ++ frames_waiting o) t.queued
+      ∙ ap (λ (ws : List Waiting). queue ++ ws) (frames_waiting-append out t.frames)
+      ∙ sym (append_assoc queue (frames_waiting out) (frames_waiting t.frames))
+      ∙ ap (λ (ws : List Waiting). ws ++ frames_waiting t.frames) queue_is in
+      let done : SessionsDo does old call answer (record old { sessions = new; queue = queue ++ frames_waiting out_new })
+      =
+      record {
+        frames = t.frames;
+        calls = subst L limit_is (subst T s_is t.calls);
+        fit = fit_at limit (limit_of old.peer_limit) t.frames limit_is t.fit;
+        queued = ap (λ (ws : List Waiting). record old { sessions = new; queue = ws }) whole;
+      } in
+      subst P (sym is) done
+
+  -- sessions answer, and send nothing
+  pub answered : (call : Call) (answer : Said) (s new : S) (behind : State S) → s ≡ old.sessions
+      → ((limit : ℕ) → does.calls s limit call answer [] new) → behind ≡ record old { sessions = new }
+      → SessionsDo does old call answer behind
+  answered call answer s new behind s_is calls is =
+      let P : State S → Type 0 = λ x. SessionsDo does old call answer x in
+      let T : S → Type 0 = λ x. does.calls x (limit_of old.peer_limit) call answer [] new in
+      let done : SessionsDo does old call answer (record old { sessions = new }) =
+      record {
+        frames = [];
+        calls = subst T s_is (calls (limit_of old.peer_limit));
+        fit = λ k d lt. absurd (omega (arith, lt));
+        queued = ap (λ (ws : List Waiting). record old { sessions = new; queue = ws }) (sym (append-nil old.queue));
+      } in
+      subst P (sym is) done
+
+-- what they send then is within the limit, as what waited is
+pub queue_called : {S : Type 0} (does : Relations S) (limit told : ℕ) (call : Call) (answer : Said)
+    (queue : List Waiting) (out out_new : List SessionFrame) (s new : S) → told ≡ limit
+    → Called does s told call answer out new out_new → AllWithin limit (queue ++ frames_waiting out)
+    → AllWithin limit (queue ++ frames_waiting out_new)
+queue_called does limit told call answer queue out out_new s new is t within =
+    within-same limit _ _ (ap (λ (o : List SessionFrame). queue ++ frames_waiting o) t.queued)
+    (within-sent limit queue out t.frames within (fit_at told limit t.frames is t.fit))
