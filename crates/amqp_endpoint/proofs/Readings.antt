@@ -1,14 +1,15 @@
 -- A script's reading, step by step.
-use Rattle.std.proofs.Common.{◌≡◌, ℕ, List, [], ◌∷◌, ◌++◌, refl, ◌∙◌, ap, append_assoc}
+use Rattle.std.proofs.Common.{ℕ, List, ◌++◌}
 use Rattle.amqp_endpoint_model.specs.declared.call.Call.{Call}
-use Rattle.amqp_endpoint.specs.Script.{Reading, nothing, unreadable, whole, step_before}
+use Rattle.amqp_endpoint_world.specs.declared.step.Step.{Step}
+use Rattle.amqp_endpoint.specs.Script.{Reading, of_one, of_two}
 
--- these steps, and behind them what is read of the others
-abbrev pub behind : List ℕ → List Call → Reading → Reading
-behind lines calls (whole s) = whole (record s { lines = lines ++ s.lines; calls = calls ++ s.calls })
-behind lines calls reading = reading
+-- these steps of one end, and behind them what is read of the others
+abbrev pub behind_calls : List ℕ → List Call → Reading → Reading
+behind_calls lines calls (of_one s) = of_one (record s { lines = lines ++ s.lines; calls = calls ++ s.calls })
+behind_calls lines calls reading = reading
 
-pub behind-push : (lines : List ℕ) (calls : List Call) (n : ℕ) (call : Call) (r : Reading) → behind (lines ++ n ∷ []) (calls ++ call ∷ []) r ≡ behind lines calls (step_before n call r)
-behind-push lines calls n call nothing = refl
-behind-push lines calls n call (unreadable k) = refl
-behind-push lines calls n call (whole s) = ap (λ ls. whole (record s { lines = ls; calls = (calls ++ call ∷ []) ++ s.calls })) (append_assoc lines (n ∷ []) s.lines) ∙ ap (λ cs. whole (record s { lines = lines ++ (n ∷ s.lines); calls = cs })) (append_assoc calls (call ∷ []) s.calls)
+-- these steps of two ends, and behind them what is read of the others
+abbrev pub behind_steps : List ℕ → List Step → Reading → Reading
+behind_steps lines steps (of_two s) = of_two (record s { lines = lines ++ s.lines; steps = steps ++ s.steps })
+behind_steps lines steps reading = reading

@@ -101,7 +101,7 @@ pub record Lines (lines : List Line) (heads : List Head) (numbers : List ℕ) : 
   pub steps : List Line
   pub are : lines ≡ first ∷ (settings ++ steps)
   pub given : statements settings ≡ heads_said heads
-  pub numbers : numbers ≡ map (λ l. l.number) steps
+  pub numbered : numbers ≡ map (λ l. l.number) steps
 
 -- these lines are this script of one end
 pub record IsOne (lines : List Line) (script : OneScript) : Type 0 where

@@ -9,8 +9,8 @@ pub type Endpoint = amqp_endpoint_core::Endpoint<NoSessions>;
 
 pub use amqp_endpoint_core::{NoSessions, play};
 pub use amqp_endpoint_model::{
-    Answer, Call, Closed, EndpointError, Event, Fed, LinkError, Opened, Reply, SessionRelay,
-    Settings,
+    Answer, Begun, Call, Closed, Ended, EndpointError, Event, Fed, LinkAsked, LinkError, Opened,
+    Refused, Reply, SessionAsked, SessionRelay, Settings,
 };
 pub use amqp_session_frames::{
     Error as FrameError, Frame, FrameBody, FrameDecoder, FrameEncoder, Piece, Pieces,
@@ -19,6 +19,7 @@ pub use amqp_session_performatives::{
     Attach, Begin, Close, Detach, Disposition, End, Flow, Open, Transfer,
 };
 pub use amqp_session_types::{
-    Boxed, ConnectionError, Fields, SessionError, TryCloseError, definitions,
+    Boxed, ConnectionError, Fields, IncomingChannel, Role, SessionError, TryCloseError,
+    TryEndError, definitions,
 };
 pub use serde_amqp_types::{Symbol, Text};

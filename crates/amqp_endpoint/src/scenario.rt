@@ -1,19 +1,24 @@
-//! Scripts: an endpoint's calls as lines of text, and its answers printed.
-ghost use Rattle.std.specs.Prelude.{◌≡◌, ◌≢◌, ◌≤◌, ℕ, List, IfOk, IfErr, OnOk, string_bytes};
+//! Scripts: the calls of one endpoint, or of two, as lines of text, and their answers printed.
+ghost use Rattle.std.specs.Prelude.{◌≡◌, ◌≢◌, ◌≤◌, ◌++◌, ℕ, List, IfOk, IfErr, OnOk, codes, decimal, string_bytes};
 ghost use Rattle.std.specs.Io.KnownBytes.{Appends, Consumes, IsAtEnd};
 ghost use Rattle.amqp_endpoint.specs.declared.scenario.ScenarioError.TheVariants.{Memory, Write as WriteRefused};
 ghost use Rattle.amqp_endpoint.specs.Grammar.{FollowsGrammar};
-ghost use Rattle.amqp_endpoint.specs.Performed.{comes_to, whole_comes_to};
-ghost use Rattle.amqp_endpoint.specs.Parsed.{script_of};
+ghost use Rattle.amqp_endpoint.specs.Performed.{comes_to, one_comes_to, two_comes_to};
+ghost use Rattle.amqp_endpoint.specs.Parsed.{one_of, two_of};
+ghost use Rattle.amqp_endpoint.specs.Printed.{line_end};
+ghost use Rattle.amqp_endpoint_model.specs.Numbers.{number};
+ghost use Rattle.amqp_endpoint_model.specs.Step.{refusal_of_settings};
+ghost use Rattle.amqp_endpoint_model.specs.declared.error.EndpointError.TheVariants.{Memory as NoMemory};
 
 mod printing;
 mod script;
 mod statement;
 
 use amqp_endpoint_core::{NoSessions, play};
-use amqp_endpoint_model::EndpointError;
-use printing::print_replies;
-use script::{Parsed, Script, parse};
+use amqp_endpoint_model::{EndpointError, Settings};
+use amqp_endpoint_world::world;
+use printing::{print_replies, print_world};
+use script::{Given, OneScript, Parsed, TwoScript, parse};
 use std::alloc::{AllocError, Global};
 use std::io;
 use std::io::{ErrorKind, Read, Write};
@@ -41,26 +46,43 @@ impl From<AllocError> for ScenarioError {
     }
 }
 
-/// Reads a script to its end, runs it on one endpoint and writes what it prints. The answer is the status of a program
-/// that does this: 0 where each step was called, also where one was refused, and 1 where nothing was run.
+/// Reads a script to its end, runs it and writes what it prints. The answer is the status of a program that does this:
+/// 0 where each step was called, also where one was refused, and 1 where nothing was run.
 ///
-/// A line has words that are parted by one space each. The first line is `one`, and the second may be `settings a`, a
-/// container, a max-frame-size, a channel-max, an incoming window and a first transfer number. Each other line is a step:
-/// the end `a`, and `connect`, `close`, `heartbeat`, `pull`, `break`, or `feed` and hex digits, `-` for no bytes. Empty
-/// lines and lines that begin with `#` are left out, and counted.
+/// A line has words that are parted by one space each. Empty lines and lines that begin with `#` are left out, and
+/// counted. The first line is `one`, for one endpoint, `a`, whose peer is the script; or `two`, for the endpoints `a`
+/// and `b`, which are joined by two streams of bytes. Behind it may stand a line `settings`, an end, a container, a
+/// max-frame-size, a channel-max, an incoming window and a first transfer number: one of each end, in either order.
 ///
-/// A step prints its line's number, its end and `ok`, with the bytes that it pulled, or `refused` and the number of its
-/// error; then its events and its fault, on lines of their own. The first line that can't be read is printed alone, and
-/// so are settings that are refused, and nothing is run. A script of no lines prints nothing.
+/// Each other line is a step. That of an end is its letter, and `connect`, `close`, `heartbeat`, `begin`, `accept` and
+/// a channel of the peer's, or `end` and a session's number; of one endpoint also `pull`, `break`, or `feed` and hex
+/// digits, `-` for no bytes. Of two endpoints bytes and breaks are their streams': `move`, an end, and a number or
+/// `all` pulls what that end has queued into its stream, and feeds the next bytes of the stream to the other end, so
+/// many or what there is; `break` breaks both ends off, and what was on its way is lost.
 ///
-/// `Read` where the reader refuses, `Memory` where there is no memory for the script or its answers: nothing was written.
-/// `Write` where the writer refuses: some of what is printed may be written.
+/// A step prints its line's number, its end and `ok`, with the bytes that it pulled as `bytes` or `none`, or with the
+/// number of the `session` that it began, or `refused` and the number of its error. Then come its events and its fault,
+/// on lines of their own. A `move` prints what the feed answered, at the end that was fed; a `break` of both ends
+/// prints no end.
+///
+/// The events are `opened`, a max-frame-size and a channel-max; `session-asked` and `begun`, each with a session and
+/// the peer's channel; `link-asked`, a session, the asking end's role and the link's name; `ended` and a session;
+/// `refused`, a session, a link or `-`, and the number of an error; and `closed`. A fault is `fault` and the number of
+/// its error.
+///
+/// The first line that can't be read is printed alone, as `unreadable`, and so are the first settings that are refused,
+/// as `refused` and the number of the error: on their own line, or the first one where they have none. Nothing is run
+/// then. A script of no lines prints nothing.
+///
+/// `Read` where the reader refuses, `Memory` where there is no memory for the script or its answers: nothing was
+/// written. `Write` where the writer refuses: some of what is printed may be written.
 pub fn run<R: Read, W: Write>(
     alloc: Global,
     reader: &mut R,
     writer: &mut W,
 ) -> Result<u8, ScenarioError>
-    ensures printed { IfOk result (λ status. (text : List ℕ) × (output : List ℕ) × Consumes (R.remaining reader.old) (R.remaining reader.new) text × IsAtEnd (R.remaining reader.new)
+    ensures printed { IfOk result (λ status. (text : List ℕ) × (output : List ℕ)
+        × Consumes (R.remaining reader.old) (R.remaining reader.new) text × IsAtEnd (R.remaining reader.new)
         × comes_to text output status × Appends (W.contents writer.old) (W.contents writer.new) output) }
     ensures status { IfOk result (λ status. status ≤ 1) }
     ensures nothing_written { IfErr result (λ e. e ≢ WriteRefused → writer.new ≡ writer.old) }
@@ -79,7 +101,8 @@ struct Outcome {
 }
 
 fn read_all<R: Read>(alloc: Global, reader: &mut R) -> Result<Vec<u8>, ScenarioError>
-    ensures { IfOk result (λ text. Consumes (R.remaining reader.old) (R.remaining reader.new) text.items × IsAtEnd (R.remaining reader.new)) }
+    ensures { IfOk result (λ text. Consumes (R.remaining reader.old) (R.remaining reader.new) text.items
+        × IsAtEnd (R.remaining reader.new)) }
 {
     let mut text = Vec::new(alloc);
     match reader.read_to_end(&mut text) {
@@ -123,38 +146,104 @@ fn outcome_of(alloc: Global, text: &[u8]) -> Result<Outcome, AllocError>
             output: format!(in alloc; "{line} unreadable\n")?,
             status: 1,
         }),
-        Parsed::Whole(script) => perform(alloc, script),
+        Parsed::One(script) => perform_one(alloc, script),
+        Parsed::Two(script) => perform_two(alloc, script),
     }
 }
 
-fn perform(alloc: Global, script: Script) -> Result<Outcome, AllocError>
-    ensures output { IfOk result (λ o. whole_comes_to (script_of script) (string_bytes o.output) o.status) }
+fn perform_one(alloc: Global, script: OneScript) -> Result<Outcome, AllocError>
+    ensures output { IfOk result (λ o. one_comes_to (one_of script) (string_bytes o.output) o.status) }
     ensures status { IfOk result (λ o. o.status ≤ 1) }
 {
-    let Script {
-        settings_line,
-        settings,
+    let OneScript {
+        given,
         lines,
         calls,
     } = script;
+    let Given { line, settings } = given;
     match play::<NoSessions>(alloc, settings, calls.as_slice()) {
         Ok(replies) => Ok(Outcome {
             output: print_replies(alloc, lines.as_slice(), replies.as_slice())?,
             status: 0,
         }),
-        Err(EndpointError::Memory) => Err(AllocError),
-        Err(error) => {
-            let number = error.number();
-            Ok(Outcome {
-                output: format!(in alloc; "{settings_line} refused {number}\n")?,
-                status: 1,
-            })
-        }
+        Err(error) => refused_on(alloc, line, &error),
     }
 }
 
-/// A script is the line `one`, at most one settings line, and steps. The line that is told to be unreadable is the first
-/// one up to which the lines can begin such a script, and with which they can't.
+fn perform_two(alloc: Global, script: TwoScript) -> Result<Outcome, AllocError>
+    ensures output { IfOk result (λ o. two_comes_to (two_of script) (string_bytes o.output) o.status) }
+    ensures status { IfOk result (λ o. o.status ≤ 1) }
+{
+    let TwoScript {
+        given_a,
+        given_b,
+        lines,
+        steps,
+    } = script;
+    if let Some(error) = refusal_of_settings(alloc, &given_a.settings)? {
+        return refused_on(alloc, given_a.line, &error);
+    }
+    match world::run::<NoSessions>(alloc, given_a.settings, given_b.settings, steps.as_slice()) {
+        Ok(replies) => Ok(Outcome {
+            output: print_world(
+                alloc,
+                lines.as_slice(),
+                steps.as_slice(),
+                replies.as_slice(),
+            )?,
+            status: 0,
+        }),
+        Err(error) => refused_on(alloc, given_b.line, &error),
+    }
+}
+
+/// Why an endpoint refuses these settings, if it does.
+fn refusal_of_settings(
+    alloc: Global,
+    settings: &Settings,
+) -> Result<Option<EndpointError>, AllocError>
+    ensures { IfOk result (λ refusal. refusal ≡ refusal_of_settings settings.now) }
+{
+    match play::<NoSessions>(alloc, copy_settings(settings)?, &[]) {
+        Ok(_) => Ok(None),
+        Err(EndpointError::Memory) => Err(AllocError),
+        Err(error) => Ok(Some(error)),
+    }
+}
+
+fn copy_settings(settings: &Settings) -> Result<Settings, AllocError>
+    ensures { IfOk result (λ copy. copy ≡ settings.now) }
+{
+    Ok(Settings {
+        container_id: settings.container_id.clone()?,
+        max_frame_size: settings.max_frame_size,
+        channel_max: settings.channel_max,
+        incoming_window: settings.incoming_window,
+        idle_time_out: settings.idle_time_out,
+        first_transfer_number: settings.first_transfer_number,
+    })
+}
+
+/// What is printed of settings that are refused by this line. Want of memory isn't printed.
+fn refused_on(alloc: Global, line: usize, error: &EndpointError) -> Result<Outcome, AllocError>
+    ensures output { IfOk result (λ o. string_bytes o.output
+        ≡ decimal line ++ (codes " refused " ++ (decimal (number error.now) ++ line_end))) }
+    ensures status { IfOk result (λ o. o.status ≡ 1) }
+    ensures known { IfOk result (λ o. error.now ≢ NoMemory) }
+{
+    if matches!(error, EndpointError::Memory) {
+        return Err(AllocError);
+    }
+    let number = error.number();
+    Ok(Outcome {
+        output: format!(in alloc; "{line} refused {number}\n")?,
+        status: 1,
+    })
+}
+
+/// A script is the line `one`, at most one settings line of the end `a`, and steps of it; or the line `two`, at most
+/// one settings line of each end, and steps of both. The line that is told to be unreadable is the first one up to
+/// which the lines can begin such a script, and with which they can't.
 #[tactic(auto, using(crate::proofs::Grammars::follows_grammar))]
 pub fn follows_grammar()
     ensures { FollowsGrammar }

@@ -1,12 +1,20 @@
 //! What the steps of a script print.
-ghost use Rattle.std.specs.Prelude.{◌≡◌, ◌++◌, map, IfOk, OnOk, string_bytes};
+ghost use Rattle.std.specs.Prelude.{◌≡◌, ◌++◌, codes, decimal, map, IfOk, OnOk, string_bytes};
+ghost use Rattle.amqp_endpoint_model.specs.Numbers.{number};
 ghost use Rattle.amqp_endpoint_model.specs.Said.{told, said};
-ghost use Rattle.amqp_endpoint.specs.Printed.{printed, step_text, ok_text, bytes_text, hex_word, event_text, events_text, fault_text};
+ghost use Rattle.amqp_endpoint_model.specs.declared.event.Event.TheVariants as event;
+ghost use Rattle.amqp_endpoint_world.specs.WorldSaid.{did_said, feed_said, world_told};
+ghost use Rattle.amqp_endpoint_world.specs.WorldState.{other};
+ghost use Rattle.amqp_endpoint.specs.Printed.{bytes_text, event_text, events_text, fault_text, hex_word, of_line, ok_text, printed, role_word, step_text, two_numbers, world_printed, world_text};
 
-use amqp_endpoint_model::{Answer, EndpointError, Event, Fed, Reply};
+use crate::scenario::script::letter;
+use amqp_endpoint_model::{Answer, EndpointError, Event, Fed, Refused, Reply};
+use amqp_endpoint_world::{Did, End, Step, WorldReply};
+use amqp_session_performatives::Attach;
+use amqp_session_types::Role;
 use std::alloc::{AllocError, Global};
 
-/// What the steps on these lines print.
+/// What the steps of one end print that stand on these lines.
 pub fn print_replies(
     alloc: Global,
     lines: &[usize],
@@ -16,31 +24,116 @@ pub fn print_replies(
 {
     let mut text = String::new(alloc);
     for (line, reply) in lines.iter().zip(replies) {
-        print_answer(&mut text, *line, &reply.answer)?;
+        print_answer(&mut text, *line, End::A, &reply.answer)?;
     }
     Ok(text)
 }
 
-fn print_answer(text: &mut String, line: usize, answer: &Answer) -> Result<(), AllocError>
-    ensures { OnOk result (string_bytes text.new ≡ string_bytes text.old ++ step_text line (said answer.now)) }
+/// What the steps of two ends print that stand on these lines.
+pub fn print_world(
+    alloc: Global,
+    lines: &[usize],
+    steps: &[Step],
+    replies: &[WorldReply],
+) -> Result<String, AllocError>
+    ensures { IfOk result (λ text. string_bytes text
+        ≡ world_printed lines.now steps.now (map world_told replies.now)) }
 {
-    match answer {
-        Answer::Refused(error) => {
-            let number = error.number();
-            writeln!(text, "{line} a refused {number}")
+    let mut text = String::new(alloc);
+    for ((line, step), reply) in lines.iter().zip(steps).zip(replies) {
+        print_step(&mut text, *line, step, &reply.did)?;
+    }
+    Ok(text)
+}
+
+/// A call is printed at its end, and bytes that are moved at the end that they are fed to.
+fn print_step(text: &mut String, line: usize, step: &Step, did: &Did) -> Result<(), AllocError>
+    ensures { OnOk result (string_bytes text.new
+        ≡ string_bytes text.old ++ world_text line step.now (did_said did.now)) }
+{
+    match (step, did) {
+        (Step::Call(end, _), Did::Called(answer)) => print_answer(text, line, *end, answer),
+        (Step::Move(from, _), Did::Moved(moved)) => {
+            print_moved(text, line, other(*from), &moved.answer)
         }
-        Answer::Fed(fed) => print_fed(text, line, fed),
-        Answer::Pulled(None) => writeln!(text, "{line} a ok none"),
-        Answer::Pulled(Some(bytes)) => print_bytes(text, line, bytes.as_slice()),
-        _ => writeln!(text, "{line} a ok"),
+        (Step::Break, Did::Broken) => writeln!(text, "{line} ok"),
+        _ => Ok(()),
     }
 }
 
-fn print_bytes(text: &mut String, line: usize, bytes: &[u8]) -> Result<(), AllocError>
-    ensures { OnOk result (string_bytes text.new ≡ string_bytes text.old ++ bytes_text line bytes.now) }
+/// The end that isn't this one.
+fn other(end: End) -> End
+    ensures { result ≡ other end }
 {
+    match end {
+        End::A => End::B,
+        End::B => End::A,
+    }
+}
+
+fn print_answer(text: &mut String, line: usize, end: End, answer: &Answer) -> Result<(), AllocError>
+    ensures { OnOk result (string_bytes text.new ≡ string_bytes text.old ++ step_text line end (said answer.now)) }
+{
+    match answer {
+        Answer::Refused(error) => print_refusal(text, line, end, error),
+        Answer::Fed(fed) => print_fed(text, line, end, fed),
+        Answer::Pulled(None) => print_words(text, line, end, "ok none"),
+        Answer::Pulled(Some(bytes)) => print_bytes(text, line, end, bytes.as_slice()),
+        Answer::Session(session) => print_session(text, line, end, *session),
+        _ => print_words(text, line, end, "ok"),
+    }
+}
+
+fn print_moved(
+    text: &mut String,
+    line: usize,
+    end: End,
+    answer: &Result<Fed, EndpointError>,
+) -> Result<(), AllocError>
+    ensures { OnOk result (string_bytes text.new
+        ≡ string_bytes text.old ++ step_text line end (feed_said answer.now)) }
+{
+    match answer {
+        Ok(fed) => print_fed(text, line, end, fed),
+        Err(error) => print_refusal(text, line, end, error),
+    }
+}
+
+fn print_words(text: &mut String, line: usize, end: End, words: &str) -> Result<(), AllocError>
+    ensures { OnOk result (string_bytes text.new ≡ string_bytes text.old ++ of_line line end words.now) }
+{
+    let letter = letter(end);
+    writeln!(text, "{line} {letter} {words}")
+}
+
+fn print_refusal(
+    text: &mut String,
+    line: usize,
+    end: End,
+    error: &EndpointError,
+) -> Result<(), AllocError>
+    ensures { OnOk result (string_bytes text.new
+        ≡ string_bytes text.old ++ of_line line end (codes "refused " ++ decimal (number error.now))) }
+{
+    let letter = letter(end);
+    let number = error.number();
+    writeln!(text, "{line} {letter} refused {number}")
+}
+
+fn print_session(text: &mut String, line: usize, end: End, session: u64) -> Result<(), AllocError>
+    ensures { OnOk result (string_bytes text.new
+        ≡ string_bytes text.old ++ of_line line end (codes "ok session " ++ decimal session)) }
+{
+    let letter = letter(end);
+    writeln!(text, "{line} {letter} ok session {session}")
+}
+
+fn print_bytes(text: &mut String, line: usize, end: End, bytes: &[u8]) -> Result<(), AllocError>
+    ensures { OnOk result (string_bytes text.new ≡ string_bytes text.old ++ bytes_text line end bytes.now) }
+{
+    let letter = letter(end);
     let word = hex_word(*text.allocator(), bytes)?;
-    writeln!(text, "{line} a ok bytes {word}")
+    writeln!(text, "{line} {letter} ok bytes {word}")
 }
 
 /// Hex digits in lower case, two for each byte. No bytes at all are written `-`.
@@ -54,41 +147,129 @@ fn hex_word(alloc: Global, bytes: &[u8]) -> Result<String, AllocError>
     hex::encode(alloc, bytes)
 }
 
-fn print_fed(text: &mut String, line: usize, fed: &Fed) -> Result<(), AllocError>
+fn print_fed(text: &mut String, line: usize, end: End, fed: &Fed) -> Result<(), AllocError>
     ensures { OnOk result (string_bytes text.new ≡ string_bytes text.old
-        ++ (ok_text line ++ (events_text line fed.now.events.items ++ fault_text line fed.now.fault))) }
+        ++ (ok_text line end ++ (events_text line end fed.now.events.items ++ fault_text line end fed.now.fault))) }
 {
-    writeln!(text, "{line} a ok")?;
+    print_words(text, line, end, "ok")?;
     for event in fed.events.iter() {
-        print_event(text, line, event)?;
+        print_event(text, line, end, event)?;
     }
-    print_fault(text, line, &fed.fault)
+    print_fault(text, line, end, &fed.fault)
 }
 
-fn print_event(text: &mut String, line: usize, event: &Event) -> Result<(), AllocError>
-    ensures { OnOk result (string_bytes text.new ≡ string_bytes text.old ++ event_text line event.now) }
+fn print_event(text: &mut String, line: usize, end: End, event: &Event) -> Result<(), AllocError>
+    ensures { OnOk result (string_bytes text.new ≡ string_bytes text.old ++ event_text line end event.now) }
 {
     match event {
         Event::Opened(opened) => {
-            let limit = opened.max_frame_size;
-            let channel_max = opened.channel_max;
-            writeln!(text, "{line} a opened {limit} {channel_max}")
+            let limit = u64::from(opened.max_frame_size);
+            print_numbers(text, line, end, "opened", limit, opened.channel_max)
         }
-        Event::Closed(_) => writeln!(text, "{line} a closed"),
+        Event::SessionAsked(asked) => {
+            print_numbers(
+                text,
+                line,
+                end,
+                "session-asked",
+                asked.session,
+                asked.channel.0,
+            )
+        }
+        Event::Begun(begun) => {
+            print_numbers(text, line, end, "begun", begun.session, begun.channel.0)
+        }
+        Event::LinkAsked(asked) => print_link(text, line, end, asked.session, &asked.attach),
+        Event::Ended(ended) => print_ended(text, line, end, ended.session),
+        Event::Refused(refused) => print_refused(text, line, end, refused),
+        Event::Closed(_) => print_words(text, line, end, "closed"),
+    }
+}
+
+fn print_numbers(
+    text: &mut String,
+    line: usize,
+    end: End,
+    word: &str,
+    first: u64,
+    second: u16,
+) -> Result<(), AllocError>
+    ensures { OnOk result (string_bytes text.new
+        ≡ string_bytes text.old ++ of_line line end (two_numbers word.now first second)) }
+{
+    let letter = letter(end);
+    writeln!(text, "{line} {letter} {word} {first} {second}")
+}
+
+/// A link that is asked for: its session, the role of who asks, and the link's name.
+fn print_link(
+    text: &mut String,
+    line: usize,
+    end: End,
+    session: u64,
+    attach: &Attach,
+) -> Result<(), AllocError>
+    ensures { OnOk result (string_bytes text.new ≡ string_bytes text.old
+        ++ of_line line end (codes "link-asked " ++ (decimal session
+        ++ (codes " " ++ (role_word attach.now.role ++ (codes " " ++ attach.now.name)))))) }
+{
+    let alloc = *text.allocator();
+    let role = role_word(attach.role);
+    let name = attach.name.as_str();
+    let words = format!(in alloc; "link-asked {session} {role} {name}")?;
+    print_words(text, line, end, words.as_str())
+}
+
+/// The role of who asks for a link.
+fn role_word(role: Role) -> &'static str
+    ensures { result.now ≡ role_word role }
+{
+    match role {
+        Role::Sender => "sender",
+        Role::Receiver => "receiver",
+    }
+}
+
+fn print_ended(text: &mut String, line: usize, end: End, session: u64) -> Result<(), AllocError>
+    ensures { OnOk result (string_bytes text.new
+        ≡ string_bytes text.old ++ of_line line end (codes "ended " ++ decimal session)) }
+{
+    let letter = letter(end);
+    writeln!(text, "{line} {letter} ended {session}")
+}
+
+/// A session or a link that was ended here: their numbers, that of a link `-` where there is none, and the error's.
+fn print_refused(
+    text: &mut String,
+    line: usize,
+    end: End,
+    refused: &Refused,
+) -> Result<(), AllocError>
+    ensures { OnOk result (string_bytes text.new
+        ≡ string_bytes text.old ++ event_text line end (event.Refused refused.now)) }
+{
+    let letter = letter(end);
+    let session = refused.session;
+    let number = refused.error.number();
+    match refused.link {
+        None => writeln!(text, "{line} {letter} refused {session} - {number}"),
+        Some(link) => writeln!(text, "{line} {letter} refused {session} {link} {number}"),
     }
 }
 
 fn print_fault(
     text: &mut String,
     line: usize,
+    end: End,
     fault: &Option<EndpointError>,
 ) -> Result<(), AllocError>
-    ensures { OnOk result (string_bytes text.new ≡ string_bytes text.old ++ fault_text line fault.now) }
+    ensures { OnOk result (string_bytes text.new ≡ string_bytes text.old ++ fault_text line end fault.now) }
 {
     match fault {
         Some(error) => {
+            let letter = letter(end);
             let number = error.number();
-            writeln!(text, "{line} a fault {number}")
+            writeln!(text, "{line} {letter} fault {number}")
         }
         None => Ok(()),
     }

@@ -1,9 +1,11 @@
 //! What one line of a script says.
 ghost use Rattle.std.specs.Prelude.{◌≡◌, ◌==◌, ◌^◌, length, map, IfOk};
-ghost use Rattle.amqp_endpoint.specs.Script.{number_under, bytes_of, call_of, settings_of, opening_said, call_said, feed_said, settings_said, words_said, statement, parts_at};
 ghost use Rattle.std.specs.List.{list_any};
+ghost use Rattle.amqp_endpoint.specs.Script.{bytes_of, call_at, call_of, call_with, count_of, end_of, move_from, number_under, parts_at, settings_at, settings_of, statement, three_said, word_said, words_said};
 
 use amqp_endpoint_model::{Call, Settings};
+use amqp_endpoint_world::End;
+use amqp_session_types::IncomingChannel;
 use bytes::Bytes;
 use hex::FromHexError;
 use serde_amqp_types::Text;
@@ -14,10 +16,16 @@ use std::alloc::{AllocError, Global};
 pub enum Statement {
     /// `one`: the script is of one endpoint.
     One,
-    /// `settings`: what the endpoint is made with.
-    Settings(Settings),
-    /// A step: a call of the endpoint.
-    Step(Call),
+    /// `two`: the script is of two endpoints, which are joined by two streams of bytes.
+    Two,
+    /// `settings`: what an end is made with.
+    Settings(End, Settings),
+    /// A call of an end.
+    Call(End, Call),
+    /// `move`: so many bytes are moved from an end to the other one.
+    Move(End, u64),
+    /// `break`: both ends break off.
+    Break,
 }
 
 /// What this line says: `None` where it can't be read.
@@ -50,37 +58,81 @@ fn read_words(alloc: Global, words: &[&str]) -> Result<Option<Statement>, AllocE
     ensures { IfOk result (λ s. s ≡ words_said (map (λ w. w.now) words.now)) }
 {
     match words {
-        [word] => Ok(read_opening(word)),
-        [end, verb] => Ok(read_call(end, verb)),
-        [end, verb, bytes] => read_feed(alloc, end, verb, bytes),
+        [word] => Ok(read_word(word)),
+        [end, verb] => Ok(call_at(read_end(end), call_named(verb))),
+        [first, second, third] => read_three(alloc, first, second, third),
         [verb, end, container, limit, channels, window, first] => {
-            if *verb != "settings" || *end != "a" {
+            if *verb != "settings" {
                 return Ok(None);
             }
             let settings = read_settings(alloc, container, limit, channels, window, first)?;
-            Ok(settings.map(Statement::Settings))
+            Ok(settings_at(read_end(end), settings))
         }
         _ => Ok(None),
     }
 }
 
-fn read_opening(word: &str) -> Option<Statement>
-    ensures { result ≡ opening_said word.now }
+/// A line of one word: the first line of a script, or a break of both ends.
+fn read_word(word: &str) -> Option<Statement>
+    ensures { result ≡ word_said word.now }
 {
-    if word == "one" {
-        Some(Statement::One)
-    } else {
-        None
+    match word {
+        "one" => Some(Statement::One),
+        "two" => Some(Statement::Two),
+        "break" => Some(Statement::Break),
+        _ => None,
     }
 }
 
-fn read_call(end: &str, verb: &str) -> Option<Statement>
-    ensures { result ≡ call_said end.now verb.now }
+/// Bytes are moved from an end, or an end is called.
+fn read_three(
+    alloc: Global,
+    first: &str,
+    second: &str,
+    third: &str,
+) -> Result<Option<Statement>, AllocError>
+    ensures { IfOk result (λ s. s ≡ three_said first.now second.now third.now) }
 {
-    if end != "a" {
-        return None;
+    if first == "move" {
+        return Ok(move_from(read_end(second), read_count(third)));
     }
-    call_named(verb).map(Statement::Step)
+    let call = read_call(alloc, second, third)?;
+    Ok(call_at(read_end(first), call))
+}
+
+/// The end that a word names.
+fn read_end(word: &str) -> Option<End>
+    ensures { result ≡ end_of word.now }
+{
+    match word {
+        "a" => Some(End::A),
+        "b" => Some(End::B),
+        _ => None,
+    }
+}
+
+fn call_at(end: Option<End>, call: Option<Call>) -> Option<Statement>
+    ensures { result ≡ call_at end call }
+{
+    let end = end?;
+    let call = call?;
+    Some(Statement::Call(end, call))
+}
+
+fn move_from(end: Option<End>, count: Option<u64>) -> Option<Statement>
+    ensures { result ≡ move_from end count }
+{
+    let end = end?;
+    let count = count?;
+    Some(Statement::Move(end, count))
+}
+
+fn settings_at(end: Option<End>, settings: Option<Settings>) -> Option<Statement>
+    ensures { result ≡ settings_at end settings }
+{
+    let end = end?;
+    let settings = settings?;
+    Some(Statement::Settings(end, settings))
 }
 
 /// The call that this word alone names.
@@ -91,25 +143,36 @@ fn call_named(verb: &str) -> Option<Call>
         "connect" => Some(Call::Connect),
         "close" => Some(Call::Close),
         "heartbeat" => Some(Call::Heartbeat),
+        "begin" => Some(Call::Begin),
         "pull" => Some(Call::Pull),
         "break" => Some(Call::BreakOff),
         _ => None,
     }
 }
 
-fn read_feed(
-    alloc: Global,
-    end: &str,
-    verb: &str,
-    bytes: &str,
-) -> Result<Option<Statement>, AllocError>
-    ensures { IfOk result (λ s. s ≡ feed_said end.now verb.now bytes.now) }
+/// The call that a word names with what stands behind it: bytes, a channel of the peer's, or a session.
+fn read_call(alloc: Global, verb: &str, word: &str) -> Result<Option<Call>, AllocError>
+    ensures { IfOk result (λ c. c ≡ call_with verb.now word.now) }
 {
-    if end != "a" || verb != "feed" {
-        return Ok(None);
+    match verb {
+        "feed" => {
+            let bytes = read_bytes(alloc, word)?;
+            Ok(bytes.map(Call::Feed))
+        }
+        "accept" => Ok(read_u16(word).map(|channel| Call::AcceptBegin(IncomingChannel(channel)))),
+        "end" => Ok(read_u64(word).map(Call::End)),
+        _ => Ok(None),
     }
-    let bytes = read_bytes(alloc, bytes)?;
-    Ok(bytes.map(|bytes| Statement::Step(Call::Feed(bytes))))
+}
+
+/// How many bytes are moved: so many, or `all` that there are.
+fn read_count(word: &str) -> Option<u64>
+    ensures { result ≡ count_of word.now }
+{
+    if word == "all" {
+        return Some(u64::MAX);
+    }
+    read_u64(word)
 }
 
 /// Bytes in hex digits of either case, two for each. None at all are written `-`.
@@ -171,6 +234,16 @@ fn read_u32(word: &str) -> Option<u32>
 /// A number in decimal digits alone: a sign is none.
 fn read_u16(word: &str) -> Option<u16>
     ensures { result ≡ number_under (2 ^ 16) word.now }
+{
+    if word.starts_with('+') {
+        return None;
+    }
+    word.parse().ok()
+}
+
+/// A number in decimal digits alone: a sign is none.
+fn read_u64(word: &str) -> Option<u64>
+    ensures { result ≡ number_under (2 ^ 64) word.now }
 {
     if word.starts_with('+') {
         return None;

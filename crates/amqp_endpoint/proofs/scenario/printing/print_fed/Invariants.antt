@@ -4,4 +4,6 @@ use Rattle.amqp_endpoint.specs.Printed.{ok_text, events_text}
 use Rattle.amqp_endpoint.proofs.scenario.printing.print_fed.Given as goal
 
 abbrev pub invariant-loop-event : goal.invariant-loop-event
-invariant-loop-event l = string_bytes l.text ++ events_text l.line (drop l.event-index l.fed.events.items) ≡ string_bytes l.fn.text ++ (ok_text l.line ++ events_text l.line l.fed.events.items)
+invariant-loop-event l =
+    string_bytes l.text ++ events_text l.line l.end (drop l.event-index l.fed.events.items) ≡ string_bytes l.fn.text
+    ++ (ok_text l.line l.end ++ events_text l.line l.end l.fed.events.items)
