@@ -9,4 +9,8 @@ pub use Rattle.amqp_endpoint_model.specs.Relay
 pub use Rattle.amqp_endpoint_model.specs.Said
 pub use Rattle.amqp_endpoint_model.specs.State
 pub use Rattle.amqp_endpoint_model.specs.Step
-pub use Rattle.amqp_endpoint_core.specs.NoSessions
+pub use Rattle.amqp_endpoint_unlinked.specs.Calling
+pub use Rattle.amqp_endpoint_unlinked.specs.Does
+pub use Rattle.amqp_endpoint_unlinked.specs.Ending
+pub use Rattle.amqp_endpoint_unlinked.specs.Hearing
+pub use Rattle.amqp_endpoint_unlinked.specs.NoLink

@@ -4,14 +4,16 @@
 pub mod scenario;
 pub mod world;
 
-/// One end of an AMQP connection, which has no sessions.
-pub type Endpoint = amqp_endpoint_core::Endpoint<NoSessions>;
+/// One end of an AMQP connection, with its sessions. It attaches no link: the peer may ask for links, and whatever else
+/// it says of one is a fault of its session (part 2, 2.8.17).
+pub type Endpoint = amqp_endpoint_core::Endpoint<UnlinkedSessions>;
 
-pub use amqp_endpoint_core::{NoSessions, play};
+pub use amqp_endpoint_core::play;
 pub use amqp_endpoint_model::{
     Answer, Begun, Call, Closed, Ended, EndpointError, Event, Fed, LinkAsked, LinkError, Opened,
     Refused, Reply, SessionAsked, SessionRelay, Settings,
 };
+pub use amqp_endpoint_unlinked::{NoLink, UnlinkedSessions};
 pub use amqp_session_frames::{
     Error as FrameError, Frame, FrameBody, FrameDecoder, FrameEncoder, Piece, Pieces,
 };

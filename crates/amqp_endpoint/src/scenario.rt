@@ -14,8 +14,9 @@ mod printing;
 mod script;
 mod statement;
 
-use amqp_endpoint_core::{NoSessions, play};
+use amqp_endpoint_core::play;
 use amqp_endpoint_model::{EndpointError, Settings};
+use amqp_endpoint_unlinked::UnlinkedSessions;
 use amqp_endpoint_world::world;
 use printing::{print_replies, print_world};
 use script::{Given, OneScript, Parsed, TwoScript, parse};
@@ -161,7 +162,7 @@ fn perform_one(alloc: Global, script: OneScript) -> Result<Outcome, AllocError>
         calls,
     } = script;
     let Given { line, settings } = given;
-    match play::<NoSessions>(alloc, settings, calls.as_slice()) {
+    match play::<UnlinkedSessions>(alloc, settings, calls.as_slice()) {
         Ok(replies) => Ok(Outcome {
             output: print_replies(alloc, lines.as_slice(), replies.as_slice())?,
             status: 0,
@@ -183,7 +184,12 @@ fn perform_two(alloc: Global, script: TwoScript) -> Result<Outcome, AllocError>
     if let Some(error) = refusal_of_settings(alloc, &given_a.settings)? {
         return refused_on(alloc, given_a.line, &error);
     }
-    match world::run::<NoSessions>(alloc, given_a.settings, given_b.settings, steps.as_slice()) {
+    match world::run::<UnlinkedSessions>(
+        alloc,
+        given_a.settings,
+        given_b.settings,
+        steps.as_slice(),
+    ) {
         Ok(replies) => Ok(Outcome {
             output: print_world(
                 alloc,
@@ -204,7 +210,7 @@ fn refusal_of_settings(
 ) -> Result<Option<EndpointError>, AllocError>
     ensures { IfOk result (λ refusal. refusal ≡ refusal_of_settings settings.now) }
 {
-    match play::<NoSessions>(alloc, copy_settings(settings)?, &[]) {
+    match play::<UnlinkedSessions>(alloc, copy_settings(settings)?, &[]) {
         Ok(_) => Ok(None),
         Err(EndpointError::Memory) => Err(AllocError),
         Err(error) => Ok(Some(error)),
