@@ -299,6 +299,13 @@ module _ {S : Type 0} (does : Relations S) where
   reads_again old r bytes events fault new x =
       record { frames = x.frames; left = x.left; mid = x.mid; read = x.read; taken = x.taken; ends = x.ends }
 
+  -- they are read behind those that were kept
+  pub reads_behind : (old mid new : State S) (r : List ℕ) (events : List Event) (fault : Option EndpointError)
+      → mid ≡ record old { rest = r } → ReadsOn does mid mid.rest events fault new → ReadsOn does old r events fault new
+  reads_behind old mid new r events fault is x =
+      let P : State S → Type 0 = λ s. ReadsOn does s s.rest events fault new in
+      reads_again old r r events fault new (subst P is x)
+
   -- there is no memory for the bytes
   pub feed_off : (old new : State S) (bytes : List ℕ) (events : List Event) (fault : Option EndpointError) → old.phase
       ≡ Running

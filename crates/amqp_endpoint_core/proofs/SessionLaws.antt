@@ -1,13 +1,14 @@
 -- Laws of frames that sessions take.
-use Rattle.std.proofs.Common.{◌≡◌, ℕ, List, [], ◌∷◌, ◌++◌, Bool, true, false, if◌then◌else◌, refl, sym, ◌∙◌, ap, subst, append_assoc}
+use Rattle.std.proofs.Common.{◌≡◌, ℕ, Some, List, [], ◌∷◌, ◌++◌, Bool, true, false, if◌then◌else◌, refl, sym, ◌∙◌, ap, subst, append_assoc}
 use Rattle.std.specs.List.{All}
 use Rattle.amqp_session_performatives.specs.declared.session_frame.SessionFrame.{SessionFrame}
+use Rattle.amqp_session_types.specs.declared.error.Error.{Error}
 use Rattle.amqp_session_frames.specs.declared.frame.Frame.{Frame}
 use Rattle.amqp_session_frames.specs.declared.frame.FrameBody.{FrameBody}
 use Rattle.amqp_session_frames.specs.declared.frame.FrameBody.TheVariants.{Empty, Open, Close}
 use Rattle.amqp_endpoint_model.specs.declared.event.Event.{Event}
 use Rattle.amqp_endpoint_model.specs.Relay.{IsOfSession, Relations, Taken}
-use Rattle.amqp_endpoint_model.specs.State.{State, Waiting, fits, frame_of, limit_of, the_frame}
+use Rattle.amqp_endpoint_model.specs.State.{State, Waiting, fits, frame_of, limit_of, own_close_with, the_frame}
 use Rattle.amqp_endpoint_model.specs.Step.{MovesBy, SendsClose, SessionsTake, TakesBody, with_close}
 use Rattle.amqp_session_connection.specs.Table.{after_send_close}
 use Rattle.amqp_endpoint_core.specs.Queue.{frames_waiting}
@@ -75,3 +76,26 @@ closed_with does old new frame first moves is =
           ∙ ap (λ (ws : List Waiting). record old { own_close = true; queue = ws; sessions = new.sessions })
           (sym (chosen_other old.own_close old.queue (old.queue ++ the_frame frame ∷ []) first)),
     )
+
+-- with this error
+pub closed_with_error : {S : Type 0} (does : Relations S) (old new : State S) (error told : Error)
+    → old.own_close ≡ false → MovesBy does (after_send_close true) old.sessions new.sessions
+    → new ≡ record old {
+      own_close = true;
+      queue = old.queue ++ the_frame (own_close_with (Some error)) ∷ [];
+      sessions = new.sessions;
+    }
+    → error ≡ told
+    → SendsClose does old.own_close true old.sessions new.sessions
+    × (new ≡ record old {
+      own_close = true;
+      queue = with_close old (own_close_with (Some told));
+      sessions = new.sessions;
+    })
+closed_with_error does old new error told first moves is same =
+    closed_with does old new (own_close_with (Some told)) first moves
+    (is ∙ ap (λ (e : Error). record old {
+      own_close = true;
+      queue = old.queue ++ the_frame (own_close_with (Some e)) ∷ [];
+      sessions = new.sessions;
+    }) same)

@@ -1,7 +1,7 @@
 use Rattle.std.proofs.Common.{◌++◌, ap, subst}
 use Rattle.amqp_endpoint_model.specs.State.{State}
-use Rattle.amqp_endpoint_model.specs.Step.{Breaks, ReadsOn}
-use Rattle.amqp_endpoint_core.proofs.FeedLaws.{feed_off, reads_again}
+use Rattle.amqp_endpoint_model.specs.Step.{Breaks}
+use Rattle.amqp_endpoint_core.proofs.FeedLaws.{feed_off, reads_behind}
 use Rattle.std.proofs.Common.{Some, ◌∙◌}
 use Rattle.amqp_endpoint_core.proofs.endpoint.Endpoint.feed_frames.Goals as goal
 
@@ -15,7 +15,6 @@ returns-in-Err g c =
 
 pub returns-in-Ok : goal.returns-in-Ok
 returns-in-Ok g c =
-    let all = c.args.self.now.rest ++ c.args.bytes.now in
-    reads_again g.S.SessionRelay.does c.args.self.now all all _ _ c.read_frames.new.self
-    (subst (λ (s : State g.row.S.Denot). ReadsOn g.S.SessionRelay.does s s.rest c.read_frames.result.events.items
-    c.read_frames.result.fault c.read_frames.new.self) c.in-Ok.ensures.ok c.read_frames.ensures)
+    reads_behind g.S.SessionRelay.does c.args.self.now c.take_in.new.self c.read_frames.new.self
+    (c.args.self.now.rest ++ c.args.bytes.now) c.read_frames.result.events.items c.read_frames.result.fault
+    c.in-Ok.ensures.ok c.read_frames.ensures

@@ -12,7 +12,9 @@ invariant_of-self-2 g c =
       stands,
       fits,
       least,
-      within-pushed limit _ _ _ _ _ _ within gathered none one c.push_back_reserved.ensures.items,
+      within-pushed limit c.self.inside.queue.items c.gather.new.queue.items c.push_back_reserved.new.self.items
+          c.self.inside.out.items c.gather.new.out.items c.frame.result within gathered none one
+          c.push_back_reserved.ensures.items,
       waits,
       idle,
     )
