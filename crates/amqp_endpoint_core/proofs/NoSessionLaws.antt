@@ -1,5 +1,5 @@
 -- Laws of an endpoint without sessions.
-use Rattle.std.proofs.Common.{◌≡◌, Some, None}
+use Rattle.std.proofs.Common.{◌≡◌, Some}
 use Rattle.amqp_endpoint_model.specs.declared.call.Call.{Call}
 use Rattle.amqp_endpoint_model.specs.declared.call.Call.TheVariants.{IsEnded, TryEnd}
 use Rattle.amqp_endpoint_model.specs.declared.error.EndpointError.{EndpointError}

@@ -1,11 +1,9 @@
-use Rattle.std.proofs.Common.{◌≡◌, ◌++◌, Bool, List, true, false, Option, None, Some, refl, sym, ap, ◌∙◌, if◌then◌else◌}
-use Rattle.amqp_session_performatives.specs.declared.session_frame.SessionFrame.{SessionFrame}
+use Rattle.std.proofs.Common.{◌≡◌, ◌++◌, Bool, true, false, None, Some, refl, sym, ap, ◌∙◌, if◌then◌else◌}
 use Rattle.amqp_endpoint_model.specs.declared.call.Call.TheVariants as call
-use Rattle.amqp_endpoint_model.specs.declared.error.EndpointError.{EndpointError}
 use Rattle.amqp_endpoint_model.specs.declared.error.EndpointError.TheVariants.{NotConnected}
 use Rattle.amqp_endpoint_model.specs.declared.phase.Phase.{Phase}
 use Rattle.amqp_endpoint_model.specs.declared.phase.Phase.TheVariants.{Running}
-use Rattle.amqp_endpoint_model.specs.Said.{done, session_begun}
+use Rattle.amqp_endpoint_model.specs.Said.{session_begun}
 use Rattle.amqp_endpoint_model.specs.State.{State, is_running, limit_of}
 use Rattle.amqp_endpoint_model.specs.Step.{goes_on}
 use Rattle.amqp_endpoint_core.specs.Queue.{frames_waiting}

@@ -1,4 +1,4 @@
-use Rattle.std.proofs.Common.{◌≡◌, ◌++◌, refl, ap, ◌∙◌}
+use Rattle.std.proofs.Common.{◌++◌, refl, ap, ◌∙◌}
 use Rattle.amqp_endpoint_model.specs.declared.call.Call.TheVariants as call
 use Rattle.amqp_endpoint_model.specs.Said.{refusal_in, tried_end}
 use Rattle.amqp_endpoint_model.specs.State.{State}
