@@ -34,7 +34,8 @@ module _ {S : Type 0} (does : Relations S) (old : State S) where
       ∙ ap (λ (ws : List Waiting). queue ++ ws) (frames_waiting-append out t.frames)
       ∙ sym (append_assoc queue (frames_waiting out) (frames_waiting t.frames))
       ∙ ap (λ (ws : List Waiting). ws ++ frames_waiting t.frames) queue_is in
-      let done : SessionsDo does old call answer (record old { sessions = new; queue = queue ++ frames_waiting out_new })
+      let done : SessionsDo does old call answer
+      (record old { sessions = new; queue = queue ++ frames_waiting out_new })
       =
       record {
         allowed = allowed;
@@ -47,7 +48,8 @@ module _ {S : Type 0} (does : Relations S) (old : State S) where
       subst P (sym is) done
 
   -- sessions answer, and send nothing
-  pub answered : (call : Call) (answer : Said) (s new : S) (behind : State S) → refusal old call ≡ None → s ≡ old.sessions
+  pub answered : (call : Call) (answer : Said) (s new : S) (behind : State S) → refusal old call ≡ None
+      → s ≡ old.sessions
       → ((limit : ℕ) → does.calls s limit call answer [] new) → behind ≡ record old { sessions = new }
       → SessionsDo does old call answer behind
   answered call answer s new behind allowed s_is calls is =

@@ -56,8 +56,8 @@ pub record Stands {S : Type 0} (does : Relations S) (settings : Settings) (phase
   pub opening : frame_on 0 (body.Open (does.connection sessions).local_open) ≡ own_open settings
   pub agrees : Agrees phase limit (does.connection sessions).local_state
 
--- what waits in the sessions of an endpoint which stands so is within the peer's limit, and where there is no connection
--- within any peer's (part 2, 2.4.1, 2.5.6)
+-- what waits in the sessions of an endpoint that stands so is within the peer's limit, and without a connection within
+-- any peer's (part 2, 2.4.1, 2.5.6)
 abbrev pub WaitWithin : {S : Type 0} → Relations S → Phase → Option ℕ → S → Type 0
 WaitWithin does phase limit sessions =
     does.within (limit_of limit) sessions × (phase ≡ Unconnected → does.within 512 sessions)

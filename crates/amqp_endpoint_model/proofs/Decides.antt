@@ -195,7 +195,8 @@ module _ {S : Type 0} (does : Relations S) where
       → SessionsSaid s call a m
   sessions_said s Begin (refused e) m (refuses, same) h = refused_said s Begin e m refuses same h
   sessions_said s Begin (session_begun number) m step h = called step
-  sessions_said s (AcceptBegin channel) (refused e) m (refuses, same) h = refused_said s (AcceptBegin channel) e m refuses same h
+  sessions_said s (AcceptBegin channel) (refused e) m (refuses, same) h =
+      refused_said s (AcceptBegin channel) e m refuses same h
   sessions_said s (AcceptBegin channel) (session_begun number) m step h = called step
   sessions_said s (End number) (refused e) m (refuses, same) h = refused_said s (End number) e m refuses same h
   sessions_said s (End number) done m step h = called step

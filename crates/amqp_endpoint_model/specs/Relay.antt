@@ -102,7 +102,8 @@ pub record StandsStill (old new : channels.State) : Type 0 where
   pub state : new.local_state ≡ old.local_state
   pub opening : new.local_open ≡ old.local_open
 
--- the sessions before decide what a frame and a call do, and which sessions stand behind each step: want of memory aside
+-- the sessions before decide what a frame and a call do, and which sessions stand behind each step: want of memory
+-- aside
 pub record Decides {S : Type 0} (does : Relations S) : Type 0 where
   pub taken : (old new other : S) (limit channel : ℕ) (body : FrameBody) (frames more : List SessionFrame)
       (events told : List Event) → does.takes old limit channel body frames events new

@@ -135,7 +135,8 @@ Says old channel it frames events new =
 abbrev pub Takes : Talk → IncomingChannel → FrameBody → List SessionFrame → List Event → Talk → Type 0
 Takes old channel (body.Begin begin) frames events new =
     TakesBegin old channel begin frames events new ⊎ FailsByBegin old channel begin frames events new
-Takes old channel (body.Attach attach) frames events new = Says old channel (said.Attach attach Absent) frames events new
+Takes old channel (body.Attach attach) frames events new =
+    Says old channel (said.Attach attach Absent) frames events new
 Takes old channel (body.Flow flow) frames events new = Says old channel (said.Flow flow) frames events new
 Takes old channel (body.Transfer transfer payload) frames events new =
     Says old channel (said.Transfer transfer payload) frames events new

@@ -1,6 +1,6 @@
 //! Two endpoints that open and close, with the bytes between them cut.
 use amqp_endpoint::world::{Did, End, Moved, Step, run};
-use amqp_endpoint::{Answer, Call, EndpointError, UnlinkedSessions, Settings, Text};
+use amqp_endpoint::{Answer, Call, EndpointError, Settings, Text, UnlinkedSessions};
 use std::alloc::{AllocError, Global};
 use std::test::Fail;
 
@@ -61,7 +61,12 @@ fn two_ends_open_and_close(rt: HostRuntime) -> Result<(), Fail> {
         ((3, 0, 0), 0, 0),
     ];
     let alloc = rt.alloc();
-    let replies = run::<UnlinkedSessions>(alloc, settings(alloc, "a")?, settings(alloc, "b")?, &steps)?;
+    let replies = run::<UnlinkedSessions>(
+        alloc,
+        settings(alloc, "a")?,
+        settings(alloc, "b")?,
+        &steps,
+    )?;
     assert_eq!(rt; replies.len(), wanted.len());
     for (reply, wanted) in replies.iter().zip(wanted) {
         assert_eq!(rt; (found(&reply.did), reply.queued_a, reply.queued_b), wanted);

@@ -29,8 +29,11 @@ invariant_of-self-2 g c =
           stands.agrees,
       fits,
       least,
-      queue_called does limit c.limit-limit.result (call.AcceptBegin c.args.channel) (session_begun c.in_ok-number.number) c.self.inside.queue.items c.self.inside.out.items
-          c.accept_begin.new.out.items c.self.inside.sessions c.accept_begin.new.self limit_is c.in_ok-number.ensures.ok within,
+      queue_called does limit c.limit-limit.result (call.AcceptBegin c.args.channel)
+          (session_begun c.in_ok-number.number)
+          c.self.inside.queue.items c.self.inside.out.items
+          c.accept_begin.new.out.items c.self.inside.sessions c.accept_begin.new.self limit_is
+          c.in_ok-number.ensures.ok within,
       wait_told does c.self.inside.phase c.self.inside.peer_limit c.self.inside.sessions c.accept_begin.new.self
           c.limit-limit.result limit_is running c.in_ok-number.ensures.within,
       idle_running does c.self.inside.phase c.self.inside.sessions c.accept_begin.new.self running,
@@ -43,7 +46,9 @@ returns-clause-ok g c =
     in
     let running : c.args.self.now.phase ≡ Running =
     goes_running c.args.self.now.phase c.args.self.now.own_close goes in
-    called g.S.SessionRelay.does c.args.self.now c.limit-limit.result (call.AcceptBegin c.args.channel) (session_begun c.in_ok-number.number) c.self.inside.queue.items
+    called g.S.SessionRelay.does c.args.self.now c.limit-limit.result (call.AcceptBegin c.args.channel)
+    (session_begun c.in_ok-number.number)
+    c.self.inside.queue.items
     c.self.inside.out.items c.accept_begin.new.out.items c.self.inside.sessions c.accept_begin.new.self _
     (ap (λ (s : State g.row.S.Denot). s.sessions) c.self.view_is) c.limit-limit.ensures
     (ap (λ (s : State g.row.S.Denot). s.queue) c.self.view_is)

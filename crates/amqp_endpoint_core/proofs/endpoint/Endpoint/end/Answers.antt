@@ -22,7 +22,8 @@ invariant_of-self-2 g c =
           stands.agrees,
       fits,
       least,
-      queue_called does limit c.limit-limit.result (call.End c.args.session) done c.self.inside.queue.items c.self.inside.out.items
+      queue_called does limit c.limit-limit.result (call.End c.args.session) done
+          c.self.inside.queue.items c.self.inside.out.items
           c.end.new.out.items c.self.inside.sessions c.end.new.self limit_is c.in_ok-end.ensures.ok within,
       wait_called does c.self.inside.phase c.self.inside.peer_limit c.self.inside.sessions c.end.new.self
           c.in_ok-end.ensures.within waits,
@@ -33,7 +34,8 @@ pub returns-clause-ok : goal.returns-clause-ok
 returns-clause-ok g c =
     let more = c.self.inside.queue.items ++ frames_waiting c.end.new.out.items in
     let (stands, fits, least, within, waits, idle) = c.self.invariant in
-    let phase : c.self.inside.phase ≡ c.args.self.now.phase = ap (λ (s : State g.row.S.Denot). s.phase) c.self.view_is in
+    let phase : c.self.inside.phase ≡ c.args.self.now.phase =
+    ap (λ (s : State g.row.S.Denot). s.phase) c.self.view_is in
     called g.S.SessionRelay.does c.args.self.now c.limit-limit.result (call.End c.args.session) done
     c.self.inside.queue.items
     c.self.inside.out.items c.end.new.out.items c.self.inside.sessions c.end.new.self _

@@ -10,7 +10,8 @@ use Rattle.amqp_endpoint_core.proofs.endpoint.Endpoint.try_end.Goals as goal
 pub returns-clause-done : goal.returns-clause-done
 returns-clause-done g c =
     let more = c.self.inside.queue.items ++ frames_waiting c.self.inside.out.items in
-    answered g.S.SessionRelay.does c.args.self.now (call.TryEnd c.args.session) (tried_end (refusal_in c.try_end.result))
+    answered g.S.SessionRelay.does c.args.self.now (call.TryEnd c.args.session)
+    (tried_end (refusal_in c.try_end.result))
     c.self.inside.sessions c.try_end.new.self _ refl (ap (λ (s : State g.row.S.Denot). s.sessions) c.self.view_is)
     c.try_end.ensures.called
     (seen_still g.S.SessionRelay.does c.self.inside.settings c.self.inside.phase c.self.inside.peer_limit

@@ -11,7 +11,8 @@ returns-in-Ok c =
     record {
       ok =
           end_back c.args.talk.now c.args.channel c.args.end c.args.out.now.items c.args.events.now.items
-          c.on_incoming_end.new.self c.on_incoming_end.new.out.items c.tell_end.new.events.items c.in-Ok.heard c.is_told-told.result here
+          c.on_incoming_end.new.self c.on_incoming_end.new.out.items c.tell_end.new.events.items
+          c.in-Ok.heard c.is_told-told.result here
           (c.is_told-told.ensures c.in-Ok.heard.number (here.answered).stood ((here.answered).stepped).0
           ((here.answered).stepped).1)
           c.tell_end.ensures;
