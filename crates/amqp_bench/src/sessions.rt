@@ -132,9 +132,7 @@ impl Work {
 
 /// The payload of each transfer.
 fn payload(alloc: Global) -> Result<Bytes, AllocError> {
-    let mut payload = Vec::new(alloc);
-    payload.extend_from_slice(b"payload")?;
-    Ok(Bytes::from_vec(payload)?)
+    Bytes::copy_from_slice(alloc, b"payload")
 }
 
 /// Deliveries of one link are accepted one by one.
