@@ -1,6 +1,6 @@
 -- What a session without links makes of what the peer says in it: nothing leaves by it but the session's own Flow, and
 -- nothing waits then that didn't wait before.
-use Rattle.std.proofs.Common.{◌≡◌, inl, inr, ℕ, List, [], ◌∷◌, ◌++◌, Bool, true, false, Option, Some, None, Result, Ok, Err, refl, sym, ap, subst, ◌∙◌, append-nil}
+use Rattle.std.proofs.Common.{◌≡◌, ◌≢◌, inl, inr, ℕ, List, [], ◌∷◌, ◌++◌, Bool, true, false, Option, Some, None, Result, Ok, Err, refl, sym, ap, subst, ◌∙◌, append-nil}
 use Rattle.std.specs.Prelude.{◌⊎◌, ⊤, OnErr, is_some}
 use Rattle.std.specs.FinMap as map
 use Rattle.amqp_session_types.specs.declared.handles.Handle.{Handle}
@@ -22,6 +22,7 @@ use Rattle.amqp_session_core.specs.declared.batch.TransferFrame.{TransferFrame a
 use Rattle.amqp_session_core.specs.declared.fields.SessionFields.{SessionFields}
 use Rattle.amqp_session_core.specs.declared.incoming.TransferTaken.{TransferTaken}
 use Rattle.amqp_session_core.specs.declared.relay.RelayError.{RelayError}
+use Rattle.amqp_session_core.specs.declared.relay.RelayError.TheVariants as relay
 use Rattle.amqp_session_core.specs.Echoes.{settled_by, without}
 use Rattle.amqp_session_core.specs.Frames.{Left, frames_left, session_flow}
 use Rattle.amqp_session_core.specs.State.{State, leads, reached}
@@ -114,14 +115,33 @@ none-leaves old new [] empty run = (refl, run)
 none-leaves old new (s ∷ more) empty (mid, sends, rest) =
     absurd (subst (λ (qs : List _). TakesTurn qs (s.handle).0 sends.taken mid.queues) empty sends.turn)
 
--- a Flow reaches no link
+-- a link that takes nothing neither takes a frame nor refuses it for what it says
+abbrev Answer : Type 0 → Type 0
+Answer X = Result X RelayError
+
+abbrev taken-with : {X : Type 0} → X → Answer X
+taken-with x = Ok x
+
+abbrev refused-with : {X : Type 0} → RelayError → Answer X
+refused-with e = Err e
+
+no-answer : {X : Type 0} (x : X) → taken-with x ≡ refused-with relay.Memory → ⊥
+no-answer x is = cc
+
+no-reason : {X : Type 0} (e : RelayError) → e ≢ relay.Memory → refused-with {X = X} e ≡ refused-with relay.Memory → ⊥
+no-reason e other is = other (cc)
+
+-- a Flow that is taken reaches no link
 unlinked : (links : List (Option NoLink)) (routes : RouteTable) (flow : FlowFrame) (handle : Option Handle)
-    (told : Told) (new : List (Option NoLink)) → FlowAt no_link links routes flow handle told new
-    → (handle ≡ None) × (told ≡ None)
-unlinked links routes flow None None new at = (refl, refl)
-unlinked links routes flow None (Some told) new at = absurd at
-unlinked links routes flow (Some handle) None new at = absurd at
-unlinked links routes flow (Some handle) (Some (h, told)) new at = absurd (at.1).stepped
+    (told : Told) (new : List (Option NoLink)) (r : Result ⊤ SessionError) → flow_answer handle told r
+    → FlowAt no_link links routes flow handle told new → (handle ≡ None) × (told ≡ None)
+unlinked links routes flow None None new r answer at = (refl, refl)
+unlinked links routes flow None (Some told) new r answer at = absurd at
+unlinked links routes flow (Some handle) None new r answer at = absurd at
+unlinked links routes flow (Some handle) (Some (h, Ok f)) new r answer at =
+    absurd (no-answer f (((at.1).stepped).0))
+unlinked links routes flow (Some handle) (Some (h, Err e)) new r answer at =
+    absurd (no-reason e answer.0 (((at.1).stepped).0))
 
 own-reply : (flow : FlowFrame) (reply : Reply) → IsReply flow None reply → (reply ≡ NoReply) ⊎ (reply ≡ OfSession)
 own-reply flow NoReply is = inl refl
@@ -149,7 +169,7 @@ flow-taken : (old new : Lone) (flow : FlowFrame) (r : Result ⊤ SessionError) (
     → Behind r (λ (frames : List SessionFrame). FlowTaken no_link old [] flow r new frames) (IsStill new) out out_new
 flow-taken old new flow r out out_new still t =
     let step = t.stepped in
-    let alone = unlinked old.links old.routes flow flow.handle t.told new.links step.link in
+    let alone = unlinked old.links old.routes flow flow.handle t.told new.links r t.answered step.link in
     let reply = own-reply flow t.reply (subst (λ (told : Told). IsReply flow told t.reply) alone.1 step.is_reply) in
     let mid : step.mid ≡ old.outgoing = stands old.outgoing step.mid t.reply reply step.replied in
     let waits : (step.mid).queues ≡ [] = ap (λ (s : Side). s.queues) mid ∙ still in
@@ -275,9 +295,10 @@ transfer-at : (old new : Lone) (transfer : TransferFrame) (payload : List ℕ) (
     (r : Result (TransferTaken NoLink) SessionError) → TransferAt no_link old transfer payload handle r new → new ≡ old
 transfer-at old new transfer payload None (Ok told) t = absurd t
 transfer-at old new transfer payload None (Err e) t = t.1
-transfer-at old new transfer payload (Some handle) (Ok told) t = absurd (t.stepped.1).stepped
+transfer-at old new transfer payload (Some handle) (Ok told) t = absurd (no-answer t.answer (((t.stepped.1).stepped).0))
 transfer-at old new transfer payload (Some handle) (Err Memory) t = t
-transfer-at old new transfer payload (Some handle) (Err e) t = absurd (t.stepped.1).stepped
+transfer-at old new transfer payload (Some handle) (Err e) t =
+    absurd (no-reason t.reason t.other (((t.stepped.1).stepped).0))
 
 transfer-still : (old new : AskingSession NoLink) (transfer : TransferFrame) (payload : List ℕ)
     (r : Result Taken SessionError) → HearsTransfer no_link old transfer payload r new → IsQuiet old → IsQuiet new
@@ -309,9 +330,10 @@ detached-at : (old new : Lone) (detach : DetachFrame) (handle : Option ℕ) (r :
     → DetachedAt no_link old detach handle r new → new ≡ old
 detached-at old new detach None (Ok told) t = absurd t
 detached-at old new detach None (Err e) t = t.1
-detached-at old new detach (Some handle) (Ok told) t = absurd (t.1).stepped
+detached-at old new detach (Some handle) (Ok told) t = absurd (no-answer told (((t.1).stepped).0))
 detached-at old new detach (Some handle) (Err Memory) t = t
-detached-at old new detach (Some handle) (Err e) t = absurd (t.stepped.1).stepped
+detached-at old new detach (Some handle) (Err e) t =
+    absurd (no-reason t.reason t.other (((t.stepped.1).stepped).0))
 
 detach-at : (asked : Bool) (old new : AskingSession NoLink) (detach : DetachFrame)
     (r : Result (DetachTaken NoLink) SessionError) → DetachAt no_link asked old detach r new → IsQuiet old → IsQuiet new

@@ -1,4 +1,4 @@
-//! A link that there is none of.
+//! A link that takes nothing.
 use amqp_session_core::{LinkRelay, RelayError, TransferAnswer};
 use amqp_session_performatives::{Attach, Detach, LinkFlow, Transfer};
 use amqp_session_states::DeliveryState;
@@ -6,9 +6,10 @@ use amqp_session_types::{DeliveryTag, Role};
 use bytes::Bytes;
 use std::alloc::Global;
 
-/// A link that there is none of: the type has no value.
-#[derive(Debug, Drop)]
-pub enum NoLink {}
+/// A link that takes nothing: each frame is refused as for want of memory, and nothing changes. It stands where sessions
+/// need a type of links and attach none.
+#[derive(Debug, Clone, Copy, PartialEq, Eq, Drop)]
+pub struct NoLink;
 
 impl LinkRelay for NoLink {
     ghost use Rattle.amqp_endpoint_unlinked.specs.NoLink.{no_link};
@@ -26,7 +27,7 @@ impl LinkRelay for NoLink {
         _alloc: Global,
         _attach: &Attach,
     ) -> Result<NoLink, RelayError> {
-        match *self {}
+        Err(RelayError::Memory)
     }
 
     fn on_incoming_flow(
@@ -34,7 +35,7 @@ impl LinkRelay for NoLink {
         _alloc: Global,
         _flow: LinkFlow,
     ) -> Result<Option<LinkFlow>, RelayError> {
-        match *self {}
+        Err(RelayError::Memory)
     }
 
     fn on_incoming_transfer(
@@ -43,7 +44,7 @@ impl LinkRelay for NoLink {
         _transfer: Transfer,
         _payload: Bytes,
     ) -> Result<TransferAnswer<NoLink>, RelayError> {
-        match *self {}
+        Err(RelayError::Memory)
     }
 
     fn on_incoming_disposition(
@@ -53,7 +54,7 @@ impl LinkRelay for NoLink {
         _settled: bool,
         _state: Option<DeliveryState>,
     ) -> bool {
-        match *self {}
+        false
     }
 
     fn on_incoming_detach(
@@ -61,6 +62,6 @@ impl LinkRelay for NoLink {
         _alloc: Global,
         _detach: &Detach,
     ) -> Result<NoLink, RelayError> {
-        match *self {}
+        Err(RelayError::Memory)
     }
 }
