@@ -6,8 +6,8 @@ use amqp_session_types::{DeliveryTag, Role};
 use bytes::Bytes;
 use std::alloc::Global;
 
-/// A link that takes nothing: each frame is refused as for want of memory, and nothing changes. It stands where sessions
-/// need a type of links and attach none.
+/// A link that takes nothing: each frame is refused as for want of memory, and nothing changes. It stands where
+/// sessions need a type of links and attach none.
 #[derive(Debug, Clone, Copy, PartialEq, Eq, Drop)]
 pub struct NoLink;
 
