@@ -43,10 +43,14 @@ fault-above limit channel fault =
 pub begin-above : (limit : ℕ) (channel : OutgoingChannel) (remote : Option ℕ) (first window : ℕ)
     (frame : SessionFrame) → frame ≡ begin_frame channel remote first window → IsRead frame → FitsAbove limit frame
 begin-above limit channel remote first window frame is read =
-    subst (FitsAbove limit) (sym is)
-    (above limit (begin_frame channel remote first window)
-    (begin_fits channel.0 (begin_of remote first window) (plain (subst IsRead is read))))
+    by (begin_of remote first window) (plain (subst IsRead is read)) is
   where
+    by : (b : BeginPerformative) → IsPlainBegin b → frame ≡ record { channel = channel.0; body = body.Begin b }
+        → FitsAbove limit frame
+    by b p e =
+        subst (FitsAbove limit) (sym e)
+        (above limit (record { channel = channel.0; body = body.Begin b }) (begin_fits channel.0 b p))
+
     abbrev begin_of : Option ℕ → ℕ → ℕ → BeginPerformative
     begin_of remote first window =
         record {

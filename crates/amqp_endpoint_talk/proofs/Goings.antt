@@ -10,6 +10,7 @@ use Rattle.amqp_session_core.specs.State.{State}
 use Rattle.amqp_endpoint_links.specs.declared.asking.AskingSession.{AskingSession}
 use Rattle.amqp_endpoint_sessions.specs.State.{live_at}
 use Rattle.amqp_endpoint_conversation.specs.declared.conversation.Conversation.{Conversation}
+use Rattle.amqp_endpoint_model.specs.State.{fits, frame_of}
 use Rattle.amqp_endpoint_fitting.specs.Read.{IsRead}
 use Rattle.amqp_endpoint_talk.specs.Going.{AllFit, FitsIn, Goes, NoneLive, Rests, Within}
 use Rattle.amqp_endpoint_talk.proofs.Ends.{FitsAbove}
@@ -26,14 +27,14 @@ none-of : (frames : List SessionFrame) → All (λ (f : SessionFrame). ⊥) fram
 none-of [] all = refl
 none-of (f ∷ fs) all = absurd (All-head (λ (f : SessionFrame). ⊥) f fs all)
 
+-- it holds of no session, and of no frame
+abbrev pub Never : {R : Type 0} → State R → Type 0
+Never s = ⊥
+
+abbrev pub Nothing : SessionFrame → Type 0
+Nothing frame = ⊥
+
 module _ {R : Type 0} where
-  -- it holds of no session, and of no frame
-  abbrev pub Never : State R → Type 0
-  Never s = ⊥
-
-  abbrev pub Nothing : SessionFrame → Type 0
-  Nothing frame = ⊥
-
   pub goes : (limit : ℕ) (old new : Conversation R) (out out_new : List SessionFrame) (from : ℕ)
       → from ≡ length out → All IsRead (drop from out_new)
       → Hands (FitsIn limit) (FitsAbove limit) old.sessions new.sessions out out_new → Goes limit old new out out_new
@@ -47,7 +48,7 @@ module _ {R : Type 0} where
             h.suit within (read-behind out out_new h.frames from is h.queued reads) k d below least;
       }
 
-  none-lives : (new : Conversation R) (number : ℕ) → HoldsIn (Holds (Never)) (new.sessions).places
+  none-lives : (new : Conversation R) (number : ℕ) → HoldsIn (Holds Never) (new.sessions).places
       → (live : Option (Box (AskingSession R))) → live_at new.sessions number ≡ live
       → live_at new.sessions number ≡ None
   none-lives new number none None is = is
@@ -56,20 +57,26 @@ module _ {R : Type 0} where
   none-holds : (old : Conversation R) → NoneLive old → HoldsIn (Holds Never) (old.sessions).places
   none-holds old none number session live = absurd (none-some session (sym (none number) ∙ live))
 
+  pub resting : (old new : Conversation R) (out out_new : List SessionFrame)
+      → Keeps (Holds Never) old.sessions new.sessions → (NoneLive old → out_new ≡ out) → Rests old new out out_new
+  resting old new out out_new keeps silent =
+      record {
+        silent = silent;
+        idle = λ none number.
+            none-lives new number (keeps.holds (none-holds old none)) (live_at new.sessions number) refl;
+      }
+
   pub rests : (old new : Conversation R) (out out_new : List SessionFrame) (from : ℕ)
       → from ≡ length out → All IsRead (drop from out_new)
       → Hands Never Nothing old.sessions new.sessions out out_new → Rests old new out out_new
   rests old new out out_new from is reads h =
-      record {
-        silent = λ none.
-            h.queued
-            ∙ ap (λ (fs : List SessionFrame). out ++ fs)
-            (none-of h.frames
-            (h.suit (none-holds old none) (read-behind out out_new h.frames from is h.queued reads)))
-            ∙ append-nil out;
-        idle = λ none number.
-            none-lives new number ((h.keeps).holds (none-holds old none)) (live_at new.sessions number) refl;
-      }
+      resting old new out out_new h.keeps
+      (λ none.
+          h.queued
+          ∙ ap (λ (fs : List SessionFrame). out ++ fs)
+          (none-of h.frames
+          (h.suit (none-holds old none) (read-behind out out_new h.frames from is h.queued reads)))
+          ∙ append-nil out)
 
   -- one call after another
   pub goes-on : (limit : ℕ) (old mid new : Conversation R) (out out_mid out_new : List SessionFrame)
@@ -83,7 +90,8 @@ module _ {R : Type 0} where
         queued =
             b.queued ∙ ap (λ (o : List SessionFrame). o ++ b.frames) a.queued ∙ append_assoc out a.frames b.frames;
         fit = λ least within.
-            All-append _ a.frames b.frames (a.fit least within) (b.fit least (a.waits within));
+            All-append (λ (f : SessionFrame). fits limit (frame_of f) ≡ true) a.frames b.frames (a.fit least within)
+            (b.fit least (a.waits within));
       }
 
   pub rests-on : (old mid new : Conversation R) (out out_mid out_new : List SessionFrame)

@@ -2,6 +2,10 @@ mod Lists
 mod Places
 mod Handing
 mod Hearings
+mod Tellings
 mod Ends
+mod Begins
+mod Fitting
+mod Calls
 pub mod Clearing
 pub mod Goings

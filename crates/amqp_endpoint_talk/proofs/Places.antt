@@ -80,10 +80,7 @@ module _ {A S : Type 0} (P : S → Type 0) where
   push (y ∷ ys) x all at zero session live = all zero session live
   push (y ∷ ys) x all at (suc n) session live = push ys x (λ k. all (suc k)) at n session live
 
-  -- a session that stands at a place, or changed there
-  lives : (channel : OutgoingChannel) (session : S) → P session → HoldsAt (Live channel session)
-  lives channel session holds other live = subst P (same_Some _ _ live) holds
-
+  -- a session that changed at a place
   changed : (place : Place A S) (after : S) → P after → HoldsAt (with_live place after)
   changed (Asked c a) after holds session live = absurd (none-some _ live)
   changed (Live c s) after holds session live = subst P (same_Some _ _ live) holds
@@ -149,7 +146,7 @@ module _ {A S : Type 0} (P : S → Type 0) where
       → Steps old (Begins number channel session) new → Keeps old new
   begins old new number channel session holds s =
       placed old new (old.places ++ Live channel session ∷ []) (ap (λ (x : State A S). x.places) s.2)
-      (λ all. push old.places (Live channel session) all (lives channel session holds))
+      (λ all. push old.places (Live channel session) all (λ other live. subst P (same_Some _ _ live) holds))
       (record {
         state = ap (λ (c : channels.State). c.local_state) (s.0).4;
         opening = ap (λ (c : channels.State). c.local_open) (s.0).4;
@@ -160,7 +157,7 @@ module _ {A S : Type 0} (P : S → Type 0) where
       → Steps old (Accepts number incoming asked outgoing session) new → Keeps old new
   accepts old new number incoming asked outgoing session holds s =
       placed old new (slice_set old.places number (Live outgoing session)) (ap (λ (x : State A S). x.places) s.2)
-      (λ all. put old.places number (Live outgoing session) all (lives outgoing session holds))
+      (λ all. put old.places number (Live outgoing session) all (λ other live. subst P (same_Some _ _ live) holds))
       (channel-given old.connection new.connection incoming number outgoing s.1)
 
   pub asks : (old new : State A S) (number : ℕ) (channel : IncomingChannel) (asked : A)

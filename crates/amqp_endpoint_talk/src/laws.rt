@@ -1,24 +1,19 @@
 //! Laws of a conversation's calls. A function here does nothing: its contract is the law.
-ghost use Rattle.std.specs.Prelude.{◌≡◌, ◌≤◌, ◌++◌, ℕ, suc, zero, length, List, All, None, Option, Result, Some, ⊤};
+ghost use Rattle.std.specs.Prelude.{◌≡◌, ◌≤◌, ◌++◌, ℕ, suc, zero, length, List, All, None, Option, Result, ⊤};
 ghost use Rattle.std.specs.Global.{Box};
 ghost use Rattle.amqp_session_types.specs.declared.channels.OutgoingChannel.{OutgoingChannel};
 ghost use Rattle.amqp_session_types.specs.declared.refusals.TryEndError.{TryEndError};
-ghost use Rattle.amqp_session_core.specs.declared.incoming.TransferTaken.{TransferTaken};
 ghost use Rattle.amqp_endpoint_asked.specs.declared.session.AskedSession.{AskedSession};
 ghost use Rattle.amqp_endpoint_links.specs.History.{AskingHistory, AskingStep};
 ghost use Rattle.amqp_endpoint_links.specs.declared.asking.AskingSession.{AskingSession};
-ghost use Rattle.amqp_endpoint_links.specs.declared.hearing.LinkPerformative.{LinkPerformative};
-ghost use Rattle.amqp_endpoint_links.specs.declared.hearing.PerformativeTaken.TheVariants as taken;
 ghost use Rattle.amqp_endpoint_sessions.specs.declared.place.Place.{Place};
 ghost use Rattle.amqp_endpoint_sessions.specs.State.{live_at};
 ghost use Rattle.amqp_endpoint_sessions.specs.Steps.{ChangesLive, EndSent, EndTold, Finished, Steps};
 ghost use Rattle.amqp_session_performatives.specs.declared.session_frame.SessionFrame.{SessionFrame};
 ghost use Rattle.amqp_endpoint_conversation.specs.declared.conversation.Conversation.{Conversation};
 ghost use Rattle.amqp_endpoint_conversation.specs.Beginning.{Sessions};
-ghost use Rattle.amqp_endpoint_conversation.specs.Hearing.{LiveHears};
 ghost use Rattle.amqp_endpoint_fitting.specs.Handed.{AllAskingEndFit, AllAskingHand, AllAskingSendFit};
 ghost use Rattle.amqp_endpoint_fitting.specs.Read.{IsRead};
-ghost use Rattle.amqp_endpoint_model.specs.State.{fits, frame_of};
 ghost use Rattle.amqp_endpoint_talk.specs.Clearing.{Clears, ClearsFirst};
 ghost use Rattle.amqp_endpoint_talk.specs.Going.{AnswersPlain, Goes, NoneLive, Rests, Within};
 
@@ -46,16 +41,6 @@ pub fn a_session_changed_goes_on<R: LinkRelay>()
         Steps old.sessions (ChangesLive number before after) new.sessions → Rests old new out out_new }
 {}
 
-/// The Flow of its session that a transfer makes due, which is told with the transfer and is the caller's to queue, fits
-/// each limit that a peer may set (part 2, 2.4.1, 2.5.6).
-pub fn a_flow_made_due_fits<R: LinkRelay>()
-    ensures { (limit : ℕ) (old new : Sessions R) (out out_new : List SessionFrame) (number : ℕ)
-        (before after : Box (AskingSession R)) (said : LinkPerformative) (told : TransferTaken R.Transferred)
-        (frame : SessionFrame) →
-        LiveHears R.gives old out number before said (Result.Ok (taken.Transfer told)) after new out_new →
-        told.flow ≡ Some frame → IsRead frame → 512 ≤ limit → fits limit (frame_of frame) ≡ true }
-{}
-
 /// That the caller is told of a peer's End changes nothing else (part 2, 2.5.2).
 pub fn an_end_told_goes_on<R: LinkRelay>()
     ensures goes { (limit number : ℕ) (old new : Conversation R) (told : Result ⊤ TryEndError)
@@ -75,7 +60,8 @@ pub fn what_waits_fits<R: LinkRelay>()
 pub fn sessions_end_with_their_connection<R: LinkRelay>()
     ensures left { (old new : Sessions R) (number : ℕ) (left : Option (OutgoingChannel × Box (AskingSession R))) →
         EndSent old number left new → Clears old number new }
-    ensures finished { (old new : Sessions R) (number : ℕ) (stood : Option (Place (Box AskedSession) (Box (AskingSession R)))) →
+    ensures finished { (old new : Sessions R) (number : ℕ)
+        (stood : Option (Place (Box AskedSession) (Box (AskingSession R)))) →
         Finished old number stood new → Clears old number new }
     ensures first { (old new : Sessions R) → new ≡ old → ClearsFirst zero old new }
     ensures next { (number : ℕ) (old mid new : Sessions R) → ClearsFirst number old mid → Clears mid number new →
