@@ -14,9 +14,7 @@ pub fn frames_are_read(frames: &VecDeque<SessionFrame>, from: usize)
     ensures { All IsRead (drop from frames.now.items) }
 {
     for index in from..frames.len() {
-        if let Some(frame) = frames.get(index) {
-            a_frame_is_read(frame);
-        }
+        a_frame_is_read(&frames[index]);
     }
 }
 
