@@ -33,7 +33,7 @@ use Rattle.amqp_endpoint_links.proofs.Projecting.{step-within}
 use Rattle.amqp_endpoint_fitting.specs.Fits.{FrameFits}
 use Rattle.amqp_endpoint_fitting.specs.Handed.{AllAskingEndFit, AllAskingHand, AllAskingSendFit, AllSendFit, AskingEndFits, AskingHands, AskingSendsFit, RepliesFit, SendsFit}
 use Rattle.amqp_endpoint_fitting.specs.Read.{IsRead}
-use Rattle.amqp_endpoint_fitting.proofs.Handing.{Hands, Lines, channel_of, due-hands, flow-hands, flow-sends, history-channel, history-waits, whole-hands}
+use Rattle.amqp_endpoint_fitting.proofs.Handing.{Lines, channel_of, flow-hands, flow-sends, history-channel, history-waits, whole-hands}
 use Rattle.amqp_endpoint_fitting.proofs.Lengths.{all-left, all-right}
 
 module _ {R A T D : Type 0} (gives : Relations R A T D) where

@@ -25,7 +25,8 @@ module _ {R A T D : Type 0} (gives : Relations R A T D) where
   due-at limit None transfer payload told flow old new least t is r = absurd t
   due-at limit (Some to) transfer payload told flow old new least t is r =
       let hands : All IsRead (option_to_list told.flow) → All (FrameFits limit) (option_to_list told.flow) =
-      due-hands gives limit _ new.fields (old.outgoing).next_outgoing_id told.flow least ((t.stepped).2).told in
+      due-hands gives limit (nat_le (old.fields).incoming_window (2 * (old.taken + 1))) new.fields
+      (old.outgoing).next_outgoing_id told.flow least ((t.stepped).2).told in
       let one : All IsRead (flow ∷ []) → All (FrameFits limit) (flow ∷ []) =
       subst
       (λ (o : Option SessionFrame). All IsRead (option_to_list o) → All (FrameFits limit) (option_to_list o)) is

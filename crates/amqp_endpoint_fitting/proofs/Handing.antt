@@ -1,5 +1,5 @@
 -- What a session's steps leave waiting, and what they hand out.
-use Rattle.std.proofs.Common.{◌≡◌, ◌≤◌, ◌⊎◌, inl, inr, ℕ, ◌*◌, ◌+◌, List, [], ◌∷◌, ◌++◌, Bool, true, false, refl, sym, ap, arith, subst, ◌∙◌}
+use Rattle.std.proofs.Common.{◌≡◌, ◌≤◌, ℕ, ◌*◌, ◌+◌, List, [], ◌∷◌, ◌++◌, Bool, true, false, refl, sym, ap, arith, subst, ◌∙◌}
 use Rattle.std.specs.Prelude.{All, Option, Some, None, Result, Ok, Err, nat_le, option_to_list, option_map, if◌then◌else◌}
 use Rattle.std.proofs.lemmas.List.Elements.{All-nil, All-append}
 use Rattle.amqp_session_types.specs.declared.channels.OutgoingChannel.{OutgoingChannel}
@@ -11,13 +11,14 @@ use Rattle.amqp_session_performatives.specs.declared.disposition.Disposition.{Di
 use Rattle.amqp_session_performatives.specs.declared.flow.Flow.{Flow}
 use Rattle.amqp_session_performatives.specs.declared.link_flow.LinkFlow.{LinkFlow}
 use Rattle.amqp_session_performatives.specs.declared.session_frame.SessionFrame.{SessionFrame}
+use Rattle.amqp_session_performatives.specs.declared.session_frame.SessionFrameBody.TheVariants as body
 use Rattle.amqp_session_outgoing.specs.History as sending
 use Rattle.amqp_session_core.specs.declared.batch.BehindFrame.{BehindFrame}
 use Rattle.amqp_session_core.specs.declared.batch.BehindFrame.TheVariants as behind
 use Rattle.amqp_session_core.specs.declared.fields.SessionFields.{SessionFields}
 use Rattle.amqp_session_core.specs.declared.relay.RelayError.{RelayError}
 use Rattle.amqp_session_core.specs.Echoes.{opposite, settled_by, without}
-use Rattle.amqp_session_core.specs.Frames.{Left, behind_frame, frames_left, session_flow}
+use Rattle.amqp_session_core.specs.Frames.{Left, behind_frame, frame_of, frames_left, session_flow}
 use Rattle.amqp_session_core.specs.History.{History, frames_in, own_settles_as, reply_steps, sending_in, settles, settles_as}
 use Rattle.amqp_session_core.specs.Relay.{Relations}
 use Rattle.amqp_session_core.specs.State.{State}
@@ -89,10 +90,10 @@ module _ {R A T D : Type 0} where
   brings channel limit (Changes handle before after) b = tt
 
 module _ {R A T D : Type 0} (gives : Relations R A T D) where
-  abbrev Lines : State R → ℕ → ℕ → Type 0
+  abbrev pub Lines : State R → ℕ → ℕ → Type 0
   Lines s channel limit = AllFit channel limit (s.outgoing).queues
 
-  abbrev channel_of : State R → ℕ
+  abbrev pub channel_of : State R → ℕ
   channel_of s = ((s.fields).channel).0
 
   -- what waits
@@ -201,7 +202,7 @@ module _ {R A T D : Type 0} (gives : Relations R A T D) where
   reply-waits channel limit old mid (OfLink handle flow left) f s h =
       (step-fits channel limit (sending.Follows handle (behind.Flow flow) left) old mid s f h).wait
 
-  flow-hands : (limit : ℕ) (flow : Flow) (told : Option (ℕ × Result (Option LinkFlow) RelayError)) (reply : Reply)
+  pub flow-hands : (limit : ℕ) (flow : Flow) (told : Option (ℕ × Result (Option LinkFlow) RelayError)) (reply : Reply)
       (base : ℕ) (left : Left) (frames : List SessionFrame) (old new : State R) → 512 ≤ limit
       → FlowStep gives old flow told reply base left frames new → ReplyFits reply
       → Lines old (channel_of old) limit → Hands limit frames
@@ -222,7 +223,7 @@ module _ {R A T D : Type 0} (gives : Relations R A T D) where
       (leaves-fit limit new.fields (channel_of old) left least same sent
       (all-right IsRead (reply_frames new.fields number reply) (frames_left new.fields left) r)))
 
-  due-hands : (limit : ℕ) (due : Bool) (fields : SessionFields) (number : ℕ) (flow : Option SessionFrame) → 512 ≤ limit
+  pub due-hands : (limit : ℕ) (due : Bool) (fields : SessionFields) (number : ℕ) (flow : Option SessionFrame) → 512 ≤ limit
       → flow ≡ (if due then Some (session_flow fields number) else None) → Hands limit (option_to_list flow)
   due-hands limit due fields number flow least is =
       subst (MayFit limit) (sym is)
@@ -252,7 +253,8 @@ module _ {R A T D : Type 0} (gives : Relations R A T D) where
   step-hands limit (TakesFlow flow told reply base left frames) old new least s b h =
       flow-hands limit flow told reply base left frames old new least s b h
   step-hands limit (TakesTransfer handle transfer payload (Ok told) flow) old new least s b h =
-      due-hands limit _ new.fields (old.outgoing).next_outgoing_id flow least (s.2).told
+      due-hands limit (nat_le (old.fields).incoming_window (2 * (old.taken + 1))) new.fields
+      (old.outgoing).next_outgoing_id flow least (s.2).told
   step-hands limit (TakesTransfer handle transfer payload (Err e) flow) old new least s b h =
       subst (MayFit limit) (sym s.2) (λ r. All-nil (FrameFits limit))
   step-hands limit (SendsBehind handle frame left answer) old new least s b h =
@@ -274,9 +276,9 @@ module _ {R A T D : Type 0} (gives : Relations R A T D) where
       → SendsFit (channel_of old) limit step → EndFits limit step → Lines old (channel_of old) limit
       → Hands limit (handed step)
   whole-hands limit (SendsBegin frame) old new least s b e h =
-      hands-same limit (frame ∷ []) (_ ∷ []) (ap (λ (f : SessionFrame). f ∷ []) s.0)
-      (one-fits limit _
-      (λ r. begin-fits limit (channel_of old) (own_begin old) least r refl refl refl))
+      let own : SessionFrame = frame_of old.fields (body.Begin (own_begin old)) in
+      hands-same limit (frame ∷ []) (own ∷ []) (ap (λ (f : SessionFrame). f ∷ []) s.0)
+      (one-fits limit own (λ r. begin-fits limit (channel_of old) (own_begin old) least r refl refl refl))
   whole-hands limit (SendsEnd error frame) old new least s b e h = one-fits limit frame (λ r. e)
   whole-hands limit step old new least s b e h = step-hands limit step old new least s b h
 

@@ -15,10 +15,11 @@ use Rattle.amqp_session_core.specs.declared.batch.TransferFrame.{TransferFrame}
 use Rattle.amqp_session_core.specs.declared.fields.SessionFields.{SessionFields}
 use Rattle.amqp_session_core.specs.Frames.{behind_frame, frames_behind, frames_left, frames_sent, link_flow, session_flow, transfer_frame}
 use Rattle.amqp_session_outgoing.specs.declared.frames.Outbound.{Outbound}
+use Rattle.amqp_session_frames.specs.Text.{frame_text}
 use Rattle.amqp_endpoint_model.specs.State.{fits, frame_of, text_fits}
 use Rattle.amqp_endpoint_lengths.specs.Plain.{IsPlainBegin, IsPlainFlow}
 use Rattle.amqp_endpoint_lengths.proofs.Frames.{begin_fits, flow_fits, larger_fits}
-use Rattle.amqp_endpoint_fitting.specs.Fits.{BehindFits, FrameFits, QueueFits, QueuesFit, TransferFits, UnitFits}
+use Rattle.amqp_endpoint_fitting.specs.Fits.{BehindFits, FrameFits, QueueFits, QueuesFit, UnitFits, numbered}
 use Rattle.amqp_endpoint_fitting.specs.Read.{IsRead, IsReadBegin, IsReadFlow}
 use Rattle.amqp_endpoint_fitting.proofs.Queueing.{Leaving, Lines, SentFits}
 
@@ -161,7 +162,7 @@ module _ (limit wider : ℕ) (least : limit ≤ wider) where
   wider-text (Some text) fit = grind (arith, nat_tests)
 
   pub wider-frame : (frame : SessionFrame) → FrameFits limit frame → FrameFits wider frame
-  wider-frame frame fit = wider-text _ fit
+  wider-frame frame fit = wider-text (frame_text (frame_of frame)) fit
 
   wider-behind : (channel : ℕ) (frame : BehindFrame) → BehindFits channel limit frame → BehindFits channel wider frame
   wider-behind channel (behind.Flow link) b = b
@@ -172,7 +173,7 @@ module _ (limit wider : ℕ) (least : limit ≤ wider) where
       → UnitFits channel wider handle unit
   wider-unit channel handle unit u =
       record {
-        transfer = record { each = λ number is. wider-frame _ ((u.transfer).each number is) };
+        transfer = record { each = λ number is. wider-frame (numbered channel handle number unit.transfer) ((u.transfer).each number is) };
         behind =
             All-weaker (BehindFits channel limit) (BehindFits channel wider) (wider-behind channel) unit.behind u.behind;
       }
