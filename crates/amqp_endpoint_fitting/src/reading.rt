@@ -13,10 +13,8 @@ use std::collections::VecDeque;
 pub fn frames_are_read(frames: &VecDeque<SessionFrame>, from: usize)
     ensures { All IsRead (drop from frames.now.items) }
 {
-    for index in from..frames.len() {
-        if let Some(frame) = frames.get(index) {
-            a_frame_is_read(frame);
-        }
+    for i in from..frames.len() {
+        a_frame_is_read(&frames[i]);
     }
 }
 
