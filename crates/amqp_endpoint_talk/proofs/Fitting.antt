@@ -20,6 +20,9 @@ use Rattle.amqp_endpoint_links.specs.History.{AskingHistory, AskingStep}
 use Rattle.amqp_endpoint_fitting.specs.Fits.{FrameFits, QueuesFit}
 use Rattle.amqp_endpoint_fitting.specs.Handed.{AllAskingEndFit, AllAskingHand, AllAskingSendFit, RepliesFit, SendsFit}
 use Rattle.amqp_endpoint_fitting.specs.Read.{IsRead}
+use Rattle.amqp_endpoint_fitting.proofs.Asked.{asking-channel, asking-gives, asking-waits, heard-gives, heard-waits}
+use Rattle.amqp_endpoint_fitting.proofs.Handing.{step-channel, step-hands, step-waits}
+use Rattle.amqp_endpoint_fitting.proofs.Lengths.{wider-queues}
 use Rattle.amqp_endpoint_talk.specs.Going.{AnswersPlain, FitsIn}
 use Rattle.amqp_endpoint_talk.proofs.Ends.{FitsAbove, fault-above}
 use Rattle.amqp_endpoint_talk.proofs.Handing.{one}
@@ -34,52 +37,68 @@ all-above limit frames fit k d below least = fit least k d below
 
 -- what fits a limit fits a wider one
 pub wider-fits : {R : Type 0} (limit wider : ℕ) (s : State R) → FitsIn limit s → limit ≤ wider → FitsIn wider s
-wider-fits limit wider s fits more = ?
+wider-fits limit wider s fits more = wider-queues limit wider more ((s.fields).channel).0 (s.outgoing).queues fits
+
+-- it fits on the same channel
+on-channel : {R : Type 0} (limit : ℕ) (old new : State R) → (new.fields).channel ≡ (old.fields).channel
+    → QueuesFit ((old.fields).channel).0 limit (new.outgoing).queues → FitsIn limit new
+on-channel limit old new same fits =
+    subst (λ (c : OutgoingChannel). QueuesFit c.0 limit (new.outgoing).queues) (sym same) fits
 
 module _ {R A T D : Type 0} (gives : Relations R A T D) where
+  -- no link answers a Flow with properties
   replies : AnswersPlain gives → RepliesFit gives
   replies plain = record { each = plain }
 
 module _ {R A T D : Type 0} (gives : Relations R A T D) (limit : ℕ) where
-  step-waits : (old new : State R) (step : Step R A T D) → Steps gives old step new
+  -- a step of a session
+  one-waits : (old new : State R) (step : Step R A T D) → Steps gives old step new
       → SendsFit ((old.fields).channel).0 limit step → FitsIn limit old → FitsIn limit new
-  step-waits old new step does sends fits = ?
+  one-waits old new step does sends fits =
+      on-channel limit old new (step-channel gives step old new does)
+      (record { each = step-waits gives ((old.fields).channel).0 limit step old new does sends fits.each })
 
-  step-leaves : (old new : State R) (step : Step R A T D) → Steps gives old step new
+  one-leaves : (old new : State R) (step : Step R A T D) → Steps gives old step new
       → SendsFit ((old.fields).channel).0 limit step → FitsIn limit old → 512 ≤ limit → All IsRead (frames_in step)
       → All (FrameFits limit) (frames_in step)
-  step-leaves old new step does sends fits least reads = ?
+  one-leaves old new step does sends fits least read =
+      step-hands gives limit step old new least does sends fits.each read
 
-  heard-waits : (old new : AskingSession R) (out out_new : List SessionFrame) (said : LinkPerformative)
-      (told : Result (PerformativeTaken A T D) SessionError) → Hears gives old out said told new out_new
-      → AnswersPlain gives → FitsIn limit old.session → FitsIn limit new.session
-  heard-waits old new out out_new said told h plain fits = ?
-
-  heard-leaves : (old new : AskingSession R) (out out_new frames : List SessionFrame) (said : LinkPerformative)
-      (told : Result (PerformativeTaken A T D) SessionError) → Hears gives old out said told new out_new
-      → AnswersPlain gives → FitsIn limit old.session → 512 ≤ limit → out_new ≡ out ++ frames → All IsRead frames
-      → All (FrameFits limit) frames
-  heard-leaves old new out out_new frames said told h plain fits least queued reads = ?
-
+  -- what its owner does in it
   pub change-waits : (old new : AskingSession R) (steps : List (AskingStep R A T D)) → AskingHistory gives old steps new
       → AnswersPlain gives → AllAskingSendFit (((old.session).fields).channel).0 limit steps → FitsIn limit old.session
       → FitsIn limit new.session
-  change-waits old new steps history plain sends fits = ?
+  change-waits old new steps history plain sends fits =
+      on-channel limit old.session new.session (asking-channel gives steps old new history)
+      (record {
+        each =
+            asking-waits gives (((old.session).fields).channel).0 limit (replies gives plain) steps old new history
+            sends fits.each;
+      })
 
   pub change-leaves : (old new : AskingSession R) (steps : List (AskingStep R A T D)) (frames : List SessionFrame)
       → AskingHistory gives old steps new → AnswersPlain gives
       → AllAskingSendFit (((old.session).fields).channel).0 limit steps → AllAskingEndFit limit steps
       → FitsIn limit old.session → AllAskingHand steps frames → All IsRead frames → All (FitsAbove limit) frames
-  change-leaves old new steps frames history plain sends ends fits hand reads = all-above limit frames (λ least. ?)
+  change-leaves old new steps frames history plain sends ends fits hand reads =
+      all-above limit frames
+      (λ least.
+          asking-gives gives (((old.session).fields).channel).0 limit (replies gives plain) steps old new frames least
+          history refl sends ends fits.each hand reads)
 
   -- what the peer says in a session
   pub hears-so : AnswersPlain gives → (said : LinkPerformative)
       → HearsSo gives (FitsIn limit) (FitsAbove limit) said
   hears-so plain said before after out out_new told h fits = (
-    heard-waits before after out out_new said told h plain fits,
+    let kept =
+    heard-waits gives (((before.session).fields).channel).0 limit (replies gives plain) before after out out_new said
+    told h in
+    on-channel limit before.session after.session kept.0 (record { each = kept.1 fits.each }),
     λ frames queued reads.
         all-above limit frames
-        (λ least. heard-leaves before after out out_new frames said told h plain fits least queued reads),
+        (λ least.
+            heard-gives gives limit (replies gives plain) said told before after out out_new frames least h fits.each
+            queued reads),
   )
 
   -- its Begin
@@ -87,19 +106,19 @@ module _ {R A T D : Type 0} (gives : Relations R A T D) (limit : ℕ) where
       → BeginsSo gives (FitsIn limit) (FitsAbove limit) channel begin
   begins-so channel begin before after out out_new t fits =
       let step : Step R A T D = TakesBegin channel begin t.base t.left t.frames in (
-        step-waits before after step t.stepped tt fits,
+        one-waits before after step t.stepped tt fits,
         λ reads.
-            all-above limit t.frames (λ least. step-leaves before after step t.stepped tt fits least reads),
+            all-above limit t.frames (λ least. one-leaves before after step t.stepped tt fits least reads),
       )
 
   -- the own Flow
   pub tells-so : TellsSo gives (FitsIn limit) (FitsAbove limit)
   tells-so before after frame does fits =
       let step : Step R A T D = TellsFlow frame in (
-        step-waits before after step does tt fits,
+        one-waits before after step does tt fits,
         λ read least.
             All-head (FrameFits limit) frame []
-            (step-leaves before after step does tt fits least (one IsRead frame read)),
+            (one-leaves before after step does tt fits least (one IsRead frame read)),
       )
 
   -- own Ends
