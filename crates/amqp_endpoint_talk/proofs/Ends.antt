@@ -39,40 +39,44 @@ pub fault-above : (limit : ℕ) (channel : OutgoingChannel) (fault : SessionErro
 fault-above limit channel fault =
     end-above limit channel (Some (fault_error fault)) (record { error = fault-alone fault })
 
--- an own Begin, whose numbers are read
+-- an own Begin
+abbrev begin_of : Option ℕ → ℕ → ℕ → BeginPerformative
+begin_of remote first window =
+    record {
+      remote_channel = remote;
+      next_outgoing_id = first;
+      incoming_window = window;
+      outgoing_window = 2048;
+      handle_max = 2 ^ 32 - 1;
+      offered_capabilities = [];
+      desired_capabilities = [];
+      properties = None;
+    }
+
+plain-begin : (begin : BeginPerformative) → begin.offered_capabilities ≡ [] → begin.desired_capabilities ≡ []
+    → begin.properties ≡ None → IsReadBegin begin → IsPlainBegin begin
+plain-begin begin offered desired none r =
+    record {
+      remote_channel = r.remote_channel;
+      next_outgoing_id = r.next_outgoing_id;
+      incoming_window = r.incoming_window;
+      outgoing_window = r.outgoing_window;
+      handle_max = r.handle_max;
+      offered_capabilities = offered;
+      desired_capabilities = desired;
+      properties = none;
+    }
+
+begin-plain : (limit : ℕ) (channel : OutgoingChannel) (begin : BeginPerformative) (frame : SessionFrame)
+    → begin.offered_capabilities ≡ [] → begin.desired_capabilities ≡ [] → begin.properties ≡ None
+    → frame ≡ record { channel = channel.0; body = body.Begin begin } → IsRead frame → FitsAbove limit frame
+begin-plain limit channel begin frame offered desired none is read =
+    subst (FitsAbove limit) (sym is)
+    (above limit (record { channel = channel.0; body = body.Begin begin })
+    (begin_fits channel.0 begin (plain-begin begin offered desired none (subst IsRead is read))))
+
+-- whose numbers are read
 pub begin-above : (limit : ℕ) (channel : OutgoingChannel) (remote : Option ℕ) (first window : ℕ)
     (frame : SessionFrame) → frame ≡ begin_frame channel remote first window → IsRead frame → FitsAbove limit frame
 begin-above limit channel remote first window frame is read =
-    by (begin_of remote first window) (plain (subst IsRead is read)) is
-  where
-    by : (b : BeginPerformative) → IsPlainBegin b → frame ≡ record { channel = channel.0; body = body.Begin b }
-        → FitsAbove limit frame
-    by b p e =
-        subst (FitsAbove limit) (sym e)
-        (above limit (record { channel = channel.0; body = body.Begin b }) (begin_fits channel.0 b p))
-
-    abbrev begin_of : Option ℕ → ℕ → ℕ → BeginPerformative
-    begin_of remote first window =
-        record {
-          remote_channel = remote;
-          next_outgoing_id = first;
-          incoming_window = window;
-          outgoing_window = 2048;
-          handle_max = 2 ^ 32 - 1;
-          offered_capabilities = [];
-          desired_capabilities = [];
-          properties = None;
-        }
-
-    plain : IsReadBegin (begin_of remote first window) → IsPlainBegin (begin_of remote first window)
-    plain r =
-        record {
-          remote_channel = r.remote_channel;
-          next_outgoing_id = r.next_outgoing_id;
-          incoming_window = r.incoming_window;
-          outgoing_window = r.outgoing_window;
-          handle_max = r.handle_max;
-          offered_capabilities = refl;
-          desired_capabilities = refl;
-          properties = refl;
-        }
+    begin-plain limit channel (begin_of remote first window) frame refl refl refl is read

@@ -83,22 +83,22 @@ module _ {R A T D : Type 0} (gives : Relations R A T D) (limit : ℕ) where
   change-leaves old new steps frames history plain sends ends fits hand reads =
       all-above limit frames
       (λ least.
-          asking-gives gives (((old.session).fields).channel).0 limit (replies gives plain) steps old new frames least
-          history refl sends ends fits.each hand reads)
+      asking-gives gives (((old.session).fields).channel).0 limit (replies gives plain) steps old new frames least
+      history refl sends ends fits.each hand reads)
 
   -- what the peer says in a session
   pub hears-so : AnswersPlain gives → (said : LinkPerformative)
       → HearsSo gives (FitsIn limit) (FitsAbove limit) said
   hears-so plain said before after out out_new told h fits = (
     let kept =
-    heard-waits gives (((before.session).fields).channel).0 limit (replies gives plain) before after out out_new said
-    told h in
-    on-channel limit before.session after.session kept.0 (record { each = kept.1 fits.each }),
+        heard-waits gives (((before.session).fields).channel).0 limit (replies gives plain) before after out out_new said
+        told h in
+        on-channel limit before.session after.session kept.0 (record { each = kept.1 fits.each }),
     λ frames queued reads.
         all-above limit frames
         (λ least.
-            heard-gives gives limit (replies gives plain) said told before after out out_new frames least h fits.each
-            queued reads),
+        heard-gives gives limit (replies gives plain) said told before after out out_new frames least h fits.each
+        queued reads),
   )
 
   -- its Begin

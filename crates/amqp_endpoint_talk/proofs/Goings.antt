@@ -72,11 +72,11 @@ module _ {R : Type 0} where
   rests old new out out_new from is reads h =
       resting old new out out_new h.keeps
       (λ none.
-          h.queued
-          ∙ ap (λ (fs : List SessionFrame). out ++ fs)
-          (none-of h.frames
-          (h.suit (none-holds old none) (read-behind out out_new h.frames from is h.queued reads)))
-          ∙ append-nil out)
+      h.queued
+      ∙ ap (λ (fs : List SessionFrame). out ++ fs)
+      (none-of h.frames
+      (h.suit (none-holds old none) (read-behind out out_new h.frames from is h.queued reads)))
+      ∙ append-nil out)
 
   -- one call after another
   pub goes-on : (limit : ℕ) (old mid new : Conversation R) (out out_mid out_new : List SessionFrame)
