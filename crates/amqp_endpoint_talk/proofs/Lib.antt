@@ -6,6 +6,7 @@ mod Tellings
 mod Ends
 mod Begins
 mod Fitting
-mod Calls
+pub mod Alone
+pub mod Calls
 pub mod Clearing
 pub mod Goings

@@ -1,5 +1,5 @@
 //! Laws of a conversation's calls. A function here does nothing: its contract is the law.
-ghost use Rattle.std.specs.Prelude.{◌≡◌, ◌≤◌, ◌++◌, ℕ, suc, zero, length, List, All, None, Option, Result, ⊤};
+ghost use Rattle.std.specs.Prelude.{◌≡◌, ◌≤◌, ◌++◌, [], ℕ, suc, zero, length, List, All, None, Option, Result, ⊤};
 ghost use Rattle.std.specs.Global.{Box};
 ghost use Rattle.amqp_session_types.specs.declared.channels.OutgoingChannel.{OutgoingChannel};
 ghost use Rattle.amqp_session_types.specs.declared.refusals.TryEndError.{TryEndError};
@@ -11,7 +11,20 @@ ghost use Rattle.amqp_endpoint_sessions.specs.State.{live_at};
 ghost use Rattle.amqp_endpoint_sessions.specs.Steps.{ChangesLive, EndSent, EndTold, Finished, Steps};
 ghost use Rattle.amqp_session_performatives.specs.declared.session_frame.SessionFrame.{SessionFrame};
 ghost use Rattle.amqp_endpoint_conversation.specs.declared.conversation.Conversation.{Conversation};
-ghost use Rattle.amqp_endpoint_conversation.specs.Beginning.{Sessions};
+ghost use Rattle.amqp_endpoint_conversation.specs.Beginning.{AcceptsHere, BeginAnswered, BeginsHere, Sessions};
+ghost use Rattle.amqp_session_types.specs.declared.channels.IncomingChannel.{IncomingChannel};
+ghost use Rattle.amqp_session_types.specs.declared.error.Error.{Error};
+ghost use Rattle.amqp_session_types.specs.declared.refusals.ConnectionError.{ConnectionError};
+ghost use Rattle.amqp_session_performatives.specs.declared.begin.Begin.{Begin};
+ghost use Rattle.amqp_session_performatives.specs.declared.end.End.{End};
+ghost use Rattle.amqp_endpoint_links.specs.declared.hearing.LinkPerformative.{LinkPerformative};
+ghost use Rattle.amqp_endpoint_conversation.specs.declared.beginning.BeginHeard.{BeginHeard};
+ghost use Rattle.amqp_endpoint_conversation.specs.declared.beginning.BeginRefusal.{BeginRefusal};
+ghost use Rattle.amqp_endpoint_conversation.specs.declared.ending.EndHeard.{EndHeard};
+ghost use Rattle.amqp_endpoint_conversation.specs.declared.hearing.Heard.{Heard};
+ghost use Rattle.amqp_endpoint_conversation.specs.declared.hearing.HearRefusal.{HearRefusal};
+ghost use Rattle.amqp_endpoint_conversation.specs.Ending.{EndAnswered, EndsHere};
+ghost use Rattle.amqp_endpoint_conversation.specs.Hearing.{Answered, FlowTold};
 ghost use Rattle.amqp_endpoint_fitting.specs.Handed.{AllAskingEndFit, AllAskingHand, AllAskingSendFit};
 ghost use Rattle.amqp_endpoint_fitting.specs.Read.{IsRead};
 ghost use Rattle.amqp_endpoint_talk.specs.Clearing.{Clears, ClearsFirst};
@@ -39,6 +52,36 @@ pub fn a_session_changed_goes_on<R: LinkRelay>()
     ensures rests { (number : ℕ) (old new : Conversation R) (before after : Box (AskingSession R))
         (out out_new : List SessionFrame) →
         Steps old.sessions (ChangesLive number before after) new.sessions → Rests old new out out_new }
+{}
+
+/// What a call does is the same whatever was handed out before: its relation holds of its own frames where nothing was.
+pub fn a_call_adds_its_own_frames<R: LinkRelay>()
+    ensures begun { (old new : Conversation R) (number : ℕ) (out out_new frames : List SessionFrame) →
+        out_new ≡ out ++ frames → BeginsHere R.gives old out number new out_new →
+        BeginsHere R.gives old [] number new frames }
+    ensures accepted { (old new : Conversation R) (channel : IncomingChannel) (number : ℕ)
+        (out out_new frames : List SessionFrame) → out_new ≡ out ++ frames →
+        AcceptsHere R.gives old out channel number new out_new →
+        AcceptsHere R.gives old [] channel number new frames }
+    ensures ended { (old new : Conversation R) (number : ℕ) (error : Option Error) (session : Box (AskingSession R))
+        (out out_new frames : List SessionFrame) → out_new ≡ out ++ frames →
+        EndsHere old out number error session new out_new → EndsHere old [] number error session new frames }
+    ensures begin_heard { (old new : Conversation R) (channel : IncomingChannel) (begin : Begin)
+        (result : Result BeginHeard BeginRefusal) (out out_new frames : List SessionFrame) →
+        out_new ≡ out ++ frames → BeginAnswered R.gives old out channel begin result new out_new →
+        BeginAnswered R.gives old [] channel begin result new frames }
+    ensures end_heard { (old new : Conversation R) (channel : IncomingChannel) (end : End)
+        (result : Result (EndHeard R) ConnectionError) (out out_new frames : List SessionFrame) →
+        out_new ≡ out ++ frames → EndAnswered old out channel end result new out_new →
+        EndAnswered old [] channel end result new frames }
+    ensures heard { (old new : Conversation R) (channel : IncomingChannel) (said : LinkPerformative)
+        (result : Result (Heard R.Attached R.Transferred R.Detached) (HearRefusal R))
+        (out out_new frames : List SessionFrame) → out_new ≡ out ++ frames →
+        Answered R.gives old out channel said result new out_new →
+        Answered R.gives old [] channel said result new frames }
+    ensures told { (old new : Conversation R) (number : ℕ) (out out_new frames : List SessionFrame) →
+        out_new ≡ out ++ frames → FlowTold R.gives old out number new out_new →
+        FlowTold R.gives old [] number new frames }
 {}
 
 /// That the caller is told of a peer's End changes nothing else (part 2, 2.5.2).
