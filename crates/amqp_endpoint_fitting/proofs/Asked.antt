@@ -15,7 +15,7 @@ use Rattle.amqp_session_core.specs.Frames.{session_flow}
 use Rattle.amqp_session_core.specs.History.{History}
 use Rattle.amqp_session_core.specs.Relay.{Relations}
 use Rattle.amqp_session_core.specs.State.{State, leads, reached}
-use Rattle.amqp_session_core.specs.Steps.{Step, Steps, TakesAttach as SessionAttaches, TakesFlow as SessionFlows, TakesDetach as SessionDetaches}
+use Rattle.amqp_session_core.specs.Steps.{Step, Steps, TakesAttach as SessionAttaches, TakesFlow as SessionFlows, TakesDetach as SessionDetaches, Allocates}
 use Rattle.amqp_session_core.specs.Told.{FlowTaken, TransferAt}
 use Rattle.amqp_endpoint_asked.specs.Asked.{is_asked}
 use Rattle.amqp_endpoint_asked.specs.AskedSession.{session_part}
@@ -103,7 +103,8 @@ module _ {R A T D : Type 0} (gives : Relations R A T D) where
       history-waits gives channel limit done.steps old.session new.session done.run
       (detach-sends channel limit detach done.steps done.are)
   step-waits-asked channel limit replies (AnswersLink handle link input) old new s b =
-      history-waits gives channel limit (_ ∷ []) old.session new.session (new.session, s.0, refl) (tt, tt)
+      history-waits gives channel limit (Allocates handle link (Some input) ∷ []) old.session new.session
+      (new.session, s.0, refl) (tt, tt)
 
   pub asking-waits : (channel limit : ℕ) (replies : RepliesFit gives) (steps : List (AskingStep R A T D))
       (start end : AskingSession R) → AskingHistory gives start steps end → AllAskingSendFit channel limit steps

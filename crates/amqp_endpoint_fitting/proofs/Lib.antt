@@ -3,4 +3,4 @@ pub mod Lengths
 pub mod Handing
 pub mod Asked
 pub mod Due
-pub mod Reading
+pub mod FramesRead

@@ -1,12 +1,13 @@
 //! The numbers of frames are read, and so lie in the ranges of their fields. Each function here does nothing else: its
 //! contract is what it reads.
-ghost use Rattle.std.specs.Prelude.{All, drop};
+ghost use Rattle.std.specs.Prelude.{All, IfSome, drop};
 ghost use Rattle.amqp_endpoint_fitting.specs.Read.{IsRead, IsReadBegin, IsReadDisposition, IsReadFlow};
 ghost use Rattle.amqp_endpoint_lengths.specs.Plain.{IsUint, MayBeUint};
 
 use amqp_session_performatives::{
     Begin, Detach, Disposition, Flow, SessionFrame, SessionFrameBody, Transfer,
 };
+use amqp_session_types::Handle;
 use std::collections::VecDeque;
 
 /// The numbers of the frames from this index on are read (part 2, 2.7).
@@ -57,9 +58,7 @@ pub fn a_flow_is_read(flow: &Flow)
     may_be_a_uint(&flow.delivery_count);
     may_be_a_uint(&flow.link_credit);
     may_be_a_uint(&flow.available);
-    if let Some(handle) = flow.handle {
-        let _handle = handle.0;
-    }
+    may_be_a_handle(&flow.handle);
 }
 
 /// The number of a Transfer's delivery is read (part 2, 2.7.5).
@@ -81,7 +80,23 @@ fn a_disposition_is_read(disposition: &Disposition)
 fn a_detach_is_read(detach: &Detach)
     ensures { IsUint detach.now.handle.0 }
 {
-    let _handle = detach.handle.0;
+    a_handle_is_read(&detach.handle);
+}
+
+/// A handle that may be absent is read.
+fn may_be_a_handle(handle: &Option<Handle>)
+    ensures { IfSome handle.now (λ h. IsUint h.0) }
+{
+    if let Some(handle) = handle {
+        a_handle_is_read(handle);
+    }
+}
+
+/// The number of a handle is read.
+fn a_handle_is_read(handle: &Handle)
+    ensures { IsUint handle.now.0 }
+{
+    let _number = handle.0;
 }
 
 /// A number that may be absent is read.

@@ -1,5 +1,5 @@
 use Rattle.std.proofs.Common.{arith, length, ◌<◌, ◌≤◌, refl}
-use Rattle.amqp_endpoint_fitting.proofs.Reading.{read-behind, read-more}
+use Rattle.amqp_endpoint_fitting.proofs.FramesRead.{read-behind, read-more}
 use Rattle.amqp_endpoint_fitting.proofs.reading.frames_are_read.Goals as goal
 
 pub loop-i-init : goal.loop-i-init
