@@ -352,7 +352,7 @@ module _ {R A T D : Type 0} (gives : Relations R A T D) where
       → TellsAt gives live old out number new out_new → TellsAt gives live old [] number new frames
   told-at None old new number out out_new frames is t = (t.0, none out out_new frames is t.1)
   told-at (Some session) old new number out out_new frames is t =
-      told-if (is_due session.value) old new number session out out_new frames is t
+      told-if (is_due gives session.value) old new number session out out_new frames is t
 
   pub flow-alone : (old new : Conversation R) (number : ℕ) (out out_new frames : List SessionFrame)
       → out_new ≡ out ++ frames → FlowTold gives old out number new out_new → FlowTold gives old [] number new frames

@@ -10,9 +10,6 @@ use Rattle.amqp_session_types.specs.declared.refusals.BeginError.{BeginError}
 use Rattle.amqp_session_types.specs.declared.refusals.SessionError.{SessionError}
 use Rattle.amqp_session_performatives.specs.declared.begin.Begin.{Begin}
 use Rattle.amqp_session_performatives.specs.declared.session_frame.SessionFrame.{SessionFrame}
-use Rattle.amqp_session_outgoing.specs.Queues.{Queues}
-use Rattle.amqp_session_core.specs.declared.batch.BehindFrame.{BehindFrame}
-use Rattle.amqp_session_core.specs.declared.batch.TransferFrame.{TransferFrame}
 use Rattle.amqp_session_core.specs.Relay.{Relations}
 use Rattle.amqp_session_core.specs.State.{State}
 use Rattle.amqp_endpoint_asked.specs.declared.session.SessionFlow.{SessionFlow}
@@ -30,13 +27,10 @@ use Rattle.amqp_endpoint_talk.proofs.Ends.{FitsAbove, begin-above}
 use Rattle.amqp_endpoint_talk.proofs.Handing.{Hands, Holds, end-handed, none-handed, one}
 use Rattle.amqp_endpoint_talk.proofs.Places.{accepts, begins, changes_live, on, stays}
 
-abbrev Waiting : Type 0
-Waiting = Queues TransferFrame BehindFrame
-
 -- where nothing waits, all that waits fits
 none-waits : {R : Type 0} (limit : ℕ) (s : State R) → (s.outgoing).queues ≡ [] → FitsIn limit s
 none-waits limit s none =
-    subst (λ (queues : Waiting). QueuesFit ((s.fields).channel).0 limit queues) (sym none)
+    subst (QueuesFit ((s.fields).channel).0 limit) (sym none)
     (record { each = All-nil (QueueFits ((s.fields).channel).0 limit) })
 
 -- nothing waits in a session that was just accepted

@@ -1,5 +1,5 @@
 -- What is known of a session that its owner changed, of an End that is told of, and of what waits.
-use Rattle.std.proofs.Common.{◌≡◌, ◌≤◌, ℕ, List, [], ◌++◌, Result, refl, sym, ◌∙◌, append-nil}
+use Rattle.std.proofs.Common.{◌≡◌, ◌≤◌, ℕ, true, List, [], ◌++◌, Result, refl, sym, ◌∙◌, append-nil}
 use Rattle.std.specs.Prelude.{All, ⊤}
 use Rattle.std.specs.Global.{Box}
 use Rattle.std.proofs.lemmas.List.Elements.{All-nil}

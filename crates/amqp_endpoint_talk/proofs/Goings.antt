@@ -1,5 +1,5 @@
 -- From what the sessions hand out to what is known of a conversation's calls.
-use Rattle.std.proofs.Common.{◌≡◌, ◌≤◌, ℕ, List, [], ◌∷◌, ◌++◌, Option, Some, None, Result, Ok, Err, refl, sym, ap, subst, ◌∙◌, append-nil, append_assoc, length, drop}
+use Rattle.std.proofs.Common.{◌≡◌, ◌≤◌, ℕ, true, List, [], ◌∷◌, ◌++◌, Option, Some, None, Result, Ok, Err, refl, sym, ap, subst, ◌∙◌, append-nil, append_assoc, length, drop}
 use Rattle.std.specs.Prelude.{All, IfOk, OnErr}
 use Rattle.std.specs.Global.{Box}
 use Rattle.std.proofs.lemmas.List.{drop_at}

@@ -46,7 +46,7 @@ module _ {R A T D : Type 0} (gives : Relations R A T D) (P : State R → Type 0)
 
     told-at : (live : Option (Box (AskingSession R))) → TellsAt gives live old out number new out_new → Handed
     told-at None t = kept t.0 t.1
-    told-at (Some session) t = told-if (is_due session.value) session t
+    told-at (Some session) t = told-if (is_due gives session.value) session t
 
     pub flow-handed : FlowTold gives old out number new out_new → Handed
     flow-handed t = told-at (live_at old.sessions number) t
