@@ -1,5 +1,5 @@
 -- What a call does stays the same where nothing was handed out before.
-use Rattle.std.proofs.Common.{◌≡◌, inl, inr, ℕ, List, [], ◌∷◌, ◌++◌, Bool, true, false, Option, Some, None, Result, Ok, Err, refl, sym, ap, ◌∙◌, append-nil, append_assoc}
+use Rattle.std.proofs.Common.{◌≡◌, inl, inr, ℕ, List, [], ◌∷◌, ◌++◌, Bool, true, false, Option, Some, None, Result, Ok, Err, sym, ap, ◌∙◌, append-nil, append_assoc}
 use Rattle.std.specs.Prelude.{⊤}
 use Rattle.std.specs.Global.{Box}
 use Rattle.std.proofs.lemmas.List.{append_cancel_left}
@@ -15,7 +15,7 @@ use Rattle.amqp_session_performatives.specs.declared.flow.Flow.{Flow as FlowFram
 use Rattle.amqp_session_performatives.specs.declared.session_frame.SessionFrame.{SessionFrame}
 use Rattle.amqp_session_core.specs.Relay.{Relations}
 use Rattle.amqp_session_core.specs.State.{State, leads}
-use Rattle.amqp_session_core.specs.Told.{FlowTaken, FlowUnattached}
+use Rattle.amqp_session_core.specs.Told.{FlowTaken}
 use Rattle.amqp_endpoint_asked.specs.declared.session.AskedSession.{AskedSession}
 use Rattle.amqp_endpoint_asked.specs.Asked.{is_asked}
 use Rattle.amqp_endpoint_links.specs.declared.asking.AskingSession.{AskingSession}

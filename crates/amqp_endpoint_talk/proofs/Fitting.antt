@@ -1,21 +1,17 @@
 -- What sessions make of what they hear, and of their own Begins and Flows, where what waits fits; and where none goes on.
-use Rattle.std.proofs.Common.{◌≡◌, ◌≤◌, ℕ, List, [], ◌∷◌, ◌++◌, Option, Some, None, Result, refl, sym, ap, subst}
+use Rattle.std.proofs.Common.{◌≡◌, ◌≤◌, ℕ, List, [], refl, sym, subst}
 use Rattle.std.specs.Prelude.{All}
-use Rattle.std.proofs.lemmas.List.Elements.{All-head, All-nil}
+use Rattle.std.proofs.lemmas.List.Elements.{All-head}
 use Rattle.amqp_session_types.specs.declared.channels.IncomingChannel.{IncomingChannel}
 use Rattle.amqp_session_types.specs.declared.channels.OutgoingChannel.{OutgoingChannel}
-use Rattle.amqp_session_types.specs.declared.refusals.SessionError.{SessionError}
 use Rattle.amqp_session_performatives.specs.declared.begin.Begin.{Begin}
 use Rattle.amqp_session_performatives.specs.declared.session_frame.SessionFrame.{SessionFrame}
 use Rattle.amqp_session_core.specs.History.{frames_in}
 use Rattle.amqp_session_core.specs.Relay.{Relations}
 use Rattle.amqp_session_core.specs.State.{State}
 use Rattle.amqp_session_core.specs.Steps.{Step, Steps, TakesBegin, TellsFlow}
-use Rattle.amqp_session_core.specs.Told.{BeginTaken}
 use Rattle.amqp_endpoint_links.specs.declared.asking.AskingSession.{AskingSession}
 use Rattle.amqp_endpoint_links.specs.declared.hearing.LinkPerformative.{LinkPerformative}
-use Rattle.amqp_endpoint_links.specs.declared.hearing.PerformativeTaken.{PerformativeTaken}
-use Rattle.amqp_endpoint_links.specs.Hearing.{Hears}
 use Rattle.amqp_endpoint_links.specs.History.{AskingHistory, AskingStep}
 use Rattle.amqp_endpoint_fitting.specs.Fits.{FrameFits, QueuesFit}
 use Rattle.amqp_endpoint_fitting.specs.Handed.{AllAskingEndFit, AllAskingHand, AllAskingSendFit, RepliesFit, SendsFit}
@@ -26,7 +22,7 @@ use Rattle.amqp_endpoint_fitting.proofs.Lengths.{wider-queues}
 use Rattle.amqp_endpoint_talk.specs.Going.{AnswersPlain, FitsIn}
 use Rattle.amqp_endpoint_talk.proofs.Ends.{FitsAbove, fault-above}
 use Rattle.amqp_endpoint_talk.proofs.Handing.{one}
-use Rattle.amqp_endpoint_talk.proofs.Hearings.{BeginsSo, EndsSo, FailsSo, HearsSo}
+use Rattle.amqp_endpoint_talk.proofs.Hearings.{BeginsSo, FailsSo, HearsSo}
 use Rattle.amqp_endpoint_talk.proofs.Tellings.{TellsSo}
 use Rattle.amqp_endpoint_talk.proofs.Goings.{Never, Nothing}
 

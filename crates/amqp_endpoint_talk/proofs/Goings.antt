@@ -1,9 +1,9 @@
 -- From what the sessions hand out to what is known of a conversation's calls.
-use Rattle.std.proofs.Common.{◌≡◌, ◌≤◌, ℕ, true, List, [], ◌∷◌, ◌++◌, Option, Some, None, Result, Ok, Err, refl, sym, ap, subst, ◌∙◌, append-nil, append_assoc, length, drop}
-use Rattle.std.specs.Prelude.{All, IfOk, OnErr}
+use Rattle.std.proofs.Common.{◌≡◌, ℕ, true, List, [], ◌∷◌, ◌++◌, Option, Some, None, refl, sym, ap, subst, ◌∙◌, append-nil, append_assoc, length, drop}
+use Rattle.std.specs.Prelude.{All}
 use Rattle.std.specs.Global.{Box}
 use Rattle.std.proofs.lemmas.List.{drop_at}
-use Rattle.std.proofs.lemmas.List.Elements.{All-append, All-head, All-nil}
+use Rattle.std.proofs.lemmas.List.Elements.{All-append, All-head}
 use Rattle.std.proofs.lemmas.Option.{none-some}
 use Rattle.amqp_session_performatives.specs.declared.session_frame.SessionFrame.{SessionFrame}
 use Rattle.amqp_session_core.specs.State.{State}
@@ -12,7 +12,7 @@ use Rattle.amqp_endpoint_sessions.specs.State.{live_at}
 use Rattle.amqp_endpoint_conversation.specs.declared.conversation.Conversation.{Conversation}
 use Rattle.amqp_endpoint_model.specs.State.{fits, frame_of}
 use Rattle.amqp_endpoint_fitting.specs.Read.{IsRead}
-use Rattle.amqp_endpoint_talk.specs.Going.{AllFit, FitsIn, Goes, NoneLive, Rests, Within}
+use Rattle.amqp_endpoint_talk.specs.Going.{FitsIn, Goes, NoneLive, Rests}
 use Rattle.amqp_endpoint_talk.proofs.Ends.{FitsAbove}
 use Rattle.amqp_endpoint_talk.proofs.Handing.{Hands, Holds}
 use Rattle.amqp_endpoint_talk.proofs.Places.{HoldsIn, Keeps, still-on}

@@ -13,7 +13,7 @@ use Rattle.amqp_session_connection.specs.Steps.{DeallocateSession}
 use Rattle.amqp_endpoint_sessions.specs.declared.place.PeerEnd.TheVariants.{Missing}
 use Rattle.amqp_endpoint_sessions.specs.declared.place.Place.{Place}
 use Rattle.amqp_endpoint_sessions.specs.declared.place.Place.TheVariants.{Asked, Live, Ending, Over}
-use Rattle.amqp_endpoint_sessions.specs.State.{State, ended_place, live_of, place_at, told_place, with_asked, with_live}
+use Rattle.amqp_endpoint_sessions.specs.State.{State, ended_place, live_of, told_place, with_asked, with_live}
 use Rattle.amqp_endpoint_sessions.specs.Steps.{Steps, Accepts, Asks, Begins, ChangesAsked, ChangesLive, EndTold, Ends, GivesChannel, TakesBegin, TakesChannelBack, TakesEnd}
 use Rattle.amqp_endpoint_model.specs.Relay.{StandsStill}
 
