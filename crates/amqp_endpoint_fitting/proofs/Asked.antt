@@ -1,6 +1,6 @@
 -- The same of a session with its asked links.
-use Rattle.std.proofs.Common.{◌≡◌, ◌≤◌, inl, inr, ℕ, ◌*◌, ◌+◌, List, [], ◌∷◌, ◌++◌, Bool, true, false, refl, sym, ap, subst, ◌∙◌, append-nil}
-use Rattle.std.specs.Prelude.{All, Option, Some, None, Result, Ok, Err, ⊤, nat_le}
+use Rattle.std.proofs.Common.{◌≡◌, ◌≤◌, inl, inr, ℕ, List, [], ◌∷◌, ◌++◌, Bool, true, false, refl, sym, ap, subst, ◌∙◌, append-nil}
+use Rattle.std.specs.Prelude.{All, Some, Result, Ok, Err, ⊤}
 use Rattle.std.proofs.lemmas.List.{append_cancel_left}
 use Rattle.std.proofs.lemmas.List.Elements.{All-nil, All-append}
 use Rattle.amqp_session_types.specs.declared.channels.OutgoingChannel.{OutgoingChannel}
@@ -10,13 +10,11 @@ use Rattle.amqp_session_performatives.specs.declared.attach.Attach.{Attach as At
 use Rattle.amqp_session_performatives.specs.declared.detach.Detach.{Detach as DetachFrame}
 use Rattle.amqp_session_performatives.specs.declared.flow.Flow.{Flow as FlowFrame}
 use Rattle.amqp_session_performatives.specs.declared.session_frame.SessionFrame.{SessionFrame}
-use Rattle.amqp_session_core.specs.declared.incoming.TransferTaken.{TransferTaken}
-use Rattle.amqp_session_core.specs.Frames.{session_flow}
 use Rattle.amqp_session_core.specs.History.{History}
 use Rattle.amqp_session_core.specs.Relay.{Relations}
-use Rattle.amqp_session_core.specs.State.{State, leads, reached}
-use Rattle.amqp_session_core.specs.Steps.{Step, Steps, TakesAttach as SessionAttaches, TakesFlow as SessionFlows, TakesDetach as SessionDetaches, Allocates}
-use Rattle.amqp_session_core.specs.Told.{FlowTaken, TransferAt}
+use Rattle.amqp_session_core.specs.State.{State, leads}
+use Rattle.amqp_session_core.specs.Steps.{Step, Steps, Allocates}
+use Rattle.amqp_session_core.specs.Told.{FlowTaken}
 use Rattle.amqp_endpoint_asked.specs.Asked.{is_asked}
 use Rattle.amqp_endpoint_asked.specs.AskedSession.{session_part}
 use Rattle.amqp_endpoint_links.specs.declared.asking.AskingSession.{AskingSession}

@@ -1,6 +1,6 @@
 -- What a session's steps leave waiting, and what they hand out.
 use Rattle.std.proofs.Common.{◌≡◌, ◌≤◌, ℕ, ◌*◌, ◌+◌, List, [], ◌∷◌, ◌++◌, Bool, true, false, refl, sym, ap, arith, subst, ◌∙◌}
-use Rattle.std.specs.Prelude.{All, Option, Some, None, Result, Ok, Err, nat_le, option_to_list, option_map, if◌then◌else◌}
+use Rattle.std.specs.Prelude.{All, Option, Some, None, Result, Ok, Err, nat_le, option_to_list, if◌then◌else◌}
 use Rattle.std.proofs.lemmas.List.Elements.{All-nil, All-append}
 use Rattle.amqp_session_types.specs.declared.channels.OutgoingChannel.{OutgoingChannel}
 use Rattle.amqp_session_types.specs.declared.handles.Handle.{Handle}
@@ -29,7 +29,7 @@ use Rattle.amqp_endpoint_fitting.specs.Fits.{BehindFits, FrameFits}
 use Rattle.amqp_endpoint_fitting.specs.Handed.{AllEndFit, AllSendFit, EndFits, RepliesFit, ReplyFits, SendsFit, handed, handed_of}
 use Rattle.amqp_endpoint_fitting.specs.Read.{IsRead}
 use Rattle.amqp_endpoint_fitting.proofs.Lengths.{all-left, all-one, all-right, begin-fits, behind-fits, left-fit, session-flow-fits}
-use Rattle.amqp_endpoint_fitting.proofs.Queueing.{AllBringFit, AllFit, Leaving, SentFits, Side, SideStep, history-fits, step-fits}
+use Rattle.amqp_endpoint_fitting.proofs.Queueing.{AllBringFit, AllFit, SentFits, Side, SideStep, history-fits, step-fits}
 
 -- settling brings nothing
 module _ (channel limit : ℕ) where

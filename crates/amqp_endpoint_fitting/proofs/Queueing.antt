@@ -1,5 +1,5 @@
 -- What waits goes on fitting by each step of the sending side, and what leaves it fits.
-use Rattle.std.proofs.Common.{◌≡◌, inl, inr, ℕ, List, [], ◌∷◌, ◌++◌, refl, sym, ap, subst, ◌∙◌}
+use Rattle.std.proofs.Common.{◌≡◌, inl, inr, ℕ, List, [], ◌∷◌, ◌++◌, sym, ap, subst}
 use Rattle.std.specs.Prelude.{All, Option, Some, None}
 use Rattle.std.proofs.lemmas.List.Elements.{All-nil, All-cons, All-head, All-tail, All-append, All-push}
 use Rattle.amqp_session_outgoing.specs.declared.frames.Outbound.{Outbound}
