@@ -197,11 +197,11 @@ module _ {R A T D : Type 0} (gives : Relations R A T D) where
       → Channel start ≡ channel → AllAskingSendFit channel limit steps → AllAskingEndFit limit steps
       → AllWait start channel limit → AllAskingHand steps frames → Gives limit frames
   asking-gives channel limit replies [] start end frames least run same b e h is = none-given limit frames is
-  asking-gives channel limit replies (step ∷ steps) start end frames least run same b e h (first, later, hands, more, is) =
+  asking-gives channel limit replies (step ∷ steps) start end all least run same b e h (first, later, here, more, is) =
       let one : Gives limit first =
       step-gives limit replies step start run.0 first least run.1
       (subst (λ (c : ℕ). AskingSendsFit c limit step) (sym same) b.0) e.0
-      (subst (λ (c : ℕ). AllWait start c limit) (sym same) h) hands in
+      (subst (λ (c : ℕ). AllWait start c limit) (sym same) h) here in
       let rest : Gives limit later =
       asking-gives channel limit replies steps run.0 end later least run.2
       (ap (λ (c : OutgoingChannel). c.0) (step-channel-asked step start run.0 run.1) ∙ same) b.1 e.1

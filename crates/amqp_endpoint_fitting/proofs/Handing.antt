@@ -223,7 +223,8 @@ module _ {R A T D : Type 0} (gives : Relations R A T D) where
       (leaves-fit limit new.fields (channel_of old) left least same sent
       (all-right IsRead (reply_frames new.fields number reply) (frames_left new.fields left) r)))
 
-  pub due-hands : (limit : ℕ) (due : Bool) (fields : SessionFields) (number : ℕ) (flow : Option SessionFrame) → 512 ≤ limit
+  pub due-hands : (limit : ℕ) (due : Bool) (fields : SessionFields) (number : ℕ) (flow : Option SessionFrame)
+      → 512 ≤ limit
       → flow ≡ (if due then Some (session_flow fields number) else None) → Hands limit (option_to_list flow)
   due-hands limit due fields number flow least is =
       subst (MayFit limit) (sym is)

@@ -172,15 +172,21 @@ module _ (limit wider : ℕ) (least : limit ≤ wider) where
       → UnitFits channel wider handle unit
   wider-unit channel handle unit u =
       record {
-        transfer = record { each = λ number is. wider-frame (numbered channel handle number unit.transfer) ((u.transfer).each number is) };
+        transfer =
+            record {
+              each = λ number is.
+                  wider-frame (numbered channel handle number unit.transfer) ((u.transfer).each number is);
+            };
         behind =
-            All-weaker (BehindFits channel limit) (BehindFits channel wider) (wider-behind channel) unit.behind u.behind;
+            All-weaker (BehindFits channel limit) (BehindFits channel wider) (wider-behind channel) unit.behind
+            u.behind;
       }
 
   wider-queue : (channel : ℕ) (queue : ℕ × List (Outbound TransferFrame BehindFrame)) → QueueFits channel limit queue
       → QueueFits channel wider queue
   wider-queue channel queue q =
-      All-weaker (UnitFits channel limit queue.0) (UnitFits channel wider queue.0) (wider-unit channel queue.0) queue.1 q
+      All-weaker (UnitFits channel limit queue.0) (UnitFits channel wider queue.0) (wider-unit channel queue.0) queue.1
+      q
 
   pub wider-queues : (channel : ℕ) (queues : Lines) → QueuesFit channel limit queues → QueuesFit channel wider queues
   wider-queues channel queues q =

@@ -118,7 +118,8 @@ module _ (channel limit : ℕ) where
     pub wait : LinesFit new
 
   turn-of : (first : ℕ) (units : List Waiting) (others : Lines) (handle : ℕ) (taken : Waiting) (new : Lines)
-      → TakesTurnOf first units others handle taken new → UnitsFit first units → LinesFit others → Turned handle taken new
+      → TakesTurnOf first units others handle taken new → UnitsFit first units → LinesFit others
+      → Turned handle taken new
   turn-of first [] others handle taken new t all h = absurd t
   turn-of first (u ∷ us) others handle taken new t all h =
       let here : UnitFits channel limit first u = All-head (UnitFits channel limit first) u us all in

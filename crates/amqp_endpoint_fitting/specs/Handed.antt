@@ -17,7 +17,8 @@ ReplyFits (OfLink handle flow left) = flow.properties ≡ None
 module _ {R A T D : Type 0} (gives : Relations R A T D) where
   -- no link answers a Flow with properties
   pub record RepliesFit : Type 0 where
-    pub each : (old new : R) (flow reply : LinkFlow) → gives.flows old flow (Ok (Some reply)) new → reply.properties ≡ None
+    pub each : (old new : R) (flow reply : LinkFlow) → gives.flows old flow (Ok (Some reply)) new
+        → reply.properties ≡ None
 
 module _ {R A T D : Type 0} where
   -- what a step brings into a session on this channel fits
