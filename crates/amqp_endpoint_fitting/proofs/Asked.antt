@@ -1,6 +1,6 @@
 -- The same of a session with its asked links.
-use Rattle.std.proofs.Common.{◌≡◌, ◌≤◌, inl, inr, ℕ, ◌*◌, ◌+◌, List, [], ◌∷◌, ◌++◌, Bool, true, false, refl, sym, ap, subst, ◌∙◌, append-nil}
-use Rattle.std.specs.Prelude.{All, Option, Some, None, Result, Ok, Err, ⊤, nat_le}
+use Rattle.std.proofs.Common.{◌≡◌, ◌≤◌, inl, inr, ℕ, List, [], ◌∷◌, ◌++◌, Bool, true, false, refl, sym, ap, subst, ◌∙◌, append-nil}
+use Rattle.std.specs.Prelude.{All, Some, Result, Ok, Err, ⊤}
 use Rattle.std.proofs.lemmas.List.{append_cancel_left}
 use Rattle.std.proofs.lemmas.List.Elements.{All-nil, All-append}
 use Rattle.amqp_session_types.specs.declared.channels.OutgoingChannel.{OutgoingChannel}
@@ -10,13 +10,11 @@ use Rattle.amqp_session_performatives.specs.declared.attach.Attach.{Attach as At
 use Rattle.amqp_session_performatives.specs.declared.detach.Detach.{Detach as DetachFrame}
 use Rattle.amqp_session_performatives.specs.declared.flow.Flow.{Flow as FlowFrame}
 use Rattle.amqp_session_performatives.specs.declared.session_frame.SessionFrame.{SessionFrame}
-use Rattle.amqp_session_core.specs.declared.incoming.TransferTaken.{TransferTaken}
-use Rattle.amqp_session_core.specs.Frames.{session_flow}
 use Rattle.amqp_session_core.specs.History.{History}
 use Rattle.amqp_session_core.specs.Relay.{Relations}
-use Rattle.amqp_session_core.specs.State.{State, leads, reached}
-use Rattle.amqp_session_core.specs.Steps.{Step, Steps, TakesAttach as SessionAttaches, TakesFlow as SessionFlows, TakesDetach as SessionDetaches, Allocates}
-use Rattle.amqp_session_core.specs.Told.{FlowTaken, TransferAt}
+use Rattle.amqp_session_core.specs.State.{State, leads}
+use Rattle.amqp_session_core.specs.Steps.{Step, Steps, Allocates}
+use Rattle.amqp_session_core.specs.Told.{FlowTaken}
 use Rattle.amqp_endpoint_asked.specs.Asked.{is_asked}
 use Rattle.amqp_endpoint_asked.specs.AskedSession.{session_part}
 use Rattle.amqp_endpoint_links.specs.declared.asking.AskingSession.{AskingSession}
@@ -199,11 +197,11 @@ module _ {R A T D : Type 0} (gives : Relations R A T D) where
       → Channel start ≡ channel → AllAskingSendFit channel limit steps → AllAskingEndFit limit steps
       → AllWait start channel limit → AllAskingHand steps frames → Gives limit frames
   asking-gives channel limit replies [] start end frames least run same b e h is = none-given limit frames is
-  asking-gives channel limit replies (step ∷ steps) start end frames least run same b e h (first, later, hands, more, is) =
+  asking-gives channel limit replies (step ∷ steps) start end all least run same b e h (first, later, here, more, is) =
       let one : Gives limit first =
       step-gives limit replies step start run.0 first least run.1
       (subst (λ (c : ℕ). AskingSendsFit c limit step) (sym same) b.0) e.0
-      (subst (λ (c : ℕ). AllWait start c limit) (sym same) h) hands in
+      (subst (λ (c : ℕ). AllWait start c limit) (sym same) h) here in
       let rest : Gives limit later =
       asking-gives channel limit replies steps run.0 end later least run.2
       (ap (λ (c : OutgoingChannel). c.0) (step-channel-asked step start run.0 run.1) ∙ same) b.1 e.1

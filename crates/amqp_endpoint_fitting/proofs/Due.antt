@@ -1,7 +1,6 @@
 -- The Flow that a transfer makes due.
-use Rattle.std.proofs.Common.{◌≡◌, ◌≤◌, ℕ, ◌*◌, ◌+◌, List, [], ◌∷◌, arith, subst, sym, ap}
-use Rattle.std.specs.Prelude.{All, Option, Some, None, Result, Ok, nat_le, option_to_list}
-use Rattle.amqp_session_types.specs.declared.refusals.SessionError.{SessionError}
+use Rattle.std.proofs.Common.{◌≡◌, ◌≤◌, ℕ, ◌*◌, ◌+◌, List, [], ◌∷◌, arith, subst}
+use Rattle.std.specs.Prelude.{All, Option, Some, None, Ok, nat_le, option_to_list}
 use Rattle.amqp_session_performatives.specs.declared.transfer.Transfer.{Transfer as TransferFrame}
 use Rattle.amqp_session_performatives.specs.declared.session_frame.SessionFrame.{SessionFrame}
 use Rattle.amqp_session_core.specs.declared.incoming.TransferTaken.{TransferTaken}

@@ -1,6 +1,6 @@
 -- What a session's steps leave waiting, and what they hand out.
 use Rattle.std.proofs.Common.{◌≡◌, ◌≤◌, ℕ, ◌*◌, ◌+◌, List, [], ◌∷◌, ◌++◌, Bool, true, false, refl, sym, ap, arith, subst, ◌∙◌}
-use Rattle.std.specs.Prelude.{All, Option, Some, None, Result, Ok, Err, nat_le, option_to_list, option_map, if◌then◌else◌}
+use Rattle.std.specs.Prelude.{All, Option, Some, None, Result, Ok, Err, nat_le, option_to_list, if◌then◌else◌}
 use Rattle.std.proofs.lemmas.List.Elements.{All-nil, All-append}
 use Rattle.amqp_session_types.specs.declared.channels.OutgoingChannel.{OutgoingChannel}
 use Rattle.amqp_session_types.specs.declared.handles.Handle.{Handle}
@@ -29,7 +29,7 @@ use Rattle.amqp_endpoint_fitting.specs.Fits.{BehindFits, FrameFits}
 use Rattle.amqp_endpoint_fitting.specs.Handed.{AllEndFit, AllSendFit, EndFits, RepliesFit, ReplyFits, SendsFit, handed, handed_of}
 use Rattle.amqp_endpoint_fitting.specs.Read.{IsRead}
 use Rattle.amqp_endpoint_fitting.proofs.Lengths.{all-left, all-one, all-right, begin-fits, behind-fits, left-fit, session-flow-fits}
-use Rattle.amqp_endpoint_fitting.proofs.Queueing.{AllBringFit, AllFit, Leaving, SentFits, Side, SideStep, history-fits, step-fits}
+use Rattle.amqp_endpoint_fitting.proofs.Queueing.{AllBringFit, AllFit, SentFits, Side, SideStep, history-fits, step-fits}
 
 -- settling brings nothing
 module _ (channel limit : ℕ) where
@@ -223,7 +223,8 @@ module _ {R A T D : Type 0} (gives : Relations R A T D) where
       (leaves-fit limit new.fields (channel_of old) left least same sent
       (all-right IsRead (reply_frames new.fields number reply) (frames_left new.fields left) r)))
 
-  pub due-hands : (limit : ℕ) (due : Bool) (fields : SessionFields) (number : ℕ) (flow : Option SessionFrame) → 512 ≤ limit
+  pub due-hands : (limit : ℕ) (due : Bool) (fields : SessionFields) (number : ℕ) (flow : Option SessionFrame)
+      → 512 ≤ limit
       → flow ≡ (if due then Some (session_flow fields number) else None) → Hands limit (option_to_list flow)
   due-hands limit due fields number flow least is =
       subst (MayFit limit) (sym is)

@@ -1,8 +1,7 @@
 -- Frames whose numbers are read fit, where nothing else of them is long.
-use Rattle.std.proofs.Common.{◌≡◌, ◌≤◌, ℕ, ◌+◌, List, [], ◌∷◌, ◌++◌, Bool, true, false, refl, sym, ap, subst, arith}
-use Rattle.std.specs.Prelude.{All, ◌%◌, ◌^◌, Option, Some, None, option_to_list, if◌then◌else◌}
+use Rattle.std.proofs.Common.{◌≡◌, ◌≤◌, ℕ, ◌+◌, List, [], ◌∷◌, ◌++◌, true, false, refl, arith}
+use Rattle.std.specs.Prelude.{All, ◌%◌, ◌^◌, Option, Some, None}
 use Rattle.std.proofs.lemmas.Bool.Decides.{nat_tests}
-use Rattle.std.specs.Prelude.{length, nat_le}
 use Rattle.std.proofs.lemmas.List.Elements.{All-nil, All-cons, All-head, All-tail, All-append, All-weaker}
 use Rattle.amqp_session_performatives.specs.declared.begin.Begin.{Begin}
 use Rattle.amqp_session_performatives.specs.declared.flow.Flow.{Flow}
@@ -13,11 +12,11 @@ use Rattle.amqp_session_core.specs.declared.batch.BehindFrame.{BehindFrame}
 use Rattle.amqp_session_core.specs.declared.batch.BehindFrame.TheVariants as behind
 use Rattle.amqp_session_core.specs.declared.batch.TransferFrame.{TransferFrame}
 use Rattle.amqp_session_core.specs.declared.fields.SessionFields.{SessionFields}
-use Rattle.amqp_session_core.specs.Frames.{behind_frame, frames_behind, frames_left, frames_sent, link_flow, session_flow, transfer_frame}
+use Rattle.amqp_session_core.specs.Frames.{behind_frame, frames_behind, frames_left, frames_sent, session_flow, transfer_frame}
 use Rattle.amqp_session_outgoing.specs.declared.frames.Outbound.{Outbound}
 use Rattle.amqp_session_frames.specs.Text.{frame_text}
-use Rattle.amqp_endpoint_model.specs.State.{fits, frame_of, text_fits}
-use Rattle.amqp_endpoint_lengths.specs.Plain.{IsPlainBegin, IsPlainFlow}
+use Rattle.amqp_endpoint_model.specs.State.{frame_of, text_fits}
+use Rattle.amqp_endpoint_lengths.specs.Plain.{IsPlainFlow}
 use Rattle.amqp_endpoint_lengths.proofs.Frames.{begin_fits, flow_fits, larger_fits}
 use Rattle.amqp_endpoint_fitting.specs.Fits.{BehindFits, FrameFits, QueueFits, QueuesFit, UnitFits, numbered}
 use Rattle.amqp_endpoint_fitting.specs.Read.{IsRead, IsReadBegin, IsReadFlow}
@@ -173,15 +172,21 @@ module _ (limit wider : ℕ) (least : limit ≤ wider) where
       → UnitFits channel wider handle unit
   wider-unit channel handle unit u =
       record {
-        transfer = record { each = λ number is. wider-frame (numbered channel handle number unit.transfer) ((u.transfer).each number is) };
+        transfer =
+            record {
+              each = λ number is.
+                  wider-frame (numbered channel handle number unit.transfer) ((u.transfer).each number is);
+            };
         behind =
-            All-weaker (BehindFits channel limit) (BehindFits channel wider) (wider-behind channel) unit.behind u.behind;
+            All-weaker (BehindFits channel limit) (BehindFits channel wider) (wider-behind channel) unit.behind
+            u.behind;
       }
 
   wider-queue : (channel : ℕ) (queue : ℕ × List (Outbound TransferFrame BehindFrame)) → QueueFits channel limit queue
       → QueueFits channel wider queue
   wider-queue channel queue q =
-      All-weaker (UnitFits channel limit queue.0) (UnitFits channel wider queue.0) (wider-unit channel queue.0) queue.1 q
+      All-weaker (UnitFits channel limit queue.0) (UnitFits channel wider queue.0) (wider-unit channel queue.0) queue.1
+      q
 
   pub wider-queues : (channel : ℕ) (queues : Lines) → QueuesFit channel limit queues → QueuesFit channel wider queues
   wider-queues channel queues q =

@@ -1,5 +1,5 @@
 -- What waits goes on fitting by each step of the sending side, and what leaves it fits.
-use Rattle.std.proofs.Common.{◌≡◌, inl, inr, ℕ, List, [], ◌∷◌, ◌++◌, refl, sym, ap, subst, ◌∙◌}
+use Rattle.std.proofs.Common.{◌≡◌, inl, inr, ℕ, List, [], ◌∷◌, ◌++◌, sym, ap, subst}
 use Rattle.std.specs.Prelude.{All, Option, Some, None}
 use Rattle.std.proofs.lemmas.List.Elements.{All-nil, All-cons, All-head, All-tail, All-append, All-push}
 use Rattle.amqp_session_outgoing.specs.declared.frames.Outbound.{Outbound}
@@ -118,7 +118,8 @@ module _ (channel limit : ℕ) where
     pub wait : LinesFit new
 
   turn-of : (first : ℕ) (units : List Waiting) (others : Lines) (handle : ℕ) (taken : Waiting) (new : Lines)
-      → TakesTurnOf first units others handle taken new → UnitsFit first units → LinesFit others → Turned handle taken new
+      → TakesTurnOf first units others handle taken new → UnitsFit first units → LinesFit others
+      → Turned handle taken new
   turn-of first [] others handle taken new t all h = absurd t
   turn-of first (u ∷ us) others handle taken new t all h =
       let here : UnitFits channel limit first u = All-head (UnitFits channel limit first) u us all in

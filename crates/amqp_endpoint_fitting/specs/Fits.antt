@@ -15,8 +15,8 @@ use Rattle.amqp_endpoint_lengths.specs.Plain.{MayBeUint}
 abbrev pub FrameFits : ℕ → SessionFrame → Type 0
 FrameFits limit frame = fits limit (frame_of frame) ≡ true
 
--- a transfer as it leaves on a channel: with its link's handle, and the number of the delivery where it says one (part 2,
--- 2.7.5)
+-- a transfer as it leaves on a channel: with its link's handle, and the number of the delivery where it says one (part
+-- 2, 2.7.5)
 abbrev pub numbered : ℕ → ℕ → Option ℕ → TransferFrame → SessionFrame
 numbered channel handle number carried =
     record {

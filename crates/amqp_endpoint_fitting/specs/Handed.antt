@@ -1,10 +1,9 @@
 -- What a session's steps bring, and what they hand out.
-use Rattle.std.specs.Prelude.{◌≡◌, ℕ, List, [], ◌∷◌, ◌++◌, All, Option, Some, None, Result, Ok}
+use Rattle.std.specs.Prelude.{◌≡◌, ℕ, List, [], ◌∷◌, ◌++◌, All, Some, None, Ok}
 use Rattle.amqp_session_performatives.specs.declared.link_flow.LinkFlow.{LinkFlow}
 use Rattle.amqp_session_performatives.specs.declared.session_frame.SessionFrame.{SessionFrame}
 use Rattle.amqp_session_core.specs.History.{frames_in}
 use Rattle.amqp_session_core.specs.Relay.{Relations}
-use Rattle.amqp_session_core.specs.State.{State}
 use Rattle.amqp_session_core.specs.Steps.{Step, Reply, NoReply, OfSession, OfLink, SendsBegin, SendsEnd, TakesFlow, SendsBehind, SendsTransfers}
 use Rattle.amqp_endpoint_links.specs.History.{AskingStep, InSession, TakesFlow as AskingTakesFlow}
 use Rattle.amqp_endpoint_fitting.specs.Fits.{BehindFits, FrameFits, UnitFits}
@@ -18,7 +17,8 @@ ReplyFits (OfLink handle flow left) = flow.properties ≡ None
 module _ {R A T D : Type 0} (gives : Relations R A T D) where
   -- no link answers a Flow with properties
   pub record RepliesFit : Type 0 where
-    pub each : (old new : R) (flow reply : LinkFlow) → gives.flows old flow (Ok (Some reply)) new → reply.properties ≡ None
+    pub each : (old new : R) (flow reply : LinkFlow) → gives.flows old flow (Ok (Some reply)) new
+        → reply.properties ≡ None
 
 module _ {R A T D : Type 0} where
   -- what a step brings into a session on this channel fits

@@ -1,5 +1,5 @@
 -- Frames whose numbers lie in their fields' ranges, as those of every frame do that is read: part 2, 2.7.
-use Rattle.std.specs.Prelude.{ℕ, ◌<◌, ◌^◌, IfSome}
+use Rattle.std.specs.Prelude.{◌<◌, ◌^◌, IfSome}
 use Rattle.amqp_session_performatives.specs.declared.begin.Begin.{Begin}
 use Rattle.amqp_session_performatives.specs.declared.disposition.Disposition.{Disposition}
 use Rattle.amqp_session_performatives.specs.declared.flow.Flow.{Flow}
@@ -32,7 +32,8 @@ pub record IsReadDisposition (disposition : Disposition) : Type 0 where
   pub first : IsUint disposition.first
   pub last : MayBeUint disposition.last
 
--- the numbers that a frame of a session says: of a Transfer that of the delivery (2.7.5), of a Detach its handle (2.7.7)
+-- the numbers that a frame of a session says: of a Transfer that of its delivery (2.7.5), of a Detach its handle
+-- (2.7.7)
 abbrev pub IsReadBody : SessionFrameBody → Type 0
 IsReadBody (body.Begin begin) = IsReadBegin begin
 IsReadBody (body.Attach attach) = Unit {0}

@@ -1,4 +1,4 @@
-use Rattle.std.proofs.Common.{arith, length, ◌<◌, ◌≤◌, refl}
+use Rattle.std.proofs.Common.{arith}
 use Rattle.amqp_endpoint_fitting.proofs.FramesRead.{read-behind, read-more}
 use Rattle.amqp_endpoint_fitting.proofs.reading.frames_are_read.Goals as goal
 
