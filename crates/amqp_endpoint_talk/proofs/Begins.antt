@@ -70,7 +70,8 @@ module _ {R A T D : Type 0} (gives : Relations R A T D) (limit : ℕ) (old new :
       record {
         keeps =
             begins (Holds (FitsIn limit)) old.sessions new.sessions number b.channel b.session
-            (none-waits limit ((b.session).value).session (ap (λ (s : State R). (s.outgoing).queues) stands.0)) b.stepped;
+            (none-waits limit ((b.session).value).session (ap (λ (s : State R). (s.outgoing).queues) stands.0))
+            b.stepped;
         frames = b.frame ∷ [];
         queued = b.queued;
         suit = λ all reads.
@@ -95,13 +96,14 @@ module _ {R A T D : Type 0} (gives : Relations R A T D) (limit : ℕ) (old new :
             on (Holds (FitsIn limit)) old.sessions a.mid new.sessions
             (accepts (Holds (FitsIn limit)) old.sessions a.mid number a.incoming a.wanted a.outgoing a.session fits
             a.stepped)
-            (changes_live (Holds (FitsIn limit)) a.mid new.sessions number a.session after a.taken_over (λ holds. holds));
+            (changes_live (Holds (FitsIn limit)) a.mid new.sessions number a.session after a.taken_over
+            (λ holds. holds));
         frames = a.frame ∷ [];
         queued = a.queued;
         suit = λ all reads.
             one (FitsAbove limit) a.frame
-            (begin-above limit a.outgoing (Some channel.0) old.first_transfer_number old.incoming_window a.frame stands.1
-            (All-head IsRead a.frame [] reads));
+            (begin-above limit a.outgoing (Some channel.0) old.first_transfer_number old.incoming_window a.frame
+            stands.1 (All-head IsRead a.frame [] reads));
       }
 
   pub begun-handed : (result : Result ℕ BeginError)

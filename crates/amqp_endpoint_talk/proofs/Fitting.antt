@@ -1,4 +1,5 @@
--- What sessions make of what they hear, and of their own Begins and Flows, where what waits fits; and where none goes on.
+-- What sessions make of what they hear, and of their own Begins and Flows, where what waits fits; and where none goes
+-- on.
 use Rattle.std.proofs.Common.{◌≡◌, ◌≤◌, ℕ, List, [], refl, sym, subst}
 use Rattle.std.specs.Prelude.{All}
 use Rattle.std.proofs.lemmas.List.Elements.{All-head}
@@ -87,8 +88,8 @@ module _ {R A T D : Type 0} (gives : Relations R A T D) (limit : ℕ) where
       → HearsSo gives (FitsIn limit) (FitsAbove limit) said
   hears-so plain said before after out out_new told h fits = (
     let kept =
-        heard-waits gives (((before.session).fields).channel).0 limit (replies gives plain) before after out out_new said
-        told h in
+        heard-waits gives (((before.session).fields).channel).0 limit (replies gives plain) before after out out_new
+        said told h in
         on-channel limit before.session after.session kept.0 (record { each = kept.1 fits.each }),
     λ frames queued reads.
         all-above limit frames

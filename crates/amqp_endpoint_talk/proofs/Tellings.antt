@@ -35,7 +35,9 @@ module _ {R A T D : Type 0} (gives : Relations R A T D) (P : State R → Type 0)
     told-if true before t =
         let so = tells (before.value).session ((t.after).value).session t.frame t.tells in
         record {
-          keeps = changes_live (Holds P) old.sessions new.sessions number before t.after t.stepped (λ holds. (so holds).0);
+          keeps =
+              changes_live (Holds P) old.sessions new.sessions number before t.after t.stepped
+              (λ holds. (so holds).0);
           frames = t.frame ∷ [];
           queued = t.queued;
           suit = λ all reads.

@@ -38,8 +38,8 @@ module _ {R : Type 0} where
   abbrev pub NoneLive : Conversation R → Type 0
   NoneLive talk = (number : ℕ) → live_at talk.sessions number ≡ None
 
-  -- from one conversation to the next what waits goes on to fit, the connection stands still, and frames were handed out
-  -- that fit
+  -- from one conversation to the next what waits goes on to fit, the connection stands still, and frames were handed
+  -- out that fit
   pub record Goes (limit : ℕ) (old new : Conversation R) (out out_new : List SessionFrame) : Type 0 where
     pub waits : Within limit old → Within limit new
     pub still : StandsStill (old.sessions).connection (new.sessions).connection

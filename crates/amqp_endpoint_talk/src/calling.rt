@@ -16,8 +16,8 @@ use amqp_session_types::{BeginError, IncomingChannel, SessionError, definitions}
 use std::alloc::Global;
 use std::collections::VecDeque;
 
-/// Begins a session, as `Conversation::begin` does, and answers its number. Its Begin is handed out, and fits each limit
-/// that a peer may set (part 2, 2.4.1, 2.5.1, 2.7.2). Nothing waits in it.
+/// Begins a session, as `Conversation::begin` does, and answers its number. Its Begin is handed out, and fits each
+/// limit that a peer may set (part 2, 2.4.1, 2.5.1, 2.7.2). Nothing waits in it.
 ///
 /// It is refused with `ConnectionNotOpened`, with `ConnectionStopped`, with `LocalChannelMaxReached`, and with `Memory`
 /// as that is. Nothing changes then.
@@ -38,8 +38,8 @@ pub fn begin<R: LinkRelay>(
 }
 
 /// Accepts the session that the peer asks for on this channel of its, as `Conversation::accept` does, and answers its
-/// number. Its Begin is handed out, and fits each limit that a peer may set (part 2, 2.4.1, 2.5.1, 2.7.2). Nothing waits
-/// in it.
+/// number. Its Begin is handed out, and fits each limit that a peer may set (part 2, 2.4.1, 2.5.1, 2.7.2). Nothing
+/// waits in it.
 ///
 /// It is refused, as `begin` is, where the connection isn't open, then with `NotAsked` where the peer asks for no
 /// session on the channel, and then as `begin` is. Nothing changes then.
@@ -87,9 +87,9 @@ pub fn end<R: LinkRelay>(
     ended
 }
 
-/// Ends the session with this number by its fault, as `Conversation::fail` does: hands out its End, whose error says the
-/// fault's condition, and the session itself, whose links are the caller's (part 2, 2.5.2, 2.8.15, 2.8.17). The End fits
-/// each limit that a peer may set (part 2, 2.4.1).
+/// Ends the session with this number by its fault, as `Conversation::fail` does: hands out its End, whose error says
+/// the fault's condition, and the session itself, whose links are the caller's (part 2, 2.5.2, 2.8.15, 2.8.17). The End
+/// fits each limit that a peer may set (part 2, 2.4.1).
 ///
 /// It is refused with `IllegalState` where no session with this number has begun, or it is ending or over, and with
 /// `Memory`. Nothing changes then.

@@ -18,8 +18,9 @@ use amqp_session_types::{ConnectionError, IncomingChannel};
 use std::alloc::Global;
 use std::collections::VecDeque;
 
-/// Takes the peer's Begin, as `Conversation::on_incoming_begin` does (part 2, 2.5.1, 2.7.2): the peer asks for a session,
-/// or the one whose channel it names takes it, and what waits there and lies in the peer's window is handed out.
+/// Takes the peer's Begin, as `Conversation::on_incoming_begin` does (part 2, 2.5.1, 2.7.2): the peer asks for a
+/// session, or the one whose channel it names takes it, and what waits there and lies in the peer's window is handed
+/// out.
 ///
 /// It is refused by the connection with `NotAllowed` where it asks for a session on a channel that reaches one, with
 /// `NotFound` where no session has the channel that it names, and with `Memory`; and by the session with `IllegalState`

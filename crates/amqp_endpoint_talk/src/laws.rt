@@ -40,8 +40,9 @@ pub fn calls_go_on<R: LinkRelay>()
         Rests old mid out out_mid → Rests mid new out_mid out_new → Rests old new out out_new }
 {}
 
-/// What an owner does in one session that has begun, by whatever calls of that, hands out frames that fit where all that
-/// waits does, and what the calls bring (part 2, 2.4.1, 2.5.6). The numbers of the frames are such as are read of them.
+/// What an owner does in one session that has begun, by whatever calls of that, hands out frames that fit where all
+/// that waits does, and what the calls bring (part 2, 2.4.1, 2.5.6). The numbers of the frames are such as are read of
+/// them.
 pub fn a_session_changed_goes_on<R: LinkRelay>()
     ensures goes { (limit number : ℕ) (old new : Conversation R) (before after : Box (AskingSession R))
         (steps : List (AskingStep R R.Attached R.Transferred R.Detached)) (frames out : List SessionFrame) →
@@ -98,8 +99,9 @@ pub fn what_waits_fits<R: LinkRelay>()
     ensures none { (limit : ℕ) (talk : Conversation R) → NoneLive talk → Within limit talk }
 {}
 
-/// A session's own side is over, or its connection: no session goes on with its number then, all others stand where they
-/// stood, and the connection stands still. Once it was so of each number, no session goes on (part 2, 2.4.3, 2.5.2).
+/// A session's own side is over, or its connection: no session goes on with its number then, all others stand where
+/// they stood, and the connection stands still. Once it was so of each number, no session goes on (part 2, 2.4.3,
+/// 2.5.2).
 pub fn sessions_end_with_their_connection<R: LinkRelay>()
     ensures left { (old new : Sessions R) (number : ℕ) (left : Option (OutgoingChannel × Box (AskingSession R))) →
         EndSent old number left new → Clears old number new }
