@@ -4,3 +4,4 @@ pub mod Handing
 pub mod Asked
 pub mod Due
 pub mod FramesRead
+pub mod Begun

@@ -1,5 +1,6 @@
 //! Laws of what waits in a session, and of what leaves it. A function here does nothing: its contract is the law.
 ghost use Rattle.std.specs.Prelude.{◌≡◌, ◌≤◌, ◌++◌, ℕ, List, All, Some, Result, Ok};
+ghost use Rattle.amqp_session_types.specs.declared.channels.IncomingChannel.{IncomingChannel};
 ghost use Rattle.amqp_session_types.specs.declared.channels.OutgoingChannel.{OutgoingChannel};
 ghost use Rattle.amqp_session_types.specs.declared.refusals.SessionError.{SessionError};
 ghost use Rattle.amqp_session_performatives.specs.declared.session_frame.SessionFrame.{SessionFrame};
@@ -10,7 +11,10 @@ ghost use Rattle.amqp_session_core.specs.declared.incoming.TransferTaken.{Transf
 ghost use Rattle.amqp_session_core.specs.History.{History, frames_in};
 ghost use Rattle.amqp_session_core.specs.State.{State, fresh};
 ghost use Rattle.amqp_session_core.specs.Steps.{Step, Steps};
+ghost use Rattle.amqp_endpoint_asked.specs.declared.session.AskedSession.{AskedSession};
+ghost use Rattle.amqp_endpoint_links.specs.Beginning.{Accepted, Begun};
 ghost use Rattle.amqp_endpoint_links.specs.Hearing.{Hears};
+ghost use Rattle.amqp_endpoint_links.specs.Numbering.{numbered};
 ghost use Rattle.amqp_endpoint_links.specs.History.{AskingHistory, AskingStep, AskingSteps};
 ghost use Rattle.amqp_endpoint_links.specs.declared.asking.AskingSession.{AskingSession};
 ghost use Rattle.amqp_endpoint_links.specs.declared.hearing.LinkPerformative.{LinkPerformative};
@@ -120,4 +124,21 @@ pub fn a_wider_limit_fits_too()
 pub fn a_fresh_session_holds_nothing<R: LinkRelay>()
     ensures { (channel : OutgoingChannel) (first window limit : ℕ) →
         QueuesFit channel.0 limit (fresh {R = R} channel first window).outgoing.queues }
+{}
+
+/// Nor in one that begins, or that accepts one of the peer's, on a channel (part 2, 2.5.1).
+pub fn a_new_session_holds_nothing<R: LinkRelay>()
+    ensures begun { (channel : OutgoingChannel) (first window limit : ℕ) (frame : SessionFrame)
+        (new : AskingSession R) → Begun R.gives channel first window frame new →
+        (new.session.fields.channel ≡ channel) × QueuesFit channel.0 limit new.session.outgoing.queues }
+    ensures accepted { (wanted : AskedSession) (channel : OutgoingChannel) (incoming : IncomingChannel)
+        (first window limit : ℕ) (frame : SessionFrame) (new : AskingSession R) →
+        Accepted R.gives wanted channel incoming first window frame new →
+        (new.session.fields.channel ≡ channel) × QueuesFit channel.0 limit new.session.outgoing.queues }
+{}
+
+/// A link with its number answers Flows as the link does: where that says no properties, neither does this (part 2,
+/// 2.7.4).
+pub fn a_number_adds_no_properties<R: LinkRelay>()
+    ensures { RepliesFit R.gives → RepliesFit (numbered R.gives) }
 {}

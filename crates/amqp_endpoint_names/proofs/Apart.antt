@@ -6,7 +6,7 @@ use Rattle.amqp_endpoint_names.specs.declared.place.LinkPlace.{LinkPlace}
 use Rattle.amqp_endpoint_names.specs.declared.place.LinkPlace.TheVariants.{Held, AtRest}
 use Rattle.amqp_endpoint_names.specs.declared.place.Named.{Named}
 use Rattle.amqp_endpoint_names.specs.State.{State, AreApart, IsNewName, fresh, name_in, put_in}
-use Rattle.amqp_endpoint_names.specs.Steps.{Step, Steps, History, MakesRoom, Enters, Rests, Holds, ChangesAtRest, Closes}
+use Rattle.amqp_endpoint_names.specs.Steps.{Step, Steps, History, MakesRoom, LowersRoom, Enters, Rests, Holds, ChangesAtRest, Closes}
 use Rattle.amqp_endpoint_names.proofs.Slots.{name-before, name-entered, name-gone, name-left, name-put}
 
 pub none_apart : (L : Type 0) → AreApart (fresh {L = L}).links
@@ -57,6 +57,8 @@ module _ {L : Type 0} where
       → AreApart new.links
   step_apart old (MakesRoom name) new s apart =
       same_links old new old.links (ap (λ (x : State L). x.links) s.1) apart
+  step_apart old (LowersRoom room) new s apart =
+      same_links old new old.links (ap (λ (x : State L). x.links) s) apart
   step_apart old (Enters number name session handle) new s apart =
       same_links old new _ (ap (λ (x : State L). x.links) s.3)
       (entered_apart old.links apart (record { name = name; place = Held session handle }) s.0)

@@ -4,7 +4,7 @@ use Rattle.amqp_endpoint_names.specs.declared.place.LinkPlace.{LinkPlace}
 use Rattle.amqp_endpoint_names.specs.declared.place.LinkPlace.TheVariants.{Held, AtRest}
 use Rattle.amqp_endpoint_names.specs.declared.place.Named.{Named}
 use Rattle.amqp_endpoint_names.specs.State.{State, moved, put_in}
-use Rattle.amqp_endpoint_names.specs.Steps.{Step, Steps, History, MakesRoom, Enters, Rests, Holds, ChangesAtRest, Closes}
+use Rattle.amqp_endpoint_names.specs.Steps.{Step, Steps, History, MakesRoom, LowersRoom, Enters, Rests, Holds, ChangesAtRest, Closes}
 use Rattle.amqp_endpoint_names.specs.Own.{times_given}
 use Rattle.amqp_endpoint_names.proofs.Owning.{same_number}
 
@@ -21,6 +21,7 @@ module _ {L : Type 0} where
   -- no step makes the links fewer
   kept : (old : State L) (step : Step L) (new : State L) → Steps old step new → count old ≤ count new
   kept old (MakesRoom name) new s = omega (arith, ap count s.1)
+  kept old (LowersRoom room) new s = omega (arith, ap count s)
   kept old (Enters number name session handle) new s =
       omega (arith, ap count s.3, one_more old (Some (record { name = name; place = Held session handle })))
   kept old (Rests number link) new s = omega (arith, ap count s.1, put_count old number (AtRest link))
@@ -35,6 +36,8 @@ module _ {L : Type 0} where
     never start [] end h below = refl
     never start (MakesRoom name ∷ steps) end (mid, s, h) below =
         never mid steps end h (omega (arith, kept start (MakesRoom name) mid s))
+    never start (LowersRoom room ∷ steps) end (mid, s, h) below =
+        never mid steps end h (omega (arith, kept start (LowersRoom room) mid s))
     never start (Enters number name session handle ∷ steps) end (mid, s, h) below =
         by (n == number) refl
         (never mid steps end h (omega (arith, kept start (Enters number name session handle) mid s)))
@@ -57,6 +60,7 @@ module _ {L : Type 0} where
     pub once : (start end : State L) (steps : List (Step L)) → History start steps end → times_given n steps ≤ 1
     once start end [] h = omega arith
     once start end (MakesRoom name ∷ steps) (mid, s, h) = once mid end steps h
+    once start end (LowersRoom room ∷ steps) (mid, s, h) = once mid end steps h
     once start end (Enters number name session handle ∷ steps) (mid, s, h) =
         by (n == number) refl (once mid end steps h)
       where

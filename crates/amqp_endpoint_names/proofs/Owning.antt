@@ -6,7 +6,7 @@ use Rattle.amqp_endpoint_names.specs.declared.place.LinkPlace.{LinkPlace}
 use Rattle.amqp_endpoint_names.specs.declared.place.LinkPlace.TheVariants.{Held, AtRest}
 use Rattle.amqp_endpoint_names.specs.declared.place.Named.{Named}
 use Rattle.amqp_endpoint_names.specs.State.{State, held_of, moved, open_of, place_of, put_in, rest_of}
-use Rattle.amqp_endpoint_names.specs.Steps.{Step, Steps, History, MakesRoom, Enters, Rests, Holds, ChangesAtRest, Closes}
+use Rattle.amqp_endpoint_names.specs.Steps.{Step, Steps, History, MakesRoom, LowersRoom, Enters, Rests, Holds, ChangesAtRest, Closes}
 use Rattle.amqp_endpoint_names.specs.Own.{SlotHistory, SlotSteps, is_about, slot_at, steps_of}
 use Rattle.amqp_endpoint_names.proofs.Slots.{get-before, get-other, get-pushed, get-same}
 
@@ -100,6 +100,11 @@ module _ {L : Type 0} (n : ℕ) where
         about = λ e. absurd (true≢false (sym e));
         other = λ _. ap (λ (x : State L). slice_get x.links n) s.1;
       }
+  at old (LowersRoom room) new s =
+      record {
+        about = λ e. absurd (true≢false (sym e));
+        other = λ _. ap (λ (x : State L). slice_get x.links n) s;
+      }
   at old (Enters number name session handle) new s =
       let is = ap (λ (x : State L). x.links) s.3 in
       let slot : Option (Named L) = Some (record { name = name; place = Held session handle }) in
@@ -163,6 +168,7 @@ module _ {L : Type 0} where
   -- nothing happens to a link that is closed
   no_step : (step : Step L) (mid : Option (Option (Named L))) → SlotSteps (Some None) step mid → ⊥
   no_step (MakesRoom name) mid s = s
+  no_step (LowersRoom room) mid s = s
   no_step (Enters number name session handle) mid s = none-some _ (sym s.0)
   no_step (Rests number link) mid (stood, is, _, _) = none-some _ (same_Some _ _ is)
   no_step (Holds number session handle link) mid (stood, is, _, _) = none-some _ (same_Some _ _ is)

@@ -3,7 +3,7 @@ use Rattle.std.specs.Prelude.{◌≡◌, ℕ, ◌+◌, ◌==◌, List, [], ◌�
 use Rattle.amqp_endpoint_names.specs.declared.place.LinkPlace.TheVariants.{Held, AtRest}
 use Rattle.amqp_endpoint_names.specs.declared.place.Named.{Named}
 use Rattle.amqp_endpoint_names.specs.State.{State, held_of}
-use Rattle.amqp_endpoint_names.specs.Steps.{Step, MakesRoom, Enters, Rests, Holds, ChangesAtRest, Closes}
+use Rattle.amqp_endpoint_names.specs.Steps.{Step, MakesRoom, LowersRoom, Enters, Rests, Holds, ChangesAtRest, Closes}
 
 module _ {L : Type 0} where
   -- what stands at a number: nothing before it is given, and nothing in it once the link is closed
@@ -13,6 +13,7 @@ module _ {L : Type 0} where
   -- whether a step is about the link with this number
   abbrev pub is_about : ℕ → Step L → Bool
   is_about n (MakesRoom name) = false
+  is_about n (LowersRoom room) = false
   is_about n (Enters number name session handle) = n == number
   is_about n (Rests number link) = n == number
   is_about n (Holds number session handle link) = n == number
@@ -27,6 +28,7 @@ module _ {L : Type 0} where
   -- what a step does to its link: one that is closed has none
   abbrev pub SlotSteps : Option (Option (Named L)) → Step L → Option (Option (Named L)) → Type 0
   SlotSteps old (MakesRoom name) new = ⊥
+  SlotSteps old (LowersRoom room) new = ⊥
   SlotSteps old (Enters number name session handle) new =
       (old ≡ None) × (new ≡ Some (Some (record { name = name; place = Held session handle })))
   SlotSteps old (Rests number link) new =

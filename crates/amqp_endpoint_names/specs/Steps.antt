@@ -1,5 +1,5 @@
 -- What the calls on an endpoint's links do. A call that is refused leaves all as before.
-use Rattle.std.specs.Prelude.{◌≡◌, ℕ, ◌<◌, ◌-◌, max, List, [], ◌∷◌, ◌++◌, length, Option, Some, None, IsSome, Result, Ok, Err, ⊤}
+use Rattle.std.specs.Prelude.{◌≡◌, ℕ, ◌<◌, ◌-◌, max, min, List, [], ◌∷◌, ◌++◌, length, Option, Some, None, IsSome, Result, Ok, Err, ⊤}
 use Rattle.amqp_session_types.specs.declared.handles.OutputHandle.{OutputHandle}
 use Rattle.amqp_endpoint_names.specs.declared.place.LinkPlace.{LinkPlace}
 use Rattle.amqp_endpoint_names.specs.declared.place.LinkPlace.TheVariants.{Held, AtRest}
@@ -11,6 +11,8 @@ use Rattle.amqp_endpoint_names.specs.State.{State, IsNewName, held_at, name_at, 
 pub data Step (L : Type 0) : Type 0 where
   -- room is made for a link with a name
   MakesRoom : (name : List ℕ) → Step L
+  -- room that was made is given up, but for so many links
+  LowersRoom : (room : ℕ) → Step L
   -- a new link, which a session holds: it gets the next number
   Enters : (number : ℕ) (name : List ℕ) (session : ℕ) (handle : OutputHandle) → Step L
   -- the session that held a link gives it back: it is detached, or the session is over
@@ -26,6 +28,7 @@ module _ {L : Type 0} where
   -- the states around a call
   abbrev pub Steps : State L → Step L → State L → Type 0
   Steps old (MakesRoom name) new = IsNewName old.links name × (new ≡ record old { room = max old.room 1 })
+  Steps old (LowersRoom room) new = new ≡ record old { room = min old.room room }
   Steps old (Enters number name session handle) new =
       IsNewName old.links name × (0 < old.room) × (number ≡ length old.links)
       × (new ≡ record {

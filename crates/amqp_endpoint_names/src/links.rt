@@ -3,7 +3,7 @@ ghost use Rattle.std.specs.Option.{option_copied_mut};
 ghost use types.Logic.{sem};
 ghost use Rattle.amqp_endpoint_names.specs.State.{AreApart, IsNewName, Names, fresh, held_at, link_at, name_at, place_at, rest_at};
 ghost use Rattle.amqp_endpoint_names.specs.Lends.{lends_at_rest};
-ghost use Rattle.amqp_endpoint_names.specs.Steps.{Closed, Entered, HandedOut, Rested, RoomMade};
+ghost use Rattle.amqp_endpoint_names.specs.Steps.{Closed, Entered, HandedOut, LowersRoom, Rested, RoomMade, Steps};
 
 use crate::moving;
 use crate::place::{LinkPlace, LinkRefusal, Named, NewName};
@@ -143,6 +143,14 @@ impl<L: Drop> Links<L> {
         let new_name = NewName::copied(name)?;
         self.room = room;
         Ok(new_name)
+    }
+
+    /// Gives up room that was made: at most so many links more are sure to find room then. Nothing else changes, and it
+    /// takes no memory.
+    pub fn lower_room(&mut self, room: usize)
+        ensures { Steps self.old (LowersRoom room) self.new }
+    {
+        self.room = self.room.min(room);
     }
 
     /// Enters a new link, which the session with this number holds by this own handle (part 2, 2.6.3). Answers the

@@ -1,1 +1,6 @@
 pub mod Ready
+pub mod Counting
+pub mod Steps
+pub mod Histories
+pub mod Rows
+pub mod Ends

@@ -1,6 +1,10 @@
 //! The links of AMQP 1.0 and their messages without a network (OASIS AMQP 1.0, part 2, 2.6; part 3, 3.2): sections and
-//! messages, places in them, cutting and joining, credit, attaching and detaching, and unsettled deliveries.
+//! messages, places in them, cutting and joining, credit, attaching and detaching, and unsettled deliveries; and laws of
+//! histories of a link.
 #![tactic(auto)]
+
+pub mod laws;
+mod owner;
 
 pub use amqp_link_attach::AttachExchange;
 pub use amqp_link_attach::DynamicTarget;
@@ -127,3 +131,4 @@ pub use amqp_link_unsettled::resume_delivery;
 pub use amqp_session_states::Source;
 pub use amqp_session_states::Target;
 pub use amqp_session_states::TargetArchetype;
+pub use owner::Owner;

@@ -12,7 +12,7 @@ use Rattle.amqp_link_sender_messages.specs.declared.open.Open.{Open}
 use Rattle.amqp_link_sender_messages.specs.declared.resolution.Failure.{Failure}
 use Rattle.amqp_link_sender_messages.specs.declared.resolution.Resolution.{Resolution}
 use Rattle.amqp_link_sender_messages.specs.declared.resolution.Resolution.TheVariants.{Failed}
-use Rattle.amqp_link_laws.specs.Times.{once_if, times, times_in}
+use Rattle.amqp_link.specs.Times.{once_if, times, times_in}
 
 module _ (tag : List ℕ) where
   pub times-append : (xs ys : List (List ℕ)) → times tag (xs ++ ys) ≡ times tag xs + times tag ys

@@ -1,10 +1,10 @@
 -- What a history makes of how often a tag stands among the open messages and those that ended.
 use Rattle.std.proofs.Common.{◌≡◌, ℕ, ◌+◌, List, [], ◌∷◌, refl, ap, arith}
 use Rattle.amqp_link_sender.specs.Sending.{Sending}
-use Rattle.amqp_link_laws.specs.History.{SenderHistory, SenderStep, sent_by, sent_in, taken_by, taken_in}
-use Rattle.amqp_link_laws.specs.Times.{times, times_in}
-use Rattle.amqp_link_laws.proofs.Counting.{times-append, total}
-use Rattle.amqp_link_laws.proofs.Steps.{counted}
+use Rattle.amqp_link.specs.History.{SenderHistory, SenderStep, sent_by, sent_in, taken_by, taken_in}
+use Rattle.amqp_link.specs.Times.{times, times_in}
+use Rattle.amqp_link.proofs.Counting.{times-append, total}
+use Rattle.amqp_link.proofs.Steps.{counted}
 
 pub balanced : (start end : Sending) (steps : List SenderStep) (tag : List ℕ) → SenderHistory start steps end
     → times_in tag end.messages.unsettled + times_in tag end.messages.resolved + times tag (taken_in steps)

@@ -8,7 +8,7 @@ use amqp_session_core::LinkOwner;
 pub struct Owner;
 
 impl LinkOwner<LinkEnd> for Owner {
-    ghost use Rattle.amqp_link_laws.specs.Owner.{Owns};
+    ghost use Rattle.amqp_link.specs.Owner.{Owns};
 
     ghost keeps = { Owns };
 }

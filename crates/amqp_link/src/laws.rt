@@ -1,12 +1,12 @@
 //! Laws of histories of a link.
 ghost use Rattle.std.specs.Prelude.{◌≡◌, ℕ, ◌+◌, List};
 ghost use Rattle.amqp_link_sender.specs.Sending.{Sending};
-ghost use Rattle.amqp_link_laws.specs.History.{SenderHistory, SenderStep, sent_in, taken_in};
+ghost use Rattle.amqp_link.specs.History.{SenderHistory, SenderStep, sent_in, taken_in};
 ghost use Rattle.amqp_link_ends.specs.declared.end.End.{End};
 ghost use Rattle.amqp_link_ends.specs.declared.end.End.TheVariants as variant;
 ghost use Rattle.amqp_session_core.specs.Relay.{OwnerKeeps};
-ghost use Rattle.amqp_link_laws.specs.Owner.{EndHistory, EndStep, Owns, changes_of, owned};
-ghost use Rattle.amqp_link_laws.specs.Times.{times_in, times};
+ghost use Rattle.amqp_link.specs.Owner.{EndHistory, EndStep, Owns, changes_of, owned};
+ghost use Rattle.amqp_link.specs.Times.{times_in, times};
 
 /// A message that was sent unsettled is resolved at most once (part 2, 2.6.12): as often as messages with a tag were
 /// sent, so often one is open, or what became of one waits for the link's owner, or was taken by it, and never two of

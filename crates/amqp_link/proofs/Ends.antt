@@ -24,8 +24,8 @@ use Rattle.amqp_link_sender.specs.Dispositions.{disposed}
 use Rattle.amqp_link_sender.specs.Sending.{Sending, flowed}
 use Rattle.amqp_link_sender.specs.declared.ending.DetachRefusal.TheVariants as refusal
 use Rattle.amqp_link_base.specs.declared.detached.Detached.{Detached}
-use Rattle.amqp_link_laws.specs.History.{SenderHistory, SenderStep, SenderSteps, TakesItsAttach, TakesFlow, TakesDisposition, TakesItsDetach}
-use Rattle.amqp_link_laws.specs.Owner.{EndHistory, EndStep, Owns, change_of, changes_in, changes_of, end_gives, is_owners, owned}
+use Rattle.amqp_link.specs.History.{SenderHistory, SenderStep, SenderSteps, TakesItsAttach, TakesFlow, TakesDisposition, TakesItsDetach}
+use Rattle.amqp_link.specs.Owner.{EndHistory, EndStep, Owns, change_of, changes_in, changes_of, end_gives, is_owners, owned}
 
 -- a sending link with a history behind it, in which its owner does these things
 abbrev Own : Sending → End → List SenderStep → Type 0

@@ -24,9 +24,9 @@ use Rattle.amqp_link_sender.specs.Sends.{sent}
 use Rattle.amqp_link_sender.specs.declared.attaching.AttachAnswer.{AttachAnswer}
 use Rattle.amqp_link_sender.specs.declared.ending.DetachRefusal.{DetachRefusal}
 use Rattle.amqp_link_base.specs.declared.detached.Detached.{Detached}
-use Rattle.amqp_link_laws.specs.History.{SenderStep, SenderSteps, TakesItsAttach, TakesFlow, TakesDisposition, TakesItsDetach, MakesRoom, Sends, SendsOn, SendsAttach, SendsAttachAnew, SendsDetach, Breaks, Takes, Sets, sent_by, taken_by, tag_of, key_of}
-use Rattle.amqp_link_laws.specs.Times.{once_if, times, times_in}
-use Rattle.amqp_link_laws.proofs.Counting.{total, in-append, total-disposed, total-exchanged, total-failed}
+use Rattle.amqp_link.specs.History.{SenderStep, SenderSteps, TakesItsAttach, TakesFlow, TakesDisposition, TakesItsDetach, MakesRoom, Sends, SendsOn, SendsAttach, SendsAttachAnew, SendsDetach, Breaks, Takes, Sets, sent_by, taken_by, tag_of, key_of}
+use Rattle.amqp_link.specs.Times.{once_if, times, times_in}
+use Rattle.amqp_link.proofs.Counting.{total, in-append, total-disposed, total-exchanged, total-failed}
 
 module _ (tag : List ℕ) where
   abbrev of : Sending → ℕ

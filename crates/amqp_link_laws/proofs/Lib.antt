@@ -1,5 +1,0 @@
-pub mod Counting
-pub mod Steps
-pub mod Histories
-pub mod Rows
-pub mod Ends
