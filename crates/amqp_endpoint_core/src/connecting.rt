@@ -27,7 +27,9 @@ pub(crate) fn unopened(alloc: Global, settings: &Settings) -> Result<Connection,
         ⊎ ((e ≡ FrameTooLarge) × (fits 512 (own_open settings.now) ≡ false))) }
 {
     let open = Frame::new(0, FrameBody::Open(open_of(alloc, settings)?));
-    encoded(alloc, MIN_MAX_FRAME_SIZE, &open)?;
+    let piece = encoded(alloc, MIN_MAX_FRAME_SIZE, &open);
+    drop(open);
+    piece?;
     let open = open_of(alloc, settings)?;
     Ok(Connection::new(alloc, ConnectionState::Start, open))
 }
