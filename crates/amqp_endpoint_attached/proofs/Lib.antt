@@ -1,0 +1,11 @@
+pub mod There
+pub mod Receivers
+pub mod Credited
+pub mod Detached
+pub mod Frames
+pub mod Taken
+pub mod Taking
+pub mod OwnAttach
+pub mod Refusing
+pub mod Handing
+pub mod Fitting

@@ -1,0 +1,116 @@
+-- A link attaches that answers one that the peer asks for (part 2, 2.6.3).
+use Rattle.std.specs.Prelude.{◌≡◌, ℕ, ◌<◌, List, [], ◌∷◌, ◌++◌, Option, Some, None, option_to_list, Ok, IsSome}
+use Rattle.std.specs.FinMap as map
+use Rattle.amqp_session_types.specs.declared.handles.InputHandle.{InputHandle}
+use Rattle.amqp_session_types.specs.declared.handles.OutputHandle.{OutputHandle}
+use Rattle.amqp_session_performatives.specs.declared.attach.Attach.{Attach}
+use Rattle.amqp_session_performatives.specs.declared.link_flow.LinkFlow.{LinkFlow}
+use Rattle.amqp_session_performatives.specs.declared.session_frame.SessionFrame.{SessionFrame}
+use Rattle.amqp_session_core.specs.declared.batch.BehindFrame.TheVariants as behind
+use Rattle.amqp_session_core.specs.Relay.{Relations}
+use Rattle.amqp_session_core.specs.State.{State}
+use Rattle.amqp_session_core.specs.Steps.{Steps, Allocates}
+use Rattle.amqp_session_core.specs.Told.{BehindSent}
+use Rattle.amqp_link_types.specs.declared.link_error.LinkError.{LinkError}
+use Rattle.amqp_link_ends.specs.Ends.{flow_answer, flowed, with_handle}
+use Rattle.amqp_link_ends.specs.Gives.{attaches}
+use Rattle.amqp_link_ends.specs.declared.end.End.{End}
+use Rattle.amqp_link_ends.specs.declared.relay.AttachTold.{AttachTold}
+use Rattle.amqp_link_sender.specs.declared.attaching.Attaching.{Attaching}
+use Rattle.amqp_endpoint_asked.specs.declared.links.AskedLink.{AskedLink}
+use Rattle.amqp_endpoint_links.specs.declared.numbered.Numbered.{Numbered}
+use Rattle.amqp_endpoint_attached.specs.Linked.{Linked, gives}
+use Rattle.amqp_endpoint_attached.specs.Links.{Announces, FitsNoFrame, attach_frame, attach_sent, offered, with_number}
+use Rattle.amqp_endpoint_attached.specs.Refusals.{IsOffered, outcome, test_failed}
+use Rattle.amqp_endpoint_attached.specs.declared.answering.Answered.{Answered}
+use Rattle.amqp_endpoint_attached.specs.declared.refusal.AttachRefusal.{AttachRefusal}
+use Rattle.amqp_endpoint_attached.specs.declared.refusal.AttachRefusal.TheVariants.{HandleMaxReached, HandleInUse, Link, FrameTooLarge, Memory}
+
+-- which of the link's tests the Attach of an asked link fails first, if it fails one
+abbrev pub asked_failed : End → Option AskedLink → Option LinkError
+asked_failed link None = None
+asked_failed link (Some asked) = test_failed link asked.attach
+
+-- why it doesn't: no handle is offered that the peer allows, or a test fails, or its own Attach fits no frame, or a link
+-- of the session has the peer's handle, or there is no memory
+abbrev pub RefusesAnswer : ℕ → Linked → End → InputHandle → AttachRefusal → Type 0
+RefusesAnswer limit s link input HandleMaxReached = s.session.handle_max < s.session.offered
+RefusesAnswer limit s link input (Link error) =
+    IsOffered s.session × (asked_failed link (map.get s.asked input.0) ≡ Some error)
+RefusesAnswer limit s link input FrameTooLarge =
+    IsOffered s.session × (asked_failed link (map.get s.asked input.0) ≡ None)
+    × FitsNoFrame limit link (offered s.session)
+RefusesAnswer limit s link input HandleInUse =
+    IsOffered s.session × (asked_failed link (map.get s.asked input.0) ≡ None)
+    × IsSome (map.get s.session.routes input.0)
+RefusesAnswer limit s link input Memory = IsOffered s.session
+
+-- why a link doesn't answer an asked one, but for what the peer's handle leads to
+abbrev pub RefusesExchange : {R : Type 0} → ℕ → State R → End → AskedLink → AttachRefusal → Type 0
+RefusesExchange limit s link asked HandleMaxReached = s.handle_max < s.offered
+RefusesExchange limit s link asked (Link error) = IsOffered s × (test_failed link asked.attach ≡ Some error)
+RefusesExchange limit s link asked FrameTooLarge =
+    IsOffered s × (test_failed link asked.attach ≡ None) × FitsNoFrame limit link (offered s)
+RefusesExchange limit s link asked HandleInUse = ⊥
+RefusesExchange limit s link asked Memory = IsOffered s
+
+-- a link takes an Attach of the peer, and this is left to be done
+pub record Takes (old : End) (attach : Attach) (attaching : Attaching) (new : End) : Type 0 where
+  pub told : AttachTold
+  pub takes : attaches old attach (Ok told) new
+  pub accepts : outcome told ≡ Ok attaching
+
+-- what was kept of a Flow is taken, if one came
+abbrev pub flowed_by : End → Option LinkFlow → End
+flowed_by link None = link
+flowed_by link (Some flow) = flowed link flow
+
+-- the Flow that it is answered with, if it wants an answer
+abbrev pub reply_to : End → Option LinkFlow → Option LinkFlow
+reply_to link None = None
+reply_to link (Some flow) = flow_answer link flow
+
+-- a link answers the asked one: it takes the peer's Attach, its own is written of it as it was before, and sent under
+-- this handle, and then what was kept of a Flow is taken
+pub record Exchanges (limit : ℕ) (old : End) (asked : AskedLink) (handle : OutputHandle) (attaching : Attaching)
+    (attach : Attach) (reply : Option LinkFlow) (new : End) : Type 0 where
+  pub taken : End
+  pub attached : End
+  pub takes : Takes old asked.attach attaching taken
+  pub announces : Announces limit old handle attach
+  pub sent : attach_sent (with_handle taken handle) attach.incomplete_unsettled ≡ Some attached
+  pub flows : new ≡ flowed_by attached asked.flow
+  pub replies : reply ≡ reply_to attached asked.flow
+
+module _ {R A T D : Type 0} (given : Relations R A T D) where
+  -- a link sends a Flow, which leaves at once where nothing of the link waits
+  pub record SendsFlow (handle : OutputHandle) (flow : LinkFlow) (old : State R) (out : List SessionFrame) (new : State R)
+      (out_new : List SessionFrame) : Type 0 where
+    pub frame : Option SessionFrame
+    pub sent : BehindSent given old handle (behind.Flow (record flow { handle = record { 0 = handle.0 } })) frame new
+    pub handed : out_new ≡ out ++ option_to_list frame
+
+  -- a link replies with a Flow, or with none
+  abbrev pub Replies : OutputHandle → Option LinkFlow → State R → List SessionFrame → State R → List SessionFrame → Type 0
+  Replies handle None old out new out_new = (new ≡ old) × (out_new ≡ out)
+  Replies handle (Some flow) old out new out_new = SendsFlow handle flow old out new out_new
+
+-- what is told of the answer: the handle that the link got, and what is left to be done
+abbrev pub left_to_do : Answered → Attaching
+left_to_do answered = record { exchange = answered.exchange; aborts = answered.aborts }
+
+-- the link answers the asked one with this handle, and gets the handle that is offered; its Attach is handed out, and
+-- behind it the Flow with which it replies
+pub record Answers (old : Linked) (out : List SessionFrame) (limit number : ℕ) (link : End) (input : InputHandle)
+    (answered : Answered) (new : Linked) (out_new : List SessionFrame) : Type 0 where
+  pub asked : AskedLink
+  pub is_asked : map.get old.asked input.0 ≡ Some asked
+  pub attach : Attach
+  pub reply : Option LinkFlow
+  pub becomes : End
+  pub exchanges : Exchanges limit link asked answered.handle (left_to_do answered) attach reply becomes
+  pub mid : State (Numbered End)
+  pub allocates : Steps gives old.session (Allocates answered.handle.0 (with_number number becomes) (Some input.0)) mid
+  pub replies :
+      Replies gives answered.handle reply mid (out ++ attach_frame old.session attach ∷ []) new.session out_new
+  pub rest : new ≡ record old { session = new.session; asked = map.remove old.asked input.0 }

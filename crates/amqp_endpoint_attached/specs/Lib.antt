@@ -1,0 +1,10 @@
+pub mod Linked
+pub mod Sent
+pub mod Receiving
+pub mod Detaching
+pub mod TakenOut
+pub mod Ends
+pub mod Links
+pub mod Refusals
+pub mod Attaching
+pub mod Answering

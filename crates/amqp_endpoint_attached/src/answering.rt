@@ -1,0 +1,166 @@
+//! A link attaches that answers one that the peer asks for (part 2, 2.6.3).
+ghost use Rattle.std.specs.Prelude.{◌≡◌, ◌≤◌, ◌+◌, ◌∷◌, ◌++◌, ◌⊎◌, [], true, Some, IsSome, Ok, Err, IsOk, IfOk, IfErr, OnOk, OnErr, option_to_list};
+ghost use Rattle.std.specs.FinMap as map;
+ghost use Rattle.std.specs.VecDeque.{deque_len, deque_capacity};
+ghost use Rattle.amqp_session_outgoing.specs.Queues.{room_behind};
+ghost use Rattle.amqp_session_core.specs.State.{link_at};
+ghost use Rattle.amqp_session_core.specs.Steps.{Steps, Allocates};
+ghost use Rattle.amqp_link_ends.specs.Ends.{state_of};
+ghost use Rattle.amqp_endpoint_attached.specs.Answering.{Answers, RefusesAnswer, Replies};
+ghost use Rattle.amqp_endpoint_attached.specs.Links.{attach_frame, is_at_rest};
+ghost use Rattle.amqp_endpoint_attached.specs.Refusals.{RefusesHandle};
+
+use crate::announcing::attach_frame;
+use crate::exchanging::{Exchanged, exchange};
+use crate::refusal::{AttachRefusal, refusal_of};
+use amqp_endpoint_links::{AskingSession, Numbered};
+use amqp_link_attach::AttachExchange;
+use amqp_link_ends::LinkEnd;
+use amqp_link_sender_messages::Abort;
+use amqp_session_core::{BehindFrame, LinkRelay, Session};
+use amqp_session_outgoing::Place;
+use amqp_session_performatives::{LinkFlow, SessionFrame};
+use amqp_session_types::{InputHandle, OutputHandle};
+use serde_amqp_types::Array;
+use std::alloc::Global;
+use std::collections::VecDeque;
+
+/// What comes of a link that answered an asked one.
+#[derive(Debug, Drop)]
+pub struct Answered {
+    /// The own handle that it got.
+    pub handle: OutputHandle,
+    /// What the two Attach leave to be done for unsettled deliveries (part 2, 2.6.13).
+    pub exchange: AttachExchange,
+    /// The deliveries that a sending link gives up, in the order in which their transfers go; none of a receiving link.
+    pub aborts: Array<Abort>,
+}
+
+/// Attaches a link, which is at rest, under this number: it answers the one that the peer asks for with this handle
+/// (part 2, 2.6.3), and takes the peer's Attach. It gets the handle that the session offers, frames with the peer's
+/// handle reach it from now on, and the peer asks for that link no longer. Its own Attach, written of the link as it
+/// was before, is put behind what is handed out; it lists as many of the link's unsettled deliveries as a frame of
+/// `limit` bytes holds. Then the link takes what was kept of a Flow (part 2, 2.7.4), and replies to it.
+///
+/// It is refused, tested in this order, with `HandleMaxReached` exactly where the handle that is offered is above the
+/// peer's handle-max (part 2, 2.7.2); with `Link` exactly where a test of the link refuses the peer's Attach (part 2,
+/// 2.6.3), with the error of the first that does; with `FrameTooLarge` exactly where its own Attach fits no frame of
+/// `limit` bytes, even without its unsettled deliveries; with `HandleInUse` exactly where a link of the session has the
+/// peer's handle; and with `Memory`. The session, its asked links and what is handed out stay then, and the link is
+/// dropped.
+#[tactic(auto, using(crate::proofs::Handing::rules, crate::proofs::Refusing::answer_refused))]
+pub fn answer(
+    session: &mut AskingSession<Numbered<LinkEnd>>,
+    alloc: Global,
+    limit: u32,
+    number: u64,
+    link: LinkEnd,
+    input: InputHandle,
+    out: &mut VecDeque<SessionFrame>,
+) -> Result<Answered, AttachRefusal>
+    requires asked { IsSome (map.get session.old.asked input.0) }
+    requires at_rest { is_at_rest (state_of link) ≡ true }
+    ensures ok { IfOk result (λ answered.
+        Answers session.old out.old.items limit number link input answered session.new out.new.items) }
+    ensures err { IfErr result (RefusesAnswer limit session.old link input) }
+    ensures kept { OnErr result ((session.new ≡ session.old) × (out.new.items ≡ out.old.items)) }
+{
+    let mut link = link;
+    let Some(asked) = session.asked.get(input) else {
+        unreachable!()
+    };
+    let made = exchange(&session.session, alloc, limit, &mut link, asked, out);
+    let (handle, made) = allocate(session, Numbered { number, link }, input, made)?;
+    Ok(hand_out(&mut session.session, handle, made, out))
+}
+
+/// A link for which something was made gets the handle that is offered, and the peer's leads to it. It is refused with
+/// what refuses it already, or where it gets no handle. The session stays then.
+#[tactic(auto, using(crate::proofs::Refusing::input_refused))]
+fn allocate<R: LinkRelay, M: Drop>(
+    session: &mut AskingSession<R>,
+    link: R,
+    input: InputHandle,
+    made: Result<M, AttachRefusal>,
+) -> Result<(OutputHandle, M), AttachRefusal>
+    ensures ok { IfOk result (λ r. (made ≡ Ok r.1)
+        × Steps R.gives session.old.session (Allocates (r.0).0 link (Some input.0)) session.new.session
+        × (session.new ≡ record session.old {
+          session = session.new.session;
+          asked = map.remove session.old.asked input.0;
+        })) }
+    ensures err { IfErr result (λ e. (made ≡ Err e)
+        ⊎ (IsOk made × RefusesHandle session.old.session (Some input.0) e)) }
+    ensures kept { OnErr result (session.new ≡ session.old) }
+{
+    let made = made?;
+    match session.answer_link(link, input) {
+        Ok(handle) => Ok((handle, made)),
+        Err(refused) => Err(refusal_of(refused.error)),
+    }
+}
+
+/// What a link says that answered an asked one is handed out. There is room for it.
+fn hand_out<R: LinkRelay>(
+    session: &mut Session<R>,
+    handle: OutputHandle,
+    made: Exchanged,
+    out: &mut VecDeque<SessionFrame>,
+) -> Answered
+    requires there { IsSome (link_at session.old handle.0) }
+    requires place { room_behind handle.0 1 session.old.outgoing.queues ≤ made.place }
+    requires room { deque_len out.old + 2 ≤ deque_capacity out.old }
+    ensures answered { result ≡ record {
+      handle = handle;
+      exchange = made.attaching.exchange;
+      aborts = made.attaching.aborts;
+    } }
+    ensures handed { Replies R.gives handle made.reply session.old
+        (out.old.items ++ attach_frame session.old made.attach ∷ []) session.new out.new.items }
+{
+    let Exchanged {
+        attaching,
+        attach,
+        reply,
+        place,
+    } = made;
+    out.push_back_reserved(attach_frame(session, attach));
+    send_reply(session, handle, place, reply, out);
+    Answered {
+        handle,
+        exchange: attaching.exchange,
+        aborts: attaching.aborts,
+    }
+}
+
+/// The Flow with which a link replies is sent, if there is one. There is room for it.
+fn send_reply<R: LinkRelay>(
+    session: &mut Session<R>,
+    handle: OutputHandle,
+    place: Place<BehindFrame>,
+    reply: Option<LinkFlow>,
+    out: &mut VecDeque<SessionFrame>,
+)
+    requires there { IsSome (link_at session.old handle.0) }
+    requires place { room_behind handle.0 1 session.old.outgoing.queues ≤ place }
+    requires room { deque_len out.old + 1 ≤ deque_capacity out.old }
+    ensures { Replies R.gives handle reply session.old out.old.items session.new out.new.items }
+{
+    let Some(flow) = reply else {
+        return;
+    };
+    let Ok(frame) = session.on_outgoing_flow_in(handle, place, flow) else {
+        unreachable!()
+    };
+    put_behind(out, frame);
+}
+
+/// A frame is put behind others, if there is one. There is room for it.
+fn put_behind<F: Drop>(out: &mut VecDeque<F>, frame: Option<F>)
+    requires { deque_len out.old + 1 ≤ deque_capacity out.old }
+    ensures { out.new.items ≡ out.old.items ++ option_to_list frame }
+{
+    if let Some(frame) = frame {
+        out.push_back_reserved(frame);
+    }
+}
