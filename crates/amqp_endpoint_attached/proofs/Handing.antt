@@ -39,7 +39,8 @@ module _ {R A T D : Type 0} (relations : Relations R A T D) (old mid : State R) 
     (step : Steps relations old (Allocates handle link (Some input)) mid) where
   pub is_there : IsSome (link_at mid handle)
   is_there =
-      ap is_some (step.4 handle ∙ ap (λ (b : Bool). if b then Some link else link_at old handle) (eq-eqb handle handle refl))
+      ap is_some
+      (step.4 handle ∙ ap (λ (b : Bool). if b then Some link else link_at old handle) (eq-eqb handle handle refl))
 
   pub has_place : (place : ℕ) → room_behind old.offered 1 (old.outgoing).queues ≤ place
       → room_behind handle 1 (mid.outgoing).queues ≤ place
@@ -71,7 +72,8 @@ attached old new out room out_new limit number link becomes handle attach sends 
       rest = rest;
       handed =
           handed ∙ ap (λ (fs : List SessionFrame). fs ++ attach_frame new.session attach ∷ []) kept
-          ∙ ap (λ (f : SessionFields). out ++ frame_in f attach ∷ []) (ap (λ (s : State (Numbered End)). s.fields) step.4);
+          ∙ ap (λ (f : SessionFields). out ++ frame_in f attach ∷ [])
+          (ap (λ (s : State (Numbered End)). s.fields) step.4);
     }
 
 -- a link that answers an asked one

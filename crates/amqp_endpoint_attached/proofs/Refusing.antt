@@ -109,7 +109,8 @@ module _ {R : Type 0} (limit : ℕ) (s : State R) (link : End) (asked : AskedLin
       → IfErr room (λ r. r ≡ Memory) → IfErr both (λ r. (own ≡ Err r) ⊎ (IsOk own × (room ≡ Err r)))
       → (taken ≡ Err e) ⊎ (IsOk taken × (both ≡ Err e)) → RefusesExchange limit s link asked e
   exchange_refused handle taken own room both e is given peer passes mine rooms of (inl fails) =
-      peer_refused e given (subst (λ (t : Result Attaching AttachRefusal). IfErr t (RefusesPeer link asked.attach)) fails peer)
+      peer_refused e given
+      (subst (λ (t : Result Attaching AttachRefusal). IfErr t (RefusesPeer link asked.attach)) fails peer)
   exchange_refused handle taken own room both e is given peer passes mine rooms of (inr (ok, fails)) =
       by (subst (λ (b : Result _ AttachRefusal). IfErr b (λ r. (own ≡ Err r) ⊎ (IsOk own × (room ≡ Err r)))) fails of)
     where

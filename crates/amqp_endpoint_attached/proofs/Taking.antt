@@ -94,8 +94,9 @@ passes (Sender s) (Sender t) attach (told.Sender (sender_told.Attached x)) a res
     let b = behind s.base.local_state attach.incomplete_unsettled rest in
     let tested =
     sender_tested (sender.attach_refusal s attach) (moved_to s.base attach b.next) s t attach x
-    (subst (λ (o : Option LinkState). sender.TakesMoved (option_map (λ (state : LinkState). moved_to s.base attach state) o)
-    s attach (Ok (sender_told.Attached x)) t) b.is takes) in (
+    (subst (λ (o : Option LinkState).
+    sender.TakesMoved (option_map (λ (state : LinkState). moved_to s.base attach state) o) s attach
+    (Ok (sender_told.Attached x)) t) b.is takes) in (
       ap (λ (o : Option SenderAttachError). option_map SenderAttach o) tested.0,
       subst (λ (state : LinkState). IsSome (after_send_attach state false)) (sym tested.1) b.may,
     )
@@ -125,8 +126,9 @@ fails (Sender s) (Sender t) attach (told.Sender (sender_told.Refused error)) e r
     let b = behind s.base.local_state attach.incomplete_unsettled rest in
     let failed =
     sender_failed (sender.attach_refusal s attach) (moved_to s.base attach b.next) s t attach error
-    (subst (λ (o : Option LinkState). sender.TakesMoved (option_map (λ (state : LinkState). moved_to s.base attach state) o)
-    s attach (Ok (sender_told.Refused error)) t) b.is takes) in
+    (subst (λ (o : Option LinkState).
+    sender.TakesMoved (option_map (λ (state : LinkState). moved_to s.base attach state) o) s attach
+    (Ok (sender_told.Refused error)) t) b.is takes) in
     let is : Link (SenderAttach error) ≡ e = cc in
     subst (λ (x : AttachRefusal). RefusesPeer (Sender s) attach x) is
     (ap (λ (o : Option SenderAttachError). option_map SenderAttach o) failed)

@@ -31,8 +31,8 @@ abbrev pub asked_failed : End → Option AskedLink → Option LinkError
 asked_failed link None = None
 asked_failed link (Some asked) = test_failed link asked.attach
 
--- why it doesn't: no handle is offered that the peer allows, or a test fails, or its own Attach fits no frame, or a link
--- of the session has the peer's handle, or there is no memory
+-- why it doesn't: no handle is offered that the peer allows, or a test fails, or its own Attach fits no frame, or a
+-- link of the session has the peer's handle, or there is no memory
 abbrev pub RefusesAnswer : ℕ → Linked → End → InputHandle → AttachRefusal → Type 0
 RefusesAnswer limit s link input HandleMaxReached = s.session.handle_max < s.session.offered
 RefusesAnswer limit s link input (Link error) =
@@ -84,14 +84,15 @@ pub record Exchanges (limit : ℕ) (old : End) (asked : AskedLink) (handle : Out
 
 module _ {R A T D : Type 0} (given : Relations R A T D) where
   -- a link sends a Flow, which leaves at once where nothing of the link waits
-  pub record SendsFlow (handle : OutputHandle) (flow : LinkFlow) (old : State R) (out : List SessionFrame) (new : State R)
-      (out_new : List SessionFrame) : Type 0 where
+  pub record SendsFlow (handle : OutputHandle) (flow : LinkFlow) (old : State R) (out : List SessionFrame)
+      (new : State R) (out_new : List SessionFrame) : Type 0 where
     pub frame : Option SessionFrame
     pub sent : BehindSent given old handle (behind.Flow (record flow { handle = record { 0 = handle.0 } })) frame new
     pub handed : out_new ≡ out ++ option_to_list frame
 
   -- a link replies with a Flow, or with none
-  abbrev pub Replies : OutputHandle → Option LinkFlow → State R → List SessionFrame → State R → List SessionFrame → Type 0
+  abbrev pub Replies : OutputHandle → Option LinkFlow → State R → List SessionFrame → State R → List SessionFrame
+      → Type 0
   Replies handle None old out new out_new = (new ≡ old) × (out_new ≡ out)
   Replies handle (Some flow) old out new out_new = SendsFlow handle flow old out new out_new
 

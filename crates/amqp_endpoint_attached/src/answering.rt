@@ -1,5 +1,5 @@
 //! A link attaches that answers one that the peer asks for (part 2, 2.6.3).
-ghost use Rattle.std.specs.Prelude.{◌≡◌, ◌≤◌, ◌+◌, ◌∷◌, ◌++◌, ◌⊎◌, [], true, Some, IsSome, Ok, Err, IsOk, IfOk, IfErr, OnOk, OnErr, option_to_list};
+ghost use Rattle.std.specs.Prelude.{◌≡◌, ◌≤◌, ◌+◌, ◌∷◌, ◌++◌, ◌⊎◌, [], true, Some, IsSome, Ok, Err, IsOk, IfOk, IfErr, OnOk, OnErr};
 ghost use Rattle.std.specs.FinMap as map;
 ghost use Rattle.std.specs.VecDeque.{deque_len, deque_capacity};
 ghost use Rattle.amqp_session_outgoing.specs.Queues.{room_behind};
@@ -13,6 +13,7 @@ ghost use Rattle.amqp_endpoint_attached.specs.Refusals.{RefusesHandle};
 use crate::announcing::attach_frame;
 use crate::exchanging::{Exchanged, exchange};
 use crate::refusal::{AttachRefusal, refusal_of};
+use crate::sending::queue;
 use amqp_endpoint_links::{AskingSession, Numbered};
 use amqp_link_attach::AttachExchange;
 use amqp_link_ends::LinkEnd;
@@ -152,15 +153,5 @@ fn send_reply<R: LinkRelay>(
     let Ok(frame) = session.on_outgoing_flow_in(handle, place, flow) else {
         unreachable!()
     };
-    put_behind(out, frame);
-}
-
-/// A frame is put behind others, if there is one. There is room for it.
-fn put_behind<F: Drop>(out: &mut VecDeque<F>, frame: Option<F>)
-    requires { deque_len out.old + 1 ≤ deque_capacity out.old }
-    ensures { out.new.items ≡ out.old.items ++ option_to_list frame }
-{
-    if let Some(frame) = frame {
-        out.push_back_reserved(frame);
-    }
+    queue(out, frame);
 }

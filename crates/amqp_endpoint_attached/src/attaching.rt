@@ -18,14 +18,14 @@ use amqp_session_types::{Boxed, OutputHandle};
 use std::alloc::Global;
 use std::collections::VecDeque;
 
-/// Attaches a link that the peer doesn't ask for, under this number (part 2, 2.6.3): it gets the handle that the session
-/// offers, which is answered, and its Attach is put behind what is handed out. The Attach lists as many of the link's
-/// unsettled deliveries as a frame of `limit` bytes holds, and the link is as it is told.
+/// Attaches a link that the peer doesn't ask for, under this number (part 2, 2.6.3): it gets the handle that the
+/// session offers, which is answered, and its Attach is put behind what is handed out. The Attach lists as many of
+/// the link's unsettled deliveries as a frame of `limit` bytes holds, and the link is as it is told.
 ///
 /// It is refused, tested in this order, with `HandleMaxReached` exactly where the handle that is offered is above the
-/// peer's handle-max (part 2, 2.7.2); with `FrameTooLarge` exactly where its Attach fits no frame of `limit` bytes, even
-/// without its unsettled deliveries; and with `Memory`. The session and what is handed out stay then, and the link is
-/// dropped.
+/// peer's handle-max (part 2, 2.7.2); with `FrameTooLarge` exactly where its Attach fits no frame of `limit` bytes,
+/// even without its unsettled deliveries; and with `Memory`. The session and what is handed out stay then, and the
+/// link is dropped.
 #[tactic(auto, using(crate::proofs::Refusing::attach_refused))]
 pub fn attach(
     session: &mut AskingSession<Numbered<LinkEnd>>,

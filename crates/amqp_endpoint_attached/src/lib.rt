@@ -1,5 +1,5 @@
-//! The links of an endpoint's sessions (part 2, 2.6): how one is made and attaches, of itself or in answer to one that the
-//! peer asks for; the credit that it gives; how it is detached, and how it leaves its session.
+//! The links of an endpoint's sessions (part 2, 2.6): how one is made and attaches, of itself or in answer to one that
+//! the peer asks for; the credit that it gives; how it is detached, and how it leaves its session.
 //!
 //! What each call does says specs/: Attaching and Answering, with what they are refused for in Refusals; Receiving,
 //! Detaching, TakenOut and Ends; what is sent for a link, Sent.

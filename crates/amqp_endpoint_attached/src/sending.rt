@@ -82,7 +82,7 @@ pub(crate) fn send_detach<R: LinkRelay>(
 }
 
 /// A frame is handed out, if there is one. There is room for it.
-fn queue<F: Drop>(out: &mut VecDeque<F>, frame: Option<F>)
+pub(crate) fn queue<F: Drop>(out: &mut VecDeque<F>, frame: Option<F>)
     requires { deque_len out.old < deque_capacity out.old }
     ensures items { out.new.items ≡ out.old.items ++ option_to_list frame }
     ensures capacity { deque_capacity out.new ≡ deque_capacity out.old }
