@@ -15,12 +15,18 @@ use std::marker::Model;
 use thiserror::Error;
 
 /// A link that the peer asks for.
-#[derive(Debug, Drop)]
+#[derive(Debug)]
 pub struct AskedLink {
     /// The peer's Attach.
     pub attach: Boxed<Attach>,
     /// What the latest Flow for the link told of it, if one came.
     pub flow: Option<LinkFlow>,
+}
+
+impl Drop for AskedLink {
+    fn drop(self) {
+        let AskedLink { attach: _, flow: _ } = self;
+    }
 }
 
 /// Why a link can't be asked for.
@@ -57,11 +63,20 @@ impl From<AllocError> for AskRefusal {
 /// have one handle, nor one name.
 ///
 /// A clause sees them as a map from the handles that the peer gave them.
-#[derive(Debug, Drop)]
+#[derive(Debug)]
 pub struct AskedLinks {
     links: Table,
     /// The handle of each, by its name.
     handles: IndexMap<Text, u32>,
+}
+
+impl Drop for AskedLinks {
+    fn drop(self) {
+        let AskedLinks {
+            links: _,
+            handles: _,
+        } = self;
+    }
 }
 
 impl Model for AskedLinks {

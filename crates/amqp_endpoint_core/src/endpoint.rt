@@ -33,7 +33,6 @@ const MAX_WINDOW: u32 = 0x7fff_ffff;
 ///
 /// Which Open and Close may come and go says the connection of its sessions. What sessions do isn't known here: an
 /// endpoint is proved for all that say what they do.
-#[derive(Drop)]
 pub struct Endpoint<S: SessionRelay> {
     alloc: Global,
     settings: Settings,
@@ -45,6 +44,22 @@ pub struct Endpoint<S: SessionRelay> {
     /// What the sessions sent, behind what is in the queue.
     out: VecDeque<SessionFrame>,
     sessions: S,
+}
+
+impl<S: SessionRelay> Drop for Endpoint<S> {
+    fn drop(self) {
+        let Endpoint {
+            alloc: _,
+            settings: _,
+            phase: _,
+            peer_limit: _,
+            close_told: _,
+            input: _,
+            queue: _,
+            out: _,
+            sessions: _,
+        } = self;
+    }
 }
 
 impl<S: SessionRelay> Model for Endpoint<S> {

@@ -19,12 +19,20 @@ use std::collections::VecDeque;
 ///
 /// Calls and frames that concern no asked link go to the session itself. A transfer for an asked link is one of these:
 /// no link has its handle.
-#[derive(Drop)]
 pub struct AskingSession<R> {
     /// The session.
     pub session: Session<R>,
     /// The links that its peer asks for.
     pub asked: AskedLinks,
+}
+
+impl<R: Drop> Drop for AskingSession<R> {
+    fn drop(self) {
+        let AskingSession {
+            session: _,
+            asked: _,
+        } = self;
+    }
 }
 
 /// The link that a peer's Attach names: the one with its name and the other role, in the session that it came in.

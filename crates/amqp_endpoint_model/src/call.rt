@@ -3,7 +3,7 @@ use amqp_session_types::IncomingChannel;
 use bytes::Bytes;
 
 /// A call of an endpoint.
-#[derive(Debug, Drop)]
+#[derive(Debug)]
 pub enum Call {
     /// `connect`
     Connect,
@@ -35,4 +35,26 @@ pub enum Call {
     IsEnded(u64),
     /// `try_end` of the session with this number
     TryEnd(u64),
+}
+
+impl Drop for Call {
+    fn drop(self) {
+        match self {
+            Call::Connect => {}
+            Call::Feed(_) => {}
+            Call::Pull => {}
+            Call::Queued => {}
+            Call::IsIdle => {}
+            Call::Heartbeat => {}
+            Call::BreakOff => {}
+            Call::Close => {}
+            Call::IsClosed => {}
+            Call::TryClose => {}
+            Call::Begin => {}
+            Call::AcceptBegin(_) => {}
+            Call::End(_) => {}
+            Call::IsEnded(_) => {}
+            Call::TryEnd(_) => {}
+        }
+    }
 }

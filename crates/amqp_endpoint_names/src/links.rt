@@ -22,12 +22,21 @@ use std::marker::Model;
 ///
 /// A clause sees them as the record `State`: the memory that they have taken is no part of their value, but for how
 /// many links more are sure to find room.
-#[derive(Drop)]
 pub struct Links<L> {
     links: Vec<Option<Named<L>>>,
     /// The number of each that isn't closed, by its name.
     numbers: IndexMap<Text, u64>,
     room: usize,
+}
+
+impl<L: Drop> Drop for Links<L> {
+    fn drop(self) {
+        let Links {
+            links: _,
+            numbers: _,
+            room: _,
+        } = self;
+    }
 }
 
 impl<L> Model for Links<L> {

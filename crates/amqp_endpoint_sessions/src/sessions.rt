@@ -24,11 +24,20 @@ use std::mem;
 /// over stays known by its number. Each call that is refused leaves all as it was.
 ///
 /// A clause sees them as the record `State`: the room that they have taken is no part of their value.
-#[derive(Drop)]
 pub struct Sessions<A, S> {
     pub(crate) connection: Connection,
     pub(crate) places: Vec<Place<A, S>>,
     pub(crate) asked: Routes,
+}
+
+impl<A: Drop, S: Drop> Drop for Sessions<A, S> {
+    fn drop(self) {
+        let Sessions {
+            connection: _,
+            places: _,
+            asked: _,
+        } = self;
+    }
 }
 
 impl<A, S> Model for Sessions<A, S> {

@@ -18,13 +18,24 @@ use std::marker::Model;
 
 /// Two endpoints, and for each the bytes pulled of the other one that it is still to be fed. A clause sees it as a
 /// `WorldState`.
-#[derive(Drop)]
 pub(crate) struct World<S: SessionRelay> {
     alloc: Global,
     a: Endpoint<S>,
     b: Endpoint<S>,
     to_a: BytesMut,
     to_b: BytesMut,
+}
+
+impl<S: SessionRelay> Drop for World<S> {
+    fn drop(self) {
+        let World {
+            alloc: _,
+            a: _,
+            b: _,
+            to_a: _,
+            to_b: _,
+        } = self;
+    }
 }
 
 impl<S: SessionRelay> Model for World<S> {

@@ -10,7 +10,7 @@ use std::alloc::AllocError;
 
 /// What the ends of a link agree on: what stands in the own Attach, and is taken over from the peer's where the peer's
 /// word counts.
-#[derive(Debug, PartialEq, Drop)]
+#[derive(Debug, PartialEq)]
 pub struct Terms {
     /// Where messages come from.
     pub source: Option<Source>,
@@ -22,6 +22,18 @@ pub struct Terms {
     pub rcv_settle_mode: ReceiverSettleMode,
     /// The size of the largest message, in bytes. 0 for no bound.
     pub max_message_size: u64,
+}
+
+impl Drop for Terms {
+    fn drop(self) {
+        let Terms {
+            source: _,
+            target: _,
+            snd_settle_mode: _,
+            rcv_settle_mode: _,
+            max_message_size: _,
+        } = self;
+    }
 }
 
 impl Terms {

@@ -17,7 +17,7 @@ use std::alloc::{AllocError, Global};
 use thiserror::Error;
 
 /// What both ends of a link keep of it (part 2, 2.6).
-#[derive(Debug, Drop)]
+#[derive(Debug)]
 pub struct LinkBase {
     /// The link's name (part 2, 2.6.1).
     pub name: Text,
@@ -33,6 +33,20 @@ pub struct LinkBase {
     pub given_properties: Option<Boxed<Fields>>,
     /// Why the link's session stopped, once it did.
     pub session_stop_reason: Option<Boxed<SessionStopReason>>,
+}
+
+impl Drop for LinkBase {
+    fn drop(self) {
+        let LinkBase {
+            name: _,
+            local_state: _,
+            input_handle: _,
+            output_handle: _,
+            terms: _,
+            given_properties: _,
+            session_stop_reason: _,
+        } = self;
+    }
 }
 
 /// The state of a link doesn't allow a frame.

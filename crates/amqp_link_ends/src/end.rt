@@ -14,12 +14,20 @@ use amqp_session_types::OutputHandle;
 use std::marker::Model;
 
 /// Either end of a link.
-#[derive(Drop)]
 pub enum End {
     /// It sends.
     Sender(SenderLink),
     /// It receives.
     Receiver(ReceiverLink),
+}
+
+impl Drop for End {
+    fn drop(self) {
+        match self {
+            End::Sender(_) => {}
+            End::Receiver(_) => {}
+        }
+    }
 }
 
 /// An end of a link, as its session sees it. A clause sees which end it is.

@@ -19,10 +19,18 @@ use std::marker::Model;
 /// A clause sees what the transfers so far say (`Said`): the performative of the first one, with `settled` as all of
 /// them say it, and the bytes. The last transfer of a delivery is never appended: `finish` joins its bytes to those
 /// that are held.
-#[derive(Drop)]
 pub struct IncompleteTransfer {
     performative: Transfer,
     payload: Gathered,
+}
+
+impl Drop for IncompleteTransfer {
+    fn drop(self) {
+        let IncompleteTransfer {
+            performative: _,
+            payload: _,
+        } = self;
+    }
 }
 
 impl Model for IncompleteTransfer {

@@ -14,7 +14,6 @@ use std::alloc::Global;
 use std::marker::Model;
 
 /// The receiving end of a link (part 2, 2.6).
-#[derive(Drop)]
 pub struct ReceiverLink {
     pub(crate) base: LinkBase,
     pub(crate) end: ReceivingEnd,
@@ -22,6 +21,17 @@ pub struct ReceiverLink {
     pub(crate) attachment: u64,
     /// The properties of the link, with those that the peer gave it.
     pub(crate) properties: Option<Boxed<Fields>>,
+}
+
+impl Drop for ReceiverLink {
+    fn drop(self) {
+        let ReceiverLink {
+            base: _,
+            end: _,
+            attachment: _,
+            properties: _,
+        } = self;
+    }
 }
 
 impl Model for ReceiverLink {

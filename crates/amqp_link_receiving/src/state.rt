@@ -31,11 +31,20 @@ use std::marker::Model;
 
 /// A link's receiving end as transfers see it: its credit, the delivery of which transfers are coming in, and the
 /// unsettled deliveries by their tags (part 2, 2.6.7, 2.6.12 and 2.6.14).
-#[derive(Drop)]
 pub struct ReceivingEnd {
     flow: LinkFlowState<ReceiverMarker>,
     held: Option<Incoming<Gathered>>,
     unsettled: UnsettledMap<Entry>,
+}
+
+impl Drop for ReceivingEnd {
+    fn drop(self) {
+        let ReceivingEnd {
+            flow: _,
+            held: _,
+            unsettled: _,
+        } = self;
+    }
 }
 
 impl Model for ReceivingEnd {

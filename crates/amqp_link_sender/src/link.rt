@@ -19,12 +19,22 @@ use std::alloc::Global;
 use std::marker::Model;
 
 /// The sending end of a link (part 2, 2.6).
-#[derive(Drop)]
 pub struct SenderLink {
     pub(crate) base: LinkBase,
     pub(crate) flow: LinkFlowState<SenderMarker>,
     pub(crate) messages: Messages,
     pub(crate) remote_error: Option<Boxed<definitions::Error>>,
+}
+
+impl Drop for SenderLink {
+    fn drop(self) {
+        let SenderLink {
+            base: _,
+            flow: _,
+            messages: _,
+            remote_error: _,
+        } = self;
+    }
 }
 
 impl Model for SenderLink {

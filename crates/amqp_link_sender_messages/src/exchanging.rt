@@ -25,12 +25,22 @@ pub struct Abort {
 }
 
 /// What becomes of messages.
-#[derive(Drop)]
 struct Gathering {
     ended: VecDeque<(DeliveryTag, Resolution)>,
     going: VecDeque<Waiting>,
     others: VecDeque<Waiting>,
     aborts: Vec<Abort>,
+}
+
+impl Drop for Gathering {
+    fn drop(self) {
+        let Gathering {
+            ended: _,
+            going: _,
+            others: _,
+            aborts: _,
+        } = self;
+    }
 }
 
 impl Model for Gathering {

@@ -26,11 +26,20 @@ use std::marker::Model;
 /// those that wait to be sent on (part 2, 2.6.12 and 2.6.13).
 ///
 /// Whatever ends a message takes no memory: as a message is entered, there is room for what becomes of it.
-#[derive(Drop)]
 pub struct Messages {
     unsettled: UnsettledMap<Open>,
     resolved: VecDeque<(DeliveryTag, Resolution)>,
     waiting: VecDeque<Waiting>,
+}
+
+impl Drop for Messages {
+    fn drop(self) {
+        let Messages {
+            unsettled: _,
+            resolved: _,
+            waiting: _,
+        } = self;
+    }
 }
 
 impl Model for Messages {

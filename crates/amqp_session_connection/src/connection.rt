@@ -25,7 +25,7 @@ use std::marker::Model;
 /// as it was.
 ///
 /// A clause sees a connection as the record `State`: the room that it has taken is no part of its value.
-#[derive(Debug, Drop)]
+#[derive(Debug)]
 pub struct Connection {
     local_state: ConnectionState,
     local_open: Open,
@@ -33,6 +33,19 @@ pub struct Connection {
     sessions: Sessions,
     routes: Routes,
     stop_reason: Option<ConnectionStopReason>,
+}
+
+impl Drop for Connection {
+    fn drop(self) {
+        let Connection {
+            local_state: _,
+            local_open: _,
+            remote_channel_max: _,
+            sessions: _,
+            routes: _,
+            stop_reason: _,
+        } = self;
+    }
 }
 
 impl Model for Connection {

@@ -22,7 +22,6 @@ use std::marker::Model;
 ///
 /// Links that wait stand in a turn. Where the window allows a transfer, the first link of the turn sends one, and then
 /// stands last if a transfer of it still waits. A delivery gets its number as its first transfer leaves.
-#[derive(Drop)]
 pub struct Outgoing<T, F> {
     initial_outgoing_id: u32,
     next_outgoing_id: u32,
@@ -32,6 +31,21 @@ pub struct Outgoing<T, F> {
     firsts: usize,
     turns: Turns<T, F>,
     unsettled: Unsettled,
+}
+
+impl<T: Drop, F: Drop> Drop for Outgoing<T, F> {
+    fn drop(self) {
+        let Outgoing {
+            initial_outgoing_id: _,
+            next_outgoing_id: _,
+            next_delivery_number: _,
+            window_base: _,
+            window_width: _,
+            firsts: _,
+            turns: _,
+            unsettled: _,
+        } = self;
+    }
 }
 
 impl<T, F> Model for Outgoing<T, F> {

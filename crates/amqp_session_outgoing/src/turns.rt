@@ -14,14 +14,21 @@ use std::collections::VecDeque;
 use std::marker::Model;
 
 /// The waiting transfers of one link.
-#[derive(Drop)]
 struct Queue<T, F> {
     handle: OutputHandle,
     units: Row<Outbound<T, F>>,
 }
 
+impl<T: Drop, F: Drop> Drop for Queue<T, F> {
+    fn drop(self) {
+        let Queue {
+            handle: _,
+            units: _,
+        } = self;
+    }
+}
+
 /// The links that wait, in turn, each with its waiting transfers.
-#[derive(Drop)]
 pub(crate) struct Turns<T, F> {
     queues: VecDeque<Queue<T, F>>,
     /// The nodes in which more transfers may wait.
@@ -29,6 +36,18 @@ pub(crate) struct Turns<T, F> {
     held: usize,
     frames: u128,
     room: usize,
+}
+
+impl<T: Drop, F: Drop> Drop for Turns<T, F> {
+    fn drop(self) {
+        let Turns {
+            queues: _,
+            store: _,
+            held: _,
+            frames: _,
+            room: _,
+        } = self;
+    }
 }
 
 impl<T, F> Model for Turns<T, F> {

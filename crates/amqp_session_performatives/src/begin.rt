@@ -13,7 +13,7 @@ use serde_amqp_types::{Array, Multiple, Symbol, UIntOr};
 use std::alloc::{AllocError, Global};
 
 /// Begins a session on a channel (part 2, 2.7.2).
-#[derive(Debug, PartialEq, Drop)]
+#[derive(Debug, PartialEq)]
 pub struct Begin {
     /// The channel of the begin that this one answers. It is absent where it answers none.
     pub remote_channel: Option<u16>,
@@ -31,6 +31,21 @@ pub struct Begin {
     pub desired_capabilities: Array<Symbol>,
     /// More about the session, by names.
     pub properties: Option<Boxed<Fields>>,
+}
+
+impl Drop for Begin {
+    fn drop(self) {
+        let Begin {
+            remote_channel: _,
+            next_outgoing_id: _,
+            incoming_window: _,
+            outgoing_window: _,
+            handle_max: _,
+            offered_capabilities: _,
+            desired_capabilities: _,
+            properties: _,
+        } = self;
+    }
 }
 
 /// The descriptor's code.

@@ -14,7 +14,7 @@ use serde_amqp_types::BoolOr;
 use std::alloc::{AllocError, Global};
 
 /// Detaches a link from its session (part 2, 2.7.7).
-#[derive(Debug, PartialEq, Drop)]
+#[derive(Debug, PartialEq)]
 pub struct Detach {
     /// The link.
     pub handle: Handle,
@@ -22,6 +22,16 @@ pub struct Detach {
     pub closed: bool,
     /// Why the link is detached, where it is detached for an error.
     pub error: Option<Error>,
+}
+
+impl Drop for Detach {
+    fn drop(self) {
+        let Detach {
+            handle: _,
+            closed: _,
+            error: _,
+        } = self;
+    }
 }
 
 /// The descriptor's code.

@@ -14,7 +14,7 @@ use serde_amqp_types::BoolOr;
 use std::alloc::{AllocError, Global};
 
 /// Tells the state of deliveries with consecutive numbers (part 2, 2.7.6).
-#[derive(Debug, PartialEq, Drop)]
+#[derive(Debug, PartialEq)]
 pub struct Disposition {
     /// Which end of the deliveries' links the sender of this frame is.
     pub role: Role,
@@ -28,6 +28,19 @@ pub struct Disposition {
     pub state: Option<DeliveryState>,
     /// Whether the receiver of this frame may put its answer off. False where it is absent.
     pub batchable: bool,
+}
+
+impl Drop for Disposition {
+    fn drop(self) {
+        let Disposition {
+            role: _,
+            first: _,
+            last: _,
+            settled: _,
+            state: _,
+            batchable: _,
+        } = self;
+    }
 }
 
 /// The descriptor's code.

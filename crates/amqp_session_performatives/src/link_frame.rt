@@ -5,7 +5,7 @@ use amqp_session_types::{Boxed, InputHandle};
 use bytes::Bytes;
 
 /// A transfer with its payload, on the link that the peer gave this handle (part 2, 2.7.5).
-#[derive(Debug, PartialEq, Drop)]
+#[derive(Debug, PartialEq)]
 pub struct LinkTransfer {
     /// The handle that the peer gave the link.
     pub input_handle: InputHandle,
@@ -15,8 +15,18 @@ pub struct LinkTransfer {
     pub payload: Bytes,
 }
 
+impl Drop for LinkTransfer {
+    fn drop(self) {
+        let LinkTransfer {
+            input_handle: _,
+            performative: _,
+            payload: _,
+        } = self;
+    }
+}
+
 /// A frame of a link (part 2, 2.6).
-#[derive(Debug, PartialEq, Drop)]
+#[derive(Debug, PartialEq)]
 pub enum LinkFrame {
     /// The link is attached.
     Attach(Boxed<Attach>),
@@ -33,4 +43,18 @@ pub enum LinkFrame {
     Disposition(Disposition),
     /// The link is detached.
     Detach(Detach),
+}
+
+impl Drop for LinkFrame {
+    fn drop(self) {
+        match self {
+            LinkFrame::Attach(_) => {}
+            LinkFrame::Flow(_) => {}
+            LinkFrame::RemoteTransfer(_) => {}
+            LinkFrame::FirstTransfer(_) => {}
+            LinkFrame::TransferContinuation(_) => {}
+            LinkFrame::Disposition(_) => {}
+            LinkFrame::Detach(_) => {}
+        }
+    }
 }

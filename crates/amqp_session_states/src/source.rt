@@ -14,7 +14,7 @@ use serde_amqp_types::{Array, BoolOr, Multiple, Symbol, Text, UIntOr};
 use std::alloc::{AllocError, Global};
 
 /// Where a link's messages come from (part 3, 3.5.3).
-#[derive(Debug, PartialEq, Eq, Drop)]
+#[derive(Debug, PartialEq, Eq)]
 pub struct Source {
     /// The address of the node.
     pub address: Option<Text>,
@@ -38,6 +38,24 @@ pub struct Source {
     pub outcomes: Array<Symbol>,
     /// What the receiver wants or can use.
     pub capabilities: Array<Symbol>,
+}
+
+impl Drop for Source {
+    fn drop(self) {
+        let Source {
+            address: _,
+            durable: _,
+            expiry_policy: _,
+            timeout: _,
+            dynamic: _,
+            dynamic_node_properties: _,
+            distribution_mode: _,
+            filter: _,
+            default_outcome: _,
+            outcomes: _,
+            capabilities: _,
+        } = self;
+    }
 }
 
 /// The descriptor's code.

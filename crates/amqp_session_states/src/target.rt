@@ -13,7 +13,7 @@ use serde_amqp_types::{Array, BoolOr, Multiple, Symbol, Text, UIntOr};
 use std::alloc::{AllocError, Global};
 
 /// Where a link's messages go (part 3, 3.5.4).
-#[derive(Debug, PartialEq, Eq, Drop)]
+#[derive(Debug, PartialEq, Eq)]
 pub struct Target {
     /// The address of the node.
     pub address: Option<Text>,
@@ -29,6 +29,20 @@ pub struct Target {
     pub dynamic_node_properties: Option<Properties>,
     /// What the sender wants or can use.
     pub capabilities: Array<Symbol>,
+}
+
+impl Drop for Target {
+    fn drop(self) {
+        let Target {
+            address: _,
+            durable: _,
+            expiry_policy: _,
+            timeout: _,
+            dynamic: _,
+            dynamic_node_properties: _,
+            capabilities: _,
+        } = self;
+    }
 }
 
 /// The descriptor's code.

@@ -12,12 +12,21 @@ use std::alloc::{AllocError, Global};
 
 /// What stands as a link's target: a target, or a described value of another type, which is kept as it is (part 2,
 /// 2.7.3).
-#[derive(Debug, PartialEq, Eq, Drop)]
+#[derive(Debug, PartialEq, Eq)]
 pub enum TargetArchetype {
     /// A target (part 3, 3.5.4).
     Target(Target),
     /// A described value whose descriptor is not a target's. Bytes that are no such value are not written.
     Other(RawValue),
+}
+
+impl Drop for TargetArchetype {
+    fn drop(self) {
+        match self {
+            TargetArchetype::Target(_) => {}
+            TargetArchetype::Other(_) => {}
+        }
+    }
 }
 
 impl Clone for TargetArchetype {

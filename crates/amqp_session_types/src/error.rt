@@ -14,7 +14,7 @@ use serde_amqp_types::{Symbol, Text};
 use std::alloc::{AllocError, Global};
 
 /// Details of an error (part 2, 2.8.14).
-#[derive(Debug, PartialEq, Eq, Drop)]
+#[derive(Debug, PartialEq, Eq)]
 pub struct Error {
     /// What kind of error it is.
     pub condition: Symbol,
@@ -22,6 +22,16 @@ pub struct Error {
     pub description: Option<Text>,
     /// More about the error, by names.
     pub info: Option<Boxed<Info>>,
+}
+
+impl Drop for Error {
+    fn drop(self) {
+        let Error {
+            condition: _,
+            description: _,
+            info: _,
+        } = self;
+    }
 }
 
 /// The descriptor's code.

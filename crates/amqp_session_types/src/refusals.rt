@@ -144,7 +144,7 @@ pub enum TryEndError {
 }
 
 /// Why a connection stopped (part 2, 2.4.3).
-#[derive(Debug, Clone, PartialEq, Eq, Drop, Error)]
+#[derive(Debug, Clone, PartialEq, Eq, Error)]
 pub enum ConnectionStopReason {
     /// It was closed here.
     #[error("the connection was closed")]
@@ -160,8 +160,19 @@ pub enum ConnectionStopReason {
     RemoteClosedWithError(definitions::Error),
 }
 
+impl Drop for ConnectionStopReason {
+    fn drop(self) {
+        match self {
+            ConnectionStopReason::Closed => {}
+            ConnectionStopReason::ClosedWithError(_) => {}
+            ConnectionStopReason::RemoteClosed => {}
+            ConnectionStopReason::RemoteClosedWithError(_) => {}
+        }
+    }
+}
+
 /// Why a session stopped (part 2, 2.5.2).
-#[derive(Debug, Clone, PartialEq, Eq, Drop, Error)]
+#[derive(Debug, Clone, PartialEq, Eq, Error)]
 pub enum SessionStopReason {
     /// Its connection stopped.
     #[error("the connection has stopped")]
@@ -175,6 +186,17 @@ pub enum SessionStopReason {
     /// The peer ended it and gave this error.
     #[error("the peer ended the session with an error")]
     RemoteEndedWithError(definitions::Error),
+}
+
+impl Drop for SessionStopReason {
+    fn drop(self) {
+        match self {
+            SessionStopReason::ConnectionStopped(_) => {}
+            SessionStopReason::Ended => {}
+            SessionStopReason::RemoteEnded => {}
+            SessionStopReason::RemoteEndedWithError(_) => {}
+        }
+    }
 }
 
 impl From<ConnectionStopReason> for SessionStopReason {

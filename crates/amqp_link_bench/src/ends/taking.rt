@@ -3,7 +3,7 @@ use super::making::Ends;
 use crate::counts::Counts;
 use crate::fault::Fault;
 use amqp_link::{Answer, ReceiverLink, Resolution, SenderLink, Told};
-use amqp_session::{Accepted, DeliveryState, DeliveryTag, Disposition, Transfer};
+use amqp_session::{Accepted, DeliveryState, DeliveryTag, Transfer};
 use bytes::Bytes;
 use std::alloc::Global;
 
@@ -41,10 +41,11 @@ fn tell(counts: &mut Counts, told: Told) -> Result<Option<DeliveryTag>, Fault> {
 /// The receiver accepts the delivery with this tag and settles it, and the sender takes the disposition.
 pub fn dispose(ends: &mut Ends, alloc: Global, tag: &DeliveryTag) -> Result<(), Fault> {
     let accepted = DeliveryState::Accepted(Accepted {});
-    let Disposition { settled, state, .. } = ends
-        .receiver
-        .dispose(alloc, tag, accepted, Some(true))?;
-    let _ = ends.sender.on_incoming_disposition(tag, settled, state);
+    let mut disposition = ends.receiver.dispose(alloc, tag, accepted, Some(true))?;
+    let state = disposition.state.take();
+    let _ = ends
+        .sender
+        .on_incoming_disposition(tag, disposition.settled, state);
     Ok(())
 }
 
