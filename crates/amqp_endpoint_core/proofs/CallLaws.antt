@@ -6,7 +6,7 @@ use Rattle.amqp_endpoint_model.specs.declared.call.Call.{Call}
 use Rattle.amqp_endpoint_model.specs.Relay.{Called, Relations}
 use Rattle.amqp_endpoint_model.specs.Said.{Said}
 use Rattle.amqp_endpoint_model.specs.State.{State, Waiting, is_running, limit_of}
-use Rattle.amqp_endpoint_model.specs.Step.{SessionsDo, refusal}
+use Rattle.amqp_endpoint_model.specs.Step.{SessionsAnswer, SessionsDo, refusal}
 use Rattle.amqp_endpoint_core.specs.Queue.{AllWithin, frames_waiting}
 use Rattle.amqp_endpoint_core.proofs.QueueLaws.{frames_waiting-append, within-same, within-sent}
 use Rattle.amqp_endpoint_core.proofs.SessionLaws.{fit_at}
@@ -65,6 +65,13 @@ module _ {S : Type 0} (does : Relations S) (old : State S) where
         queued = ap (λ (ws : List Waiting). record old { sessions = new; queue = ws }) (sym (append-nil old.queue));
       } in
       subst P (sym is) done
+
+  -- sessions answer, and nothing changes
+  pub asked : (call : Call) (answer : Said) (s : S) → refusal old call ≡ None → s ≡ old.sessions
+      → ((limit : ℕ) → does.calls s limit call answer [] s) → SessionsAnswer does old call answer old
+  asked call answer s allowed s_is calls =
+      let T : S → Type 0 = λ x. does.calls x (limit_of old.peer_limit) call answer [] x in
+      record { allowed = allowed; calls = subst T s_is (calls (limit_of old.peer_limit)); same = refl }
 
 -- what they send then is within the limit, as what waited is
 pub queue_called : {S : Type 0} (does : Relations S) (limit told : ℕ) (call : Call) (answer : Said)

@@ -1,5 +1,5 @@
 -- Laws of what waits in sessions, which is within the limit.
-use Rattle.std.proofs.Common.{◌≡◌, arith, ℕ, Option, sym, ◌∙◌, subst}
+use Rattle.std.proofs.Common.{◌≡◌, ◌≤◌, arith, ℕ, Option, sym, ◌∙◌, subst}
 use Rattle.amqp_endpoint_model.specs.declared.phase.Phase.{Phase}
 use Rattle.amqp_endpoint_model.specs.declared.phase.Phase.TheVariants.{Unconnected, Running}
 use Rattle.amqp_endpoint_model.specs.Relay.{Relations}
@@ -25,6 +25,11 @@ module _ {S : Type 0} (does : Relations S) (phase : Phase) (limit : Option ℕ) 
   pub wait_called : ((most : ℕ) → does.within most s → does.within most new) → WaitWithin does phase limit s
       → WaitWithin does phase limit new
   wait_called stay waits = (stay (limit_of limit) waits.0, λ un. stay 512 (waits.1 un))
+
+  -- it stays within each limit that a peer may set (part 2, 2.7.1)
+  pub wait_least : ((most : ℕ) → 512 ≤ most → does.within most s → does.within most new) → 512 ≤ limit_of limit
+      → WaitWithin does phase limit s → WaitWithin does phase limit new
+  wait_least stay least waits = (stay (limit_of limit) least waits.0, λ un. stay 512 (omega arith) (waits.1 un))
 
   -- nothing waits
   pub wait_none : ((most : ℕ) → does.within most new) → WaitWithin does phase limit new

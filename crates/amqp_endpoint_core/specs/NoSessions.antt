@@ -6,9 +6,9 @@ use Rattle.amqp_session_types.specs.declared.refusals.TryEndError.TheVariants.{R
 use Rattle.amqp_session_frames.specs.declared.frame.FrameBody.{FrameBody}
 use Rattle.amqp_session_frames.specs.declared.frame.FrameBody.TheVariants.{Begin}
 use Rattle.amqp_endpoint_model.specs.declared.call.Call.{Call}
-use Rattle.amqp_endpoint_model.specs.declared.call.Call.TheVariants.{Begin as BeginCall, AcceptBegin, End, IsEnded, TryEnd}
+use Rattle.amqp_endpoint_model.specs.declared.call.Call.TheVariants.{Begin as BeginCall, AcceptBegin, End, IsEnded, TryEnd, AttachSender, AttachReceiver, Detach, CloseLink, Grant, Drain, Credit, HeldBack, Waiting}
 use Rattle.amqp_endpoint_model.specs.declared.error.EndpointError.{EndpointError}
-use Rattle.amqp_endpoint_model.specs.declared.error.EndpointError.TheVariants.{Connection, UnknownSession}
+use Rattle.amqp_endpoint_model.specs.declared.error.EndpointError.TheVariants.{Connection, UnknownLink, UnknownSession}
 use Rattle.amqp_endpoint_model.specs.Relay.{Relations}
 use Rattle.amqp_endpoint_model.specs.Said.{Said, truth, tried_end}
 use Rattle.amqp_endpoint_core.specs.declared.no_sessions.NoSessions.{NoSessions}
@@ -30,11 +30,20 @@ no_session_says (IsEnded number) = Some (truth false)
 no_session_says (TryEnd number) = Some (tried_end (Some RemoteEndNotReceived))
 no_session_says call = None
 
--- why a call is refused: no session begins, and none can be ended (part 2, 2.5.1, 2.5.2)
+-- why a call is refused: no session begins, none can be ended or have links (part 2, 2.5.1, 2.5.2, 2.6)
 abbrev pub call_refusal : Call → Option EndpointError
 call_refusal BeginCall = Some (Connection NotImplemented)
 call_refusal (AcceptBegin channel) = Some (Connection NotImplemented)
 call_refusal (End number) = Some UnknownSession
+call_refusal (AttachSender session settings) = Some UnknownSession
+call_refusal (AttachReceiver session settings) = Some UnknownSession
+call_refusal (Detach link) = Some UnknownLink
+call_refusal (CloseLink link) = Some UnknownLink
+call_refusal (Grant link credit) = Some UnknownLink
+call_refusal (Drain link) = Some UnknownLink
+call_refusal (Credit link) = Some UnknownLink
+call_refusal (HeldBack session) = Some UnknownSession
+call_refusal (Waiting session) = Some UnknownSession
 call_refusal call = None
 
 abbrev pub no_sessions : Relations NoSessions

@@ -11,7 +11,9 @@ ghost use Rattle.amqp_endpoint_model.specs.declared.settings.Settings.{Settings}
 use crate::coding::MIN_MAX_FRAME_SIZE;
 use crate::connecting::{greet_anew, send_close, unopened};
 use crate::queued::{Queued, drop_first, first_bytes, gather};
-use amqp_endpoint_model::{Answer, Call, EndpointError, Phase, SessionRelay, Settings};
+use amqp_endpoint_model::{
+    Answer, Attaching, Call, EndpointError, Event, Phase, SessionRelay, Settings,
+};
 use amqp_session_connection::ConnectionState;
 use amqp_session_frames::Frame;
 use amqp_session_performatives::SessionFrame;
@@ -21,8 +23,10 @@ use std::alloc::Global;
 use std::collections::VecDeque;
 use std::marker::Model;
 
+mod answering;
 mod calling;
 mod feeding;
+mod linking;
 
 /// The greatest incoming-window, in transfers (part 2, 2.8.10).
 const MAX_WINDOW: u32 = 0x7fff_ffff;
@@ -309,6 +313,19 @@ impl<S: SessionRelay> Endpoint<S> {
             Call::End(session) => done(self.end(*session)),
             Call::IsEnded(session) => Answer::Truth(self.is_ended(*session)),
             Call::TryEnd(session) => Answer::TriedEnd(self.try_end(*session)),
+            Call::AttachSender(session, settings) => {
+                attaching(self.attach_sender(*session, settings))
+            }
+            Call::AttachReceiver(session, settings) => {
+                attaching(self.attach_receiver(*session, settings))
+            }
+            Call::Detach(link) => done(self.detach(*link)),
+            Call::CloseLink(link) => link_closed(self.close_link(*link)),
+            Call::Grant(link, credit) => credit_is(self.grant(*link, *credit)),
+            Call::Drain(link) => done(self.drain(*link)),
+            Call::Credit(link) => credit_is(self.credit(*link)),
+            Call::HeldBack(session) => count(self.held_back(*session)),
+            Call::Waiting(session) => waiting(self.waiting(*session)),
         }
     }
 
@@ -407,6 +424,51 @@ fn begun(outcome: Result<u64, EndpointError>) -> Answer
 {
     match outcome {
         Ok(number) => Answer::Session(number),
+        Err(error) => Answer::Refused(error),
+    }
+}
+
+fn attaching(outcome: Result<Attaching, EndpointError>) -> Answer
+    ensures { MatchResult outcome (λ a. result ≡ Answer.Attaching a) (λ e. result ≡ Answer.Refused e) }
+{
+    match outcome {
+        Ok(attaching) => Answer::Attaching(attaching),
+        Err(error) => Answer::Refused(error),
+    }
+}
+
+fn link_closed(outcome: Result<Vec<Event>, EndpointError>) -> Answer
+    ensures { MatchResult outcome (λ events. result ≡ Answer.LinkClosed events) (λ e. result ≡ Answer.Refused e) }
+{
+    match outcome {
+        Ok(events) => Answer::LinkClosed(events),
+        Err(error) => Answer::Refused(error),
+    }
+}
+
+fn credit_is(outcome: Result<u32, EndpointError>) -> Answer
+    ensures { MatchResult outcome (λ left. result ≡ Answer.Credit left) (λ e. result ≡ Answer.Refused e) }
+{
+    match outcome {
+        Ok(left) => Answer::Credit(left),
+        Err(error) => Answer::Refused(error),
+    }
+}
+
+fn count(outcome: Result<usize, EndpointError>) -> Answer
+    ensures { MatchResult outcome (λ n. result ≡ Answer.Count n) (λ e. result ≡ Answer.Refused e) }
+{
+    match outcome {
+        Ok(number) => Answer::Count(number),
+        Err(error) => Answer::Refused(error),
+    }
+}
+
+fn waiting(outcome: Result<Vec<(u64, u64)>, EndpointError>) -> Answer
+    ensures { MatchResult outcome (λ turn. result ≡ Answer.Waiting turn) (λ e. result ≡ Answer.Refused e) }
+{
+    match outcome {
+        Ok(turn) => Answer::Waiting(turn),
         Err(error) => Answer::Refused(error),
     }
 }

@@ -2,7 +2,8 @@
 ghost use Rattle.std.specs.Prelude.{◌≡◌};
 ghost use Rattle.amqp_endpoint_core.specs.NoSessions.{session_refusal};
 
-use amqp_endpoint_model::{EndpointError, Event, SessionRelay};
+use amqp_endpoint_model::{Attaching, EndpointError, Event, SessionRelay};
+use amqp_endpoint_settings::LinkSettings;
 use amqp_session_connection::Connection;
 use amqp_session_frames::FrameBody;
 use amqp_session_performatives::SessionFrame;
@@ -12,7 +13,7 @@ use std::collections::VecDeque;
 
 /// The sessions of an endpoint that has none: a Begin that asks for one is refused with `NotImplemented`, and any other
 /// frame of a session with `NotFound`, as no session has its channel (part 2, 2.5.1). No session begins here either:
-/// that is refused with `NotImplemented`, too. Whatever number a call says, no session has it.
+/// that is refused with `NotImplemented`, too. Whatever number a call says, no session and no link has it.
 #[derive(Drop)]
 pub struct NoSessions {
     /// The connection that has none.
@@ -87,6 +88,81 @@ impl SessionRelay for NoSessions {
 
     fn try_end(&mut self, _number: u64) -> Result<(), TryEndError> {
         Err(TryEndError::RemoteEndNotReceived)
+    }
+
+    fn attach_sender(
+        &mut self,
+        _alloc: Global,
+        _limit: u32,
+        _session: u64,
+        _settings: &LinkSettings,
+        _out: &mut VecDeque<SessionFrame>,
+    ) -> Result<Attaching, EndpointError> {
+        Err(EndpointError::UnknownSession)
+    }
+
+    fn attach_receiver(
+        &mut self,
+        _alloc: Global,
+        _limit: u32,
+        _session: u64,
+        _settings: &LinkSettings,
+        _out: &mut VecDeque<SessionFrame>,
+    ) -> Result<Attaching, EndpointError> {
+        Err(EndpointError::UnknownSession)
+    }
+
+    fn detach(
+        &mut self,
+        _alloc: Global,
+        _limit: u32,
+        _link: u64,
+        _out: &mut VecDeque<SessionFrame>,
+    ) -> Result<(), EndpointError> {
+        Err(EndpointError::UnknownLink)
+    }
+
+    fn close_link(
+        &mut self,
+        _alloc: Global,
+        _limit: u32,
+        _link: u64,
+        _out: &mut VecDeque<SessionFrame>,
+    ) -> Result<Vec<Event>, EndpointError> {
+        Err(EndpointError::UnknownLink)
+    }
+
+    fn grant(
+        &mut self,
+        _alloc: Global,
+        _limit: u32,
+        _link: u64,
+        _credit: u32,
+        _out: &mut VecDeque<SessionFrame>,
+    ) -> Result<u32, EndpointError> {
+        Err(EndpointError::UnknownLink)
+    }
+
+    fn drain(
+        &mut self,
+        _alloc: Global,
+        _limit: u32,
+        _link: u64,
+        _out: &mut VecDeque<SessionFrame>,
+    ) -> Result<(), EndpointError> {
+        Err(EndpointError::UnknownLink)
+    }
+
+    fn credit(&self, _link: u64) -> Result<u32, EndpointError> {
+        Err(EndpointError::UnknownLink)
+    }
+
+    fn held_back(&self, _session: u64) -> Result<usize, EndpointError> {
+        Err(EndpointError::UnknownSession)
+    }
+
+    fn waiting(&self, _alloc: Global, _session: u64) -> Result<Vec<(u64, u64)>, EndpointError> {
+        Err(EndpointError::UnknownSession)
     }
 
     fn leave(&mut self) {}

@@ -4,11 +4,12 @@ ghost use Rattle.std.specs.FinMap as map;
 ghost use Rattle.std.specs.VecDeque.{deque_len, deque_capacity};
 ghost use Rattle.amqp_session_outgoing.specs.Queues.{frames_in};
 ghost use Rattle.amqp_session_core.specs.Refusals.{RefusesLink};
+ghost use Rattle.amqp_session_core.specs.State.{links_in};
 ghost use Rattle.amqp_session_core.specs.Steps.{Steps, Allocates};
 ghost use Rattle.amqp_endpoint_links.specs.Asking.{in_use, AsksFor, ByLink, AttachAnswered, FlowAnswered, DetachAnswered};
 
 use amqp_endpoint_asked::{AskRefusal, AskedLinks, SessionFlow};
-use amqp_session_core::{LinkRelay, Session, Unallocated};
+use amqp_session_core::{LinkRelay, Links, Session, Unallocated};
 use amqp_session_performatives::{Attach, Detach, Flow, SessionFrame};
 use amqp_session_types::{Boxed, InputHandle, OutputHandle, SessionError};
 use std::alloc::Global;
@@ -32,6 +33,17 @@ impl<R: Drop> Drop for AskingSession<R> {
             session: _,
             asked: _,
         } = self;
+    }
+}
+
+impl<R: Drop> AskingSession<R> {
+    /// The links of a session that is over, as `Session::into_links` gives them. The links that its peer asks for are
+    /// dropped.
+    pub fn into_links(self) -> Links<R>
+        ensures { result ≡ links_in self.session.links }
+    {
+        let AskingSession { session, asked: _ } = self;
+        session.into_links()
     }
 }
 

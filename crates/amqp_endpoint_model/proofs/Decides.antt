@@ -1,5 +1,5 @@
 -- Want of memory aside, a call's answer and what it leads to are decided by the state.
-use Rattle.std.proofs.Common.{◌≡◌, ◌≢◌, ℕ, true, List, [], ◌∷◌, ◌++◌, length, drop, refl, sym, ◌∙◌, ap, arith, subst, Option, Some, None, inl, inr}
+use Rattle.std.proofs.Common.{◌≡◌, ◌≢◌, ℕ, true, List, [], ◌∷◌, ◌++◌, length, drop, refl, sym, ◌∙◌, ap, append-nil, arith, subst, Option, Some, None, inl, inr}
 use Rattle.std.specs.Prelude.{◌&&◌, ◌||◌, ◌==◌, is_none}
 use Rattle.amqp_session_types.specs.declared.refusals.TryCloseError.{TryCloseError}
 use Rattle.amqp_endpoint_model.specs.declared.error.EndpointError.{EndpointError}
@@ -8,11 +8,11 @@ use Rattle.amqp_endpoint_model.specs.declared.event.Event.{Event}
 use Rattle.amqp_endpoint_model.specs.declared.phase.Phase.{Phase}
 use Rattle.amqp_endpoint_model.specs.declared.phase.Phase.TheVariants.{Unconnected, Greeting, Running, Over}
 use Rattle.amqp_endpoint_model.specs.declared.call.Call.{Call}
-use Rattle.amqp_endpoint_model.specs.declared.call.Call.TheVariants.{Connect, Feed, Pull, Queued, IsIdle, Heartbeat, BreakOff, Close as CloseCall, IsClosed, TryClose, Begin, AcceptBegin, End, IsEnded, TryEnd}
-use Rattle.amqp_endpoint_model.specs.Said.{Said, done, refused, fed, pulled, count, truth, tried_close, session_begun, tried_end, Told}
+use Rattle.amqp_endpoint_model.specs.declared.call.Call.TheVariants.{Connect, Feed, Pull, Queued, IsIdle, Heartbeat, BreakOff, Close as CloseCall, IsClosed, TryClose, Begin, AcceptBegin, End, IsEnded, TryEnd, AttachSender, AttachReceiver, Detach, CloseLink, Grant, Drain, Credit, HeldBack, Waiting as WaitingCall}
+use Rattle.amqp_endpoint_model.specs.Said.{Said, done, refused, fed, pulled, count, truth, tried_close, session_begun, tried_end, attaching, link_closed, credit_is, waiting, Told}
 use Rattle.amqp_endpoint_model.specs.Relay.{Relations, Decides}
 use Rattle.amqp_endpoint_model.specs.State.{State, Waiting, the_frame, text_of, heartbeat, own_close_with, limit_of}
-use Rattle.amqp_endpoint_model.specs.Step.{refusal, MayRefuse, Breaks, ClosesOwn, connected, opened, close_refusal, Greets, FeedsIn, Pulls, SessionsDo, SessionsRefuseCall, Step}
+use Rattle.amqp_endpoint_model.specs.Step.{refusal, MayRefuse, Breaks, ClosesOwn, connected, opened, close_refusal, Greets, FeedsIn, Pulls, SessionsAnswer, SessionsDo, SessionsRefuseCall, Step}
 use Rattle.amqp_endpoint_model.specs.History.{Run, HasMemory, AllHaveMemory, feeds_joined, told_joined}
 use Rattle.amqp_endpoint_model.proofs.Joins.{header_long}
 use Rattle.amqp_endpoint_model.proofs.Moves.{breaks-unique, closes_own-unique, sent-same}
@@ -50,6 +50,15 @@ IsPlain (AcceptBegin channel) = ⊥
 IsPlain (End number) = ⊥
 IsPlain (IsEnded number) = ⊥
 IsPlain (TryEnd number) = ⊥
+IsPlain (AttachSender session settings) = ⊥
+IsPlain (AttachReceiver session settings) = ⊥
+IsPlain (Detach link) = ⊥
+IsPlain (CloseLink link) = ⊥
+IsPlain (Grant link credit) = ⊥
+IsPlain (Drain link) = ⊥
+IsPlain (Credit link) = ⊥
+IsPlain (HeldBack session) = ⊥
+IsPlain (WaitingCall session) = ⊥
 IsPlain call = Unit {0}
 
 module _ {S : Type 0} where
@@ -177,6 +186,15 @@ module _ {S : Type 0} (does : Relations S) where
   TheirStep s (End number) a m = Step does s (End number) a m
   TheirStep s (IsEnded number) a m = Step does s (IsEnded number) a m
   TheirStep s (TryEnd number) a m = Step does s (TryEnd number) a m
+  TheirStep s (AttachSender session settings) a m = Step does s (AttachSender session settings) a m
+  TheirStep s (AttachReceiver session settings) a m = Step does s (AttachReceiver session settings) a m
+  TheirStep s (Detach link) a m = Step does s (Detach link) a m
+  TheirStep s (CloseLink link) a m = Step does s (CloseLink link) a m
+  TheirStep s (Grant link credit) a m = Step does s (Grant link credit) a m
+  TheirStep s (Drain link) a m = Step does s (Drain link) a m
+  TheirStep s (Credit link) a m = Step does s (Credit link) a m
+  TheirStep s (HeldBack session) a m = Step does s (HeldBack session) a m
+  TheirStep s (WaitingCall session) a m = Step does s (WaitingCall session) a m
   TheirStep s call a m = ⊥
 
   -- a call that concerns sessions is refused here, or the sessions refuse it, or do it
@@ -191,6 +209,22 @@ module _ {S : Type 0} (does : Relations S) where
   refused_said s call e m (inl is) same h = not_allowed e is refl same
   refused_said s call e m (inr (none, bars)) same h = barred e none bars h refl same
 
+  -- what they answer is done without a frame
+  answer_does : (s : State S) (call : Call) (a : Said) (m : State S) → SessionsAnswer does s call a m
+      → SessionsDo does s call a m
+  answer_does s call a m answers =
+      let P : State S → Type 0 = λ x. SessionsDo does s call a x in
+      let did : SessionsDo does s call a s =
+      record {
+        allowed = answers.allowed;
+        frames = [];
+        quiet = λ outside. refl;
+        calls = answers.calls;
+        fit = λ k d lt. absurd (omega (arith, lt));
+        queued = ap (λ (ws : List Waiting). record s { queue = ws }) (sym (append-nil s.queue));
+      } in
+      subst P (sym answers.same) did
+
   sessions_said : (s : State S) (call : Call) (a : Said) (m : State S) → TheirStep s call a m → HasMemory a
       → SessionsSaid s call a m
   sessions_said s Begin (refused e) m (refuses, same) h = refused_said s Begin e m refuses same h
@@ -202,10 +236,41 @@ module _ {S : Type 0} (does : Relations S) where
   sessions_said s (End number) done m step h = called step
   sessions_said s (IsEnded number) (refused e) m (may, same) h =
       absurd (no_refusal s (IsEnded number) e refl may h)
-  sessions_said s (IsEnded number) (truth b) m step h = called step
+  sessions_said s (IsEnded number) (truth b) m step h =
+      called (answer_does s (IsEnded number) (truth b) m step)
   sessions_said s (TryEnd number) (refused e) m (may, same) h =
       absurd (no_refusal s (TryEnd number) e refl may h)
   sessions_said s (TryEnd number) (tried_end o) m step h = called step
+  sessions_said s (AttachSender session settings) (refused e) m (refuses, same) h =
+      refused_said s (AttachSender session settings) e m refuses same h
+  sessions_said s (AttachSender session settings) (attaching link events) m step h = called step
+  sessions_said s (AttachReceiver session settings) (refused e) m (refuses, same) h =
+      refused_said s (AttachReceiver session settings) e m refuses same h
+  sessions_said s (AttachReceiver session settings) (attaching link events) m step h = called step
+  sessions_said s (Detach link) (refused e) m (refuses, same) h =
+      refused_said s (Detach link) e m refuses same h
+  sessions_said s (Detach link) done m step h = called step
+  sessions_said s (CloseLink link) (refused e) m (refuses, same) h =
+      refused_said s (CloseLink link) e m refuses same h
+  sessions_said s (CloseLink link) (link_closed events) m step h = called step
+  sessions_said s (Grant link credit) (refused e) m (refuses, same) h =
+      refused_said s (Grant link credit) e m refuses same h
+  sessions_said s (Grant link credit) (credit_is left) m step h = called step
+  sessions_said s (Drain link) (refused e) m (refuses, same) h =
+      refused_said s (Drain link) e m refuses same h
+  sessions_said s (Drain link) done m step h = called step
+  sessions_said s (Credit link) (refused e) m (refuses, same) h =
+      refused_said s (Credit link) e m refuses same h
+  sessions_said s (Credit link) (credit_is left) m step h =
+      called (answer_does s (Credit link) (credit_is left) m step)
+  sessions_said s (HeldBack session) (refused e) m (refuses, same) h =
+      refused_said s (HeldBack session) e m refuses same h
+  sessions_said s (HeldBack session) (count n) m step h =
+      called (answer_does s (HeldBack session) (count n) m step)
+  sessions_said s (WaitingCall session) (refused e) m (refuses, same) h =
+      refused_said s (WaitingCall session) e m refuses same h
+  sessions_said s (WaitingCall session) (waiting turn) m step h =
+      called (answer_does s (WaitingCall session) (waiting turn) m step)
   sessions_said s call a m step h = absurd step
 
 module _ {S : Type 0} (does : Relations S) (law : Decides does) where
@@ -324,6 +389,24 @@ module _ {S : Type 0} (does : Relations S) (law : Decides does) where
   step-decides s (End number) a b m n r t h k = theirs-decide s (End number) a b m n r t h k
   step-decides s (IsEnded number) a b m n r t h k = theirs-decide s (IsEnded number) a b m n r t h k
   step-decides s (TryEnd number) a b m n r t h k = theirs-decide s (TryEnd number) a b m n r t h k
+  step-decides s (AttachSender session settings) a b m n r t h k =
+      theirs-decide s (AttachSender session settings) a b m n r t h k
+  step-decides s (AttachReceiver session settings) a b m n r t h k =
+      theirs-decide s (AttachReceiver session settings) a b m n r t h k
+  step-decides s (Detach link) a b m n r t h k =
+      theirs-decide s (Detach link) a b m n r t h k
+  step-decides s (CloseLink link) a b m n r t h k =
+      theirs-decide s (CloseLink link) a b m n r t h k
+  step-decides s (Grant link credit) a b m n r t h k =
+      theirs-decide s (Grant link credit) a b m n r t h k
+  step-decides s (Drain link) a b m n r t h k =
+      theirs-decide s (Drain link) a b m n r t h k
+  step-decides s (Credit link) a b m n r t h k =
+      theirs-decide s (Credit link) a b m n r t h k
+  step-decides s (HeldBack session) a b m n r t h k =
+      theirs-decide s (HeldBack session) a b m n r t h k
+  step-decides s (WaitingCall session) a b m n r t h k =
+      theirs-decide s (WaitingCall session) a b m n r t h k
   step-decides s call a b m n r t h k = plain-decides s call a b m n tt r t h k
 
   told-same : (t u : Told) → t.answer ≡ u.answer → t.queued ≡ u.queued → t ≡ u

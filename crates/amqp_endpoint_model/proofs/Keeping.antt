@@ -6,9 +6,9 @@ use Rattle.amqp_endpoint_model.specs.declared.phase.Phase.{Phase}
 use Rattle.amqp_endpoint_model.specs.declared.phase.Phase.TheVariants.{Unconnected, Greeting, Running, Over}
 use Rattle.amqp_endpoint_model.specs.declared.settings.Settings.{Settings}
 use Rattle.amqp_endpoint_model.specs.declared.call.Call.{Call}
-use Rattle.amqp_endpoint_model.specs.declared.call.Call.TheVariants.{Connect, Feed, Pull, Queued, IsIdle, Heartbeat, BreakOff, Close as CloseCall, IsClosed, TryClose, Begin, AcceptBegin, End, IsEnded, TryEnd}
+use Rattle.amqp_endpoint_model.specs.declared.call.Call.TheVariants.{Connect, Feed, Pull, Queued, IsIdle, Heartbeat, BreakOff, Close as CloseCall, IsClosed, TryClose, Begin, AcceptBegin, End, IsEnded, TryEnd, AttachSender, AttachReceiver, Detach, CloseLink, Grant, Drain, Credit, HeldBack, Waiting as WaitingCall}
 use Rattle.amqp_endpoint_model.specs.Relay.{Relations}
-use Rattle.amqp_endpoint_model.specs.Said.{Said, done, refused, fed, pulled, count, truth, tried_close, session_begun, tried_end, Told}
+use Rattle.amqp_endpoint_model.specs.Said.{Said, done, refused, fed, pulled, count, truth, tried_close, session_begun, tried_end, attaching, link_closed, credit_is, waiting, Told}
 use Rattle.amqp_endpoint_model.specs.State.{State, fresh}
 use Rattle.amqp_endpoint_model.specs.Step.{AfterFault, EndsRunning, Ends, ReadsOn, FeedsIn, condition_of, opened, Step}
 use Rattle.amqp_endpoint_model.specs.History.{Run, Summary, nothing, note, summary, Pieces}
@@ -70,8 +70,17 @@ module _ {S : Type 0} (does : Relations S) where
   step-settings old Begin (session_begun number) new step = ap (λ s. s.settings) step.queued
   step-settings old (AcceptBegin channel) (session_begun number) new step = ap (λ s. s.settings) step.queued
   step-settings old (End number) done new step = ap (λ s. s.settings) step.queued
-  step-settings old (IsEnded number) (truth b) new step = ap (λ s. s.settings) step.queued
+  step-settings old (IsEnded number) (truth b) new step = ap (λ s. s.settings) step.same
   step-settings old (TryEnd number) (tried_end o) new step = ap (λ s. s.settings) step.queued
+  step-settings old (AttachSender session settings) (attaching link events) new step = ap (λ s. s.settings) step.queued
+  step-settings old (AttachReceiver session settings) (attaching link events) new step = ap (λ s. s.settings) step.queued
+  step-settings old (Detach link) done new step = ap (λ s. s.settings) step.queued
+  step-settings old (CloseLink link) (link_closed events) new step = ap (λ s. s.settings) step.queued
+  step-settings old (Grant link credit) (credit_is left) new step = ap (λ s. s.settings) step.queued
+  step-settings old (Drain link) done new step = ap (λ s. s.settings) step.queued
+  step-settings old (Credit link) (credit_is left) new step = ap (λ s. s.settings) step.same
+  step-settings old (HeldBack session) (count n) new step = ap (λ s. s.settings) step.same
+  step-settings old (WaitingCall session) (waiting turn) new step = ap (λ s. s.settings) step.same
   step-settings old call answer new step = absurd step
 
   run-stands : (limit : ℕ) (σ : Summary) (old : State S) (calls : List Call) (ts : List Told) (new : State S)

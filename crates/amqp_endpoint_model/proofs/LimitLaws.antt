@@ -19,9 +19,9 @@ use Rattle.amqp_endpoint_model.specs.declared.phase.Phase.{Phase}
 use Rattle.amqp_endpoint_model.specs.declared.phase.Phase.TheVariants.{Unconnected, Greeting, Running, Over}
 use Rattle.amqp_endpoint_model.specs.declared.settings.Settings.{Settings}
 use Rattle.amqp_endpoint_model.specs.declared.call.Call.{Call}
-use Rattle.amqp_endpoint_model.specs.declared.call.Call.TheVariants.{Connect, Feed, Pull, Queued, IsIdle, Heartbeat, BreakOff, Close as CloseCall, IsClosed, TryClose, Begin, AcceptBegin, End, IsEnded, TryEnd}
+use Rattle.amqp_endpoint_model.specs.declared.call.Call.TheVariants.{Connect, Feed, Pull, Queued, IsIdle, Heartbeat, BreakOff, Close as CloseCall, IsClosed, TryClose, Begin, AcceptBegin, End, IsEnded, TryEnd, AttachSender, AttachReceiver, Detach, CloseLink, Grant, Drain, Credit, HeldBack, Waiting as WaitingCall}
 use Rattle.amqp_endpoint_model.specs.Relay.{Relations}
-use Rattle.amqp_endpoint_model.specs.Said.{Said, done, refused, fed, pulled, count, truth, tried_close, session_begun, tried_end, Told}
+use Rattle.amqp_endpoint_model.specs.Said.{Said, done, refused, fed, pulled, count, truth, tried_close, session_begun, tried_end, attaching, link_closed, credit_is, waiting, Told}
 use Rattle.amqp_endpoint_model.specs.State.{State, Waiting, the_frame, text_of, fresh, written, text_or_nothing, text_fits, fits, frame_of, waiting_of, own_open, own_close_with, heartbeat, error_of, limit_of}
 use Rattle.amqp_endpoint_model.specs.Step.{TakesBody, TakesAll, AfterFault, EndsRunning, Ends, ReadsOn, Greets, FeedsIn, opened, cut_off, faulted, condition_of, condition_of_frame, condition_of_connection, framing_error, decode_error, not_allowed, not_found, refusal_of_settings, Step}
 use Rattle.amqp_endpoint_model.specs.History.{Run, Summary, nothing, note, IsWithin, KeepsLimit}
@@ -283,8 +283,23 @@ module _ {S : Type 0} (does : Relations S) where
   step-fits old (AcceptBegin channel) (session_begun number) new o h step =
       sent-fits old new step.frames h step.fit step.queued
   step-fits old (End number) done new o h step = sent-fits old new step.frames h step.fit step.queued
-  step-fits old (IsEnded number) (truth b) new o h step = sent-fits old new step.frames h step.fit step.queued
+  step-fits old (IsEnded number) (truth b) new o h step = to old new step.same h
   step-fits old (TryEnd number) (tried_end x) new o h step = sent-fits old new step.frames h step.fit step.queued
+  step-fits old (AttachSender session settings) (attaching link events) new o h step =
+      sent-fits old new step.frames h step.fit step.queued
+  step-fits old (AttachReceiver session settings) (attaching link events) new o h step =
+      sent-fits old new step.frames h step.fit step.queued
+  step-fits old (Detach link) done new o h step =
+      sent-fits old new step.frames h step.fit step.queued
+  step-fits old (CloseLink link) (link_closed events) new o h step =
+      sent-fits old new step.frames h step.fit step.queued
+  step-fits old (Grant link credit) (credit_is left) new o h step =
+      sent-fits old new step.frames h step.fit step.queued
+  step-fits old (Drain link) done new o h step =
+      sent-fits old new step.frames h step.fit step.queued
+  step-fits old (Credit link) (credit_is left) new o h step = to old new step.same h
+  step-fits old (HeldBack session) (count n) new o h step = to old new step.same h
+  step-fits old (WaitingCall session) (waiting turn) new o h step = to old new step.same h
   step-fits old call answer new o h step = absurd step
 
   pull-within : (most : ℕ) (σ : Summary) (s : State S) (bytes : List ℕ) (first : Waiting) (others : List Waiting)

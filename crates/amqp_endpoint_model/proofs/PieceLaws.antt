@@ -17,9 +17,9 @@ use Rattle.amqp_endpoint_model.specs.declared.event.Event.{Event}
 use Rattle.amqp_endpoint_model.specs.declared.phase.Phase.{Phase}
 use Rattle.amqp_endpoint_model.specs.declared.phase.Phase.TheVariants.{Unconnected, Greeting, Running, Over}
 use Rattle.amqp_endpoint_model.specs.declared.call.Call.{Call}
-use Rattle.amqp_endpoint_model.specs.declared.call.Call.TheVariants.{Connect, Feed, Pull, Queued, IsIdle, Heartbeat, BreakOff, Close as CloseCall, IsClosed, TryClose, Begin, AcceptBegin, End, IsEnded, TryEnd}
+use Rattle.amqp_endpoint_model.specs.declared.call.Call.TheVariants.{Connect, Feed, Pull, Queued, IsIdle, Heartbeat, BreakOff, Close as CloseCall, IsClosed, TryClose, Begin, AcceptBegin, End, IsEnded, TryEnd, AttachSender, AttachReceiver, Detach, CloseLink, Grant, Drain, Credit, HeldBack, Waiting as WaitingCall}
 use Rattle.amqp_endpoint_model.specs.Relay.{Relations}
-use Rattle.amqp_endpoint_model.specs.Said.{Said, done, refused, pulled, count, truth, tried_close, session_begun, tried_end}
+use Rattle.amqp_endpoint_model.specs.Said.{Said, done, refused, pulled, count, truth, tried_close, session_begun, tried_end, attaching, link_closed, credit_is, waiting}
 use Rattle.amqp_endpoint_model.specs.State.{State, protocol_header, limit_of}
 use Rattle.amqp_endpoint_model.specs.Step.{Admits, Waits, Front, FrontUnread, FrontRefused, SessionsRefuse, RefusesBody, AfterFault, TakesAll, EndsRunning, Ends, ReadsOn, Greets, BreaksGreeting, FeedsIn, SessionsDo, condition_of, cut_off, opened, Step}
 use Rattle.amqp_endpoint_model.specs.History.{Summary, nothing, first_fault, note_fed, note, FramesTell, has_open, has_close, CloseIsLast, OpenIsOnce, Next, NextOpen, NextRefused, Stops, Framed, Pieces, judge_limit}
@@ -649,9 +649,33 @@ module _ {S : Type 0} (does : Relations S) where
   quiet σ old (End number) (refused e) new q (bars, same) = quiet-same σ old new same
   quiet σ old (End number) done new q step = quiet-sessions σ old (End number) done new step
   quiet σ old (IsEnded number) (refused e) new q (may, same) = quiet-same σ old new same
-  quiet σ old (IsEnded number) (truth b) new q step = quiet-sessions σ old (IsEnded number) (truth b) new step
+  quiet σ old (IsEnded number) (truth b) new q step = quiet-same σ old new step.same
   quiet σ old (TryEnd number) (refused e) new q (may, same) = quiet-same σ old new same
   quiet σ old (TryEnd number) (tried_end o) new q step = quiet-sessions σ old (TryEnd number) (tried_end o) new step
+  quiet σ old (AttachSender session settings) (refused e) new q (bars, same) = quiet-same σ old new same
+  quiet σ old (AttachSender session settings) (attaching link events) new q step =
+      quiet-sessions σ old (AttachSender session settings) (attaching link events) new step
+  quiet σ old (AttachReceiver session settings) (refused e) new q (bars, same) = quiet-same σ old new same
+  quiet σ old (AttachReceiver session settings) (attaching link events) new q step =
+      quiet-sessions σ old (AttachReceiver session settings) (attaching link events) new step
+  quiet σ old (Detach link) (refused e) new q (bars, same) = quiet-same σ old new same
+  quiet σ old (Detach link) done new q step =
+      quiet-sessions σ old (Detach link) done new step
+  quiet σ old (CloseLink link) (refused e) new q (bars, same) = quiet-same σ old new same
+  quiet σ old (CloseLink link) (link_closed events) new q step =
+      quiet-sessions σ old (CloseLink link) (link_closed events) new step
+  quiet σ old (Grant link credit) (refused e) new q (bars, same) = quiet-same σ old new same
+  quiet σ old (Grant link credit) (credit_is left) new q step =
+      quiet-sessions σ old (Grant link credit) (credit_is left) new step
+  quiet σ old (Drain link) (refused e) new q (bars, same) = quiet-same σ old new same
+  quiet σ old (Drain link) done new q step =
+      quiet-sessions σ old (Drain link) done new step
+  quiet σ old (Credit link) (refused e) new q (bars, same) = quiet-same σ old new same
+  quiet σ old (Credit link) (credit_is left) new q step = quiet-same σ old new step.same
+  quiet σ old (HeldBack session) (refused e) new q (bars, same) = quiet-same σ old new same
+  quiet σ old (HeldBack session) (count n) new q step = quiet-same σ old new step.same
+  quiet σ old (WaitingCall session) (refused e) new q (bars, same) = quiet-same σ old new same
+  quiet σ old (WaitingCall session) (waiting turn) new q step = quiet-same σ old new step.same
   quiet σ old call answer new q step = absurd step
 
   same-stands : (limit : ℕ) (σ : Summary) (old new : State S) → StandsAt limit σ old → new ≡ old → StandsAt limit σ new

@@ -1,11 +1,11 @@
 -- What calls answer, as plain data.
-use Rattle.std.specs.Prelude.{ℕ, Bool, List, Option, Some, None, Result, Ok, Err, ⊤}
+use Rattle.std.specs.Prelude.{ℕ, ◌×◌, Bool, List, Option, Some, None, Result, Ok, Err, ⊤}
 use Rattle.amqp_session_types.specs.declared.refusals.TryCloseError.{TryCloseError}
 use Rattle.amqp_session_types.specs.declared.refusals.TryEndError.{TryEndError}
 use Rattle.amqp_endpoint_model.specs.declared.error.EndpointError.{EndpointError}
 use Rattle.amqp_endpoint_model.specs.declared.event.Event.{Event}
 use Rattle.amqp_endpoint_model.specs.declared.answer.Answer.{Answer}
-use Rattle.amqp_endpoint_model.specs.declared.answer.Answer.TheVariants.{Done, Refused, Fed, Pulled, Count, Truth, TriedClose, Session, TriedEnd}
+use Rattle.amqp_endpoint_model.specs.declared.answer.Answer.TheVariants.{Done, Refused, Fed, Pulled, Count, Truth, TriedClose, Session, TriedEnd, Attaching, LinkClosed, Credit, Waiting}
 use Rattle.amqp_endpoint_model.specs.declared.answer.Reply.{Reply}
 
 pub data Said : Type 0 where
@@ -23,6 +23,14 @@ pub data Said : Type 0 where
   session_begun : ℕ → Said
   -- the refusal of try_end, if any
   tried_end : Option TryEndError → Said
+  -- the number of a link that attaches, and what comes of it at once
+  attaching : ℕ → List Event → Said
+  -- the outcomes that closing a link fails
+  link_closed : List Event → Said
+  -- the credit of a link
+  credit_is : ℕ → Said
+  -- the links of which transfers wait, in turn, each with how many
+  waiting : List (ℕ × ℕ) → Said
 
 -- why it is refused, if it is
 abbrev pub refusal_in : {E : Type 0} → Result ⊤ E → Option E
@@ -42,6 +50,10 @@ said (TriedClose (Err e)) = tried_close (Some e)
 said (Session number) = session_begun number
 said (TriedEnd (Ok u)) = tried_end None
 said (TriedEnd (Err e)) = tried_end (Some e)
+said (Attaching a) = attaching a.link (a.events.items)
+said (LinkClosed events) = link_closed (events.items)
+said (Credit n) = credit_is n
+said (Waiting turn) = waiting (turn.items)
 
 -- an answer, and how many answers of bytes pull still gives behind it
 pub record Told : Type 0 where

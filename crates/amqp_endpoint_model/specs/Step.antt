@@ -19,7 +19,7 @@ use Rattle.amqp_endpoint_model.specs.declared.settings.Settings.{Settings}
 use Rattle.amqp_endpoint_model.specs.declared.phase.Phase.{Phase}
 use Rattle.amqp_endpoint_model.specs.declared.phase.Phase.TheVariants.{Unconnected, Greeting, Running, Over}
 use Rattle.amqp_endpoint_model.specs.declared.call.Call.{Call}
-use Rattle.amqp_endpoint_model.specs.declared.call.Call.TheVariants.{Connect, Feed, Pull, Queued, IsIdle, Heartbeat, BreakOff, Close as CloseCall, IsClosed, TryClose, Begin, AcceptBegin, End, IsEnded, TryEnd}
+use Rattle.amqp_endpoint_model.specs.declared.call.Call.TheVariants.{Connect, Feed, Pull, Queued, IsIdle, Heartbeat, BreakOff, Close as CloseCall, IsClosed, TryClose, Begin, AcceptBegin, End, IsEnded, TryEnd, AttachSender, AttachReceiver, Detach, CloseLink, Grant, Drain, Credit, HeldBack, Waiting as WaitingCall}
 use Rattle.amqp_session_performatives.specs.declared.open.Open.{Open as OpenFields}
 use Rattle.amqp_session_performatives.specs.declared.session_frame.SessionFrame.{SessionFrame}
 use Rattle.amqp_session_connection.specs.declared.state.ConnectionState.{ConnectionState}
@@ -27,7 +27,7 @@ use Rattle.amqp_session_connection.specs.declared.state.ConnectionState.TheVaria
 use Rattle.amqp_session_connection.specs.State as channels
 use Rattle.amqp_session_connection.specs.Table.{after_incoming_close, after_incoming_open, after_send_close}
 use Rattle.amqp_endpoint_model.specs.Relay.{Relations, IsOfSession, IsSessionFault}
-use Rattle.amqp_endpoint_model.specs.Said.{Said, done, refused, fed, pulled, count, truth, tried_close, session_begun, tried_end}
+use Rattle.amqp_endpoint_model.specs.Said.{Said, done, refused, fed, pulled, count, truth, tried_close, session_begun, tried_end, attaching, link_closed, credit_is, waiting}
 use Rattle.amqp_endpoint_model.specs.State.{State, is_unconnected, is_running, has_opened, protocol_header, own_open, own_close_with, error_of, heartbeat, fits, frame_of, limit_of, Waiting, the_header, the_frame, text_of, waiting_of}
 
 -- the first refusal that applies to settings (part 2, 2.7.1; 2.5.6)
@@ -387,6 +387,15 @@ module _ {S : Type 0} (does : Relations S) where
   IsRefused s Begin e = SessionsRefuseCall s Begin e
   IsRefused s (AcceptBegin channel) e = SessionsRefuseCall s (AcceptBegin channel) e
   IsRefused s (End number) e = SessionsRefuseCall s (End number) e
+  IsRefused s (AttachSender session settings) e = SessionsRefuseCall s (AttachSender session settings) e
+  IsRefused s (AttachReceiver session settings) e = SessionsRefuseCall s (AttachReceiver session settings) e
+  IsRefused s (Detach link) e = SessionsRefuseCall s (Detach link) e
+  IsRefused s (CloseLink link) e = SessionsRefuseCall s (CloseLink link) e
+  IsRefused s (Grant link credit) e = SessionsRefuseCall s (Grant link credit) e
+  IsRefused s (Drain link) e = SessionsRefuseCall s (Drain link) e
+  IsRefused s (Credit link) e = SessionsRefuseCall s (Credit link) e
+  IsRefused s (HeldBack session) e = SessionsRefuseCall s (HeldBack session) e
+  IsRefused s (WaitingCall session) e = SessionsRefuseCall s (WaitingCall session) e
   IsRefused s call e = MayRefuse s call e
 
   -- the sessions do what they are called for: what they send then fits the limit of written frames
@@ -398,6 +407,12 @@ module _ {S : Type 0} (does : Relations S) where
     pub calls : does.calls old.sessions (limit_of old.peer_limit) call answer frames new.sessions
     pub fit : All (λ f. fits (limit_of old.peer_limit) (frame_of f) ≡ true) frames
     pub queued : new ≡ record old { sessions = new.sessions; queue = old.queue ++ map waiting_of frames }
+
+  -- the sessions answer what they are asked for, and nothing changes
+  pub record SessionsAnswer (old : State S) (call : Call) (answer : Said) (new : State S) : Type 0 where
+    pub allowed : refusal old call ≡ None
+    pub calls : does.calls old.sessions (limit_of old.peer_limit) call answer [] old.sessions
+    pub same : new ≡ old
 
   -- from old, a call may answer so and lead to new; a refusal changes nothing
   abbrev pub Step : State S → Call → Said → State S → Type 0
@@ -425,6 +440,15 @@ module _ {S : Type 0} (does : Relations S) where
   Step old (AcceptBegin channel) (session_begun number) new =
       SessionsDo old (AcceptBegin channel) (session_begun number) new
   Step old (End number) done new = SessionsDo old (End number) done new
-  Step old (IsEnded number) (truth b) new = SessionsDo old (IsEnded number) (truth b) new
+  Step old (IsEnded number) (truth b) new = SessionsAnswer old (IsEnded number) (truth b) new
   Step old (TryEnd number) (tried_end o) new = SessionsDo old (TryEnd number) (tried_end o) new
+  Step old (AttachSender session settings) (attaching link events) new = SessionsDo old (AttachSender session settings) (attaching link events) new
+  Step old (AttachReceiver session settings) (attaching link events) new = SessionsDo old (AttachReceiver session settings) (attaching link events) new
+  Step old (Detach link) done new = SessionsDo old (Detach link) done new
+  Step old (CloseLink link) (link_closed events) new = SessionsDo old (CloseLink link) (link_closed events) new
+  Step old (Grant link credit) (credit_is left) new = SessionsDo old (Grant link credit) (credit_is left) new
+  Step old (Drain link) done new = SessionsDo old (Drain link) done new
+  Step old (Credit link) (credit_is left) new = SessionsAnswer old (Credit link) (credit_is left) new
+  Step old (HeldBack session) (count n) new = SessionsAnswer old (HeldBack session) (count n) new
+  Step old (WaitingCall session) (waiting turn) new = SessionsAnswer old (WaitingCall session) (waiting turn) new
   Step old call said new = ⊥

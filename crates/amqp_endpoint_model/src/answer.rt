@@ -14,6 +14,16 @@ pub struct Fed {
     pub fault: Option<EndpointError>,
 }
 
+/// What `attach_sender` and `attach_receiver` answer.
+#[derive(Debug, Drop)]
+pub struct Attaching {
+    /// The number that the link has from now on.
+    pub link: u64,
+    /// What comes of it at once: Attached where the peer asked for the link before (part 2, 2.6.3). Empty where its
+    /// answer is awaited.
+    pub events: Vec<Event>,
+}
+
 /// What a call answers.
 #[derive(Debug, Drop)]
 pub enum Answer {
@@ -25,7 +35,7 @@ pub enum Answer {
     Fed(Fed),
     /// What `pull` answers: the protocol header or one frame.
     Pulled(Option<Vec<u8>>),
-    /// What `queued` answers.
+    /// What `queued` or `held_back` answers.
     Count(usize),
     /// What `is_idle`, `is_closed` or `is_ended` answers.
     Truth(bool),
@@ -35,6 +45,14 @@ pub enum Answer {
     Session(u64),
     /// What `try_end` answers.
     TriedEnd(Result<(), TryEndError>),
+    /// What `attach_sender` or `attach_receiver` answers.
+    Attaching(Attaching),
+    /// What `close_link` answers: the outcomes that it fails.
+    LinkClosed(Vec<Event>),
+    /// What `credit` answers, or `grant`: the credit that was left before.
+    Credit(u32),
+    /// What `waiting` answers: the links of which transfers wait, in turn, each with how many.
+    Waiting(Vec<(u64, u64)>),
 }
 
 /// What a call answered, and how many answers of bytes `pull` still gives after it.

@@ -4,21 +4,14 @@ ghost use Rattle.amqp_endpoint_model.specs.declared.error.EndpointError.TheVaria
 ghost use Rattle.amqp_endpoint_model.specs.Numbers.{number};
 ghost use Rattle.amqp_endpoint_model.specs.Refusals.{of_connection};
 
+use amqp_link_types::LinkError;
 use amqp_session_frames::Error as FrameError;
 use amqp_session_types::{ConnectionError, SessionError};
 use std::alloc::{AllocError, AllocFailed};
 use thiserror::Error;
 
-/// What a link refuses. Links come with their own errors here.
-#[derive(Debug, Clone, Copy, PartialEq, Eq, Drop, Error)]
-pub enum LinkError {
-    /// The link is in a state that doesn't allow it.
-    #[error("the link is in a state that does not allow it")]
-    IllegalState,
-}
-
 /// Why a call is refused, or a feed ends the connection. Each has a number.
-#[derive(Debug, Clone, PartialEq, Eq, Drop, Error)]
+#[derive(Debug, Clone, PartialEq, Eq, Error)]
 pub enum EndpointError {
     /// 1: a growth was refused.
     #[error("out of memory")]
@@ -107,6 +100,42 @@ pub enum EndpointError {
     /// 29: the link refuses.
     #[error("link: {0}")]
     Link(LinkError),
+}
+
+impl Drop for EndpointError {
+    fn drop(self) {
+        match self {
+            EndpointError::Memory => {}
+            EndpointError::NotConnected => {}
+            EndpointError::AlreadyConnected => {}
+            EndpointError::LimitUnder512 => {}
+            EndpointError::WindowOutOfRange => {}
+            EndpointError::FrameTooLarge => {}
+            EndpointError::UnknownSession => {}
+            EndpointError::UnknownLink => {}
+            EndpointError::UnknownMessage => {}
+            EndpointError::CreditMissing => {}
+            EndpointError::NumberInUse => {}
+            EndpointError::MessageTooLarge => {}
+            EndpointError::CreditOutOfRange => {}
+            EndpointError::AlreadyDisposed => {}
+            EndpointError::NotAssociated => {}
+            EndpointError::DuplicatedLinkName => {}
+            EndpointError::IllegalState => {}
+            EndpointError::LocalChannelMaxReached => {}
+            EndpointError::HandleMaxReached => {}
+            EndpointError::NotAsked => {}
+            EndpointError::NumbersUsedUp => {}
+            EndpointError::ProtocolHeaderMismatch => {}
+            EndpointError::SizeUnder8 => {}
+            EndpointError::SizeOverLimit => {}
+            EndpointError::PeerLimitUnder512 => {}
+            EndpointError::Frame(_) => {}
+            EndpointError::Connection(_) => {}
+            EndpointError::Session(_) => {}
+            EndpointError::Link(_) => {}
+        }
+    }
 }
 
 impl EndpointError {

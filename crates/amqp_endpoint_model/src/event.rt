@@ -1,5 +1,6 @@
 //! What an endpoint tells of its peer.
 use crate::error::EndpointError;
+use amqp_link_attach::AttachExchange;
 use amqp_session_performatives::Attach;
 use amqp_session_types::{Boxed, IncomingChannel, definitions};
 use serde_amqp_types::Text;
@@ -51,6 +52,26 @@ pub struct LinkAsked {
     pub attach: Boxed<Attach>,
 }
 
+/// A link that both ends attached (part 2, 2.6.3).
+#[derive(Debug, Drop)]
+pub struct Attached {
+    /// The link's number.
+    pub link: u64,
+    /// What is to be done for the deliveries that are unsettled (part 2, 2.6.13).
+    pub exchange: AttachExchange,
+}
+
+/// A link that the peer detached (part 2, 2.6.5, 2.6.6, 2.7.7). It is answered by the own Detach, where that hadn't gone.
+#[derive(Debug, Drop)]
+pub struct Detached {
+    /// The link's number.
+    pub link: u64,
+    /// Whether either end closed it: no link has the number any more then.
+    pub closed: bool,
+    /// Why the peer detaches it, where it says so.
+    pub error: Option<definitions::Error>,
+}
+
 /// A session that the peer ended (part 2, 2.5.2, 2.7.8). It is answered by the own End, where that hadn't gone and the
 /// session had begun.
 #[derive(Debug, Drop)]
@@ -83,6 +104,10 @@ pub enum Event {
     Begun(Begun),
     /// The peer asks for a link.
     LinkAsked(LinkAsked),
+    /// A link is attached at both ends.
+    Attached(Attached),
+    /// The peer detached a link.
+    Detached(Detached),
     /// The peer ended a session.
     Ended(Ended),
     /// The peer broke a rule of a session or a link, which ended here.

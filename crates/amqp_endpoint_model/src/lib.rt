@@ -10,10 +10,12 @@ mod phase;
 mod relay;
 mod settings;
 
-pub use answer::{Answer, Fed, Reply};
+pub use answer::{Answer, Attaching, Fed, Reply};
 pub use call::Call;
-pub use error::{EndpointError, LinkError};
-pub use event::{Begun, Closed, Ended, Event, LinkAsked, Opened, Refused, SessionAsked};
+pub use error::EndpointError;
+pub use event::{
+    Attached, Begun, Closed, Detached, Ended, Event, LinkAsked, Opened, Refused, SessionAsked,
+};
 pub use laws::{
     bytes_decide, judge_says_one_limit, limit_kept, pieces_of_all_bytes, recut, step_decides, uncut,
 };

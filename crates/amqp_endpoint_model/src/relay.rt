@@ -5,11 +5,13 @@ ghost use types.Logic.{sem};
 ghost use Rattle.amqp_session_connection.specs.State as channels;
 ghost use Rattle.amqp_session_connection.specs.contracts.connection.Connection.{the_row as connection_row};
 ghost use Rattle.amqp_endpoint_model.specs.Relay.{Called, IsOfSession, Refused, StandsStill, Taken};
-ghost use Rattle.amqp_endpoint_model.specs.Said.{done, session_begun, tried_end, truth, refusal_in};
-ghost use Rattle.amqp_endpoint_model.specs.declared.call.Call.TheVariants.{AcceptBegin, Begin, End, IsEnded, TryEnd};
+ghost use Rattle.amqp_endpoint_model.specs.Said.{attaching, count, credit_is, done, link_closed, session_begun, tried_end, truth, refusal_in, waiting};
+ghost use Rattle.amqp_endpoint_model.specs.declared.call.Call.TheVariants.{AcceptBegin, AttachReceiver, AttachSender, Begin, CloseLink, Credit, Detach, Drain, End, Grant, HeldBack, IsEnded, TryEnd, Waiting};
 
+use crate::answer::Attaching;
 use crate::error::EndpointError;
 use crate::event::Event;
+use amqp_endpoint_settings::LinkSettings;
 use amqp_session_connection::Connection;
 use amqp_session_frames::FrameBody;
 use amqp_session_performatives::SessionFrame;
@@ -19,7 +21,7 @@ use std::collections::VecDeque;
 
 /// The sessions of an endpoint as its connection sees them (part 2, 2.5). They hold the connection, which gives them
 /// their channels; the endpoint moves it on by headers, Open and Close, and hands them the peer's other frames and the
-/// calls that concern sessions. A type that stands for sessions says by its relations, `does`, what these calls do, and
+/// calls that concern sessions and their links. A type that stands for sessions says by its relations, `does`, what these calls do, and
 /// an endpoint is proved for all of them.
 ///
 /// A call that sends is handed the limit of written frames, which is 512 bytes at least (part 2, 2.4.1): what it hands
@@ -151,6 +153,139 @@ pub trait SessionRelay: Drop {
         ensures within { (limit : ℕ) → does.within limit self.old → does.within limit self.new }
         ensures idle { does.idle self.old → does.idle self.new }
         ensures still { StandsStill (does.connection self.old) (does.connection self.new) };
+
+    /// Attaches a link as its sending end in the session with this number, and answers the link's number with what comes
+    /// of it at once. Its Attach is handed out (part 2, 2.6.3, 2.7.3).
+    fn attach_sender(
+        &mut self,
+        alloc: Global,
+        limit: u32,
+        session: u64,
+        settings: &LinkSettings,
+        out: &mut VecDeque<SessionFrame>,
+    ) -> Result<Attaching, EndpointError>
+        requires least { 512 ≤ limit }
+        ensures ok { IfOk result (λ a. Called does self.old limit (AttachSender session settings.now)
+            (attaching a.link a.events.items) out.old.items self.new out.new.items) }
+        ensures err { IfErr result (does.bars self.old limit (AttachSender session settings.now)) }
+        ensures kept { OnErr result ((self.new ≡ self.old) × (out.new.items ≡ out.old.items)) }
+        ensures within { (most : ℕ) → 512 ≤ most → does.within most self.old → does.within most self.new }
+        ensures quiet { does.idle self.old → out.new.items ≡ out.old.items }
+        ensures idle { does.idle self.old → does.idle self.new }
+        ensures still { StandsStill (does.connection self.old) (does.connection self.new) };
+
+    /// Attaches a link as its receiving end, as `attach_sender` does as its sending end.
+    fn attach_receiver(
+        &mut self,
+        alloc: Global,
+        limit: u32,
+        session: u64,
+        settings: &LinkSettings,
+        out: &mut VecDeque<SessionFrame>,
+    ) -> Result<Attaching, EndpointError>
+        requires least { 512 ≤ limit }
+        ensures ok { IfOk result (λ a. Called does self.old limit (AttachReceiver session settings.now)
+            (attaching a.link a.events.items) out.old.items self.new out.new.items) }
+        ensures err { IfErr result (does.bars self.old limit (AttachReceiver session settings.now)) }
+        ensures kept { OnErr result ((self.new ≡ self.old) × (out.new.items ≡ out.old.items)) }
+        ensures within { (most : ℕ) → 512 ≤ most → does.within most self.old → does.within most self.new }
+        ensures quiet { does.idle self.old → out.new.items ≡ out.old.items }
+        ensures idle { does.idle self.old → does.idle self.new }
+        ensures still { StandsStill (does.connection self.old) (does.connection self.new) };
+
+    /// Detaches the link with this number, which keeps its deliveries and can be resumed. Its Detach is handed out, or
+    /// waits behind the link's transfers (part 2, 2.6.5, 2.7.7).
+    fn detach(
+        &mut self,
+        alloc: Global,
+        limit: u32,
+        link: u64,
+        out: &mut VecDeque<SessionFrame>,
+    ) -> Result<(), EndpointError>
+        requires least { 512 ≤ limit }
+        ensures ok { OnOk result
+            (Called does self.old limit (Detach link) done out.old.items self.new out.new.items) }
+        ensures err { IfErr result (does.bars self.old limit (Detach link)) }
+        ensures kept { OnErr result ((self.new ≡ self.old) × (out.new.items ≡ out.old.items)) }
+        ensures within { (most : ℕ) → 512 ≤ most → does.within most self.old → does.within most self.new }
+        ensures quiet { does.idle self.old → out.new.items ≡ out.old.items }
+        ensures idle { does.idle self.old → does.idle self.new }
+        ensures still { StandsStill (does.connection self.old) (does.connection self.new) };
+
+    /// Closes the link with this number, and answers the outcomes that this fails. Its closing Detach is handed out, or
+    /// waits behind the link's transfers; a link that is detached at both ends sends none (part 2, 2.6.6, 2.7.7).
+    fn close_link(
+        &mut self,
+        alloc: Global,
+        limit: u32,
+        link: u64,
+        out: &mut VecDeque<SessionFrame>,
+    ) -> Result<Vec<Event>, EndpointError>
+        requires least { 512 ≤ limit }
+        ensures ok { IfOk result (λ events. Called does self.old limit (CloseLink link) (link_closed events.items)
+            out.old.items self.new out.new.items) }
+        ensures err { IfErr result (does.bars self.old limit (CloseLink link)) }
+        ensures kept { OnErr result ((self.new ≡ self.old) × (out.new.items ≡ out.old.items)) }
+        ensures within { (most : ℕ) → 512 ≤ most → does.within most self.old → does.within most self.new }
+        ensures quiet { does.idle self.old → out.new.items ≡ out.old.items }
+        ensures idle { does.idle self.old → does.idle self.new }
+        ensures still { StandsStill (does.connection self.old) (does.connection self.new) };
+
+    /// Grants the sender of the link with this number so many messages, and answers the credit that was left before. Its
+    /// Flow is handed out (part 2, 2.6.7, 2.7.4).
+    fn grant(
+        &mut self,
+        alloc: Global,
+        limit: u32,
+        link: u64,
+        credit: u32,
+        out: &mut VecDeque<SessionFrame>,
+    ) -> Result<u32, EndpointError>
+        requires least { 512 ≤ limit }
+        ensures ok { IfOk result (λ left. Called does self.old limit (Grant link credit) (credit_is left)
+            out.old.items self.new out.new.items) }
+        ensures err { IfErr result (does.bars self.old limit (Grant link credit)) }
+        ensures kept { OnErr result ((self.new ≡ self.old) × (out.new.items ≡ out.old.items)) }
+        ensures within { (most : ℕ) → 512 ≤ most → does.within most self.old → does.within most self.new }
+        ensures quiet { does.idle self.old → out.new.items ≡ out.old.items }
+        ensures idle { does.idle self.old → does.idle self.new }
+        ensures still { StandsStill (does.connection self.old) (does.connection self.new) };
+
+    /// Asks the sender of the link with this number to use up its credit now. Its Flow is handed out (part 2, 2.6.7).
+    fn drain(
+        &mut self,
+        alloc: Global,
+        limit: u32,
+        link: u64,
+        out: &mut VecDeque<SessionFrame>,
+    ) -> Result<(), EndpointError>
+        requires least { 512 ≤ limit }
+        ensures ok { OnOk result
+            (Called does self.old limit (Drain link) done out.old.items self.new out.new.items) }
+        ensures err { IfErr result (does.bars self.old limit (Drain link)) }
+        ensures kept { OnErr result ((self.new ≡ self.old) × (out.new.items ≡ out.old.items)) }
+        ensures within { (most : ℕ) → 512 ≤ most → does.within most self.old → does.within most self.new }
+        ensures quiet { does.idle self.old → out.new.items ≡ out.old.items }
+        ensures idle { does.idle self.old → does.idle self.new }
+        ensures still { StandsStill (does.connection self.old) (does.connection self.new) };
+
+    /// How many messages may still go on the link with this number (part 2, 2.6.7).
+    fn credit(&self, link: u64) -> Result<u32, EndpointError>
+        ensures ok { IfOk result (λ left. (limit : ℕ) →
+            does.calls self.now limit (Credit link) (credit_is left) [] self.now) }
+        ensures err { IfErr result (λ e. (limit : ℕ) → does.bars self.now limit (Credit link) e) };
+
+    /// How many transfers wait in the session with this number for the peer's window (part 2, 2.5.6).
+    fn held_back(&self, session: u64) -> Result<usize, EndpointError>
+        ensures ok { IfOk result (λ n. (limit : ℕ) →
+            does.calls self.now limit (HeldBack session) (count n) [] self.now) }
+        ensures err { IfErr result (λ e. (limit : ℕ) → does.bars self.now limit (HeldBack session) e) };
+
+    /// The links of which transfers wait in the session with this number, in turn, each with how many.
+    fn waiting(&self, alloc: Global, session: u64) -> Result<Vec<(u64, u64)>, EndpointError>
+        ensures ok { IfOk result (λ turn. (limit : ℕ) →
+            does.calls self.now limit (Waiting session) (waiting turn.items) [] self.now) }
+        ensures err { IfErr result (λ e. (limit : ℕ) → does.bars self.now limit (Waiting session) e) };
 
     /// The own Close was sent: no session goes on here, and none sends anything more (part 2, 2.4.3). It takes no
     /// memory.

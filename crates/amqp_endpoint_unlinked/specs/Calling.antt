@@ -15,10 +15,10 @@ use Rattle.amqp_endpoint_conversation.specs.declared.beginning.AcceptRefusal.The
 use Rattle.amqp_endpoint_conversation.specs.Beginning.{AcceptsHere, BeginsHere, RefusesAccept}
 use Rattle.amqp_endpoint_conversation.specs.Ending.{EndsHere, IsMapped}
 use Rattle.amqp_endpoint_model.specs.declared.call.Call.{Call}
-use Rattle.amqp_endpoint_model.specs.declared.call.Call.TheVariants.{Begin, AcceptBegin, End, IsEnded, TryEnd}
+use Rattle.amqp_endpoint_model.specs.declared.call.Call.TheVariants.{Begin, AcceptBegin, End, IsEnded, TryEnd, AttachSender, AttachReceiver, Detach, CloseLink, Grant, Drain, Credit, HeldBack, Waiting as WaitingCall}
 use Rattle.amqp_endpoint_model.specs.declared.error.EndpointError.{EndpointError}
-use Rattle.amqp_endpoint_model.specs.declared.error.EndpointError.TheVariants.{Memory, NotConnected, UnknownSession, IllegalState, LocalChannelMaxReached, NotAsked}
-use Rattle.amqp_endpoint_model.specs.Said.{Said, done, session_begun, tried_end, truth}
+use Rattle.amqp_endpoint_model.specs.declared.error.EndpointError.TheVariants.{Memory, NotConnected, UnknownSession, UnknownLink, IllegalState, LocalChannelMaxReached, NotAsked}
+use Rattle.amqp_endpoint_model.specs.Said.{Said, count, done, session_begun, tried_end, truth, waiting}
 use Rattle.amqp_endpoint_unlinked.specs.declared.no_link.NoLink.{NoLink}
 use Rattle.amqp_endpoint_unlinked.specs.NoLink.{Talk, no_link}
 
@@ -40,7 +40,13 @@ abbrev pub answer_of : Option TryEndError → Result ⊤ TryEndError
 answer_of None = Ok tt
 answer_of (Some e) = Err e
 
--- a call is done, and answers so
+-- what is asked of a session that there is: nothing is handed out, and nothing changes
+pub record IsAsked (old : Talk) (number : ℕ) (frames : List SessionFrame) (new : Talk) : Type 0 where
+  pub known : IsSome (place_at old.sessions number)
+  pub silent : frames ≡ []
+  pub same : new ≡ old
+
+-- a call is done, and answers so. No transfer waits, since no link is attached
 abbrev pub Calls : Talk → Call → Said → List SessionFrame → Talk → Type 0
 Calls old Begin (session_begun number) frames new = BeginsHere no_link old [] number new frames
 Calls old (AcceptBegin channel) (session_begun number) frames new =
@@ -49,6 +55,8 @@ Calls old (End number) done frames new = EndsOwn old number frames new
 Calls old (IsEnded number) (truth answer) frames new =
     (answer ≡ is_complete (place_at old.sessions number)) × (frames ≡ []) × (new ≡ old)
 Calls old (TryEnd number) (tried_end refusal) frames new = EndIsTold old number (answer_of refusal) frames new
+Calls old (HeldBack number) (count n) frames new = IsAsked old number frames new × (n ≡ 0)
+Calls old (WaitingCall number) (waiting turn) frames new = IsAsked old number frames new × (turn ≡ [])
 Calls old call answer frames new = ⊥
 
 -- the endpoint's name for why no session begins: its connection isn't open, or a Close was sent or came; no channel is
@@ -82,9 +90,29 @@ BarsEnding old number IllegalState = IsSome (place_at old.sessions number) × (I
 BarsEnding old number Memory = IsMapped old number
 BarsEnding old number e = ⊥
 
--- a call is refused so
+-- no session has the number; in the others no link is attached
+abbrev pub BarsAttaching : Talk → ℕ → EndpointError → Type 0
+BarsAttaching old number UnknownSession = place_at old.sessions number ≡ None
+BarsAttaching old number IllegalState = IsSome (place_at old.sessions number)
+BarsAttaching old number e = ⊥
+
+-- no session has the number
+abbrev pub BarsAsking : Talk → ℕ → EndpointError → Type 0
+BarsAsking old number UnknownSession = place_at old.sessions number ≡ None
+BarsAsking old number e = ⊥
+
+-- a call is refused so. No link has a number
 abbrev pub BarsCall : Talk → Call → EndpointError → Type 0
 BarsCall old Begin e = BarsBeginning old e
 BarsCall old (AcceptBegin channel) e = BarsAccepting old channel e
 BarsCall old (End number) e = BarsEnding old number e
+BarsCall old (AttachSender number settings) e = BarsAttaching old number e
+BarsCall old (AttachReceiver number settings) e = BarsAttaching old number e
+BarsCall old (Detach link) e = e ≡ UnknownLink
+BarsCall old (CloseLink link) e = e ≡ UnknownLink
+BarsCall old (Grant link credit) e = e ≡ UnknownLink
+BarsCall old (Drain link) e = e ≡ UnknownLink
+BarsCall old (Credit link) e = e ≡ UnknownLink
+BarsCall old (HeldBack number) e = BarsAsking old number e
+BarsCall old (WaitingCall number) e = BarsAsking old number e
 BarsCall old call e = ⊥

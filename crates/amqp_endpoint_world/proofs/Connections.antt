@@ -3,7 +3,7 @@ use Rattle.std.proofs.Common.{◌≡◌, ℕ, Bool, true, false, not, ◌&&◌, 
 use Rattle.std.proofs.lemmas.List.{append-nil}
 use Rattle.amqp_session_frames.specs.Cutting.{joined}
 use Rattle.amqp_endpoint_model.specs.declared.call.Call.{Call}
-use Rattle.amqp_endpoint_model.specs.declared.call.Call.TheVariants.{Connect, Feed, Pull, Queued, IsIdle, Heartbeat, BreakOff, Close, IsClosed, TryClose, Begin, AcceptBegin, End as EndCall, IsEnded, TryEnd}
+use Rattle.amqp_endpoint_model.specs.declared.call.Call.TheVariants.{Connect, Feed, Pull, Queued, IsIdle, Heartbeat, BreakOff, Close, IsClosed, TryClose, Begin, AcceptBegin, End as EndCall, IsEnded, TryEnd, AttachSender, AttachReceiver, Detach as DetachCall, CloseLink, Grant, Drain, Credit, HeldBack, Waiting as WaitingCall}
 use Rattle.amqp_endpoint_model.specs.declared.error.EndpointError.{EndpointError}
 use Rattle.amqp_endpoint_model.specs.declared.error.EndpointError.TheVariants.{Memory, AlreadyConnected, NotConnected, IllegalState, NumbersUsedUp, ProtocolHeaderMismatch, SizeUnder8, SizeOverLimit, PeerLimitUnder512, Frame as FrameFault, Connection, Session}
 use Rattle.amqp_endpoint_model.specs.declared.event.Event.{Event}
@@ -11,7 +11,7 @@ use Rattle.amqp_endpoint_model.specs.declared.phase.Phase.{Phase}
 use Rattle.amqp_endpoint_model.specs.declared.phase.Phase.TheVariants.{Unconnected, Greeting, Running, Over}
 use Rattle.amqp_endpoint_model.specs.declared.settings.Settings.{Settings}
 use Rattle.amqp_endpoint_model.specs.Relay.{Relations}
-use Rattle.amqp_endpoint_model.specs.Said.{Said, done, refused, fed, count, truth, tried_close, session_begun, tried_end, Told}
+use Rattle.amqp_endpoint_model.specs.Said.{Said, done, refused, fed, count, truth, tried_close, session_begun, tried_end, attaching, link_closed, credit_is, waiting, Told}
 use Rattle.amqp_endpoint_model.specs.State.{State, is_unconnected, is_running, has_opened, waiting_of}
 use Rattle.amqp_endpoint_model.specs.Step.{Breaks, Ends, EndsByFault, FeedsIn, Greets, Pulls, ReadsOn, SessionsDo, Step as EndpointStep, opened}
 use Rattle.amqp_endpoint_model.specs.History.{Summary, note, note_fed, nothing, summary}
@@ -254,6 +254,11 @@ module _ {S : Type 0} (does : Relations S) where
   sessions-stand call answer old new p f c d s =
       sessions-at (is_unconnected old.phase) call answer old new p f c refl d s
 
+  -- the sessions answer, and nothing changes
+  answer-stands : (old new : State S) (p f c : List ℕ) → new ≡ old → Stands old p f c → Stands new p f c
+  answer-stands old new p f c same s =
+      stands-same old new p f c (ap (λ x. x.phase) same) (ap (λ x. x.queue) same) s
+
   -- a call that isn't the world's own
   own-stands : (call : Call) (said : Said) (old new : State S) (p f : List ℕ) (σ : Summary)
       → is_the_worlds call ≡ false → EndpointStep does old call said new → Stands old p f σ.fed
@@ -300,12 +305,35 @@ module _ {S : Type 0} (does : Relations S) where
   own-stands (EndCall number) done old new p f σ own step s =
       sessions-stand (EndCall number) done old new p f σ.fed step s
   own-stands (EndCall number) said old new p f σ own step s = absurd step
-  own-stands (IsEnded number) (truth b) old new p f σ own step s =
-      sessions-stand (IsEnded number) (truth b) old new p f σ.fed step s
+  own-stands (IsEnded number) (truth b) old new p f σ own step s = answer-stands old new p f σ.fed step.same s
   own-stands (IsEnded number) said old new p f σ own step s = absurd step
   own-stands (TryEnd number) (tried_end o) old new p f σ own step s =
       sessions-stand (TryEnd number) (tried_end o) old new p f σ.fed step s
   own-stands (TryEnd number) said old new p f σ own step s = absurd step
+  own-stands (AttachSender session settings) (attaching link events) old new p f σ own step s =
+      sessions-stand (AttachSender session settings) (attaching link events) old new p f σ.fed step s
+  own-stands (AttachSender session settings) said old new p f σ own step s = absurd step
+  own-stands (AttachReceiver session settings) (attaching link events) old new p f σ own step s =
+      sessions-stand (AttachReceiver session settings) (attaching link events) old new p f σ.fed step s
+  own-stands (AttachReceiver session settings) said old new p f σ own step s = absurd step
+  own-stands (DetachCall link) done old new p f σ own step s =
+      sessions-stand (DetachCall link) done old new p f σ.fed step s
+  own-stands (DetachCall link) said old new p f σ own step s = absurd step
+  own-stands (CloseLink link) (link_closed events) old new p f σ own step s =
+      sessions-stand (CloseLink link) (link_closed events) old new p f σ.fed step s
+  own-stands (CloseLink link) said old new p f σ own step s = absurd step
+  own-stands (Grant link credit) (credit_is left) old new p f σ own step s =
+      sessions-stand (Grant link credit) (credit_is left) old new p f σ.fed step s
+  own-stands (Grant link credit) said old new p f σ own step s = absurd step
+  own-stands (Drain link) done old new p f σ own step s =
+      sessions-stand (Drain link) done old new p f σ.fed step s
+  own-stands (Drain link) said old new p f σ own step s = absurd step
+  own-stands (Credit link) (credit_is left) old new p f σ own step s = answer-stands old new p f σ.fed step.same s
+  own-stands (Credit link) said old new p f σ own step s = absurd step
+  own-stands (HeldBack session) (count n) old new p f σ own step s = answer-stands old new p f σ.fed step.same s
+  own-stands (HeldBack session) said old new p f σ own step s = absurd step
+  own-stands (WaitingCall session) (waiting turn) old new p f σ own step s = answer-stands old new p f σ.fed step.same s
+  own-stands (WaitingCall session) said old new p f σ own step s = absurd step
 
   unpulled : (p : List ℕ) (call : Call) (said : Said) → is_the_worlds call ≡ false → then_pulled p call said ≡ p
   unpulled p Pull said own = cc

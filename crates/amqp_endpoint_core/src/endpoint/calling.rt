@@ -1,5 +1,5 @@
 ghost use Rattle.std.specs.Prelude.{◌≡◌, IfErr, IfOk, OnErr, OnOk};
-ghost use Rattle.amqp_endpoint_model.specs.Said.{done, refusal_in, session_begun, tried_end, truth};
+ghost use Rattle.amqp_endpoint_model.specs.Said.{done, refusal_in, session_begun, tried_end};
 ghost use Rattle.amqp_endpoint_model.specs.Step.{IsRefused, SessionsDo};
 ghost use Rattle.amqp_endpoint_model.specs.declared.call.Call.{Call};
 
@@ -58,14 +58,6 @@ impl<S: SessionRelay> Endpoint<S> {
         let limit = self.limit();
         self.sessions.end(limit, session, &mut self.out)?;
         Ok(())
-    }
-
-    /// Whether both End of the session with this number went, or its connection is over. False where no session has the
-    /// number (part 2, 2.5.2).
-    pub fn is_ended(&self, session: u64) -> bool
-        ensures { SessionsDo S.does self.now (Call.IsEnded session) (truth result) self.now }
-    {
-        self.sessions.is_ended(session)
     }
 
     /// Ok once, after the peer's End of the session with this number came (part 2, 2.5.2).
