@@ -9,7 +9,8 @@ use Rattle.std.proofs.lemmas.Bool.{ltb-true, lt-ltb}
 use Rattle.std.specs.Str.{IsUtf8, is_utf8}
 use Rattle.std.proofs.lemmas.Str.{IsUtf8-from_is_utf8, is_utf8-from_IsUtf8}
 use Rattle.amqp_endpoint.specs.declared.scenario.statement.Statement.{Statement}
-use Rattle.amqp_endpoint.specs.Script.{number_under, words_said, statement, parts_at}
+use Rattle.amqp_endpoint.specs.Digits.{number_under}
+use Rattle.amqp_endpoint.specs.Script.{words_said, statement, parts_at}
 
 own : IsNumeralModel (λ ds. all_ascii_digits ds ≡ true) (digits_value 10)
 own = numerals_by_value _ tells_all_ascii_digits
@@ -32,16 +33,17 @@ pub number_from_parse : {E : Type 0} (k : ℕ) (word : List ℕ) (r : Result ℕ
 number_from_parse k word r plain parses = number_from_result (2 ^ k) word r (parse_plain own k word r parses plain)
 
 -- so many words say nothing
-pub other_words : (words : List (Bor (List ℕ))) → length words ≢ 1 → length words ≢ 2 → length words ≢ 3 → length words ≢ 7 → None ≡ words_said (map (λ w. w.now) words)
-other_words [] a b c d = refl
-other_words (w ∷ []) a b c d = absurd (a refl)
-other_words (w ∷ v ∷ []) a b c d = absurd (b refl)
-other_words (w ∷ v ∷ u ∷ []) a b c d = absurd (c refl)
-other_words (w ∷ v ∷ u ∷ t ∷ []) a b c d = refl
-other_words (w ∷ v ∷ u ∷ t ∷ s ∷ []) a b c d = refl
-other_words (w ∷ v ∷ u ∷ t ∷ s ∷ r ∷ []) a b c d = refl
-other_words (w ∷ v ∷ u ∷ t ∷ s ∷ r ∷ q ∷ []) a b c d = absurd (d refl)
-other_words (w ∷ v ∷ u ∷ t ∷ s ∷ r ∷ q ∷ p ∷ more) a b c d = refl
+pub other_words : (words : List (Bor (List ℕ))) → length words ≢ 1 → length words ≢ 2 → length words ≢ 3
+    → length words ≢ 4 → length words ≢ 5 → length words ≢ 7 → None ≡ words_said (map (λ w. w.now) words)
+other_words [] a b c d e f = refl
+other_words (w ∷ []) a b c d e f = absurd (a refl)
+other_words (w ∷ v ∷ []) a b c d e f = absurd (b refl)
+other_words (w ∷ v ∷ u ∷ []) a b c d e f = absurd (c refl)
+other_words (w ∷ v ∷ u ∷ t ∷ []) a b c d e f = absurd (d refl)
+other_words (w ∷ v ∷ u ∷ t ∷ s ∷ []) a b c d e f = absurd (e refl)
+other_words (w ∷ v ∷ u ∷ t ∷ s ∷ r ∷ []) a b c d e f = refl
+other_words (w ∷ v ∷ u ∷ t ∷ s ∷ r ∷ q ∷ []) a b c d e f = absurd (f refl)
+other_words (w ∷ v ∷ u ∷ t ∷ s ∷ r ∷ q ∷ p ∷ more) a b c d e f = refl
 
 not_utf8 : (line : List ℕ) → (IsUtf8 line → ⊥) → is_utf8 line ≡ false
 not_utf8 line h = go (is_utf8 line) refl

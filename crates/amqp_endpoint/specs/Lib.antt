@@ -1,8 +1,10 @@
+pub mod Digits
 pub mod Grammar
 pub mod Parsed
 pub mod Performed
 pub mod Printed
 pub mod Script
+pub mod Terms
 pub use Rattle.amqp_endpoint_model.specs.History
 pub use Rattle.amqp_endpoint_model.specs.Numbers
 pub use Rattle.amqp_endpoint_model.specs.Relay

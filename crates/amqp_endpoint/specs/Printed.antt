@@ -1,13 +1,15 @@
 -- What a script prints: a line for each step, and for each of its events.
-use Rattle.std.specs.Prelude.{ℕ, ◌==◌, List, [], ◌∷◌, ◌++◌, length, Option, Some, None, if◌then◌else◌, codes, decimal}
+use Rattle.std.specs.Prelude.{ℕ, ◌×◌, ◌==◌, Bool, true, false, List, [], ◌∷◌, ◌++◌, length, Option, Some, None, if◌then◌else◌, codes, decimal}
 use Rattle.hex.specs.Hex.{encode_lower}
+use Rattle.amqp_link_attach.specs.declared.exchange.AttachExchange.{AttachExchange}
+use Rattle.amqp_link_attach.specs.declared.exchange.AttachExchange.TheVariants.{Complete, IncompleteUnsettled, Resume}
 use Rattle.amqp_session_types.specs.declared.modes.Role.{Role}
 use Rattle.amqp_session_types.specs.declared.modes.Role.TheVariants.{Sender, Receiver}
 use Rattle.amqp_endpoint_model.specs.declared.error.EndpointError.{EndpointError}
 use Rattle.amqp_endpoint_model.specs.declared.event.Event.{Event}
 use Rattle.amqp_endpoint_model.specs.declared.event.Event.TheVariants as event
 use Rattle.amqp_endpoint_model.specs.Numbers.{number}
-use Rattle.amqp_endpoint_model.specs.Said.{Said, done, refused, fed, pulled, count, truth, tried_close, session_begun, tried_end, Told}
+use Rattle.amqp_endpoint_model.specs.Said.{Said, done, refused, fed, pulled, count, truth, tried_close, session_begun, tried_end, attaching, link_closed, credit_is, waiting, Told}
 use Rattle.amqp_endpoint_world.specs.declared.step.End.{End}
 use Rattle.amqp_endpoint_world.specs.declared.step.End.TheVariants.{A}
 use Rattle.amqp_endpoint_world.specs.declared.step.Step.{Step}
@@ -43,6 +45,17 @@ abbrev pub role_word : Role → List ℕ
 role_word Sender = codes "sender"
 role_word Receiver = codes "receiver"
 
+-- what is to be done for the deliveries of a link that are unsettled
+abbrev pub exchange_word : AttachExchange → List ℕ
+exchange_word Complete = codes "complete"
+exchange_word IncompleteUnsettled = codes "incomplete"
+exchange_word Resume = codes "resume"
+
+-- whether a link that was detached was closed
+abbrev pub closed_word : Bool → List ℕ
+closed_word true = codes "closed"
+closed_word false = codes "detached"
+
 -- a link's number, `-` where there is none
 abbrev pub link_word : Option ℕ → List ℕ
 link_word None = codes "-"
@@ -56,6 +69,8 @@ event_words (event.Begun s) = two_numbers (codes "begun") s.session (s.channel).
 event_words (event.LinkAsked l) =
     codes "link-asked "
     ++ (decimal l.session ++ (codes " " ++ (role_word (l.attach).role ++ (codes " " ++ (l.attach).name))))
+event_words (event.Attached a) = codes "attached " ++ (decimal a.link ++ (codes " " ++ exchange_word a.exchange))
+event_words (event.Detached d) = codes "detached " ++ (decimal d.link ++ (codes " " ++ closed_word d.closed))
 event_words (event.Ended s) = codes "ended " ++ decimal s.session
 event_words (event.Refused r) =
     codes "refused "
@@ -73,6 +88,16 @@ abbrev pub fault_text : ℕ → End → Option EndpointError → List ℕ
 fault_text line end (Some e) = of_line line end (codes "fault " ++ decimal (number e))
 fault_text line end None = []
 
+-- links in turn, each with how many of its transfers wait
+abbrev pub turn_words : List (ℕ × ℕ) → List ℕ
+turn_words [] = []
+turn_words (it ∷ turn) = codes " " ++ (decimal it.0 ++ (codes ":" ++ (decimal it.1 ++ turn_words turn)))
+
+-- `-` where none waits
+abbrev pub turn_text : List (ℕ × ℕ) → List ℕ
+turn_text [] = codes " -"
+turn_text (it ∷ turn) = turn_words (it ∷ turn)
+
 -- what is printed of a step on this line, at this end: its answer, and behind it the events and the fault
 abbrev pub step_text : ℕ → End → Said → List ℕ
 step_text line end (refused e) = of_line line end (codes "refused " ++ decimal (number e))
@@ -80,6 +105,11 @@ step_text line end (fed events fault) = ok_text line end ++ (events_text line en
 step_text line end (pulled None) = of_line line end (codes "ok none")
 step_text line end (pulled (Some bytes)) = bytes_text line end bytes
 step_text line end (session_begun session) = of_line line end (codes "ok session " ++ decimal session)
+step_text line end (attaching link events) =
+    of_line line end (codes "ok link " ++ decimal link) ++ events_text line end events
+step_text line end (link_closed events) = ok_text line end ++ events_text line end events
+step_text line end (credit_is left) = of_line line end (codes "ok left " ++ decimal left)
+step_text line end (waiting turn) = of_line line end (codes "ok turn" ++ turn_text turn)
 step_text line end done = ok_text line end
 step_text line end (count n) = ok_text line end
 step_text line end (truth b) = ok_text line end

@@ -1,30 +1,28 @@
 -- A script of one endpoint or of two: what its bytes say. It is made of lines, and a line of words.
-use Rattle.std.specs.Prelude.{ℕ, ◌+◌, ◌-◌, ◌^◌, ◌==◌, ◌&&◌, Bool, true, false, not, List, [], ◌∷◌, length, Option, Some, None, if◌then◌else◌, nat_lt, codes}
+use Rattle.std.specs.Prelude.{ℕ, ◌+◌, ◌-◌, ◌^◌, ◌==◌, ◌&&◌, Bool, true, false, not, List, [], ◌∷◌, length, Option, Some, None, if◌then◌else◌, codes}
 use Rattle.std.specs.List.{slice_split, list_any}
 use Rattle.std.specs.Option.{option_map}
 use Rattle.std.specs.Result.{result_ok}
-use Rattle.std.specs.Str.{bytes_eq, is_utf8, all_ascii_digits}
-use Rattle.std.specs.Str.Parse.{digits_value}
+use Rattle.std.specs.Str.{bytes_eq, is_utf8}
 use Rattle.hex.specs.Hex.{decode_of}
 use Rattle.amqp_endpoint_model.specs.declared.settings.Settings.{Settings}
 use Rattle.amqp_endpoint_model.specs.declared.call.Call.{Call}
-use Rattle.amqp_endpoint_model.specs.declared.call.Call.TheVariants.{Connect, Feed, Pull, Heartbeat, BreakOff, Close, Begin, AcceptBegin, End as EndCall}
+use Rattle.amqp_endpoint_model.specs.declared.call.Call.TheVariants.{Connect, Feed, Pull, Heartbeat, BreakOff, Close, Begin, AcceptBegin, End as EndCall, AttachSender, AttachReceiver, Detach, CloseLink, Grant, Drain, Waiting}
+use Rattle.amqp_endpoint_settings.specs.declared.link.LinkSettings.{LinkSettings}
 use Rattle.amqp_endpoint_world.specs.declared.step.End.{End}
 use Rattle.amqp_endpoint_world.specs.declared.step.End.TheVariants.{A, B}
 use Rattle.amqp_endpoint_world.specs.declared.step.Step.{Step}
 use Rattle.amqp_endpoint_world.specs.declared.step.Step.TheVariants as world
 use Rattle.amqp_endpoint_world.specs.WorldState.{other}
 use Rattle.amqp_endpoint_world.specs.WorldStep.{is_the_worlds}
+use Rattle.amqp_endpoint.specs.Digits.{number_under}
+use Rattle.amqp_endpoint.specs.Terms.{receiver_settings, sender_settings}
 use Rattle.amqp_endpoint.specs.declared.scenario.statement.Statement.{Statement}
 use Rattle.amqp_endpoint.specs.declared.scenario.statement.Statement.TheVariants.{One, Two, Settings as SettingsAre, Call as CallAt, Move, Break}
 
 -- the parts of a text, between the bytes of this kind
 abbrev pub parts_at : ℕ → List ℕ → List (List ℕ)
 parts_at c text = slice_split (λ b. b == c) text
-
--- decimal digits, and nothing else, of a number under the limit
-abbrev pub number_under : ℕ → List ℕ → Option ℕ
-number_under limit word = if all_ascii_digits word && not (length word == 0) && nat_lt (digits_value 10 word) limit then Some (digits_value 10 word) else None
 
 -- bytes in hex digits of either case, two for each; `-` is none at all
 abbrev pub bytes_of : List ℕ → Option (List ℕ)
@@ -45,14 +43,41 @@ call_of verb =
     if bytes_eq verb (codes "break") then Some BreakOff else
     None
 
--- the calls that a word names, with what stands behind it: bytes, a channel of the peer's, or a session
+-- the calls that a word names, with what stands behind it: bytes, a channel of the peer's, a session, or a link
 abbrev pub call_with : List ℕ → List ℕ → Option Call
 call_with verb word =
     if bytes_eq verb (codes "feed") then option_map Feed (bytes_of word) else
     if bytes_eq verb (codes "accept") then
     option_map (λ n. AcceptBegin (record { 0 = n })) (number_under (2 ^ 16) word) else
     if bytes_eq verb (codes "end") then option_map EndCall (number_under (2 ^ 64) word) else
+    if bytes_eq verb (codes "detach") then option_map Detach (number_under (2 ^ 64) word) else
+    if bytes_eq verb (codes "closelink") then option_map CloseLink (number_under (2 ^ 64) word) else
+    if bytes_eq verb (codes "drain") then option_map Drain (number_under (2 ^ 64) word) else
+    if bytes_eq verb (codes "waiting") then option_map Waiting (number_under (2 ^ 64) word) else
     None
+
+abbrev pub grant_at : Option ℕ → Option ℕ → Option Call
+grant_at (Some link) (Some credit) = Some (Grant link credit)
+grant_at link credit = None
+
+-- a grant to a link: the link, and how many messages
+abbrev pub grant_of : List ℕ → List ℕ → List ℕ → Option Call
+grant_of verb link credit =
+    if bytes_eq verb (codes "grant") then grant_at (number_under (2 ^ 64) link) (number_under (2 ^ 32) credit) else None
+
+abbrev pub attached_by : (ℕ → LinkSettings → Call) → Option ℕ → Option LinkSettings → Option Call
+attached_by call (Some session) (Some settings) = Some (call session settings)
+attached_by call session settings = None
+
+-- a link that attaches as a receiver, in a session
+abbrev pub receiver_at : List ℕ → Option ℕ → Option LinkSettings → Option Call
+receiver_at verb session settings =
+    if bytes_eq verb (codes "receiver") then attached_by AttachReceiver session settings else None
+
+-- a link that attaches as a sender, in a session
+abbrev pub sender_at : List ℕ → Option ℕ → Option LinkSettings → Option Call
+sender_at verb session settings =
+    if bytes_eq verb (codes "sender") then attached_by AttachSender session settings else None
 
 -- how many bytes are moved: so many, or all that there are
 abbrev pub count_of : List ℕ → Option ℕ
@@ -93,17 +118,24 @@ abbrev pub settings_at : Option End → Option Settings → Option Statement
 settings_at (Some end) (Some settings) = Some (SettingsAre end settings)
 settings_at end settings = None
 
-abbrev pub settings_said : List ℕ → List ℕ → Option Settings → Option Statement
-settings_said verb end settings =
-    if bytes_eq verb (codes "settings") then settings_at (end_of end) settings else None
+-- what seven words say: the settings of an end, or a call of it by which a link attaches as a sender
+abbrev pub seven_said : List ℕ → List ℕ → List ℕ → List ℕ → List ℕ → List ℕ → List ℕ → Option Statement
+seven_said first second third fourth fifth sixth seventh =
+    if bytes_eq first (codes "settings") then
+    settings_at (end_of second) (settings_of third fourth fifth sixth seventh) else
+    call_at (end_of first)
+    (sender_at second (number_under (2 ^ 64) third) (sender_settings fourth fifth sixth seventh))
 
 -- what words say
 abbrev pub words_said : List (List ℕ) → Option Statement
 words_said (word ∷ []) = word_said word
 words_said (end ∷ verb ∷ []) = call_at (end_of end) (call_of verb)
 words_said (first ∷ second ∷ third ∷ []) = three_said first second third
-words_said (verb ∷ end ∷ container ∷ limit ∷ channels ∷ window ∷ first ∷ []) =
-    settings_said verb end (settings_of container limit channels window first)
+words_said (end ∷ verb ∷ link ∷ credit ∷ []) = call_at (end_of end) (grant_of verb link credit)
+words_said (end ∷ verb ∷ session ∷ name ∷ mode ∷ []) =
+    call_at (end_of end) (receiver_at verb (number_under (2 ^ 64) session) (receiver_settings name mode))
+words_said (first ∷ second ∷ third ∷ fourth ∷ fifth ∷ sixth ∷ seventh ∷ []) =
+    seven_said first second third fourth fifth sixth seventh
 words_said words = None
 
 -- what a line says: text in UTF-8, of words that are parted by one space each, none of them empty

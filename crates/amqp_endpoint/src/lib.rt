@@ -10,18 +10,24 @@ pub type Endpoint = amqp_endpoint_core::Endpoint<UnlinkedSessions>;
 
 pub use amqp_endpoint_core::play;
 pub use amqp_endpoint_model::{
-    Answer, Begun, Call, Closed, Ended, EndpointError, Event, Fed, LinkAsked, LinkError, Opened,
-    Refused, Reply, SessionAsked, SessionRelay, Settings,
+    Answer, Attached, Attaching, Begun, Call, Closed, Detached, Ended, EndpointError, Event, Fed,
+    LinkAsked, Opened, Refused, Reply, SessionAsked, SessionRelay, Settings,
 };
+pub use amqp_endpoint_settings::LinkSettings;
 pub use amqp_endpoint_unlinked::{NoLink, UnlinkedSessions};
+pub use amqp_link_attach::AttachExchange;
+pub use amqp_link_types::{LinkError, LinkStateError};
 pub use amqp_session_frames::{
     Error as FrameError, Frame, FrameBody, FrameDecoder, FrameEncoder, Piece, Pieces,
 };
 pub use amqp_session_performatives::{
     Attach, Begin, Close, Detach, Disposition, End, Flow, Open, Transfer,
 };
+pub use amqp_session_states::{
+    Source, Target, TargetArchetype, TerminusDurability, TerminusExpiryPolicy,
+};
 pub use amqp_session_types::{
-    Boxed, ConnectionError, Fields, IncomingChannel, Role, SessionError, TryCloseError,
-    TryEndError, definitions,
+    Boxed, ConnectionError, Fields, IncomingChannel, ReceiverSettleMode, Role, SenderSettleMode,
+    SessionError, TryCloseError, TryEndError, definitions,
 };
 pub use serde_amqp_types::{Symbol, Text};

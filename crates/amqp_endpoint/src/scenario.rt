@@ -13,6 +13,7 @@ ghost use Rattle.amqp_endpoint_model.specs.declared.error.EndpointError.TheVaria
 mod printing;
 mod script;
 mod statement;
+mod terms;
 
 use amqp_endpoint_core::play;
 use amqp_endpoint_model::{EndpointError, Settings};

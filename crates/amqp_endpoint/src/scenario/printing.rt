@@ -5,11 +5,12 @@ ghost use Rattle.amqp_endpoint_model.specs.Said.{told, said};
 ghost use Rattle.amqp_endpoint_model.specs.declared.event.Event.TheVariants as event;
 ghost use Rattle.amqp_endpoint_world.specs.WorldSaid.{did_said, feed_said, world_told};
 ghost use Rattle.amqp_endpoint_world.specs.WorldState.{other};
-ghost use Rattle.amqp_endpoint.specs.Printed.{bytes_text, event_text, events_text, fault_text, hex_word, of_line, ok_text, printed, role_word, step_text, two_numbers, world_printed, world_text};
+ghost use Rattle.amqp_endpoint.specs.Printed.{bytes_text, closed_word, event_text, events_text, exchange_word, fault_text, hex_word, of_line, ok_text, printed, role_word, step_text, turn_text, two_numbers, world_printed, world_text};
 
 use crate::scenario::script::letter;
-use amqp_endpoint_model::{Answer, EndpointError, Event, Fed, Refused, Reply};
+use amqp_endpoint_model::{Answer, Attaching, EndpointError, Event, Fed, Refused, Reply};
 use amqp_endpoint_world::{Did, End, Step, WorldReply};
+use amqp_link_attach::AttachExchange;
 use amqp_session_performatives::Attach;
 use amqp_session_types::Role;
 use std::alloc::{AllocError, Global};
@@ -80,6 +81,10 @@ fn print_answer(text: &mut String, line: usize, end: End, answer: &Answer) -> Re
         Answer::Pulled(None) => print_words(text, line, end, "ok none"),
         Answer::Pulled(Some(bytes)) => print_bytes(text, line, end, bytes.as_slice()),
         Answer::Session(session) => print_session(text, line, end, *session),
+        Answer::Attaching(attaching) => print_attaching(text, line, end, attaching),
+        Answer::LinkClosed(events) => print_closed_link(text, line, end, events.as_slice()),
+        Answer::Credit(left) => print_left(text, line, end, *left),
+        Answer::Waiting(turn) => print_turn(text, line, end, turn.as_slice()),
         _ => print_words(text, line, end, "ok"),
     }
 }
@@ -128,6 +133,73 @@ fn print_session(text: &mut String, line: usize, end: End, session: u64) -> Resu
     writeln!(text, "{line} {letter} ok session {session}")
 }
 
+/// A link that attaches: its number, and what comes of it at once.
+fn print_attaching(
+    text: &mut String,
+    line: usize,
+    end: End,
+    attaching: &Attaching,
+) -> Result<(), AllocError>
+    ensures { OnOk result (string_bytes text.new ≡ string_bytes text.old
+        ++ (of_line line end (codes "ok link " ++ decimal attaching.now.link)
+        ++ events_text line end attaching.now.events.items)) }
+{
+    let letter = letter(end);
+    let link = attaching.link;
+    writeln!(text, "{line} {letter} ok link {link}")?;
+    print_events(text, line, end, attaching.events.as_slice())
+}
+
+/// A link that is closed, and the outcomes that this fails.
+fn print_closed_link(
+    text: &mut String,
+    line: usize,
+    end: End,
+    events: &[Event],
+) -> Result<(), AllocError>
+    ensures { OnOk result (string_bytes text.new
+        ≡ string_bytes text.old ++ (ok_text line end ++ events_text line end events.now)) }
+{
+    print_words(text, line, end, "ok")?;
+    print_events(text, line, end, events)
+}
+
+fn print_left(text: &mut String, line: usize, end: End, left: u32) -> Result<(), AllocError>
+    ensures { OnOk result (string_bytes text.new
+        ≡ string_bytes text.old ++ of_line line end (codes "ok left " ++ decimal left)) }
+{
+    let letter = letter(end);
+    writeln!(text, "{line} {letter} ok left {left}")
+}
+
+/// The links of which transfers wait, each with how many. None at all are written `-`.
+fn print_turn(
+    text: &mut String,
+    line: usize,
+    end: End,
+    turn: &[(u64, u64)],
+) -> Result<(), AllocError>
+    ensures { OnOk result (string_bytes text.new
+        ≡ string_bytes text.old ++ of_line line end (codes "ok turn" ++ turn_text turn.now)) }
+{
+    let words = turn_words(*text.allocator(), turn)?;
+    let letter = letter(end);
+    writeln!(text, "{line} {letter} ok turn{words}")
+}
+
+fn turn_words(alloc: Global, turn: &[(u64, u64)]) -> Result<String, AllocError>
+    ensures { IfOk result (λ words. string_bytes words ≡ turn_text turn.now) }
+{
+    if turn.is_empty() {
+        return String::from_str(alloc, " -");
+    }
+    let mut words = String::new(alloc);
+    for (link, count) in turn {
+        write!(words, " {link}:{count}")?;
+    }
+    Ok(words)
+}
+
 fn print_bytes(text: &mut String, line: usize, end: End, bytes: &[u8]) -> Result<(), AllocError>
     ensures { OnOk result (string_bytes text.new ≡ string_bytes text.old ++ bytes_text line end bytes.now) }
 {
@@ -152,10 +224,23 @@ fn print_fed(text: &mut String, line: usize, end: End, fed: &Fed) -> Result<(), 
         ++ (ok_text line end ++ (events_text line end fed.now.events.items ++ fault_text line end fed.now.fault))) }
 {
     print_words(text, line, end, "ok")?;
-    for event in fed.events.iter() {
+    print_events(text, line, end, fed.events.as_slice())?;
+    print_fault(text, line, end, &fed.fault)
+}
+
+fn print_events(
+    text: &mut String,
+    line: usize,
+    end: End,
+    events: &[Event],
+) -> Result<(), AllocError>
+    ensures { OnOk result (string_bytes text.new
+        ≡ string_bytes text.old ++ events_text line end events.now) }
+{
+    for event in events {
         print_event(text, line, end, event)?;
     }
-    print_fault(text, line, end, &fed.fault)
+    Ok(())
 }
 
 fn print_event(text: &mut String, line: usize, end: End, event: &Event) -> Result<(), AllocError>
@@ -180,6 +265,14 @@ fn print_event(text: &mut String, line: usize, end: End, event: &Event) -> Resul
             print_numbers(text, line, end, "begun", begun.session, begun.channel.0)
         }
         Event::LinkAsked(asked) => print_link(text, line, end, asked.session, &asked.attach),
+        Event::Attached(attached) => {
+            let word = exchange_word(attached.exchange);
+            print_word_of_link(text, line, end, "attached", attached.link, word)
+        }
+        Event::Detached(detached) => {
+            let word = closed_word(detached.closed);
+            print_word_of_link(text, line, end, "detached", detached.link, word)
+        }
         Event::Ended(ended) => print_ended(text, line, end, ended.session),
         Event::Refused(refused) => print_refused(text, line, end, refused),
         Event::Closed(_) => print_words(text, line, end, "closed"),
@@ -228,6 +321,40 @@ fn role_word(role: Role) -> &'static str
         Role::Sender => "sender",
         Role::Receiver => "receiver",
     }
+}
+
+/// What is to be done for the deliveries of a link that are unsettled.
+fn exchange_word(exchange: AttachExchange) -> &'static str
+    ensures { result.now ≡ exchange_word exchange }
+{
+    match exchange {
+        AttachExchange::Complete => "complete",
+        AttachExchange::IncompleteUnsettled => "incomplete",
+        AttachExchange::Resume => "resume",
+    }
+}
+
+/// Whether a link that was detached was closed.
+fn closed_word(closed: bool) -> &'static str
+    ensures { result.now ≡ closed_word closed }
+{
+    if closed { "closed" } else { "detached" }
+}
+
+/// What comes of a link: its number, and a word of it.
+fn print_word_of_link(
+    text: &mut String,
+    line: usize,
+    end: End,
+    event: &str,
+    link: u64,
+    word: &str,
+) -> Result<(), AllocError>
+    ensures { OnOk result (string_bytes text.new ≡ string_bytes text.old
+        ++ of_line line end (event.now ++ (codes " " ++ (decimal link ++ (codes " " ++ word.now))))) }
+{
+    let letter = letter(end);
+    writeln!(text, "{line} {letter} {event} {link} {word}")
 }
 
 fn print_ended(text: &mut String, line: usize, end: End, session: u64) -> Result<(), AllocError>

@@ -1,11 +1,14 @@
 //! What one line of a script says.
 ghost use Rattle.std.specs.Prelude.{◌≡◌, ◌==◌, ◌^◌, length, map, IfOk};
 ghost use Rattle.std.specs.List.{list_any};
-ghost use Rattle.amqp_endpoint.specs.Script.{bytes_of, call_at, call_of, call_with, count_of, end_of, move_from, number_under, parts_at, settings_at, settings_of, statement, three_said, word_said, words_said};
+ghost use Rattle.amqp_endpoint.specs.Digits.{number_under};
+ghost use Rattle.amqp_endpoint.specs.Script.{bytes_of, call_at, call_of, call_with, count_of, end_of, grant_of, move_from, parts_at, receiver_at, sender_at, settings_at, settings_of, statement, three_said, word_said, words_said};
 
+use crate::scenario::terms::{read_receiver_settings, read_sender_settings};
 use amqp_endpoint_model::{Call, Settings};
+use amqp_endpoint_settings::LinkSettings;
 use amqp_endpoint_world::End;
-use amqp_session_types::IncomingChannel;
+use amqp_session_types::{Boxed, IncomingChannel};
 use bytes::Bytes;
 use hex::FromHexError;
 use serde_amqp_types::Text;
@@ -61,12 +64,20 @@ fn read_words(alloc: Global, words: &[&str]) -> Result<Option<Statement>, AllocE
         [word] => Ok(read_word(word)),
         [end, verb] => Ok(call_at(read_end(end), call_named(verb))),
         [first, second, third] => read_three(alloc, first, second, third),
-        [verb, end, container, limit, channels, window, first] => {
-            if *verb != "settings" {
-                return Ok(None);
-            }
+        [end, verb, link, credit] => Ok(call_at(read_end(end), read_grant(verb, link, credit))),
+        [end, verb, session, name, mode] => {
+            let settings = read_receiver_settings(alloc, name, mode)?;
+            let call = receiver_at(verb, read_u64(session), settings);
+            Ok(call_at(read_end(end), call))
+        }
+        [verb, end, container, limit, channels, window, first] if *verb == "settings" => {
             let settings = read_settings(alloc, container, limit, channels, window, first)?;
             Ok(settings_at(read_end(end), settings))
+        }
+        [end, verb, session, name, count, sending, receiving] => {
+            let settings = read_sender_settings(alloc, name, count, sending, receiving)?;
+            let call = sender_at(verb, read_u64(session), settings);
+            Ok(call_at(read_end(end), call))
         }
         _ => Ok(None),
     }
@@ -150,7 +161,7 @@ fn call_named(verb: &str) -> Option<Call>
     }
 }
 
-/// The call that a word names with what stands behind it: bytes, a channel of the peer's, or a session.
+/// The call that a word names with what stands behind it: bytes, a channel of the peer's, a session, or a link.
 fn read_call(alloc: Global, verb: &str, word: &str) -> Result<Option<Call>, AllocError>
     ensures { IfOk result (λ c. c ≡ call_with verb.now word.now) }
 {
@@ -161,8 +172,56 @@ fn read_call(alloc: Global, verb: &str, word: &str) -> Result<Option<Call>, Allo
         }
         "accept" => Ok(read_u16(word).map(|channel| Call::AcceptBegin(IncomingChannel(channel)))),
         "end" => Ok(read_u64(word).map(Call::End)),
+        "detach" => Ok(read_u64(word).map(Call::Detach)),
+        "closelink" => Ok(read_u64(word).map(Call::CloseLink)),
+        "drain" => Ok(read_u64(word).map(Call::Drain)),
+        "waiting" => Ok(read_u64(word).map(Call::Waiting)),
         _ => Ok(None),
     }
+}
+
+/// A grant to a link: the link, and how many messages.
+fn read_grant(verb: &str, link: &str, credit: &str) -> Option<Call>
+    ensures { result ≡ grant_of verb.now link.now credit.now }
+{
+    if verb != "grant" {
+        return None;
+    }
+    let link = read_u64(link)?;
+    let credit = read_u32(credit)?;
+    Some(Call::Grant(link, credit))
+}
+
+/// A link that attaches as a receiver, in this session and with these settings.
+fn receiver_at(
+    verb: &str,
+    session: Option<u64>,
+    settings: Option<Boxed<LinkSettings>>,
+) -> Option<Call>
+    ensures { result ≡ receiver_at verb.now session settings }
+{
+    if verb != "receiver" {
+        return None;
+    }
+    let session = session?;
+    let settings = settings?;
+    Some(Call::AttachReceiver(session, settings))
+}
+
+/// A link that attaches as a sender, in this session and with these settings.
+fn sender_at(
+    verb: &str,
+    session: Option<u64>,
+    settings: Option<Boxed<LinkSettings>>,
+) -> Option<Call>
+    ensures { result ≡ sender_at verb.now session settings }
+{
+    if verb != "sender" {
+        return None;
+    }
+    let session = session?;
+    let settings = settings?;
+    Some(Call::AttachSender(session, settings))
 }
 
 /// How many bytes are moved: so many, or `all` that there are.
@@ -222,7 +281,7 @@ fn read_settings(
 }
 
 /// A number in decimal digits alone: a sign is none.
-fn read_u32(word: &str) -> Option<u32>
+pub(crate) fn read_u32(word: &str) -> Option<u32>
     ensures { result ≡ number_under (2 ^ 32) word.now }
 {
     if word.starts_with('+') {

@@ -28,9 +28,9 @@ impl<S: SessionRelay> Endpoint<S> {
             IsRefused S.does self.old (Call.AttachSender session settings.now) e × (self.new ≡ self.old)) }
     {
         let limit = self.limit();
-        let attaching =
-            self.sessions
-                .attach_sender(self.alloc, limit, session, settings, &mut self.out)?;
+        let attaching = self
+            .sessions
+            .attach_sender(self.alloc, limit, session, settings, &mut self.out)?;
         Ok(attaching)
     }
 
@@ -47,9 +47,9 @@ impl<S: SessionRelay> Endpoint<S> {
             IsRefused S.does self.old (Call.AttachReceiver session settings.now) e × (self.new ≡ self.old)) }
     {
         let limit = self.limit();
-        let attaching =
-            self.sessions
-                .attach_receiver(self.alloc, limit, session, settings, &mut self.out)?;
+        let attaching = self
+            .sessions
+            .attach_receiver(self.alloc, limit, session, settings, &mut self.out)?;
         Ok(attaching)
     }
 
@@ -113,8 +113,7 @@ impl<S: SessionRelay> Endpoint<S> {
         ensures err { IfErr result (λ e. IsRefused S.does self.old (Call.Drain link) e × (self.new ≡ self.old)) }
     {
         let limit = self.limit();
-        self.sessions
-            .drain(self.alloc, limit, link, &mut self.out)?;
+        self.sessions.drain(self.alloc, limit, link, &mut self.out)?;
         Ok(())
     }
 }

@@ -1,5 +1,7 @@
 //! Each error's number and text.
-use amqp_endpoint::{ConnectionError, EndpointError, FrameError, LinkError, SessionError};
+use amqp_endpoint::{
+    ConnectionError, EndpointError, FrameError, LinkError, LinkStateError, SessionError,
+};
 use std::alloc::AllocError;
 
 /// Every error, in the order of the numbers.
@@ -32,7 +34,7 @@ const ERRORS: [EndpointError; 29] = [
     EndpointError::Frame(FrameError::DecodeError),
     EndpointError::Connection(ConnectionError::NotFound),
     EndpointError::Session(SessionError::HandleInUse),
-    EndpointError::Link(LinkError::IllegalState),
+    EndpointError::Link(LinkError::LinkState(LinkStateError::IllegalState)),
 ];
 
 #[test]
@@ -92,8 +94,8 @@ fn errors_have_texts(rt: HostRuntime) -> Result<(), AllocError> {
             "session: the handle is in use",
         ),
         (
-            EndpointError::Link(LinkError::IllegalState),
-            "link: the link is in a state that does not allow it",
+            EndpointError::Link(LinkError::LinkState(LinkStateError::IllegalState)),
+            "link: the state of the link does not allow it",
         ),
     ];
     for (error, text) in texts {

@@ -1,6 +1,8 @@
-//! Whether a session is over, and that its peer's End is told of once: no script asks for it.
+//! What no script asks for: whether a session is over, that its peer's End is told of once, what waits in it, and the credit
+//! of a link.
 use amqp_endpoint::{
-    Answer, Call, IncomingChannel, Settings, Text, TryEndError, UnlinkedSessions, play,
+    Answer, Call, EndpointError, IncomingChannel, Settings, Text, TryEndError, UnlinkedSessions,
+    play,
 };
 use bytes::Bytes;
 use std::test::Fail;
@@ -18,6 +20,9 @@ fn said(answer: &Answer) -> &'static str {
         Answer::Truth(true) => "yes",
         Answer::Truth(false) => "no",
         Answer::Session(0) => "session 0",
+        Answer::Count(0) => "none",
+        Answer::Refused(EndpointError::UnknownSession) => "unknown session",
+        Answer::Refused(EndpointError::UnknownLink) => "unknown link",
         Answer::TriedEnd(Ok(())) => "told",
         Answer::TriedEnd(Err(TryEndError::RemoteEndNotReceived)) => "not received",
         Answer::TriedEnd(Err(TryEndError::AlreadyEnded)) => "told before",
@@ -27,7 +32,7 @@ fn said(answer: &Answer) -> &'static str {
 }
 
 #[test]
-fn ends_are_told_of_once(rt: HostRuntime) -> Result<(), Fail> {
+fn sessions_are_asked(rt: HostRuntime) -> Result<(), Fail> {
     let alloc = rt.alloc();
     let settings = Settings {
         container_id: Text::new(String::from_str(alloc, "a")?),
@@ -52,6 +57,9 @@ fn ends_are_told_of_once(rt: HostRuntime) -> Result<(), Fail> {
         Call::TryEnd(0),
         Call::IsEnded(1),
         Call::TryEnd(u64::MAX),
+        Call::HeldBack(0),
+        Call::HeldBack(1),
+        Call::Credit(0),
     ];
     let wanted = [
         ("done", 1),
@@ -68,6 +76,9 @@ fn ends_are_told_of_once(rt: HostRuntime) -> Result<(), Fail> {
         ("told before", 4),
         ("no", 4),
         ("not received", 4),
+        ("none", 4),
+        ("unknown session", 4),
+        ("unknown link", 4),
     ];
     let replies = play::<UnlinkedSessions>(alloc, settings, &calls)?;
     assert_eq!(rt; replies.len(), wanted.len());

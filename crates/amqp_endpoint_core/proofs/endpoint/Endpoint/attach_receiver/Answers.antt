@@ -23,7 +23,7 @@ invariant_of-self-2 g c =
       fits,
       least,
       queue_called does limit c.limit-limit.result (call.AttachReceiver c.args.session c.args.settings.now)
-    (attaching c.in_ok-attaching.attaching.link c.in_ok-attaching.attaching.events.items)
+          (attaching c.in_ok-attaching.attaching.link c.in_ok-attaching.attaching.events.items)
           c.self.inside.queue.items c.self.inside.out.items
           c.attach_receiver.new.out.items c.self.inside.sessions c.attach_receiver.new.self limit_is c.in_ok-attaching.ensures.ok within,
       wait_least does c.self.inside.phase c.self.inside.peer_limit c.self.inside.sessions c.attach_receiver.new.self

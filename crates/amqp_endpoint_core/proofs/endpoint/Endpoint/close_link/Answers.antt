@@ -23,7 +23,7 @@ invariant_of-self-2 g c =
       fits,
       least,
       queue_called does limit c.limit-limit.result (call.CloseLink c.args.link)
-    (link_closed c.in_ok-events.events.items)
+          (link_closed c.in_ok-events.events.items)
           c.self.inside.queue.items c.self.inside.out.items
           c.close_link.new.out.items c.self.inside.sessions c.close_link.new.self limit_is c.in_ok-events.ensures.ok within,
       wait_least does c.self.inside.phase c.self.inside.peer_limit c.self.inside.sessions c.close_link.new.self

@@ -23,7 +23,7 @@ invariant_of-self-2 g c =
       fits,
       least,
       queue_called does limit c.limit-limit.result (call.Detach c.args.link)
-    done
+          done
           c.self.inside.queue.items c.self.inside.out.items
           c.detach.new.out.items c.self.inside.sessions c.detach.new.self limit_is c.in_ok-detach.ensures.ok within,
       wait_least does c.self.inside.phase c.self.inside.peer_limit c.self.inside.sessions c.detach.new.self

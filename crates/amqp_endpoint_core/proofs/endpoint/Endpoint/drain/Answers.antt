@@ -23,7 +23,7 @@ invariant_of-self-2 g c =
       fits,
       least,
       queue_called does limit c.limit-limit.result (call.Drain c.args.link)
-    done
+          done
           c.self.inside.queue.items c.self.inside.out.items
           c.drain.new.out.items c.self.inside.sessions c.drain.new.self limit_is c.in_ok-drain.ensures.ok within,
       wait_least does c.self.inside.phase c.self.inside.peer_limit c.self.inside.sessions c.drain.new.self

@@ -23,7 +23,7 @@ invariant_of-self-2 g c =
       fits,
       least,
       queue_called does limit c.limit-limit.result (call.Grant c.args.link c.args.credit)
-    (credit_is c.in_ok-left.left)
+          (credit_is c.in_ok-left.left)
           c.self.inside.queue.items c.self.inside.out.items
           c.grant.new.out.items c.self.inside.sessions c.grant.new.self limit_is c.in_ok-left.ensures.ok within,
       wait_least does c.self.inside.phase c.self.inside.peer_limit c.self.inside.sessions c.grant.new.self
