@@ -1,10 +1,9 @@
 //! The calls that concern sessions (part 2, 2.5.1, 2.5.2).
-ghost use Rattle.std.specs.Prelude.{◌≡◌, ◌<◌, ◌^◌, IsSome, OnErr, OnOk, IfErr, IfOk};
+ghost use Rattle.std.specs.Prelude.{◌≡◌, ◌<◌, ◌^◌, OnErr, OnOk, IfErr, IfOk};
 ghost use Rattle.amqp_endpoint_model.specs.declared.call.Call.TheVariants.{AcceptBegin, Begin, End};
 ghost use Rattle.amqp_endpoint_model.specs.Relay.{StandsStill};
 ghost use Rattle.amqp_endpoint_model.specs.Said.{done, session_begun};
-ghost use Rattle.amqp_endpoint_sessions.specs.State.{place_at};
-ghost use Rattle.amqp_endpoint_unlinked.specs.Calling.{BarsAccepting, BarsAsking, BarsAttaching, BarsBeginning, BarsEnding, of_accept, of_begin};
+ghost use Rattle.amqp_endpoint_unlinked.specs.Calling.{BarsAccepting, BarsBeginning, BarsEnding, of_accept, of_begin};
 ghost use Rattle.amqp_endpoint_unlinked.specs.Ending.{NoneLive, NothingWaits};
 ghost use Rattle.amqp_endpoint_unlinked.specs.Handed.{Hands};
 
@@ -85,27 +84,6 @@ pub(crate) fn end(
         Ok(_) => Ok(()),
         Err(_) => Err(EndpointError::Memory),
     }
-}
-
-/// Why no link is attached in the session with this number.
-pub(crate) fn attach(talk: &Conversation<NoLink>, number: u64) -> EndpointError
-    ensures { BarsAttaching talk.now number result }
-{
-    if talk.sessions.place(number).is_none() {
-        return EndpointError::UnknownSession;
-    }
-    EndpointError::IllegalState
-}
-
-/// Whether something can be asked of the session with this number.
-pub(crate) fn ask(talk: &Conversation<NoLink>, number: u64) -> Result<(), EndpointError>
-    ensures ok { OnOk result (IsSome (place_at talk.now.sessions number)) }
-    ensures err { IfErr result (BarsAsking talk.now number) }
-{
-    if talk.sessions.place(number).is_none() {
-        return Err(EndpointError::UnknownSession);
-    }
-    Ok(())
 }
 
 /// The numbers that each session begins with are those of a uint (part 2, 2.7.2): whoever reads them sees it.

@@ -5,6 +5,7 @@
 
 mod calling;
 mod hearing;
+mod linking;
 mod no_link;
 mod over;
 mod unlinked;

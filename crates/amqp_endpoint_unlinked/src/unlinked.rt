@@ -1,6 +1,7 @@
 //! What the sessions do for their connection.
-use crate::calling::{accept_begin, ask, attach, begin, end};
+use crate::calling::{accept_begin, begin, end};
 use crate::hearing::hear;
+use crate::linking::{ask, attach};
 use crate::no_link::NoLink;
 use crate::over::{finish, leave};
 use amqp_endpoint_conversation::Conversation;
