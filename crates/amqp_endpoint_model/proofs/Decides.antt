@@ -137,6 +137,15 @@ module _ {S : Type 0} (does : Relations S) where
   decided s (End number) a m plain step h = absurd plain
   decided s (IsEnded number) a m plain step h = absurd plain
   decided s (TryEnd number) a m plain step h = absurd plain
+  decided s (AttachSender session settings) a m plain step h = absurd plain
+  decided s (AttachReceiver session settings) a m plain step h = absurd plain
+  decided s (Detach link) a m plain step h = absurd plain
+  decided s (CloseLink link) a m plain step h = absurd plain
+  decided s (Grant link credit) a m plain step h = absurd plain
+  decided s (Drain link) a m plain step h = absurd plain
+  decided s (Credit link) a m plain step h = absurd plain
+  decided s (HeldBack session) a m plain step h = absurd plain
+  decided s (WaitingCall session) a m plain step h = absurd plain
   decided s Connect (refused e) m plain (may, same) h = refused-decided s Connect e done m (connected does s) may same h
   decided s Connect done m plain (none, after) h = done-decided s Connect done m (connected does s) none after
   decided s Heartbeat (refused e) m plain (may, same) h = refused-decided s Heartbeat e done m (beaten s) may same h

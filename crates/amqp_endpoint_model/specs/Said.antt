@@ -1,5 +1,5 @@
 -- What calls answer, as plain data.
-use Rattle.std.specs.Prelude.{ℕ, ◌×◌, Bool, List, Option, Some, None, Result, Ok, Err, ⊤}
+use Rattle.std.specs.Prelude.{ℕ, Bool, List, Option, Some, None, Result, Ok, Err, ⊤}
 use Rattle.amqp_session_types.specs.declared.refusals.TryCloseError.{TryCloseError}
 use Rattle.amqp_session_types.specs.declared.refusals.TryEndError.{TryEndError}
 use Rattle.amqp_endpoint_model.specs.declared.error.EndpointError.{EndpointError}
