@@ -25,8 +25,8 @@ module _ (old : LinkTalk) (number : ℕ) (handle : OutputHandle) (lent : Box Lin
     (live : live_at old.sessions number ≡ Some lent) (after : Linked) (out out_new : List SessionFrame) where
   pub granted-ok : (credit : ℕ) (result : Result ℕ EndpointError)
       → GrantAnswered lent.value handle credit result out after out_new
-      → IfOk result (λ left. DoneIn (gives_credit credit left) number handle old out (changed old number lent live after)
-      out_new)
+      → IfOk result
+      (λ left. DoneIn (gives_credit credit left) number handle old out (changed old number lent live after) out_new)
   granted-ok credit (Ok left) g =
       done-in old number lent live (gives_credit credit left) handle after g.frames out out_new
       (record {

@@ -35,7 +35,8 @@ use Rattle.amqp_endpoint_link_calls.specs.Places.{LinkTalk}
 pub answers-plain : AnswersPlain gives
 answers-plain before after flow answer flows = at (standing_of (state_of before.link)) flows.0
   where
-    at : (stands : Standing) → flows_at stands before.link flow (Ok (Some answer)) after.link → answer.properties ≡ None
+    at : (stands : Standing) → flows_at stands before.link flow (Ok (Some answer)) after.link
+        → answer.properties ≡ None
     at Attached f =
         let is : flow_answer before.link flow ≡ Some answer = cc in reply_plain before.link flow answer is
     at Detaching f = absurd cc

@@ -28,7 +28,8 @@ pub record ClosesHeld (session : ℕ) (handle : OutputHandle) (old : LinkTalk) (
 abbrev pub ClosedAt : Where → LinkTalk → LinksBy → ℕ → List SessionFrame → LinkTalk → LinksBy → List SessionFrame
     → Type 0
 ClosedAt None old links link out new links_new out_new = ⊥
-ClosedAt (Some (AtRest end)) old links link out new links_new out_new = Forgets old links link out new links_new out_new
+ClosedAt (Some (AtRest end)) old links link out new links_new out_new =
+    Forgets old links link out new links_new out_new
 ClosedAt (Some (Held session handle)) old links link out new links_new out_new =
     ClosesHeld session handle old links out new links_new out_new
 
