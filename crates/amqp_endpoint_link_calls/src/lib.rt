@@ -10,10 +10,10 @@ mod detaching;
 mod holding;
 pub mod laws;
 mod seeing;
-mod waiting;
+mod turns;
 
 pub use crediting::{drain, grant};
 pub use detaching::{close_link, detach};
 pub use holding::LinkTalk;
 pub use seeing::credit;
-pub use waiting::{held_back, waiting};
+pub use turns::{held_back, waiting};
