@@ -1,5 +1,5 @@
 -- The transfers that wait in a session, counted by links.
-use Rattle.std.proofs.Common.{◌≡◌, ℕ, ◌≤◌, ◌+◌, List, [], ◌∷◌, Option, Some, None, IsSome, refl, ap, ◌∙◌, length, arith}
+use Rattle.std.proofs.Common.{◌≡◌, ℕ, ◌≤◌, ◌+◌, List, [], ◌∷◌, ◌++◌, Option, Some, None, IsSome, refl, ap, ◌∙◌, length, arith}
 use Rattle.amqp_session_outgoing.specs.Queues.{Queues, held_in, turn_of}
 use Rattle.amqp_session_core.specs.State.{link_at}
 use Rattle.amqp_session_core.specs.declared.batch.BehindFrame.{BehindFrame}
@@ -11,12 +11,12 @@ use Rattle.amqp_endpoint_attached.specs.Linked.{LinksIn}
 use Rattle.amqp_endpoint_link_calls.specs.Waiting.{AllAreThere, AllAreThereAt, SessionPlace, by_number, counted, held_at, total, turn_at}
 
 counted-all : (link : Option (Numbered End)) (count : ℕ) (others : List (ℕ × ℕ)) → IsSome link
-    → total (counted link count others) ≡ count + total others
+    → total (counted link count ++ others) ≡ count + total others
 counted-all None count others there = absurd cc
 counted-all (Some link) count others there = refl
 
 counted-most : (link : Option (Numbered End)) (count : ℕ) (others : List (ℕ × ℕ))
-    → total (counted link count others) ≤ count + total others
+    → total (counted link count ++ others) ≤ count + total others
 counted-most None count others = omega arith
 counted-most (Some link) count others = omega arith
 
@@ -31,7 +31,7 @@ most-held : (s : LinksIn) (queues : Queues TransferFrame BehindFrame)
     → total (by_number s (turn_of queues)) ≤ held_in queues
 most-held s [] = omega arith
 most-held s (queue ∷ queues) =
-    let first : total (counted (link_at s queue.0) (length queue.1) (by_number s (turn_of queues)))
+    let first : total (counted (link_at s queue.0) (length queue.1) ++ by_number s (turn_of queues))
     ≤ length queue.1 + total (by_number s (turn_of queues)) =
     counted-most (link_at s queue.0) (length queue.1) (by_number s (turn_of queues)) in
     let others : total (by_number s (turn_of queues)) ≤ held_in queues = most-held s queues in omega arith

@@ -1,23 +1,20 @@
--- What is done in a session that is lent, and where a link is held.
-use Rattle.std.proofs.Common.{◌≡◌, ℕ, List, [], ◌++◌, Option, Some, None, Result, Ok, Err, refl, sym, ap, subst, ◌∙◌, length}
-use Rattle.std.specs.Prelude.{All, IfErr, IfOk, OnErr, drop}
+-- What is done in a session that is lent.
+use Rattle.std.proofs.Common.{◌≡◌, ℕ, List, ◌++◌, Some, Result, Ok, Err, refl, ap, ◌∙◌}
+use Rattle.std.specs.Prelude.{OnErr}
 use Rattle.std.specs.Box.{with_value}
 use Rattle.std.specs.Global.{Box}
 use Rattle.amqp_session_types.specs.declared.handles.OutputHandle.{OutputHandle}
 use Rattle.amqp_session_performatives.specs.declared.session_frame.SessionFrame.{SessionFrame}
-use Rattle.amqp_endpoint_names.specs.declared.place.LinkPlace.TheVariants.{Held, AtRest}
 use Rattle.amqp_endpoint_sessions.specs.Lends.{set_live}
 use Rattle.amqp_endpoint_sessions.specs.State.{live_at}
 use Rattle.amqp_endpoint_link_calls.proofs.Lent.{unlent}
 use Rattle.amqp_endpoint_conversation.specs.Beginning.{Sessions}
 use Rattle.amqp_endpoint_links.specs.declared.numbered.Numbered.{Numbered}
 use Rattle.amqp_link_ends.specs.declared.end.End.{End}
-use Rattle.amqp_endpoint_talk.specs.Going.{Rests}
-use Rattle.amqp_endpoint_talk.proofs.Calls.{changed-rests}
+use Rattle.amqp_endpoint_model.specs.declared.error.EndpointError.{EndpointError}
 use Rattle.amqp_endpoint_attached.specs.Linked.{Linked}
-use Rattle.amqp_endpoint_link_calls.specs.Calling.{Does, DoneAt, DoneIn}
-use Rattle.amqp_endpoint_link_calls.specs.Places.{LinkTalk, Where}
-use Rattle.amqp_endpoint_link_calls.proofs.Going.{same-rests}
+use Rattle.amqp_endpoint_link_calls.specs.Calling.{Does, DoneIn}
+use Rattle.amqp_endpoint_link_calls.specs.Places.{LinkTalk}
 
 module _ (old : LinkTalk) (number : ℕ) (lent : Box Linked) (live : live_at old.sessions number ≡ Some lent) where
   -- the sessions behind a call of the one that is lent
@@ -45,15 +42,9 @@ module _ (old : LinkTalk) (number : ℕ) (lent : Box Linked) (live : live_at old
       ap (λ (t : Linked). record old { sessions = set_live old.sessions number (with_value lent t) }) is
       ∙ ap (λ (ss : Sessions (Numbered End)). record old { sessions = ss }) (unlent old.sessions number lent live)
 
--- where a session holds the link
-pub done-at : (does : Does) (place : Where) (number : ℕ) (handle : OutputHandle) (old new : LinkTalk)
-    (out out_new : List SessionFrame) → place ≡ Some (Held number handle)
-    → DoneIn does number handle old out new out_new → DoneAt does place old out new out_new
-done-at does place number handle old new out out_new held done =
-    subst (λ (p : Where). DoneAt does p old out new out_new) (sym held) done
-
--- what was done rests where no session goes on
-pub done-rests : (does : Does) (number : ℕ) (handle : OutputHandle) (old new : LinkTalk)
-    (out out_new : List SessionFrame) → DoneIn does number handle old out new out_new → Rests old new out out_new
-done-rests does number handle old new out out_new d =
-    changed-rests number old new d.before d.after out out_new d.stepped
+  -- where a call is refused
+  pub kept : {T : Type 0} (result : Result T EndpointError) (before after : Linked) (out out_new : List SessionFrame)
+      → before ≡ lent.value → OnErr result ((after ≡ before) × (out_new ≡ out))
+      → OnErr result ((changed after ≡ old) × (out_new ≡ out))
+  kept (Ok done) before after out out_new same keeps = tt
+  kept (Err e) before after out out_new same keeps = (stays after (keeps.0 ∙ same), keeps.1)

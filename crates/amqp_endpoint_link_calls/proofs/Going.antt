@@ -4,7 +4,6 @@ use Rattle.std.specs.Prelude.{All, option_to_list}
 use Rattle.std.specs.Global.{Box}
 use Rattle.std.proofs.lemmas.List.Elements.{All-nil}
 use Rattle.amqp_session_types.specs.declared.handles.OutputHandle.{OutputHandle}
-use Rattle.amqp_session_performatives.specs.declared.link_flow.LinkFlow.{LinkFlow}
 use Rattle.amqp_session_performatives.specs.declared.session_frame.SessionFrame.{SessionFrame}
 use Rattle.amqp_session_core.specs.declared.batch.BehindFrame.{BehindFrame}
 use Rattle.amqp_session_core.specs.Steps.{Changes, SendsBehind}
@@ -24,7 +23,7 @@ use Rattle.amqp_endpoint_model.specs.State.{fits, frame_of}
 use Rattle.amqp_endpoint_fitting.specs.Fits.{BehindFits}
 use Rattle.amqp_endpoint_fitting.specs.Handed.{AllAskingHand}
 use Rattle.amqp_endpoint_fitting.specs.Read.{IsRead}
-use Rattle.amqp_endpoint_talk.specs.Going.{AnswersPlain, Goes, NoneLive, Rests, Within}
+use Rattle.amqp_endpoint_talk.specs.Going.{AnswersPlain, Goes, Within}
 use Rattle.amqp_endpoint_talk.proofs.Calls.{changed-goes}
 use Rattle.amqp_endpoint_attached.specs.Linked.{Linked, gives}
 use Rattle.amqp_endpoint_attached.specs.Sent.{Sends}
@@ -53,13 +52,7 @@ module _ (before after : Linked) (handle : OutputHandle) (stood stands : Numbere
       InSession (Changes handle.0 stood stands) ∷ InSession (SendsBehind handle frame sends.left sends.answer) ∷ []
 
   history : AskingHistory gives before steps after
-  history = (
-    record before { session = sends.mid },
-    (sends.changed, refl),
-    after,
-    (sends.sent, sends.rest),
-    refl,
-  )
+  history = (record before { session = sends.mid }, (sends.changed, refl), (after, (sends.sent, sends.rest), refl))
 
   hands : AllAskingHand steps frames
   hands = (
@@ -86,8 +79,8 @@ module _ (limit number : ℕ) (old new : LinkTalk) (before after : Box Linked) (
       subst (λ (o : List SessionFrame). Goes limit old new out o) (sym queued)
       (changed-goes gives limit number old new before after
       (steps before.value after.value handle stood stands frame frames sends) frames out stepped
-      (history before.value after.value handle stood stands frame frames sends) answers-plain (tt, fits, tt)
-      (tt, tt, tt) (hands before.value after.value handle stood stands frame frames sends) reads)
+      (history before.value after.value handle stood stands frame frames sends) answers-plain (tt, (fits, tt))
+      (tt, (tt, tt)) (hands before.value after.value handle stood stands frame frames sends) reads)
 
 module _ (old new : LinkTalk) (out out_new : List SessionFrame) (is : new ≡ old) (silent : out_new ≡ out) where
   -- where nothing changes
@@ -103,11 +96,4 @@ module _ (old new : LinkTalk) (out out_new : List SessionFrame) (is : new ≡ ol
         frames = [];
         queued = silent ∙ sym (append-nil out);
         fit = λ least within. All-nil (λ (f : SessionFrame). fits limit (frame_of f) ≡ true);
-      }
-
-  pub same-rests : Rests old new out out_new
-  same-rests =
-      record {
-        silent = λ none. silent;
-        idle = λ none. subst (λ (t : LinkTalk). NoneLive t) (sym is) none;
       }

@@ -1,5 +1,5 @@
 -- An endpoint's links where they stand: in its sessions by their handles, or at rest (part 2, 2.6.2, 2.6.4).
-use Rattle.std.specs.Prelude.{◌≡◌, ℕ, Option, Some, None}
+use Rattle.std.specs.Prelude.{◌≡◌, Option, Some, None}
 use Rattle.std.specs.Global.{Box}
 use Rattle.amqp_session_types.specs.declared.handles.OutputHandle.{OutputHandle}
 use Rattle.amqp_link_ends.specs.declared.end.End.{End}

@@ -1,8 +1,8 @@
 -- The transfers that wait in an endpoint's sessions for their peer's window: part 2, 2.5.6.
-use Rattle.std.specs.Prelude.{◌≡◌, ℕ, ◌+◌, ◌<◌, length, List, [], ◌∷◌, Option, Some, None, IsSome, Result, Ok, Err}
+use Rattle.std.specs.Prelude.{◌≡◌, ℕ, ◌+◌, List, [], ◌∷◌, ◌++◌, Option, Some, None, IsSome, Result, Ok, Err}
 use Rattle.std.specs.Global.{Box}
 use Rattle.amqp_session_types.specs.declared.handles.OutputHandle.{OutputHandle}
-use Rattle.amqp_session_outgoing.specs.Queues.{Queues, held_in, turn_of, units_of}
+use Rattle.amqp_session_outgoing.specs.Queues.{Queues, held_in, turn_of}
 use Rattle.amqp_session_core.specs.State.{link_at}
 use Rattle.amqp_session_core.specs.declared.batch.BehindFrame.{BehindFrame}
 use Rattle.amqp_session_core.specs.declared.batch.TransferFrame.{TransferFrame}
@@ -28,15 +28,15 @@ abbrev pub held_told : Option SessionPlace → Result ℕ EndpointError
 held_told None = Err UnknownSession
 held_told (Some place) = Ok (held_at place)
 
--- so many transfers of a link wait, before those of others
-abbrev pub counted : Option (Numbered End) → ℕ → List (ℕ × ℕ) → List (ℕ × ℕ)
-counted None count others = others
-counted (Some link) count others = (link.number, count) ∷ others
+-- a link by its number, with how many of its transfers wait
+abbrev pub counted : Option (Numbered End) → ℕ → List (ℕ × ℕ)
+counted None count = []
+counted (Some link) count = (link.number, count) ∷ []
 
 -- links by their numbers, each with how many of its transfers wait
 abbrev pub by_number : LinksIn → List (OutputHandle × ℕ) → List (ℕ × ℕ)
 by_number s [] = []
-by_number s (first ∷ others) = counted (link_at s (first.0).0) first.1 (by_number s others)
+by_number s (first ∷ others) = counted (link_at s (first.0).0) first.1 ++ by_number s others
 
 -- the links that wait in a session, in turn
 abbrev pub turn_at : SessionPlace → List (ℕ × ℕ)

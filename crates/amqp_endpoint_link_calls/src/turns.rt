@@ -1,8 +1,10 @@
 //! The transfers that wait in a session for the peer's window (part 2, 2.5.6).
-ghost use Rattle.std.specs.Prelude.{◌≡◌, IfErr, IfOk};
+ghost use Rattle.std.specs.Prelude.{◌≡◌, ◌+◌, ◌≤◌, ◌<◌, ◌++◌, IfErr, IfOk};
+ghost use Rattle.std.specs.Vec.{vec_len, vec_capacity};
 ghost use Rattle.amqp_session_outgoing.specs.Queues.{turn_of};
+ghost use Rattle.amqp_session_core.specs.State.{link_at};
 ghost use Rattle.amqp_endpoint_sessions.specs.State.{place_at};
-ghost use Rattle.amqp_endpoint_link_calls.specs.Waiting.{BarsWaiting, TurnTold, by_number, held_at, held_told};
+ghost use Rattle.amqp_endpoint_link_calls.specs.Waiting.{BarsWaiting, TurnTold, by_number, counted, held_at, held_told};
 
 use crate::holding::LinkTalk;
 use amqp_endpoint_asked::AskedSession;
@@ -76,7 +78,8 @@ fn turn_in(
     }
 }
 
-/// Links by their numbers, in this order, each with how many of its transfers wait.
+/// Links by their numbers, in this order, each with how many of its transfers wait. It is refused where there is no
+/// memory.
 fn by_number(
     session: &Session<Numbered<LinkEnd>>,
     alloc: Global,
@@ -86,11 +89,39 @@ fn by_number(
 {
     let mut turn = turn;
     let mut numbers = Vec::with_capacity(alloc, turn.len())?;
-    turn.reverse();
-    while let Some((handle, count)) = turn.pop() {
-        if let Some(link) = session.link(handle) {
-            numbers.push_reserved((link.number, count as u64));
-        }
-    }
+    count_each(session, &mut turn, &mut numbers);
     Ok(numbers)
+}
+
+/// Links by their numbers, in this order, behind those that are there. There is room for them.
+fn count_each(
+    session: &Session<Numbered<LinkEnd>>,
+    turn: &mut Vec<(OutputHandle, usize)>,
+    numbers: &mut Vec<(u64, u64)>,
+)
+    requires { vec_len numbers.old + vec_len turn.old ≤ vec_capacity numbers.old }
+    ensures numbers { numbers.new.items ≡ numbers.old.items ++ by_number session.now turn.old.items }
+    ensures capacity { vec_capacity numbers.new ≡ vec_capacity numbers.old }
+{
+    turn.reverse();
+    while let Some(one) = turn.pop() {
+        count_one(session, one, numbers);
+    }
+}
+
+/// A link by its number, where it is there, behind those that are. There is room for it.
+fn count_one(
+    session: &Session<Numbered<LinkEnd>>,
+    one: (OutputHandle, usize),
+    numbers: &mut Vec<(u64, u64)>,
+)
+    requires { vec_len numbers.old < vec_capacity numbers.old }
+    ensures numbers { numbers.new.items ≡ numbers.old.items ++ counted (link_at session.now (one.0).0) one.1 }
+    ensures len { vec_len numbers.new ≤ vec_len numbers.old + 1 }
+    ensures capacity { vec_capacity numbers.new ≡ vec_capacity numbers.old }
+{
+    let (handle, count) = one;
+    if let Some(link) = session.link(handle) {
+        numbers.push_reserved((link.number, count as u64));
+    }
 }
