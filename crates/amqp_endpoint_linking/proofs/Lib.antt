@@ -1,3 +1,4 @@
 mod Calls
 mod Hears
 mod OverLaws
+mod BackLaws

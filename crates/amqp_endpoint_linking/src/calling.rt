@@ -129,8 +129,8 @@ pub fn fail(
         return Err(EndpointError::Memory);
     }
     match amqp_endpoint_talk::fail(talk, alloc, out, number, &fault) {
-        Ok(session) => {
-            give_back(links, session);
+        Ok(failed) => {
+            give_back(links, failed);
             tell_fault(number, fault, events);
             Ok(())
         }

@@ -7,6 +7,7 @@
 mod back;
 mod calling;
 mod hearing;
+pub mod laws;
 mod linked;
 mod over;
 
