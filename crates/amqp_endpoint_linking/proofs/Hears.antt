@@ -17,7 +17,7 @@ use Rattle.amqp_endpoint_conversation.specs.declared.ending.EndHeard.{EndHeard}
 use Rattle.amqp_endpoint_conversation.specs.Beginning.{BeginAnswered, RefusedBegin}
 use Rattle.amqp_endpoint_conversation.specs.Ending.{EndAnswered}
 use Rattle.amqp_endpoint_model.specs.declared.error.EndpointError.{EndpointError}
-use Rattle.amqp_endpoint_model.specs.declared.error.EndpointError.TheVariants as fault
+use Rattle.amqp_endpoint_model.specs.declared.error.EndpointError.TheVariants as endpoint
 use Rattle.amqp_endpoint_model.specs.declared.event.Event.{Event}
 use Rattle.amqp_endpoint_model.specs.Refusals.{of_connection}
 use Rattle.amqp_endpoint_model.specs.Relay.{IsSessionFault}
@@ -152,7 +152,7 @@ module _ (old : Talk) (channel : IncomingChannel) (begin : Begin) (out : List Se
   -- or there is no memory for it
   pub begin-untold : (number : ℕ) (fault : SessionError) → IsRefused number fault → (end : Talk) → end ≡ new
       → (e : EndpointError) → BarsFailing new number e → IsSessionFault e × RefusesBegin old channel begin e end
-  begin-untold number fault r end kept fault.Memory b = (
+  begin-untold number fault r end kept endpoint.Memory b = (
     tt,
     inr (inl (
       refl,
@@ -166,17 +166,17 @@ module _ (old : Talk) (channel : IncomingChannel) (begin : Begin) (out : List Se
       },
     )),
   )
-  begin-untold number fault r end kept fault.IllegalState b = absurd (r.live b)
+  begin-untold number fault r end kept endpoint.IllegalState b = absurd (r.live b)
   begin-untold number fault r end kept e b = absurd b
 
 -- there is no memory even for what is told
 pub begin-without-memory : (old : Talk) (channel : IncomingChannel) (begin : Begin) (e : EndpointError)
-    → e ≡ fault.Memory → IsSessionFault e × RefusesBegin old channel begin e old
-begin-without-memory old channel begin e is = (is-fault e fault.Memory is tt, inr (inr (is, refl)))
+    → e ≡ endpoint.Memory → IsSessionFault e × RefusesBegin old channel begin e old
+begin-without-memory old channel begin e is = (is-fault e endpoint.Memory is tt, inr (inr (is, refl)))
 
 pub end-without-memory : (old : Talk) (channel : IncomingChannel) (end : End) (e : EndpointError)
-    → e ≡ fault.Memory → IsSessionFault e × RefusesEnd old channel end e old
-end-without-memory old channel end e is = (is-fault e fault.Memory is tt, inr (is, refl))
+    → e ≡ endpoint.Memory → IsSessionFault e × RefusesEnd old channel end e old
+end-without-memory old channel end e is = (is-fault e endpoint.Memory is tt, inr (is, refl))
 
 -- the peer's End
 module _ (old : Talk) (channel : IncomingChannel) (end : End) (out : List SessionFrame) (new : Talk)
