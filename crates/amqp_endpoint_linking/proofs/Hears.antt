@@ -43,7 +43,7 @@ module _ (old : Talk) (channel : IncomingChannel) (begin : Begin) (out : List Se
   pub begun-tells : (links links_new : Links) (told told_new : List Event) (heard : BeginHeard)
       → Goes 0 old new out out_new → BeginAnswered gives old out channel begin (Ok heard) new out_new
       → told_new ≡ told ++ begin_told heard channel → links_new ≡ links
-      → Tells (λ (frames : List SessionFrame) (events : List Event).
+      → Tells (λ frames events.
       HearsBegin old links channel begin frames events new links_new) out told out_new told_new
   begun-tells links links_new told told_new heard goes answered are same =
       record {
@@ -135,9 +135,9 @@ module _ (old : Talk) (channel : IncomingChannel) (begin : Begin) (out : List Se
   -- it ends by that
   pub failed-begin : (number : ℕ) (fault : SessionError) → IsRefused number fault
       → (links links_end : Links) (end : Talk) (told told_end : List Event) (out_end : List SessionFrame)
-      → Tells (λ (frames : List SessionFrame) (events : List Event).
+      → Tells (λ frames events.
       Fails new links number fault frames events end links_end) out_new told out_end told_end
-      → Tells (λ (frames : List SessionFrame) (events : List Event).
+      → Tells (λ frames events.
       HearsBegin old links channel begin frames events end links_end) out told out_end told_end
   failed-begin number fault r links links_end end told told_end out_end t =
       record {
@@ -188,7 +188,7 @@ module _ (old : Talk) (channel : IncomingChannel) (end : End) (out : List Sessio
       → tells ≡ is_told (is_closing old.sessions.connection.local_state) stood)
       → SessionGivenBack links heard.ended links_new
       → told_new ≡ told ++ end_told tells heard.number end.error
-      → Tells (λ (frames : List SessionFrame) (events : List Event).
+      → Tells (λ frames events.
       TakesEnd old links channel end frames events new links_new) out told out_new told_new
   ended-tells links links_new told told_new heard tells goes answered so back are =
       let here : EndAnswered old [] channel end (Ok heard) new goes.frames =
