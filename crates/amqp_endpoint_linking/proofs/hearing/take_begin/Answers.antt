@@ -1,6 +1,6 @@
-use Rattle.std.proofs.Common.{refl, ◌∙◌}
+use Rattle.std.proofs.Common.{refl}
 use Rattle.amqp_endpoint_talk.proofs.Goings.{goes-on}
-use Rattle.amqp_endpoint_linking.proofs.Hears.{begin-bars, begin-kept, begin-refused, begin-untold, begun-tells, failed-begin}
+use Rattle.amqp_endpoint_linking.proofs.Hears.{begin-refused, begun-tells, failed-begin}
 use Rattle.amqp_endpoint_linking.proofs.hearing.take_begin.Goals as goal
 
 pub returns-in-Ok-clause-ok : goal.returns-in-Ok-clause-ok
