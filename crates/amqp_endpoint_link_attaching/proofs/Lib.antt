@@ -1,0 +1,5 @@
+pub mod Met
+pub mod Lent
+pub mod Own
+pub mod Going
+pub mod Entered
