@@ -1,45 +1,17 @@
 -- What becomes of the endpoint's links, and what is said of a refusal.
-use Rattle.std.proofs.Common.{◌≡◌, ℕ, zero, suc, ◌<◌, List, [], Option, Some, None, Result, Ok, Err, refl, sym, ap, subst, ◌∙◌, length, arith, true}
-use Rattle.std.specs.Prelude.{IfOk, IfErr, OnOk, OnErr, IsOk, max, min}
-use Rattle.amqp_session_types.specs.declared.handles.OutputHandle.{OutputHandle}
+use Rattle.std.proofs.Common.{◌≡◌, ℕ, List, Result, Ok, Err, sym, ap, subst, ◌∙◌, length}
+use Rattle.std.specs.Prelude.{IfOk, IfErr}
 use Rattle.amqp_session_performatives.specs.declared.session_frame.SessionFrame.{SessionFrame}
 use Rattle.amqp_link_ends.specs.declared.end.End.{End}
 use Rattle.amqp_endpoint_attached.specs.declared.refusal.AttachRefusal.{AttachRefusal}
 use Rattle.amqp_endpoint_attached.specs.declared.refusal.AttachRefusal.TheVariants as why
 use Rattle.amqp_endpoint_model.specs.declared.error.EndpointError.{EndpointError}
-use Rattle.amqp_endpoint_model.specs.declared.error.EndpointError.TheVariants as error
-use Rattle.amqp_endpoint_names.specs.State.{IsNewName}
-use Rattle.amqp_endpoint_names.specs.Steps.{Entered, Enters, LowersRoom, Steps}
-use Rattle.amqp_endpoint_names.specs.declared.place.LinkRefusal.{LinkRefusal}
-use Rattle.amqp_endpoint_names.specs.declared.place.LinkRefusal.TheVariants.{NameInUse, Memory}
+use Rattle.amqp_endpoint_names.specs.Steps.{Enters, Steps}
 use Rattle.amqp_endpoint_link_attaching.specs.Attaching.{AttachesIn, LinkAttaches, with_room}
 use Rattle.amqp_endpoint_link_attaching.specs.Places.{LinkTalk, LinksBy, name_of}
-use Rattle.amqp_endpoint_link_attaching.specs.Refusals.{BarsAttaching, BarsIn, BarsMade, BarsName, MayAttach, RefusesIn, of_refusal}
+use Rattle.amqp_endpoint_link_attaching.specs.Refusals.{BarsAttaching, BarsIn, BarsMade, MayAttach, RefusesIn, of_refusal}
 use Rattle.amqp_endpoint_link_attaching.specs.declared.placed.Placed.{Placed}
 use Rattle.amqp_endpoint_link_attaching.proofs.Own.{own}
-
--- room that was made is given up again
-fewer : (room : ℕ) → min (max room 1) room ≡ room
-fewer zero = refl
-fewer (suc room) = omega arith
-
-pub lowered : (links new : LinksBy) → Steps (with_room links) (LowersRoom links.room) new → new ≡ links
-lowered links new lowers =
-    lowers ∙ ap (λ (room : ℕ). record links { room = room }) (fewer links.room)
-
--- there is room for one
-pub has-room : (room : ℕ) → 0 < max room 1
-has-room zero = omega arith
-has-room (suc room) = omega arith
-
--- a link is entered where there is room for it, under the number that comes next
-pub entered : (old new : LinksBy) (name : List ℕ) (session : ℕ) (handle : OutputHandle) (r : Result ℕ LinkRefusal)
-    → Entered old name session handle r new → IsOk r
-    → Steps old (Enters (length old.links) name session handle) new
-entered old new name session handle (Ok number) enters ok =
-    subst (λ (n : ℕ). Steps old (Enters n name session handle) new) enters.2 enters
-entered old new name session handle (Err NameInUse) enters ok = absurd cc
-entered old new name session handle (Err Memory) enters ok = absurd cc
 
 module _ (old new : LinkTalk) (links links_new : LinksBy) (out out_new : List SessionFrame) (limit session : ℕ)
     (link : End) (placed : Placed) where
@@ -59,6 +31,43 @@ module _ (old new : LinkTalk) (links links_new : LinksBy) (out out_new : List Se
             (λ (s : ℕ). Steps (with_room links) (Enters (length links.links) (name_of link) s placed.handle) links_new)
             attaches.held enters);
       }
+
+-- whichever answer its session gave
+module _ (old new : LinkTalk) (links mid links_new : LinksBy) (out out_new : List SessionFrame) (limit session : ℕ)
+    (link : End) (name : List ℕ) (number : ℕ) where
+  pub all-attach : mid ≡ with_room links → name ≡ name_of link → number ≡ length mid.links
+      → (r : Result Placed EndpointError)
+      → IfOk r (λ placed. AttachesIn old out limit session link placed new out_new)
+      → IfOk r (λ placed. placed.link ≡ number)
+      → IfOk r (λ placed. Steps mid (Enters (length mid.links) name placed.session placed.handle) links_new)
+      → IfOk r (λ placed. LinkAttaches old links out limit session link placed new links_new out_new)
+  all-attach roomy named next (Ok placed) attaches numbered enters =
+      link-attaches old new links links_new out out_new limit session link placed attaches
+      (numbered ∙ next ∙ ap (λ (ls : LinksBy). length ls.links) roomy)
+      (subst
+      (λ (n : List ℕ). Steps (with_room links) (Enters (length links.links) n placed.session placed.handle) links_new)
+      named
+      (subst
+      (λ (ls : LinksBy). Steps ls (Enters (length ls.links) name placed.session placed.handle) links_new) roomy
+      enters))
+  all-attach roomy named next (Err e) attaches numbered enters = tt
+
+module _ {X : Type 0} (old new : LinkTalk) (out out_new : List SessionFrame) (limit session : ℕ) (link : End)
+    (made : Result End X) where
+  -- the link that was made
+  pub made-attaches : IfOk made (λ l. l ≡ link) → (r : Result Placed EndpointError)
+      → IfOk r (λ placed. (l : End) × (made ≡ Ok l) × AttachesIn old out limit session l placed new out_new)
+      → IfOk r (λ placed. AttachesIn old out limit session link placed new out_new)
+  made-attaches by (Ok placed) (l, is, attaches) =
+      subst (λ (x : End). AttachesIn old out limit session x placed new out_new)
+      (subst (λ (m : Result End X). IfOk m (λ x. x ≡ link)) is by) attaches
+  made-attaches by (Err e) attaches = tt
+
+  pub attaches-made : made ≡ Ok link → (r : Result Placed EndpointError)
+      → IfOk r (λ placed. AttachesIn old out limit session link placed new out_new)
+      → IfOk r (λ placed. (l : End) × (made ≡ Ok l) × AttachesIn old out limit session l placed new out_new)
+  attaches-made is (Ok placed) attaches = (link, is, attaches)
+  attaches-made is (Err e) attaches = tt
 
 module _ (limit : ℕ) (talk : LinkTalk) (links : LinksBy) (session : ℕ) (link : End)
     (may : MayAttach talk links session (name_of link)) where
@@ -83,34 +92,13 @@ module _ (limit : ℕ) (talk : LinkTalk) (links : LinksBy) (session : ℕ) (link
   bars-made (Err x) e is bars =
       subst (λ (y : EndpointError). BarsAttaching limit talk links session link y) (sym bars) may
 
-pub bars-naming : (limit : ℕ) (talk : LinkTalk) (links : LinksBy) (session : ℕ) (link : End) (e : EndpointError)
-    → BarsName talk links session (name_of link) e → BarsAttaching limit talk links session link e
-bars-naming limit talk links session link error.UnknownSession bars = bars
-bars-naming limit talk links session link error.IllegalState bars = bars
-bars-naming limit talk links session link error.DuplicatedLinkName bars = bars
-bars-naming limit talk links session link error.Memory bars = bars
-bars-naming limit talk links session link error.NotConnected bars = absurd bars
-bars-naming limit talk links session link error.AlreadyConnected bars = absurd bars
-bars-naming limit talk links session link error.LimitUnder512 bars = absurd bars
-bars-naming limit talk links session link error.WindowOutOfRange bars = absurd bars
-bars-naming limit talk links session link error.FrameTooLarge bars = absurd bars
-bars-naming limit talk links session link error.UnknownLink bars = absurd bars
-bars-naming limit talk links session link error.UnknownMessage bars = absurd bars
-bars-naming limit talk links session link error.CreditMissing bars = absurd bars
-bars-naming limit talk links session link error.NumberInUse bars = absurd bars
-bars-naming limit talk links session link error.MessageTooLarge bars = absurd bars
-bars-naming limit talk links session link error.CreditOutOfRange bars = absurd bars
-bars-naming limit talk links session link error.AlreadyDisposed bars = absurd bars
-bars-naming limit talk links session link error.NotAssociated bars = absurd bars
-bars-naming limit talk links session link error.LocalChannelMaxReached bars = absurd bars
-bars-naming limit talk links session link error.HandleMaxReached bars = absurd bars
-bars-naming limit talk links session link error.NotAsked bars = absurd bars
-bars-naming limit talk links session link error.NumbersUsedUp bars = absurd bars
-bars-naming limit talk links session link error.ProtocolHeaderMismatch bars = absurd bars
-bars-naming limit talk links session link error.SizeUnder8 bars = absurd bars
-bars-naming limit talk links session link error.SizeOverLimit bars = absurd bars
-bars-naming limit talk links session link error.PeerLimitUnder512 bars = absurd bars
-bars-naming limit talk links session link (error.Frame e) bars = absurd bars
-bars-naming limit talk links session link (error.Connection e) bars = absurd bars
-bars-naming limit talk links session link (error.Session e) bars = absurd bars
-bars-naming limit talk links session link (error.Link e) bars = absurd bars
+  pub all-bars : (r : Result Placed EndpointError) → IfErr r (BarsIn limit talk session link)
+      → IfErr r (BarsAttaching limit talk links session link)
+  all-bars (Ok placed) bars = tt
+  all-bars (Err e) bars = bars-placing e bars
+
+  pub all-bars-made : {X : Type 0} (made : Result End X) → IfOk made (λ l. l ≡ link)
+      → (r : Result Placed EndpointError) → IfErr r (BarsMade limit talk session made)
+      → IfErr r (BarsAttaching limit talk links session link)
+  all-bars-made made by (Ok placed) bars = tt
+  all-bars-made made by (Err e) bars = bars-made made e by bars

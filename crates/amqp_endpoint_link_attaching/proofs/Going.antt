@@ -1,6 +1,6 @@
 -- What a link that attaches hands out fits the limit for which it is made, and what waits goes on to fit.
-use Rattle.std.proofs.Common.{◌≡◌, ◌≤◌, ◌<◌, ◌^◌, ℕ, true, List, [], ◌∷◌, ◌++◌, Option, Some, None, Ok, refl, sym, ap, subst, ◌∙◌, append-nil, append_assoc, length, drop}
-use Rattle.std.specs.Prelude.{All, option_to_list}
+use Rattle.std.proofs.Common.{◌≡◌, ◌≤◌, ◌<◌, ◌^◌, ℕ, true, List, [], ◌∷◌, ◌++◌, Option, Some, None, Result, Ok, Err, refl, sym, ap, subst, ◌∙◌, append-nil, append_assoc, length, drop}
+use Rattle.std.specs.Prelude.{All, IfOk, OnErr, option_to_list}
 use Rattle.std.specs.FinMap as map
 use Rattle.std.specs.Global.{Box}
 use Rattle.std.proofs.lemmas.List.{drop_at}
@@ -28,6 +28,7 @@ use Rattle.amqp_endpoint_links.specs.declared.numbered.Numbered.{Numbered}
 use Rattle.amqp_endpoint_links.specs.History.{AskingHistory, AskingStep, AnswersLink, InSession}
 use Rattle.amqp_endpoint_sessions.specs.Steps.{ChangesLive, Steps}
 use Rattle.amqp_endpoint_model.specs.State.{fits, frame_of}
+use Rattle.amqp_endpoint_model.specs.declared.error.EndpointError.{EndpointError}
 use Rattle.amqp_endpoint_attach_lengths.proofs.Frames.{attach-fits}
 use Rattle.amqp_endpoint_fitting.specs.Handed.{AllAskingEndFit, AllAskingHand, AllAskingSendFit}
 use Rattle.amqp_endpoint_fitting.specs.Read.{IsRead}
@@ -269,3 +270,20 @@ module _ (old new : LinkTalk) (out out_new : List SessionFrame) (is : new ≡ ol
         silent = λ none. silent;
         idle = λ none. subst (λ (t : LinkTalk). NoneLive t) (sym is) none;
       }
+
+-- what comes of a session's answer, whichever it is
+module _ (old new : LinkTalk) (out out_new : List SessionFrame) (limit session : ℕ) (link : End)
+    (from : ℕ) (is : from ≡ length out) (reads : All IsRead (drop from out_new)) where
+  pub live-goes : (r : Result Placed EndpointError) → limit < 2 ^ 32
+      → IfOk r (λ placed. AttachesIn old out limit session link placed new out_new)
+      → OnErr r ((new ≡ old) × (out_new ≡ out)) → Goes limit old new out out_new
+  live-goes (Ok placed) short attaches kept =
+      placed-goes old new out out_new limit session link placed from is reads attaches short
+  live-goes (Err e) short attaches kept = same-goes old new out out_new kept.0 kept.1 limit
+
+  pub live-waits : (r : Result Placed EndpointError)
+      → IfOk r (λ placed. AttachesIn old out limit session link placed new out_new)
+      → OnErr r ((new ≡ old) × (out_new ≡ out)) → (most : ℕ) → Within most old → Within most new
+  live-waits (Ok placed) attaches kept most within =
+      placed-waits old new out out_new limit session link placed from is reads attaches most within
+  live-waits (Err e) attaches kept most within = same-waits old new out out_new kept.0 kept.1 most within

@@ -1,16 +1,12 @@
 -- What is done in a session that is lent.
-use Rattle.std.proofs.Common.{◌≡◌, ℕ, List, Some, None, Option, refl, sym, ap, ◌∙◌}
+use Rattle.std.proofs.Common.{◌≡◌, ℕ, List, Some, refl, ap, ◌∙◌}
 use Rattle.std.specs.Box.{with_value}
 use Rattle.std.specs.Global.{Box}
-use Rattle.std.proofs.lemmas.Option.{none-some}
-use Rattle.amqp_session_core.specs.declared.state.SessionState.{SessionState}
-use Rattle.amqp_session_core.specs.declared.state.SessionState.TheVariants.{Mapped}
 use Rattle.amqp_session_performatives.specs.declared.session_frame.SessionFrame.{SessionFrame}
 use Rattle.amqp_link_ends.specs.declared.end.End.{End}
 use Rattle.amqp_endpoint_attached.specs.Linked.{Linked}
 use Rattle.amqp_endpoint_attached.specs.declared.refusal.AttachRefusal.{AttachRefusal}
 use Rattle.amqp_endpoint_conversation.specs.Beginning.{Sessions}
-use Rattle.amqp_endpoint_conversation.specs.Ending.{IsMapped, state_of}
 use Rattle.amqp_endpoint_conversation.proofs.Answering.{unlent}
 use Rattle.amqp_endpoint_links.specs.declared.numbered.Numbered.{Numbered}
 use Rattle.amqp_endpoint_model.specs.declared.error.EndpointError.{EndpointError}
@@ -20,12 +16,6 @@ use Rattle.amqp_endpoint_link_attaching.specs.Attaching.{AttachesIn, AttachesOne
 use Rattle.amqp_endpoint_link_attaching.specs.Places.{LinkTalk}
 use Rattle.amqp_endpoint_link_attaching.specs.Refusals.{BarsIn, RefusesOne, of_refusal}
 use Rattle.amqp_endpoint_link_attaching.specs.declared.placed.Placed.{Placed}
-
--- a session that is mapped has begun
-pub mapped-lives : (talk : LinkTalk) (session : ℕ) → IsMapped talk session → live_at talk.sessions session ≡ None → ⊥
-mapped-lives talk session mapped none =
-    let gone : None ≡ Some Mapped = sym (ap (λ (o : Option (Box Linked)). state_of o) none) ∙ mapped in
-    none-some Mapped gone
 
 module _ (old : LinkTalk) (session : ℕ) (lent : Box Linked) (live : live_at old.sessions session ≡ Some lent) where
   -- the sessions behind a call of the one that is lent

@@ -1,4 +1,3 @@
-pub mod Met
 pub mod Lent
 pub mod Own
 pub mod Going
