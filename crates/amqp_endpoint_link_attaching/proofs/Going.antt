@@ -149,9 +149,9 @@ module _ (before after : Linked) (limit : ℕ) (link : End) (placed : Placed) (f
                     (behind.Flow (record flow { handle = record { 0 = (placed.handle).0 } }))
                     (r.sent).left r.frame)
                     ∷ [];
-                history = (mid, (a.allocates, refl), after, ((r.sent).stepped, a.rest), refl);
-                sends = λ most. (tt, plain, tt);
-                ends = λ most. (tt, tt, tt);
+                history = (mid, (a.allocates, refl), (after, ((r.sent).stepped, a.rest), refl));
+                sends = λ most. (tt, (plain, tt));
+                ends = λ most. (tt, (tt, tt));
                 hands = (
                   [],
                   option_to_list r.frame,
