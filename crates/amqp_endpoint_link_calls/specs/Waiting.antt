@@ -28,7 +28,7 @@ abbrev pub held_told : Option SessionPlace → Result ℕ EndpointError
 held_told None = Err UnknownSession
 held_told (Some place) = Ok (held_at place)
 
--- a link by its number, with how many of its transfers wait
+-- a link by its number, with how many of its transfers wait; nothing where it isn't there
 abbrev pub counted : Option (Numbered End) → ℕ → List (ℕ × ℕ)
 counted None count = []
 counted (Some link) count = (link.number, count) ∷ []

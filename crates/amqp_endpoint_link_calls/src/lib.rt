@@ -1,8 +1,9 @@
 //! The calls of an endpoint that concern its links, by their numbers (part 2, 2.6): how one is detached or closed, and
-//! what it is given to send.
+//! the credit that it is given, and what waits to be sent by it.
 //!
 //! A call goes to the session that holds the link, where one does. What it does there says amqp_endpoint_attached, and
-//! what it does to the endpoint say specs/: Places, Calling, Closing and Seeing.
+//! what it does to the endpoint say specs/: Calling and Closing, by where the link is, for which Places has the words;
+//! Seeing and Waiting what is told.
 #![tactic(auto)]
 
 mod crediting;

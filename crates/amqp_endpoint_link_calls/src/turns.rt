@@ -30,7 +30,7 @@ pub fn held_back(talk: &LinkTalk, session: u64) -> Result<usize, EndpointError>
 }
 
 /// The links of which transfers wait in the session with this number, in turn, each by its number with how many: none
-/// where the session hasn't begun, is ending, or is over.
+/// where the session hasn't begun, is ending, or is over. A handle that no link has is left out.
 ///
 /// It is refused with `UnknownSession` exactly where no session has the number, and with `Memory` only where one has it
 /// that has begun.
@@ -93,7 +93,7 @@ fn by_number(
     Ok(numbers)
 }
 
-/// Links by their numbers, in this order, behind those that are there. There is room for them.
+/// Links by their numbers, in this order, behind those that are listed. There is room for them.
 fn count_each(
     session: &Session<Numbered<LinkEnd>>,
     turn: &mut Vec<(OutputHandle, usize)>,
@@ -109,7 +109,7 @@ fn count_each(
     }
 }
 
-/// A link by its number, where it is there, behind those that are. There is room for it.
+/// A link by its number, where it is there, behind those that are listed. There is room for it.
 fn count_one(
     session: &Session<Numbered<LinkEnd>>,
     one: (OutputHandle, usize),
