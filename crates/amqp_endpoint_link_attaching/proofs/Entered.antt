@@ -16,7 +16,8 @@ use Rattle.amqp_endpoint_link_attaching.proofs.Own.{own}
 
 module _ (old new : LinkTalk) (links links_new : LinksBy) (out out_new : List SessionFrame) (limit session : ℕ)
     (link : End) (placed : Placed) where
-  pub link-attaches : IsMapped old session → AttachesIn old out limit session link placed new out_new → placed.link ≡ length links.links
+  pub link-attaches : IsMapped old session → AttachesIn old out limit session link placed new out_new
+      → placed.link ≡ length links.links
       → Steps (with_room links) (Enters (length links.links) (name_of link) placed.session placed.handle) links_new
       → LinkAttaches old links out limit session link placed new links_new out_new
   link-attaches mapped attaches numbered enters =
