@@ -5,6 +5,7 @@ use Rattle.amqp_session_performatives.specs.declared.session_frame.SessionFrame.
 use Rattle.amqp_link_ends.specs.declared.end.End.{End}
 use Rattle.amqp_endpoint_attached.specs.declared.refusal.AttachRefusal.{AttachRefusal}
 use Rattle.amqp_endpoint_attached.specs.declared.refusal.AttachRefusal.TheVariants as why
+use Rattle.amqp_endpoint_conversation.specs.Ending.{IsMapped}
 use Rattle.amqp_endpoint_model.specs.declared.error.EndpointError.{EndpointError}
 use Rattle.amqp_endpoint_names.specs.Steps.{Enters, Steps}
 use Rattle.amqp_endpoint_link_attaching.specs.Attaching.{AttachesIn, LinkAttaches, with_room}
@@ -15,12 +16,14 @@ use Rattle.amqp_endpoint_link_attaching.proofs.Own.{own}
 
 module _ (old new : LinkTalk) (links links_new : LinksBy) (out out_new : List SessionFrame) (limit session : ℕ)
     (link : End) (placed : Placed) where
-  pub link-attaches : AttachesIn old out limit session link placed new out_new → placed.link ≡ length links.links
+  pub link-attaches : IsMapped old session → AttachesIn old out limit session link placed new out_new
+      → placed.link ≡ length links.links
       → Steps (with_room links) (Enters (length links.links) (name_of link) placed.session placed.handle) links_new
       → LinkAttaches old links out limit session link placed new links_new out_new
-  link-attaches attaches numbered enters =
+  link-attaches mapped attaches numbered enters =
       let o = own old new out out_new limit session link placed attaches in
       record {
+        mapped = mapped;
         frames = o.frames;
         attaches = o.attaches;
         queued = o.queued;
@@ -35,14 +38,14 @@ module _ (old new : LinkTalk) (links links_new : LinksBy) (out out_new : List Se
 -- whichever answer its session gave
 module _ (old new : LinkTalk) (links mid links_new : LinksBy) (out out_new : List SessionFrame) (limit session : ℕ)
     (link : End) (name : List ℕ) (number : ℕ) where
-  pub all-attach : mid ≡ with_room links → name ≡ name_of link → number ≡ length mid.links
+  pub all-attach : IsMapped old session → mid ≡ with_room links → name ≡ name_of link → number ≡ length mid.links
       → (r : Result Placed EndpointError)
       → IfOk r (λ placed. AttachesIn old out limit session link placed new out_new)
       → IfOk r (λ placed. placed.link ≡ number)
       → IfOk r (λ placed. Steps mid (Enters (length mid.links) name placed.session placed.handle) links_new)
       → IfOk r (λ placed. LinkAttaches old links out limit session link placed new links_new out_new)
-  all-attach roomy named next (Ok placed) attaches numbered enters =
-      link-attaches old new links links_new out out_new limit session link placed attaches
+  all-attach mapped roomy named next (Ok placed) attaches numbered enters =
+      link-attaches old new links links_new out out_new limit session link placed mapped attaches
       (numbered ∙ next ∙ ap (λ (ls : LinksBy). length ls.links) roomy)
       (subst
       (λ (n : List ℕ). Steps (with_room links) (Enters (length links.links) n placed.session placed.handle) links_new)
@@ -50,7 +53,7 @@ module _ (old new : LinkTalk) (links mid links_new : LinksBy) (out out_new : Lis
       (subst
       (λ (ls : LinksBy). Steps ls (Enters (length ls.links) name placed.session placed.handle) links_new) roomy
       enters))
-  all-attach roomy named next (Err e) attaches numbered enters = tt
+  all-attach mapped roomy named next (Err e) attaches numbered enters = tt
 
 module _ {X : Type 0} (old new : LinkTalk) (out out_new : List SessionFrame) (limit session : ℕ) (link : End)
     (made : Result End X) where

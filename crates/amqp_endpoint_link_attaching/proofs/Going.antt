@@ -1,12 +1,10 @@
 -- What a link that attaches hands out fits the limit for which it is made, and what waits goes on to fit.
-use Rattle.std.proofs.Common.{◌≡◌, ◌≤◌, ◌<◌, ◌^◌, ℕ, true, List, [], ◌∷◌, ◌++◌, Option, Some, None, Result, Ok, Err, refl, sym, ap, subst, ◌∙◌, append-nil, append_assoc, length, drop}
+use Rattle.std.proofs.Common.{◌≡◌, ◌<◌, ◌^◌, ℕ, true, List, [], ◌∷◌, ◌++◌, Option, Some, None, Result, Ok, Err, refl, sym, ap, subst, ◌∙◌, append-nil, append_assoc, length, drop}
 use Rattle.std.specs.Prelude.{All, IfOk, OnErr, option_to_list}
 use Rattle.std.specs.FinMap as map
 use Rattle.std.specs.Global.{Box}
-use Rattle.std.proofs.lemmas.List.{drop_at}
 use Rattle.std.proofs.lemmas.List.Elements.{All-nil, All-cons, All-tail}
 use Rattle.amqp_session_types.specs.declared.handles.InputHandle.{InputHandle}
-use Rattle.amqp_session_types.specs.declared.handles.OutputHandle.{OutputHandle}
 use Rattle.amqp_session_performatives.specs.declared.attach.Attach.{Attach}
 use Rattle.amqp_session_performatives.specs.declared.link_flow.LinkFlow.{LinkFlow}
 use Rattle.amqp_session_performatives.specs.declared.session_frame.SessionFrame.{SessionFrame}
@@ -23,7 +21,6 @@ use Rattle.amqp_link_ends.specs.Ends.{flow_answer, state_of}
 use Rattle.amqp_link_ends.specs.Gives.{flows_at}
 use Rattle.amqp_link_ends.specs.Standing.{standing_of}
 use Rattle.amqp_link_unsettled.specs.Listing.{FitsFrame}
-use Rattle.amqp_endpoint_asked.specs.declared.links.AskedLink.{AskedLink}
 use Rattle.amqp_endpoint_links.specs.declared.numbered.Numbered.{Numbered}
 use Rattle.amqp_endpoint_links.specs.History.{AskingHistory, AskingStep, AnswersLink, InSession}
 use Rattle.amqp_endpoint_sessions.specs.Steps.{ChangesLive, Steps}
@@ -32,14 +29,14 @@ use Rattle.amqp_endpoint_model.specs.declared.error.EndpointError.{EndpointError
 use Rattle.amqp_endpoint_attach_lengths.proofs.Frames.{attach-fits}
 use Rattle.amqp_endpoint_fitting.specs.Handed.{AllAskingEndFit, AllAskingHand, AllAskingSendFit}
 use Rattle.amqp_endpoint_fitting.specs.Read.{IsRead}
-use Rattle.amqp_endpoint_talk.specs.Going.{AllFit, AnswersPlain, Goes, NoneLive, Rests, Within}
+use Rattle.amqp_endpoint_talk.specs.Going.{AnswersPlain, Goes, NoneLive, Rests, Within}
 use Rattle.amqp_endpoint_talk.proofs.Calls.{changed-goes, changed-rests}
 use Rattle.amqp_endpoint_talk.proofs.Goings.{goes-on, read-behind}
-use Rattle.amqp_endpoint_attached.specs.Answering.{Answers, Replies, reply_to}
+use Rattle.amqp_endpoint_attached.specs.Answering.{Replies, reply_to}
 use Rattle.amqp_endpoint_attached.specs.Linked.{Linked, LinksIn, gives}
 use Rattle.amqp_endpoint_attached.specs.Links.{attach_frame, with_number}
 use Rattle.amqp_endpoint_attached.proofs.Fitting.{announced_fits, reply_plain}
-use Rattle.amqp_endpoint_link_attaching.specs.Attaching.{AttachedBy, AttachesIn, answered_of}
+use Rattle.amqp_endpoint_link_attaching.specs.Attaching.{AttachedBy, AttachesIn}
 use Rattle.amqp_endpoint_link_attaching.specs.Places.{LinkTalk}
 use Rattle.amqp_endpoint_link_attaching.specs.declared.placed.Placed.{Placed}
 use Rattle.amqp_endpoint_link_attaching.proofs.Own.{own}

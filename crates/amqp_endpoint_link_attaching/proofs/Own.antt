@@ -1,5 +1,5 @@
 -- What a link that attaches hands out stands by itself, whatever was handed out before.
-use Rattle.std.proofs.Common.{◌≡◌, ℕ, List, [], ◌∷◌, ◌++◌, Option, Some, None, refl, sym, ap, ◌∙◌, append_assoc}
+use Rattle.std.proofs.Common.{◌≡◌, ℕ, List, [], ◌∷◌, ◌++◌, Option, Some, None, refl, ◌∙◌, append_assoc}
 use Rattle.std.specs.Prelude.{option_to_list}
 use Rattle.amqp_session_types.specs.declared.handles.InputHandle.{InputHandle}
 use Rattle.amqp_session_types.specs.declared.handles.OutputHandle.{OutputHandle}
@@ -7,12 +7,10 @@ use Rattle.amqp_session_performatives.specs.declared.link_flow.LinkFlow.{LinkFlo
 use Rattle.amqp_session_performatives.specs.declared.session_frame.SessionFrame.{SessionFrame}
 use Rattle.amqp_link_attach.specs.declared.exchange.AttachExchange.{AttachExchange}
 use Rattle.amqp_link_ends.specs.declared.end.End.{End}
-use Rattle.amqp_endpoint_attached.specs.Answering.{Answers, Replies}
-use Rattle.amqp_endpoint_attached.specs.Attaching.{Attaches}
+use Rattle.amqp_endpoint_attached.specs.Answering.{Replies}
 use Rattle.amqp_endpoint_attached.specs.Linked.{Linked, LinksIn, gives}
 use Rattle.amqp_endpoint_attached.specs.Links.{attach_frame}
-use Rattle.amqp_endpoint_attached.specs.declared.answering.Answered.{Answered}
-use Rattle.amqp_endpoint_link_attaching.specs.Attaching.{AttachedBy, AttachesIn, AttachesOne, answered_of}
+use Rattle.amqp_endpoint_link_attaching.specs.Attaching.{AttachedBy, AttachesIn}
 use Rattle.amqp_endpoint_link_attaching.specs.Places.{LinkTalk}
 use Rattle.amqp_endpoint_link_attaching.specs.declared.placed.Placed.{Placed}
 

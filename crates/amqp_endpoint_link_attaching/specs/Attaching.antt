@@ -9,6 +9,7 @@ use Rattle.amqp_endpoint_attached.specs.Answering.{Answers}
 use Rattle.amqp_endpoint_attached.specs.Attaching.{Attaches}
 use Rattle.amqp_endpoint_attached.specs.Linked.{Linked}
 use Rattle.amqp_endpoint_attached.specs.declared.answering.Answered.{Answered}
+use Rattle.amqp_endpoint_conversation.specs.Ending.{IsMapped}
 use Rattle.amqp_endpoint_names.specs.Steps.{Enters, Steps as NamesStep}
 use Rattle.amqp_endpoint_sessions.specs.Steps.{ChangesLive, Steps}
 use Rattle.amqp_endpoint_link_attaching.specs.Places.{LinkTalk, LinksBy, Meets, name_of}
@@ -49,10 +50,11 @@ pub record AttachesIn (old : LinkTalk) (out : List SessionFrame) (limit session 
 abbrev pub with_room : LinksBy → LinksBy
 with_room links = record links { room = max links.room 1 }
 
--- a link attaches in a session: it gets the next number, by which the session holds it under its own handle there, and
--- what it sends is handed out. It uses up room for one link, if there was any
+-- a link attaches in a session that is mapped (2.5.5): it gets the next number, the session holds it by its own handle
+-- there, and what it sends is handed out. It uses up room for one link, if there was any
 pub record LinkAttaches (old : LinkTalk) (links : LinksBy) (out : List SessionFrame) (limit session : ℕ) (link : End)
     (placed : Placed) (new : LinkTalk) (links_new : LinksBy) (out_new : List SessionFrame) : Type 0 where
+  pub mapped : IsMapped old session
   pub frames : List SessionFrame
   pub attaches : AttachesIn old [] limit session link placed new frames
   pub queued : out_new ≡ out ++ frames

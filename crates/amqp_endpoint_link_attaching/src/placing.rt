@@ -1,5 +1,5 @@
 //! How a link attaches in its session (part 2, 2.6.3).
-ghost use Rattle.std.specs.Prelude.{◌≡◌, ◌<◌, ◌^◌, ℕ, None, Some, true, IfErr, IfOk, IsSome, OnErr};
+ghost use Rattle.std.specs.Prelude.{◌≡◌, ℕ, None, Some, true, IfErr, IfOk, IsSome, OnErr};
 ghost use Rattle.std.specs.FinMap as map;
 ghost use Rattle.amqp_link_ends.specs.Ends.{state_of};
 ghost use Rattle.amqp_endpoint_attached.specs.Answering.{RefusesAnswer};
@@ -49,18 +49,10 @@ pub(crate) fn attach_live(
     ensures waits { (most : ℕ) → Within most talk.old → Within most talk.new }
     ensures rests { Rests talk.old talk.new out.old.items out.new.items }
 {
-    limit_is_read(limit);
     let from = out.len();
     let placed = attach_lent(talk, alloc, limit, session, number, link, out);
     frames_are_read(out, from);
     placed
-}
-
-/// The limit is a number that a peer's Open may say (part 2, 2.7.1): whoever reads it sees it.
-fn limit_is_read(limit: u32)
-    ensures { limit < 2 ^ 32 }
-{
-    let _limit = limit;
 }
 
 /// It does so in the session, which is lent for it.

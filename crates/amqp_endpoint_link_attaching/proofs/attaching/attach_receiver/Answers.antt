@@ -9,7 +9,7 @@ returns-clause-ok c =
     let link = receiver_by c.args.settings.now in
     all-attach c.args.talk.now call.new.talk c.args.links.now c.prepare.new.links c.enter.new.links
     c.args.out.now.items call.new.out.items c.args.limit c.args.session link c.in_ok-name.name c.next_number.result
-    given.1 given.0 c.next_number.ensures call.result
+    c.in_ok-name.ensures.may.0 given.1 given.0 c.next_number.ensures call.result
     (made-attaches c.args.talk.now call.new.talk c.args.out.now.items call.new.out.items c.args.limit c.args.session
     link c.receiver-link.result c.receiver-link.ensures call.result call.ensures.ok)
     call.ensures.numbered c.enter.ensures.ok

@@ -7,7 +7,7 @@ returns-clause-goes c =
     let call = c.attach_lent-placed in
     live-goes c.args.talk.now call.new.talk c.args.out.now.items call.new.out.items c.args.limit c.args.session
     c.args.link c.len-from.result (c.len-from.ensures ∙ c.args.out.now.ok.0) c.frames_are_read.ensures call.result
-    c.limit_is_read.ensures call.ensures.ok call.ensures.kept
+    c.ranges.limit.fits call.ensures.ok call.ensures.kept
 
 pub returns-clause-waits : goal.returns-clause-waits
 returns-clause-waits c =
