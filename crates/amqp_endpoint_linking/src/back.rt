@@ -9,8 +9,8 @@ use amqp_link_ends::LinkEnd;
 use amqp_session_core::Links as LinksLeft;
 
 /// A session is over, whose links come back, one after the other by rising own handle (part 2, 2.6.4). Each is detached
-/// by that, and at rest from now on; but where its own closing Detach had gone it is closed for good, and its number and
-/// its name lead to it no longer (part 2, 2.6.5, 2.6.6). It takes no memory.
+/// by that, and at rest from now on; but where its own closing Detach had gone it is closed for good, and its number
+/// and its name lead to it no longer (part 2, 2.6.5, 2.6.6). It takes no memory.
 ///
 /// Of a link that `links` doesn't know, or that no session holds there, nothing becomes.
 pub fn give_back(links: &mut Links<LinkEnd>, session: Box<LinkSession>)

@@ -67,8 +67,8 @@ pub fn accept_begin(
 /// Ends the session with this number: its End is handed out, without an error, and fits each limit that a peer may set
 /// (part 2, 2.4.1, 2.5.2, 2.7.8). Its links are given back, as `give_back` does.
 ///
-/// It is refused with `UnknownSession` where no session has the number, with `IllegalState` where it hasn't begun at both
-/// ends, or ended at one (part 2, 2.5.5), and with `Memory`. Nothing changes then.
+/// It is refused with `UnknownSession` where no session has the number, with `IllegalState` where it hasn't begun at
+/// both ends, or ended at one (part 2, 2.5.5), and with `Memory`. Nothing changes then.
 pub fn end(
     talk: &mut Conversation<Numbered<LinkEnd>>,
     links: &mut Links<LinkEnd>,
@@ -99,8 +99,8 @@ pub fn end(
 }
 
 /// Ends the session with this number by its fault, whatever its state: its End is handed out, whose error says the
-/// fault's condition, and fits each limit that a peer may set (part 2, 2.4.1, 2.5.2, 2.8.15, 2.8.17). Its links are given
-/// back, as `give_back` does, and `Refused` is told.
+/// fault's condition, and fits each limit that a peer may set (part 2, 2.4.1, 2.5.2, 2.8.15, 2.8.17). Its links are
+/// given back, as `give_back` does, and `Refused` is told.
 ///
 /// It is refused with `IllegalState` where no session with this number has begun, or it is ending or over, and with
 /// `Memory`. Nothing changes then.

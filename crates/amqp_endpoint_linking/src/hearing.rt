@@ -22,8 +22,8 @@ use std::alloc::Global;
 use std::collections::VecDeque;
 
 /// Takes the peer's Begin (part 2, 2.5.1, 2.7.2): the peer asks for a session, and `SessionAsked` is told; or the
-/// session takes it whose channel it names, what waits there and lies in the peer's window is handed out, and `Begun` is
-/// told. Where that was answered before it ends by this fault, as `fail` ends it. Where it is ending nothing is told.
+/// session takes it whose channel it names, what waits there and lies in the peer's window is handed out, and `Begun`
+/// is told. Where that was answered before it ends by this fault, as `fail` ends it. Where it is ending nothing is told.
 ///
 /// It ends the connection with `Connection` of `NotAllowed` where it asks for a session on a channel that reaches one,
 /// with `Connection` of `NotFound` where no session has the channel that it names, and with `Memory`. Nothing is handed
