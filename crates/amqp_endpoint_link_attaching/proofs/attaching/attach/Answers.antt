@@ -11,7 +11,8 @@ returns-clause-ok c =
     all-attach c.args.talk.now call.new.talk c.args.links.now c.prepare.new.links c.enter.new.links
     c.args.out.now.items call.new.out.items c.args.limit c.args.session c.args.link c.in_ok-name.name
     c.next_number.result c.in_ok-name.ensures.may.0 given.1
-    (given.0 ∙ ap (λ (b : LinkBase). b.name) c.base.ensures) c.next_number.ensures call.result call.ensures.ok call.ensures.numbered c.enter.ensures.ok
+    (given.0 ∙ ap (λ (b : LinkBase). b.name) c.base.ensures) c.next_number.ensures call.result call.ensures.ok
+    call.ensures.numbered c.enter.ensures.ok
 
 pub returns-clause-err : goal.returns-clause-err
 returns-clause-err c =
