@@ -1,0 +1,4 @@
+mod Calls
+mod Hears
+mod OverLaws
+mod BackLaws
