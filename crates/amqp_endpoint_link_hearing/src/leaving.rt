@@ -1,7 +1,9 @@
 //! A link whose attachment the peer ended leaves its session (part 2, 2.6.4 to 2.6.6).
 ghost use Rattle.std.specs.Prelude.{◌≡◌, ◌≤◌, ◌<◌, ℕ, IsSome, IsTrue, ◌↔◌, IfOk, true};
 ghost use Rattle.std.specs.VecDeque.{deque_capacity, deque_len};
+ghost use Rattle.serde_amqp_item.specs.Canon.{canon};
 ghost use Rattle.amqp_session_outgoing.specs.Queues.{room_behind};
+ghost use Rattle.amqp_link_unsettled.specs.Listing.{FitsText};
 ghost use Rattle.amqp_endpoint_model.specs.State.{fits, frame_of};
 ghost use Rattle.amqp_endpoint_talk.specs.Going.{Goes, Rests};
 ghost use Rattle.amqp_endpoint_sessions.specs.State.{live_at};
@@ -24,12 +26,12 @@ use amqp_session_core::BehindFrame;
 use amqp_session_outgoing::Place;
 use amqp_session_performatives::{Detach, SessionFrame};
 use amqp_session_types::{Handle, OutgoingChannel, OutputHandle, definitions};
-use serde_amqp_ser::serialized_size;
+use serde_amqp_ser::{Serialize, serialized_size};
 use std::alloc::AllocError;
 use std::collections::VecDeque;
 
 /// How many bytes every peer takes in a frame (part 2, 2.4.1).
-const LEAST_LIMIT: usize = 512;
+const LEAST_LIMIT: u32 = 512;
 
 /// How many bytes of a frame stand before its performative (part 2, 2.3.1).
 const HEAD: usize = 8;
@@ -156,12 +158,19 @@ pub(crate) fn repeated(
     Ok(None)
 }
 
-/// Whether a Detach on a channel is no longer than every peer takes (part 2, 2.4.1).
+/// Whether a Detach is no longer than every peer takes, whatever its channel (part 2, 2.4.1).
 fn fits(_channel: OutgoingChannel, detach: &Detach) -> bool
     ensures { result ≡ fits 512 (frame_of (detach_frame _channel detach.now)) }
 {
-    match serialized_size(detach) {
-        Ok(size) => size.saturating_add(HEAD) <= LEAST_LIMIT,
+    fits_text(detach, LEAST_LIMIT)
+}
+
+/// Whether a performative fits a frame of so many bytes.
+fn fits_text<T: Serialize>(value: &T, limit: u32) -> bool
+    ensures { IsTrue result ↔ FitsText limit (canon (T.item value.now)) }
+{
+    match serialized_size(value) {
+        Ok(size) => size.saturating_add(HEAD) <= limit as usize,
         Err(_) => false,
     }
 }
