@@ -18,7 +18,10 @@ use Rattle.amqp_endpoint_talk.proofs.Alone.{answer-alone}
 use Rattle.amqp_endpoint_attached.specs.Linked.{gives}
 use Rattle.amqp_endpoint_linking.specs.Linking.{Links, Talk}
 use Rattle.amqp_endpoint_linking.specs.Handed.{Tells}
-use Rattle.amqp_endpoint_link_hearing.specs.Attaching.{BarsAttach, Becomes, HearsAttach, IsRefusedIn, IsUnclosed, RefusesAttach, WaitsIn}
+use Rattle.amqp_endpoint_link_hearing.specs.Attaching.{BarsAttach, Becomes, HearsAttach, IsRefusedBy, IsUnclosed, RefusesAttach, WaitsIn}
+use Rattle.amqp_endpoint_link_hearing.specs.Heard.{attach_of}
+use Rattle.amqp_endpoint_link_hearing.specs.declared.hearing.Took.{Took}
+use Rattle.amqp_endpoint_link_hearing.specs.declared.hearing.Took.TheVariants as took
 use Rattle.amqp_endpoint_link_hearing.specs.Naming.{IsNamedOn}
 use Rattle.amqp_endpoint_link_hearing.specs.Saying.{Answers, BarsSaid, FailsBySaid, LinkHeard}
 use Rattle.amqp_endpoint_link_hearing.specs.declared.attaching.LinkAttached.{LinkAttached}
@@ -30,16 +33,15 @@ unsent out out_new same = same ∙ sym (append-nil out)
 -- a link that is to take it is there
 pub waits-in : (old : Talk) (channel : IncomingChannel) (out : List SessionFrame) (it : Attach) (named : NamedLink)
     (heard : LinkHeard) (new : Talk) (out_new : List SessionFrame)
-    → Answered gives old out channel (said.Attach it named) (Ok heard) new out_new → WaitsIn new heard named
+    → Answered gives old out channel (said.Attach it named) (Ok heard) new out_new → WaitsIn new (attach_of heard) named
 waits-in old channel out it (Waiting handle) (Live session (taken.Attach (attach.ByLink told))) new out_new t =
     attach-there old channel out it handle session told new out_new t
 waits-in old channel out it named heard new out_new t = tt
 
 -- where it is refused
-refused-memory : (heard : LinkHeard) (named : NamedLink) (e : EndpointError) → IsRefusedIn heard named e
-    → e ≡ fault.Memory
-refused-memory (Live session (taken.Attach (attach.ByLink told))) (Waiting handle) e r = r.0
-refused-memory heard named e r = absurd r
+refused-memory : (it : Took) (named : NamedLink) (e : EndpointError) → IsRefusedBy it named e → e ≡ fault.Memory
+refused-memory (took.ByLink session told) (Waiting handle) e r = r.0
+refused-memory it named e r = absurd r
 
 module _ (old : Talk) (links : Links) (channel : IncomingChannel) (it : Attach) (named : NamedLink)
     (is_named : IsNamedOn old links channel it named) where
@@ -53,7 +55,7 @@ module _ (old : Talk) (links : Links) (channel : IncomingChannel) (it : Attach) 
     pub attach-taken : (new : Talk) (links_new : Links) (left : Option LinkAttached) (told told_new : List Event)
         (out_new : List SessionFrame) → links_new ≡ links
         → Tells (λ (frames : List SessionFrame) (events : List Event).
-        Becomes heard named mid it left frames events new) out_mid told out_new told_new
+        Becomes (attach_of heard) named mid it left frames events new) out_mid told out_new told_new
         → Tells (λ (frames : List SessionFrame) (events : List Event).
         HearsAttach old links channel it left frames events new links_new) out told out_new told_new
     attach-taken new links_new left told told_new out_new kept t =
@@ -74,10 +76,10 @@ module _ (old : Talk) (links : Links) (channel : IncomingChannel) (it : Attach) 
           are_told = t.are_told;
         }
 
-    pub attach-unclosed : (new : Talk) (e : EndpointError) → IsRefusedIn heard named e → new ≡ mid
+    pub attach-unclosed : (new : Talk) (e : EndpointError) → IsRefusedBy (attach_of heard) named e → new ≡ mid
         → IsSessionFault e × RefusesAttach old links channel it e new
     attach-unclosed new e refused kept =
-        let why : IsSessionFault e = subst IsSessionFault (sym (refused-memory heard named e refused)) tt in
+        let why : IsSessionFault e = subst IsSessionFault (sym (refused-memory (attach_of heard) named e refused)) tt in
         let so : IsUnclosed old links channel it e mid =
         record { named = named; is_named = is_named; heard = heard; answered = here; refused = refused } in
         let there : IsUnclosed old links channel it e new =

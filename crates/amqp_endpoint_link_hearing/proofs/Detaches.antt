@@ -31,6 +31,7 @@ use Rattle.amqp_endpoint_attached.specs.Linked.{Linked, gives}
 use Rattle.amqp_endpoint_linking.specs.Linking.{Link, Links, Session, Talk}
 use Rattle.amqp_endpoint_linking.specs.Handed.{Tells}
 use Rattle.amqp_endpoint_link_hearing.specs.Detaching.{Becomes, ByLink, HearsDetach, Withdraws, detached_told}
+use Rattle.amqp_endpoint_link_hearing.specs.Heard.{detach_of}
 use Rattle.amqp_endpoint_link_hearing.specs.InSession.{GoesOn, Parts}
 use Rattle.amqp_endpoint_link_hearing.specs.Leaves.{IsReady, LeavesBy, LinkLeaves, Prepares, ReadyFor, StandsFor}
 use Rattle.amqp_endpoint_link_hearing.specs.Leaving.{HasPlace, detach_frame, repeated}
@@ -134,7 +135,7 @@ module _ (old : Talk) (channel : IncomingChannel) (out : List SessionFrame) (it 
 module _ (old : Talk) (channel : IncomingChannel) (out : List SessionFrame) (it : Detach) where
   pub stands-for : (heard : LinkHeard) (ready : Option Ready) (mid : Talk) (out_mid : List SessionFrame)
       → Prepares old channel it ready → Answered gives old out channel (said.Detach it) (Ok heard) mid out_mid
-      → StandsFor mid heard ready
+      → StandsFor mid (detach_of heard) ready
   stands-for (Live session (taken.Detach (detach.ByLink told))) (Some ready) mid out_mid p t =
       stands old channel out it session told mid out_mid t ready p
   stands-for heard ready mid out_mid p t = tt
@@ -142,8 +143,8 @@ module _ (old : Talk) (channel : IncomingChannel) (out : List SessionFrame) (it 
   becomes : (heard : LinkHeard) (ready : Option Ready) (mid : Talk) (out_mid : List SessionFrame)
       (links links_new : Links) (frames : List SessionFrame) (events : List Event) (new : Talk)
       → Prepares old channel it ready → Answered gives old out channel (said.Detach it) (Ok heard) mid out_mid
-      → LeavesBy heard ready mid links frames events new links_new
-      → Becomes heard old links it mid frames events new links_new
+      → LeavesBy (detach_of heard) ready mid links frames events new links_new
+      → Becomes (detach_of heard) old links it mid frames events new links_new
   becomes (Live session (taken.Detach (detach.ByLink told))) (Some ready) mid out_mid links links_new frames events new p
       t l =
       left-by old channel out it session told mid out_mid t ready p links links_new frames events new l
@@ -156,7 +157,7 @@ module _ (old : Talk) (channel : IncomingChannel) (out : List SessionFrame) (it 
       → out_mid ≡ out → Prepares old channel it ready
       → Answered gives old out channel (said.Detach it) (Ok heard) mid out_mid
       → Tells (λ (frames : List SessionFrame) (events : List Event).
-      LeavesBy heard ready mid links frames events new links_new) out_mid told out_new told_new
+      LeavesBy (detach_of heard) ready mid links frames events new links_new) out_mid told out_new told_new
       → Tells (λ (frames : List SessionFrame) (events : List Event).
       HearsDetach old links channel it frames events new links_new) out told out_new told_new
   detach-taken heard ready mid out_mid links links_new new told told_new out_new same p t l =

@@ -1,5 +1,5 @@
 -- The peer's Flow.
-use Rattle.std.proofs.Common.{◌≡◌, inl, inr, ℕ, true, List, [], ◌++◌, Ok, refl, sym, ap, subst, ◌∙◌, append-nil, length, take}
+use Rattle.std.proofs.Common.{◌≡◌, inl, inr, ℕ, true, List, [], ◌++◌, Result, Ok, Err, refl, sym, ap, subst, ◌∙◌, append-nil, length, take}
 use Rattle.std.proofs.lemmas.List.{take_at}
 use Rattle.std.proofs.lemmas.List.Elements.{All-nil}
 use Rattle.amqp_session_types.specs.declared.channels.IncomingChannel.{IncomingChannel}
@@ -17,7 +17,8 @@ use Rattle.amqp_endpoint_attached.specs.Linked.{gives}
 use Rattle.amqp_endpoint_linking.specs.Linking.{Links, Talk}
 use Rattle.amqp_endpoint_linking.specs.Handed.{Tells}
 use Rattle.amqp_endpoint_link_hearing.specs.Flowing.{HearsFlow}
-use Rattle.amqp_endpoint_link_hearing.specs.Saying.{FailsBySaid, LinkHeard, RefusesSaid}
+use Rattle.amqp_endpoint_link_hearing.specs.Saying.{FailsBySaid, LinkHeard, LinkRefusal, RefusesSaid}
+use Rattle.amqp_endpoint_link_hearing.specs.Heard.{Forgets}
 use Rattle.amqp_endpoint_link_hearing.proofs.Refusals.{alone}
 
 -- frames that are taken back
@@ -48,9 +49,10 @@ module _ (old : Talk) (channel : IncomingChannel) (flow : Flow) (out : List Sess
       Tells (λ (frames : List SessionFrame) (events : List Event).
       HearsFlow old links channel flow frames events new links_new) out told out_new told_new
 
-  pub flow-taken : (heard : LinkHeard) → Answered gives old out channel (said.Flow flow) (Ok heard) new out_new
-      → links_new ≡ links → told_new ≡ told → Hears
-  flow-taken heard answered same untold =
+  pub flow-taken : (r : Result LinkHeard LinkRefusal) → Forgets r (Ok tt)
+      → Answered gives old out channel (said.Flow flow) r new out_new → links_new ≡ links → told_new ≡ told → Hears
+  flow-taken (Err refusal) is answered same untold = absurd is
+  flow-taken (Ok heard) is answered same untold =
       record {
         frames = goes.frames;
         events = [];
@@ -75,6 +77,15 @@ module _ (old : Talk) (channel : IncomingChannel) (flow : Flow) (out : List Sess
         queued = t.queued;
         are_told = t.are_told;
       }
+
+-- what was refused
+pub forgotten : (old : Talk) (channel : IncomingChannel) (flow : Flow) (out : List SessionFrame) (new : Talk)
+    (out_new : List SessionFrame) (r : Result LinkHeard LinkRefusal) (refusal : LinkRefusal) → Forgets r (Err refusal)
+    → Answered gives old out channel (said.Flow flow) r new out_new
+    → Answered gives old out channel (said.Flow flow) (Err refusal) new out_new
+forgotten old channel flow out new out_new (Ok heard) refusal is answered = absurd is
+forgotten old channel flow out new out_new (Err why) refusal is answered =
+    subst (λ (x : LinkRefusal). Answered gives old out channel (said.Flow flow) (Err x) new out_new) (sym is) answered
 
 -- there is no memory even for what is told
 pub flow-untold : (old : Talk) (channel : IncomingChannel) (flow : Flow) (e : EndpointError) → e ≡ fault.Memory

@@ -7,3 +7,6 @@ mod Heard
 mod Attaches
 mod Detaches
 mod Sizes
+mod Lent
+mod Closings
+mod Takes

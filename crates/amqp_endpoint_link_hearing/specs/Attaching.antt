@@ -14,12 +14,9 @@ use Rattle.amqp_link_receiver.specs.declared.attaching.Attached.TheVariants as r
 use Rattle.amqp_link_sender.specs.declared.attaching.AttachAnswer.{AttachAnswer}
 use Rattle.amqp_link_sender.specs.declared.attaching.AttachAnswer.TheVariants as sender
 use Rattle.amqp_link_sender.specs.declared.attaching.Attaching.{Attaching}
-use Rattle.amqp_endpoint_links.specs.declared.asking.AttachTaken.TheVariants as attach
 use Rattle.amqp_endpoint_links.specs.declared.asking.NamedLink.{NamedLink}
 use Rattle.amqp_endpoint_links.specs.declared.asking.NamedLink.TheVariants.{Waiting}
 use Rattle.amqp_endpoint_links.specs.declared.hearing.LinkPerformative.TheVariants as said
-use Rattle.amqp_endpoint_links.specs.declared.hearing.PerformativeTaken.TheVariants as taken
-use Rattle.amqp_endpoint_conversation.specs.declared.hearing.Heard.TheVariants.{Asked, Live}
 use Rattle.amqp_endpoint_model.specs.declared.error.EndpointError.{EndpointError}
 use Rattle.amqp_endpoint_model.specs.declared.error.EndpointError.TheVariants.{Memory, Link as LinkFault}
 use Rattle.amqp_endpoint_model.specs.declared.event.Event.{Event}
@@ -28,6 +25,9 @@ use Rattle.amqp_endpoint_linking.specs.Linking.{Link, Links, Talk}
 use Rattle.amqp_endpoint_linking.specs.Hearing.{IsUntold}
 use Rattle.amqp_endpoint_link_hearing.specs.InSession.{Closes, GoesOn}
 use Rattle.amqp_endpoint_link_hearing.specs.Naming.{IsNamedOn, link_of}
+use Rattle.amqp_endpoint_link_hearing.specs.Heard.{attach_of}
+use Rattle.amqp_endpoint_link_hearing.specs.declared.hearing.Took.{Took}
+use Rattle.amqp_endpoint_link_hearing.specs.declared.hearing.Took.TheVariants as took
 use Rattle.amqp_endpoint_link_hearing.specs.Saying.{Answers, BarsSaid, FailsBySaid, LinkHeard}
 use Rattle.amqp_endpoint_link_hearing.specs.declared.attaching.LinkAttached.{LinkAttached}
 
@@ -82,28 +82,26 @@ pub record ByLink (old : Talk) (session : ℕ) (handle : OutputHandle) (told : A
 abbrev pub IsTold : List Event → Talk → Option LinkAttached → List SessionFrame → List Event → Talk → Type 0
 IsTold told old left frames events new = (left ≡ None) × (frames ≡ []) × (events ≡ told) × (new ≡ old)
 
--- what comes of it once it is heard: the link that waited for it takes it, or the peer asks for a link; in a session
--- that is ending nothing does
-abbrev pub Becomes : LinkHeard → NamedLink → Talk → Attach → Option LinkAttached → List SessionFrame → List Event → Talk
-    → Type 0
-Becomes (Asked session) named old attach left frames events new =
-    IsTold (asked_told session attach) old left frames events new
-Becomes (Live session (taken.Attach attach.Asked)) named old it left frames events new =
-    IsTold (asked_told session it) old left frames events new
-Becomes (Live session (taken.Attach (attach.ByLink told))) (Waiting handle) old it left frames events new =
-    ByLink old session handle told left frames events new
-Becomes heard named old attach left frames events new = IsTold [] old left frames events new
-
 -- the link that waited for it is there
-abbrev pub WaitsIn : Talk → LinkHeard → NamedLink → Type 0
-WaitsIn talk (Live session (taken.Attach (attach.ByLink told))) (Waiting handle) = IsSome (link_of talk session handle)
-WaitsIn talk heard named = Unit {0}
+abbrev pub WaitsIn : Talk → Took → NamedLink → Type 0
+WaitsIn talk (took.ByLink session told) (Waiting handle) = IsSome (link_of talk session handle)
+WaitsIn talk took named = Unit {0}
 
 -- it refuses it, and there is no memory for its Detach
-abbrev pub IsRefusedIn : LinkHeard → NamedLink → EndpointError → Type 0
-IsRefusedIn (Live session (taken.Attach (attach.ByLink told))) (Waiting handle) e =
+abbrev pub IsRefusedBy : Took → NamedLink → EndpointError → Type 0
+IsRefusedBy (took.ByLink session told) (Waiting handle) e =
     (e ≡ Memory) × ((error : LinkError) × (outcome_of told ≡ Err error))
-IsRefusedIn heard named e = ⊥
+IsRefusedBy took named e = ⊥
+
+-- what comes of it once it is heard: the link that waited for it takes it, or the peer asks for a link; in a session
+-- that is ending nothing does
+abbrev pub Becomes : Took → NamedLink → Talk → Attach → Option LinkAttached → List SessionFrame → List Event → Talk
+    → Type 0
+Becomes (took.Asked session) named old it left frames events new =
+    IsTold (asked_told session it) old left frames events new
+Becomes (took.ByLink session told) (Waiting handle) old it left frames events new =
+    ByLink old session handle told left frames events new
+Becomes took named old it left frames events new = IsTold [] old left frames events new
 
 -- the session takes it
 pub record TakesAttach (old : Talk) (links : Links) (channel : IncomingChannel) (attach : Attach)
@@ -114,7 +112,7 @@ pub record TakesAttach (old : Talk) (links : Links) (channel : IncomingChannel) 
   pub heard : LinkHeard
   pub mid : Talk
   pub answered : Answers old channel (said.Attach attach named) (Ok heard) [] mid
-  pub becomes : Becomes heard named mid attach left frames events new
+  pub becomes : Becomes (attach_of heard) named mid attach left frames events new
   pub same : links_new ≡ links
 
 -- or it ends by its fault
@@ -146,7 +144,7 @@ pub record IsUnclosed (old : Talk) (links : Links) (channel : IncomingChannel) (
   pub is_named : IsNamedOn old links channel attach named
   pub heard : LinkHeard
   pub answered : Answers old channel (said.Attach attach named) (Ok heard) [] new
-  pub refused : IsRefusedIn heard named e
+  pub refused : IsRefusedBy (attach_of heard) named e
 
 abbrev pub RefusesAttach : Talk → Links → IncomingChannel → Attach → EndpointError → Talk → Type 0
 RefusesAttach old links channel attach e new =

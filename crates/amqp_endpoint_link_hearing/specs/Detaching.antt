@@ -7,14 +7,12 @@ use Rattle.amqp_session_performatives.specs.declared.detach.Detach.{Detach}
 use Rattle.amqp_session_performatives.specs.declared.session_frame.SessionFrame.{SessionFrame}
 use Rattle.amqp_session_core.specs.State.{reached}
 use Rattle.amqp_link_base.specs.declared.detached.Detached.{Detached}
-use Rattle.amqp_endpoint_links.specs.declared.asking.DetachTaken.TheVariants as detach
 use Rattle.amqp_endpoint_links.specs.declared.hearing.LinkPerformative.TheVariants as said
-use Rattle.amqp_endpoint_links.specs.declared.hearing.PerformativeTaken.TheVariants as taken
-use Rattle.amqp_endpoint_conversation.specs.declared.hearing.Heard.TheVariants.{Live}
 use Rattle.amqp_endpoint_sessions.specs.State.{live_at}
 use Rattle.amqp_endpoint_model.specs.declared.event.Event.{Event}
 use Rattle.amqp_endpoint_model.specs.declared.event.Event.TheVariants as event
 use Rattle.amqp_endpoint_linking.specs.Linking.{Link, Links, Session, Talk}
+use Rattle.amqp_endpoint_link_hearing.specs.Heard.{detach_of}
 use Rattle.amqp_endpoint_link_hearing.specs.InSession.{GoesOn, Parts}
 use Rattle.amqp_endpoint_link_hearing.specs.Leaving.{IsLeft, repeated}
 use Rattle.amqp_endpoint_link_hearing.specs.Naming.{link_of}
@@ -54,10 +52,11 @@ pub record Withdraws (links : Links) (mid : Talk) (frames : List SessionFrame) (
 
 -- what comes of it once it is heard: a link that the peer asks for is asked for no longer, and nothing is told; in a
 -- session that is ending nothing comes of it
-abbrev pub Becomes : LinkHeard → Talk → Links → Detach → Talk → List SessionFrame → List Event → Talk → Links → Type 0
-Becomes (Live session (taken.Detach (detach.ByLink told))) old links it mid frames events new links_new =
+abbrev pub Becomes : Option (ℕ × Detached) → Talk → Links → Detach → Talk → List SessionFrame → List Event → Talk → Links
+    → Type 0
+Becomes (Some (session, told)) old links it mid frames events new links_new =
     ByLink old links it session told mid frames events new links_new
-Becomes heard old links it mid frames events new links_new = Withdraws links mid frames events new links_new
+Becomes None old links it mid frames events new links_new = Withdraws links mid frames events new links_new
 
 -- the session takes it
 pub record TakesDetach (old : Talk) (links : Links) (channel : IncomingChannel) (it : Detach)
@@ -65,7 +64,7 @@ pub record TakesDetach (old : Talk) (links : Links) (channel : IncomingChannel) 
   pub heard : LinkHeard
   pub mid : Talk
   pub answered : Answers old channel (said.Detach it) (Ok heard) [] mid
-  pub becomes : Becomes heard old links it mid frames events new links_new
+  pub becomes : Becomes (detach_of heard) old links it mid frames events new links_new
 
 -- or it ends by its fault
 abbrev pub HearsDetach : Talk → Links → IncomingChannel → Detach → List SessionFrame → List Event → Talk → Links

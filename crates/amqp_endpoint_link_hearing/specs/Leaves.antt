@@ -5,9 +5,6 @@ use Rattle.amqp_session_performatives.specs.declared.detach.Detach.{Detach}
 use Rattle.amqp_session_performatives.specs.declared.session_frame.SessionFrame.{SessionFrame}
 use Rattle.amqp_session_core.specs.State as session_state
 use Rattle.amqp_link_base.specs.declared.detached.Detached.{Detached}
-use Rattle.amqp_endpoint_links.specs.declared.asking.DetachTaken.TheVariants as detach
-use Rattle.amqp_endpoint_links.specs.declared.hearing.PerformativeTaken.TheVariants as taken
-use Rattle.amqp_endpoint_conversation.specs.declared.hearing.Heard.TheVariants.{Live}
 use Rattle.amqp_endpoint_sessions.specs.State.{live_at, reached}
 use Rattle.amqp_endpoint_model.specs.declared.event.Event.{Event}
 use Rattle.amqp_endpoint_attached.specs.Linked.{Linked}
@@ -15,7 +12,6 @@ use Rattle.amqp_endpoint_linking.specs.Linking.{Link, Links, Session, Talk}
 use Rattle.amqp_endpoint_link_hearing.specs.InSession.{GoesOn, Parts}
 use Rattle.amqp_endpoint_link_hearing.specs.Leaving.{HasPlace, IsLeft, repeated}
 use Rattle.amqp_endpoint_link_hearing.specs.Naming.{link_of}
-use Rattle.amqp_endpoint_link_hearing.specs.Saying.{LinkHeard}
 use Rattle.amqp_endpoint_link_hearing.specs.Detaching.{Withdraws, detached_told}
 use Rattle.amqp_endpoint_link_hearing.specs.declared.detaching.Ready.{Ready}
 
@@ -38,12 +34,12 @@ Prepares talk channel it ready =
     → live_at talk.sessions number ≡ Some s → ReadyFor s.value it ready
 
 -- the link took the Detach, and what was made ready serves
-abbrev pub StandsFor : Talk → LinkHeard → Option Ready → Type 0
-StandsFor mid (Live session (taken.Detach (detach.ByLink told))) (Some ready) =
+abbrev pub StandsFor : Talk → Option (ℕ × Detached) → Option Ready → Type 0
+StandsFor mid (Some (session, told)) (Some ready) =
     IsSome (link_of mid session ready.handle)
     × ((s : Session) → live_at mid.sessions session ≡ Some s
     → HasPlace s.value ready.handle ready.answer.closed ready.answer.error ready.answer.place)
-StandsFor mid heard ready = Unit {0}
+StandsFor mid took ready = Unit {0}
 
 -- it is answered and leaves its session
 pub record LinkLeaves (session : ℕ) (told : Detached) (ready : Ready) (mid : Talk) (links : Links)
@@ -56,7 +52,8 @@ pub record LinkLeaves (session : ℕ) (told : Detached) (ready : Ready) (mid : T
   pub is_left : IsLeft told.closed links link.number left links_new
   pub tells : events ≡ detached_told link.number told.closed ready.error
 
-abbrev pub LeavesBy : LinkHeard → Option Ready → Talk → Links → List SessionFrame → List Event → Talk → Links → Type 0
-LeavesBy (Live session (taken.Detach (detach.ByLink told))) (Some ready) mid links frames events new links_new =
+abbrev pub LeavesBy : Option (ℕ × Detached) → Option Ready → Talk → Links → List SessionFrame → List Event → Talk → Links
+    → Type 0
+LeavesBy (Some (session, told)) (Some ready) mid links frames events new links_new =
     LinkLeaves session told ready mid links frames events new links_new
-LeavesBy heard ready mid links frames events new links_new = Withdraws links mid frames events new links_new
+LeavesBy took ready mid links frames events new links_new = Withdraws links mid frames events new links_new

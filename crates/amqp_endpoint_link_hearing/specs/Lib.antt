@@ -1,4 +1,5 @@
 pub mod Saying
+pub mod Heard
 pub mod Flowing
 pub mod Naming
 pub mod InSession

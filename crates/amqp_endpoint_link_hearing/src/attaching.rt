@@ -6,21 +6,20 @@ ghost use Rattle.amqp_endpoint_model.specs.Relay.{IsSessionFault};
 ghost use Rattle.amqp_endpoint_talk.specs.Going.{Goes, Rests};
 ghost use Rattle.amqp_endpoint_linking.specs.Linking.{Link};
 ghost use Rattle.amqp_endpoint_linking.specs.Handed.{Tells};
-ghost use Rattle.amqp_endpoint_link_hearing.specs.Attaching.{Becomes, ByLink, HearsAttach, IsRefusedIn, RefusesAttach, WaitsIn, asked_told, attached_told, of_receiver, of_sender, outcome_of, refused_told};
+ghost use Rattle.amqp_endpoint_link_hearing.specs.Attaching.{Becomes, ByLink, HearsAttach, IsRefusedBy, RefusesAttach, WaitsIn, asked_told, attached_told, of_receiver, of_sender, outcome_of, refused_told};
 ghost use Rattle.amqp_endpoint_link_hearing.specs.Naming.{link_of};
 
 use crate::closing::close;
+use crate::hearing::{Took, attach_of};
 use crate::naming::{named_on, number_of};
 use crate::refusing::refuse;
-use amqp_endpoint_conversation::{Conversation, Heard};
-use amqp_endpoint_links::{AttachTaken, LinkPerformative, NamedLink, Numbered, PerformativeTaken};
+use amqp_endpoint_conversation::Conversation;
+use amqp_endpoint_links::{LinkPerformative, NamedLink, Numbered};
 use amqp_endpoint_model::{Attached as AttachedEvent, EndpointError, Event, LinkAsked, Refused};
 use amqp_endpoint_names::Links;
 use amqp_link_attach::AttachExchange;
-use amqp_link_base::Detached;
 use amqp_link_ends::{AttachTold, LinkEnd};
 use amqp_link_receiver::Attached;
-use amqp_link_receiving::Told;
 use amqp_link_sender::{AttachAnswer, Attaching};
 use amqp_link_sender_messages::Abort;
 use amqp_link_types::LinkError;
@@ -105,7 +104,13 @@ fn take_attach(
     let named = named_on(talk, links, channel, &attach);
     let said = LinkPerformative::Attach(attach, named);
     match amqp_endpoint_talk::hear(talk, alloc, out, channel, said) {
-        Ok(heard) => attach_heard(talk, alloc, heard, named, asked, out, events),
+        Ok(heard) => {
+            let took = attach_of(heard);
+            match attach_heard(talk, alloc, took, named, asked, out, events) {
+                Ok(left) => Ok(left),
+                Err(error) => Err(error),
+            }
+        }
         Err(refusal) => match refuse(links, refusal, events) {
             Ok(()) => Ok(None),
             Err(error) => Err(error),
@@ -117,43 +122,34 @@ fn take_attach(
 fn attach_heard(
     talk: &mut Conversation<Numbered<LinkEnd>>,
     alloc: Global,
-    heard: Heard<AttachTold, Told, Detached>,
+    took: Took,
     named: NamedLink,
     attach: Boxed<Attach>,
     out: &mut VecDeque<SessionFrame>,
     events: &mut Vec<Event>,
 ) -> Result<Option<LinkAttached>, EndpointError>
-    requires waits { WaitsIn talk.old heard named }
+    requires waits { WaitsIn talk.old took named }
     requires room { vec_len events.old < vec_capacity events.old }
     ensures ok { IfOk result (λ left.
-        Tells (λ frames told. Becomes heard named talk.old attach left frames told talk.new)
+        Tells (λ frames told. Becomes took named talk.old attach left frames told talk.new)
         out.old.items events.old.items out.new.items events.new.items) }
-    ensures err { IfErr result (λ e. IsRefusedIn heard named e × (talk.new ≡ talk.old)) }
+    ensures err { IfErr result (λ e. IsRefusedBy took named e × (talk.new ≡ talk.old)) }
     ensures kept { OnErr result ((out.new.items ≡ out.old.items) × (events.new.items ≡ events.old.items)) }
     ensures goes { (limit : ℕ) → 512 ≤ limit → Goes limit talk.old talk.new out.old.items out.new.items }
     ensures rests { Rests talk.old talk.new out.old.items out.new.items }
 {
-    match heard {
-        Heard::Asked(session) => {
+    match took {
+        Took::Asked(session) => {
             tell_asked(session, attach, events);
             Ok(None)
         }
-        Heard::Live(session, taken) => match taken {
-            PerformativeTaken::Attach(taken) => match taken {
-                AttachTaken::Asked => {
-                    tell_asked(session, attach, events);
-                    Ok(None)
-                }
-                AttachTaken::ByLink(told) => match named {
-                    NamedLink::Waiting(handle) => {
-                        take_by_link(talk, alloc, session, handle, told, out, events)
-                    }
-                    NamedLink::Absent | NamedLink::Attached => Ok(None),
-                },
-            },
-            _ => Ok(None),
+        Took::ByLink(session, told) => match named {
+            NamedLink::Waiting(handle) => {
+                take_by_link(talk, alloc, session, handle, told, out, events)
+            }
+            NamedLink::Absent | NamedLink::Attached => Ok(None),
         },
-        Heard::Dropped(_) => Ok(None),
+        Took::Nothing => Ok(None),
     }
 }
 

@@ -7,6 +7,7 @@ ghost use Rattle.amqp_endpoint_linking.specs.Handed.{Hands};
 ghost use Rattle.amqp_endpoint_link_hearing.specs.InSession.{Closes, GoesOn};
 ghost use Rattle.amqp_endpoint_link_hearing.specs.Naming.{link_of};
 
+use crate::leaving::handle_is_read;
 use amqp_endpoint_attached::{LinkSession, detach};
 use amqp_endpoint_conversation::Conversation;
 use amqp_endpoint_fitting::frames_are_read;
@@ -35,6 +36,7 @@ pub(crate) fn close(
     ensures goes { (limit : ℕ) → 512 ≤ limit → Goes limit talk.old talk.new out.old.items out.new.items }
     ensures rests { Rests talk.old talk.new out.old.items out.new.items }
 {
+    handle_is_read(handle);
     let from = out.len();
     let Some(session) = talk.sessions.live_mut(session) else {
         unreachable!()
@@ -58,8 +60,10 @@ fn close_in(
     let error = fault_error(alloc)?;
     match detach(session, alloc, handle, true, Some(error), out) {
         Ok(()) => Ok(()),
-        Err(EndpointError::IllegalState) => Ok(()),
-        Err(_) => Err(AllocError),
+        Err(error) => match &error {
+            EndpointError::IllegalState => Ok(()),
+            _ => Err(AllocError),
+        },
     }
 }
 

@@ -14,17 +14,17 @@ ghost use Rattle.amqp_endpoint_link_hearing.specs.Leaving.{HasPlace};
 ghost use Rattle.amqp_endpoint_link_hearing.specs.Naming.{link_of};
 ghost use Rattle.amqp_endpoint_link_hearing.specs.Saying.{RefusesSaid};
 
+use crate::hearing::detach_of;
 use crate::leaving::{Answer, leave, part, repeated};
 use crate::naming::number_of;
 use crate::refusing::refuse;
 use amqp_endpoint_attached::LinkSession;
-use amqp_endpoint_conversation::{Conversation, Heard};
-use amqp_endpoint_links::{DetachTaken, LinkPerformative, Numbered, PerformativeTaken};
+use amqp_endpoint_conversation::Conversation;
+use amqp_endpoint_links::{LinkPerformative, Numbered};
 use amqp_endpoint_model::{Detached as DetachedEvent, EndpointError, Event};
 use amqp_endpoint_names::Links;
 use amqp_link_base::Detached;
-use amqp_link_ends::{AttachTold, LinkEnd};
-use amqp_link_receiving::Told;
+use amqp_link_ends::LinkEnd;
 use amqp_session_performatives::{Detach, SessionFrame};
 use amqp_session_types::{IncomingChannel, InputHandle, OutputHandle, definitions};
 use std::alloc::{AllocError, Global};
@@ -73,7 +73,7 @@ pub fn hear_detach(
 {
     events.reserve(1)?;
     out.reserve(1)?;
-    let ready = ready(talk, alloc, channel, &detach)?;
+    let ready = make_ready(talk, alloc, channel, &detach)?;
     take_detach(talk, links, alloc, channel, detach, ready, out, events)?;
     Ok(())
 }
@@ -106,7 +106,7 @@ fn take_detach(
     let said = LinkPerformative::Detach(detach);
     match amqp_endpoint_talk::hear(talk, alloc, out, channel, said) {
         Ok(heard) => {
-            detach_heard(talk, links, heard, ready, out, events);
+            detach_heard(talk, links, detach_of(heard), ready, out, events);
             Ok(())
         }
         Err(refusal) => match refuse(links, refusal, events) {
@@ -116,37 +116,30 @@ fn take_detach(
     }
 }
 
-/// The Detach was heard. There is room for what is told.
+/// The Detach was heard, and this link took it, if one did. There is room for what is told.
 fn detach_heard(
     talk: &mut Conversation<Numbered<LinkEnd>>,
     links: &mut Links<LinkEnd>,
-    heard: Heard<AttachTold, Told, Detached>,
+    took: Option<(u64, Detached)>,
     ready: Option<Ready>,
     out: &mut VecDeque<SessionFrame>,
     events: &mut Vec<Event>,
 )
-    requires stands { StandsFor talk.old heard ready }
+    requires stands { StandsFor talk.old took ready }
     requires spare { deque_len out.old < deque_capacity out.old }
     requires room { vec_len events.old < vec_capacity events.old }
-    ensures leaves { Tells (λ frames told. LeavesBy heard ready talk.old links.old frames told talk.new links.new)
+    ensures leaves { Tells (λ frames told. LeavesBy took ready talk.old links.old frames told talk.new links.new)
         out.old.items events.old.items out.new.items events.new.items }
     ensures goes { (limit : ℕ) → 512 ≤ limit → Goes limit talk.old talk.new out.old.items out.new.items }
     ensures rests { Rests talk.old talk.new out.old.items out.new.items }
 {
-    match heard {
-        Heard::Live(session, taken) => match taken {
-            PerformativeTaken::Detach(taken) => match taken {
-                DetachTaken::ByLink(told) => {
-                    if let Some(ready) = ready {
-                        leave_by_link(talk, links, session, told, ready, out, events);
-                    }
-                }
-                DetachTaken::Withdrawn => {}
-            },
-            _ => {}
-        },
-        Heard::Asked(_) | Heard::Dropped(_) => {}
-    }
+    let Some((session, told)) = took else {
+        return;
+    };
+    let Some(ready) = ready else {
+        return;
+    };
+    leave_by_link(talk, links, session, told, ready, out, events);
 }
 
 /// The link for which this is ready took the Detach. There is room for what is told.
@@ -199,7 +192,7 @@ fn tell_detached(
 
 /// What is made ready for the link that the peer's handle reaches, if one is reached. It is refused where there is no
 /// memory.
-fn ready(
+fn make_ready(
     talk: &Conversation<Numbered<LinkEnd>>,
     alloc: Global,
     channel: IncomingChannel,
@@ -213,11 +206,11 @@ fn ready(
     let Some(session) = talk.sessions.live(number) else {
         return Ok(None);
     };
-    ready_in(session, alloc, detach)
+    make_ready_in(session, alloc, detach)
 }
 
 /// The same in its session.
-fn ready_in(
+fn make_ready_in(
     session: &LinkSession,
     alloc: Global,
     detach: &Detach,

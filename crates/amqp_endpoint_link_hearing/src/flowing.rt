@@ -8,6 +8,7 @@ ghost use Rattle.amqp_endpoint_linking.specs.Handed.{Tells};
 ghost use Rattle.amqp_endpoint_link_hearing.specs.Flowing.{HearsFlow};
 ghost use Rattle.amqp_endpoint_link_hearing.specs.Saying.{RefusesSaid};
 
+use crate::hearing::forget;
 use crate::refusing::refuse;
 use amqp_endpoint_conversation::Conversation;
 use amqp_endpoint_links::{LinkPerformative, Numbered};
@@ -72,8 +73,8 @@ fn take_flow(
 {
     let from = out.len();
     let said = LinkPerformative::Flow(flow);
-    match amqp_endpoint_talk::hear(talk, alloc, out, channel, said) {
-        Ok(_) => Ok(()),
+    match forget(amqp_endpoint_talk::hear(talk, alloc, out, channel, said)) {
+        Ok(()) => Ok(()),
         Err(refusal) => match refuse(links, refusal, events) {
             Ok(()) => Ok(()),
             Err(error) => {

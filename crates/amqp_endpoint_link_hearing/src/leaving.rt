@@ -1,5 +1,5 @@
 //! A link whose attachment the peer ended leaves its session (part 2, 2.6.4 to 2.6.6).
-ghost use Rattle.std.specs.Prelude.{◌≡◌, ◌≤◌, ◌<◌, ℕ, IsSome, IsTrue, ◌↔◌, IfOk, true};
+ghost use Rattle.std.specs.Prelude.{◌≡◌, ◌≤◌, ◌<◌, ◌^◌, ℕ, IsSome, IsTrue, ◌↔◌, IfOk, true};
 ghost use Rattle.std.specs.VecDeque.{deque_capacity, deque_len};
 ghost use Rattle.serde_amqp_item.specs.Canon.{canon};
 ghost use Rattle.amqp_session_outgoing.specs.Queues.{room_behind};
@@ -147,15 +147,23 @@ pub(crate) fn repeated(
     ensures { IfOk result (λ e. (e ≡ repeated channel handle closed error.now)
         × (fits 512 (frame_of (detach_frame channel (own_detach handle closed e))) ≡ true)) }
 {
-    let answer = Detach {
+    handle_is_read(handle);
+    let mut answer = Detach {
         handle: Handle(handle.0),
         closed,
         error: error.clone()?,
     };
     if fits(channel, &answer) {
-        return Ok(answer.error);
+        return Ok(answer.error.take());
     }
     Ok(None)
+}
+
+/// The number of a handle is read, and so lies in its range (part 2, 2.6.2).
+pub(crate) fn handle_is_read(handle: OutputHandle)
+    ensures { handle.0 < 2 ^ 32 }
+{
+    let _number = handle.0;
 }
 
 /// Whether a Detach is no longer than every peer takes, whatever its channel (part 2, 2.4.1).

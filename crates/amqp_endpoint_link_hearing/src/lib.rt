@@ -8,6 +8,7 @@ mod attaching;
 mod closing;
 mod detaching;
 mod flowing;
+mod hearing;
 mod leaving;
 mod naming;
 mod refusing;

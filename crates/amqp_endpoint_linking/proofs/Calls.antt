@@ -1,5 +1,5 @@
 -- What calls do with their own frames, behind those that were to be sent.
-use Rattle.std.proofs.Common.{◌≡◌, ℕ, true, List, [], ◌∷◌, ◌++◌, Option, Some, None, refl, sym, ap, subst, ◌∙◌, append-nil}
+use Rattle.std.proofs.Common.{◌≡◌, ℕ, true, List, [], ◌∷◌, ◌++◌, Option, Some, None, refl, sym, subst, ◌∙◌, append-nil}
 use Rattle.std.proofs.lemmas.List.Elements.{All-nil}
 use Rattle.amqp_session_types.specs.declared.channels.IncomingChannel.{IncomingChannel}
 use Rattle.amqp_session_types.specs.declared.error.Error.{Error}
@@ -101,7 +101,7 @@ module _ (old new : Talk) (out out_new : List SessionFrame) where
     pub failed-tells : (fault : SessionError) (told told_new : List Event)
         → EndsHere old out number (Some (fault_error fault)) session new out_new
         → told_new ≡ told ++ fault_told number fault
-        → Tells (λ (frames : List SessionFrame) (events : List Event).
+        → Tells (λ frames events.
         Fails old links number fault frames events new links_new) out told out_new told_new
     failed-tells fault told told_new e are =
         record {

@@ -1,9 +1,7 @@
 -- What the sessions' answers to the peer's Begin and End come to, and what is told of them.
-use Rattle.std.proofs.Common.{◌≡◌, inl, inr, ℕ, List, [], ◌++◌, Option, Some, None, Bool, Ok, Err, refl, sym, ap, subst, ◌∙◌, append-nil}
+use Rattle.std.proofs.Common.{◌≡◌, inl, inr, ℕ, List, [], ◌++◌, Some, None, Bool, Ok, Err, refl, sym, ap, subst, ◌∙◌, append-nil}
 use Rattle.std.proofs.lemmas.Option.{none-some}
 use Rattle.amqp_session_types.specs.declared.channels.IncomingChannel.{IncomingChannel}
-use Rattle.amqp_session_types.specs.declared.refusals.ConnectionError.{ConnectionError}
-use Rattle.amqp_session_types.specs.declared.refusals.ConnectionError.TheVariants.{NotImplemented, NotFound, NotAllowed, Memory}
 use Rattle.amqp_session_types.specs.declared.refusals.SessionError.{SessionError}
 use Rattle.amqp_session_types.specs.declared.refusals.SessionError.TheVariants.{IllegalState}
 use Rattle.amqp_session_performatives.specs.declared.begin.Begin.{Begin}
@@ -12,26 +10,19 @@ use Rattle.amqp_session_performatives.specs.declared.session_frame.SessionFrame.
 use Rattle.amqp_endpoint_sessions.specs.State.{live_at, place_at, reached}
 use Rattle.amqp_endpoint_conversation.specs.declared.beginning.BeginHeard.{BeginHeard}
 use Rattle.amqp_endpoint_conversation.specs.declared.beginning.BeginRefusal.{BeginRefusal}
-use Rattle.amqp_endpoint_conversation.specs.declared.beginning.BeginRefusal.TheVariants.{Connection, Session as SessionRefuses}
+use Rattle.amqp_endpoint_conversation.specs.declared.beginning.BeginRefusal.TheVariants.{Session as SessionRefuses}
 use Rattle.amqp_endpoint_conversation.specs.declared.ending.EndHeard.{EndHeard}
-use Rattle.amqp_endpoint_conversation.specs.Beginning.{BeginAnswered, RefusedBegin}
+use Rattle.amqp_endpoint_conversation.specs.Beginning.{BeginAnswered}
 use Rattle.amqp_endpoint_conversation.specs.Ending.{EndAnswered}
-use Rattle.amqp_endpoint_model.specs.declared.error.EndpointError.{EndpointError}
-use Rattle.amqp_endpoint_model.specs.declared.error.EndpointError.TheVariants as fault
 use Rattle.amqp_endpoint_model.specs.declared.event.Event.{Event}
-use Rattle.amqp_endpoint_model.specs.Refusals.{of_connection}
-use Rattle.amqp_endpoint_model.specs.Relay.{IsSessionFault}
 use Rattle.amqp_endpoint_talk.specs.Going.{Goes}
 use Rattle.amqp_endpoint_talk.proofs.Alone.{begin-alone, end-alone}
 use Rattle.amqp_endpoint_attached.specs.Linked.{gives}
 use Rattle.amqp_endpoint_linking.specs.Linking.{Link, Links, Stood, Talk}
 use Rattle.amqp_endpoint_linking.specs.GivingBack.{SessionGivenBack}
-use Rattle.amqp_endpoint_linking.specs.Calling.{BarsFailing, Fails}
+use Rattle.amqp_endpoint_linking.specs.Calling.{Fails}
 use Rattle.amqp_endpoint_linking.specs.Handed.{Tells}
-use Rattle.amqp_endpoint_linking.specs.Hearing.{HearsBegin, RefusesBegin, RefusesEnd, TakesEnd, begin_told, end_told, is_closing, is_told}
-
-is-fault : (e why : EndpointError) → e ≡ why → IsSessionFault why → IsSessionFault e
-is-fault e why is fault = subst IsSessionFault (sym is) fault
+use Rattle.amqp_endpoint_linking.specs.Hearing.{HearsBegin, TakesEnd, begin_told, end_told, is_closing, is_told}
 
 -- nothing was handed out
 unsent : (out out_new : List SessionFrame) → out_new ≡ out → out_new ≡ out ++ []
@@ -43,7 +34,7 @@ module _ (old : Talk) (channel : IncomingChannel) (begin : Begin) (out : List Se
   pub begun-tells : (links links_new : Links) (told told_new : List Event) (heard : BeginHeard)
       → Goes 0 old new out out_new → BeginAnswered gives old out channel begin (Ok heard) new out_new
       → told_new ≡ told ++ begin_told heard channel → links_new ≡ links
-      → Tells (λ (frames : List SessionFrame) (events : List Event).
+      → Tells (λ frames events.
       HearsBegin old links channel begin frames events new links_new) out told out_new told_new
   begun-tells links links_new told told_new heard goes answered are same =
       record {
@@ -67,46 +58,6 @@ module _ (old : Talk) (channel : IncomingChannel) (begin : Begin) (out : List Se
       → BeginAnswered gives old [] channel begin (Err refusal) new []
   refused-alone refusal same answered =
       begin-alone gives old new channel begin (Err refusal) out out_new [] (unsent out out_new same) answered
-
-  -- by the connection
-  barred-kept : (e : ConnectionError) → BeginAnswered gives old out channel begin (Err (Connection e)) new out_new
-      → out_new ≡ out
-  barred-kept Memory t = t.0
-  barred-kept e t = t.2
-
-  named-fault : (e : ConnectionError) (named : Option ℕ) → RefusedBegin gives named old channel begin e
-      → IsSessionFault (of_connection e)
-  named-fault Memory named r = tt
-  named-fault NotImplemented named r = tt
-  named-fault NotFound named r = tt
-  named-fault NotAllowed named r = tt
-  named-fault e None r = absurd r
-  named-fault e (Some number) r = absurd r
-
-  barred-fault : (e : ConnectionError) → BeginAnswered gives old out channel begin (Err (Connection e)) new out_new
-      → IsSessionFault (of_connection e)
-  barred-fault Memory t = tt
-  barred-fault e t = named-fault e begin.remote_channel t.0
-
-  module _ (refusal : BeginRefusal) (answered : BeginAnswered gives old out channel begin (Err refusal) new out_new)
-    where
-      abbrev As : BeginRefusal → Type 0
-      As said = BeginAnswered gives old out channel begin (Err said) new out_new
-
-      pub begin-kept : (e : ConnectionError) → refusal ≡ Connection e → out_new ≡ out
-      begin-kept e is = barred-kept e (subst As is answered)
-
-      pub begin-bars : (e : ConnectionError) → refusal ≡ Connection e → (why : EndpointError) → why ≡ of_connection e
-          → IsSessionFault why × RefusesBegin old channel begin why new
-      begin-bars e is why so =
-          let here = subst As is answered in (
-            is-fault why (of_connection e) so (barred-fault e here),
-            inl (record {
-              refusal = e;
-              answered = refused-alone (Connection e) (barred-kept e here) here;
-              is = so;
-            }),
-          )
 
   -- by the session that it names, which has begun
   pub record IsRefused (number : ℕ) (fault : SessionError) : Type 0 where
@@ -135,9 +86,9 @@ module _ (old : Talk) (channel : IncomingChannel) (begin : Begin) (out : List Se
   -- it ends by that
   pub failed-begin : (number : ℕ) (fault : SessionError) → IsRefused number fault
       → (links links_end : Links) (end : Talk) (told told_end : List Event) (out_end : List SessionFrame)
-      → Tells (λ (frames : List SessionFrame) (events : List Event).
+      → Tells (λ frames events.
       Fails new links number fault frames events end links_end) out_new told out_end told_end
-      → Tells (λ (frames : List SessionFrame) (events : List Event).
+      → Tells (λ frames events.
       HearsBegin old links channel begin frames events end links_end) out told out_end told_end
   failed-begin number fault r links links_end end told told_end out_end t =
       record {
@@ -149,35 +100,6 @@ module _ (old : Talk) (channel : IncomingChannel) (begin : Begin) (out : List Se
         are_told = t.are_told;
       }
 
-  -- or there is no memory for it
-  pub begin-untold : (number : ℕ) (fault : SessionError) → IsRefused number fault → (end : Talk) → end ≡ new
-      → (e : EndpointError) → BarsFailing new number e → IsSessionFault e × RefusesBegin old channel begin e end
-  begin-untold number fault r end kept fault.Memory b = (
-    tt,
-    inr (inl (
-      refl,
-      record {
-        number = number;
-        fault = fault;
-        refused =
-            subst
-            (λ (talk : Talk). BeginAnswered gives old [] channel begin (Err (SessionRefuses number fault)) talk [])
-            (sym kept) r.answered;
-      },
-    )),
-  )
-  begin-untold number fault r end kept fault.IllegalState b = absurd (r.live b)
-  begin-untold number fault r end kept e b = absurd b
-
--- there is no memory even for what is told
-pub begin-without-memory : (old : Talk) (channel : IncomingChannel) (begin : Begin) (e : EndpointError)
-    → e ≡ fault.Memory → IsSessionFault e × RefusesBegin old channel begin e old
-begin-without-memory old channel begin e is = (is-fault e fault.Memory is tt, inr (inr (is, refl)))
-
-pub end-without-memory : (old : Talk) (channel : IncomingChannel) (end : End) (e : EndpointError)
-    → e ≡ fault.Memory → IsSessionFault e × RefusesEnd old channel end e old
-end-without-memory old channel end e is = (is-fault e fault.Memory is tt, inr (is, refl))
-
 -- the peer's End
 module _ (old : Talk) (channel : IncomingChannel) (end : End) (out : List SessionFrame) (new : Talk)
     (out_new : List SessionFrame) where
@@ -188,7 +110,7 @@ module _ (old : Talk) (channel : IncomingChannel) (end : End) (out : List Sessio
       → tells ≡ is_told (is_closing old.sessions.connection.local_state) stood)
       → SessionGivenBack links heard.ended links_new
       → told_new ≡ told ++ end_told tells heard.number end.error
-      → Tells (λ (frames : List SessionFrame) (events : List Event).
+      → Tells (λ frames events.
       TakesEnd old links channel end frames events new links_new) out told out_new told_new
   ended-tells links links_new told told_new heard tells goes answered so back are =
       let here : EndAnswered old [] channel end (Ok heard) new goes.frames =
@@ -208,28 +130,3 @@ module _ (old : Talk) (channel : IncomingChannel) (end : End) (out : List Sessio
         queued = goes.queued;
         are_told = are;
       }
-
-  -- it is refused, and nothing changed
-  pub end-kept : (e : ConnectionError) → EndAnswered old out channel end (Err e) new out_new
-      → (new ≡ old) × (out_new ≡ out)
-  end-kept NotFound t = (t.1, t.2)
-  end-kept Memory t = t
-  end-kept e t = absurd t
-
-  end-fault : (e : ConnectionError) → EndAnswered old out channel end (Err e) new out_new
-      → IsSessionFault (of_connection e)
-  end-fault NotFound t = tt
-  end-fault Memory t = tt
-  end-fault e t = absurd t
-
-  pub end-bars : (e : ConnectionError) → EndAnswered old out channel end (Err e) new out_new
-      → (why : EndpointError) → why ≡ of_connection e → IsSessionFault why × RefusesEnd old channel end why new
-  end-bars e t why so = (
-    is-fault why (of_connection e) so (end-fault e t),
-    inl (record {
-      refusal = e;
-      answered =
-          end-alone old new channel end (Err e) out out_new [] (unsent out out_new (end-kept e t).1) t;
-      is = so;
-    }),
-  )

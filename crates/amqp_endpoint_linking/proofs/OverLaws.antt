@@ -1,5 +1,5 @@
 -- How the sessions of a connection end with it, one after the other.
-use Rattle.std.proofs.Common.{◌≡◌, ℕ, zero, suc, length}
+use Rattle.std.proofs.Common.{ℕ, zero, suc}
 use Rattle.amqp_endpoint_linking.specs.Ending.{FinishesFirst, LeavesFirst}
 use Rattle.amqp_endpoint_linking.specs.Linking.{Links, Sessions}
 use Rattle.amqp_endpoint_talk.specs.Clearing.{ClearsFirst}

@@ -1,5 +1,5 @@
 -- How sessions begin and end here, by a call or by their fault (part 2, 2.5.1, 2.5.2).
-use Rattle.std.specs.Prelude.{◌≡◌, ℕ, List, [], ◌∷◌, Option, Some, None, IsSome}
+use Rattle.std.specs.Prelude.{◌≡◌, ℕ, List, [], ◌∷◌, Some, None, IsSome}
 use Rattle.amqp_session_types.specs.declared.channels.IncomingChannel.{IncomingChannel}
 use Rattle.amqp_session_types.specs.declared.refusals.BeginError.{BeginError}
 use Rattle.amqp_session_types.specs.declared.refusals.BeginError.TheVariants as begin

@@ -1,4 +1,4 @@
-use Rattle.amqp_endpoint_linking.proofs.Hears.{end-bars, end-kept, ended-tells}
+use Rattle.amqp_endpoint_linking.proofs.Hears.{ended-tells}
 use Rattle.amqp_endpoint_linking.proofs.hearing.take_end.Goals as goal
 
 pub returns-in-Ok-clause-ok : goal.returns-in-Ok-clause-ok
