@@ -213,9 +213,18 @@ fn refusal_of_settings(
 {
     match play::<UnlinkedSessions>(alloc, copy_settings(settings)?, &[]) {
         Ok(_) => Ok(None),
-        Err(EndpointError::Memory) => Err(AllocError),
-        Err(error) => Ok(Some(error)),
+        Err(error) => Ok(Some(unless_memory(error)?)),
     }
+}
+
+/// The error, where it isn't want of memory.
+fn unless_memory(error: EndpointError) -> Result<EndpointError, AllocError>
+    ensures { IfOk result (λ e. (e ≡ error) × (error ≢ NoMemory)) }
+{
+    if matches!(&error, EndpointError::Memory) {
+        return Err(AllocError);
+    }
+    Ok(error)
 }
 
 fn copy_settings(settings: &Settings) -> Result<Settings, AllocError>

@@ -1,0 +1,4 @@
+pub mod Lent
+pub mod Own
+pub mod Going
+pub mod Entered

@@ -1,0 +1,6 @@
+pub mod Lent
+pub mod Going
+pub mod Done
+pub mod Detached
+pub mod Credited
+pub mod Counting

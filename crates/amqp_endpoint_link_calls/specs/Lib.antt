@@ -1,0 +1,5 @@
+pub mod Places
+pub mod Calling
+pub mod Closing
+pub mod Seeing
+pub mod Waiting
