@@ -31,12 +31,18 @@ unsent : (out out_new : List SessionFrame) → out_new ≡ out → out_new ≡ o
 unsent out out_new same = same ∙ sym (append-nil out)
 
 -- a link that is to take it is there
-pub waits-in : (old : Talk) (channel : IncomingChannel) (out : List SessionFrame) (it : Attach) (named : NamedLink)
+waits-in : (old : Talk) (channel : IncomingChannel) (out : List SessionFrame) (it : Attach) (named : NamedLink)
     (heard : LinkHeard) (new : Talk) (out_new : List SessionFrame)
     → Answered gives old out channel (said.Attach it named) (Ok heard) new out_new → WaitsIn new (attach_of heard) named
 waits-in old channel out it (Waiting handle) (Live session (taken.Attach (attach.ByLink told))) new out_new t =
     attach-there old channel out it handle session told new out_new t
 waits-in old channel out it named heard new out_new t = tt
+
+pub waits-for : (old : Talk) (channel : IncomingChannel) (out : List SessionFrame) (it : Attach) (named : NamedLink)
+    (heard : LinkHeard) (it_took : Took) → it_took ≡ attach_of heard → (new : Talk) (out_new : List SessionFrame)
+    → Answered gives old out channel (said.Attach it named) (Ok heard) new out_new → WaitsIn new it_took named
+waits-for old channel out it named heard it_took is new out_new t =
+    subst (λ (k : Took). WaitsIn new k named) (sym is) (waits-in old channel out it named heard new out_new t)
 
 -- where it is refused
 refused-memory : (it : Took) (named : NamedLink) (e : EndpointError) → IsRefusedBy it named e → e ≡ fault.Memory
@@ -52,13 +58,13 @@ module _ (old : Talk) (links : Links) (channel : IncomingChannel) (it : Attach) 
         answer-alone gives old mid channel (said.Attach it named) (Ok heard) out out_mid [] (unsent out out_mid same)
         answered
 
-    pub attach-taken : (new : Talk) (links_new : Links) (left : Option LinkAttached) (told told_new : List Event)
+    pub attach-taken : (it_took : Took) → it_took ≡ attach_of heard → (new : Talk) (links_new : Links) (left : Option LinkAttached) (told told_new : List Event)
         (out_new : List SessionFrame) → links_new ≡ links
         → Tells (λ (frames : List SessionFrame) (events : List Event).
-        Becomes (attach_of heard) named mid it left frames events new) out_mid told out_new told_new
+        Becomes it_took named mid it left frames events new) out_mid told out_new told_new
         → Tells (λ (frames : List SessionFrame) (events : List Event).
         HearsAttach old links channel it left frames events new links_new) out told out_new told_new
-    attach-taken new links_new left told told_new out_new kept t =
+    attach-taken it_took is new links_new left told told_new out_new kept t =
         record {
           frames = t.frames;
           events = t.events;
@@ -69,16 +75,20 @@ module _ (old : Talk) (links : Links) (channel : IncomingChannel) (it : Attach) 
                 heard = heard;
                 mid = mid;
                 answered = here;
-                becomes = t.is_so;
+                becomes =
+                    subst (λ (k : Took). Becomes k named mid it left t.frames t.events new) is t.is_so;
                 same = kept;
               });
           queued = t.queued ∙ ap (λ (o : List SessionFrame). o ++ t.frames) same;
           are_told = t.are_told;
         }
 
-    pub attach-unclosed : (new : Talk) (e : EndpointError) → IsRefusedBy (attach_of heard) named e → new ≡ mid
+    pub attach-unclosed : (it_took : Took) → it_took ≡ attach_of heard → (new : Talk) (e : EndpointError)
+        → IsRefusedBy it_took named e → new ≡ mid
         → IsSessionFault e × RefusesAttach old links channel it e new
-    attach-unclosed new e refused kept =
+    attach-unclosed it_took is new e refused_so kept =
+        let refused : IsRefusedBy (attach_of heard) named e =
+        subst (λ (k : Took). IsRefusedBy k named e) is refused_so in
         let why : IsSessionFault e = subst IsSessionFault (sym (refused-memory (attach_of heard) named e refused)) tt in
         let so : IsUnclosed old links channel it e mid =
         record { named = named; is_named = is_named; heard = heard; answered = here; refused = refused } in

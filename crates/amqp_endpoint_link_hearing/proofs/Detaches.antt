@@ -133,12 +133,18 @@ module _ (old : Talk) (channel : IncomingChannel) (out : List SessionFrame) (it 
         }
 
 module _ (old : Talk) (channel : IncomingChannel) (out : List SessionFrame) (it : Detach) where
-  pub stands-for : (heard : LinkHeard) (ready : Option Ready) (mid : Talk) (out_mid : List SessionFrame)
+  stands-so : (heard : LinkHeard) (ready : Option Ready) (mid : Talk) (out_mid : List SessionFrame)
       → Prepares old channel it ready → Answered gives old out channel (said.Detach it) (Ok heard) mid out_mid
       → StandsFor mid (detach_of heard) ready
-  stands-for (Live session (taken.Detach (detach.ByLink told))) (Some ready) mid out_mid p t =
+  stands-so (Live session (taken.Detach (detach.ByLink told))) (Some ready) mid out_mid p t =
       stands old channel out it session told mid out_mid t ready p
-  stands-for heard ready mid out_mid p t = tt
+  stands-so heard ready mid out_mid p t = tt
+
+  pub stands-for : (heard : LinkHeard) (took : Option (ℕ × Detached)) → took ≡ detach_of heard → (ready : Option Ready)
+      (mid : Talk) (out_mid : List SessionFrame) → Prepares old channel it ready
+      → Answered gives old out channel (said.Detach it) (Ok heard) mid out_mid → StandsFor mid took ready
+  stands-for heard took is ready mid out_mid p t =
+      subst (λ (o : Option (ℕ × Detached)). StandsFor mid o ready) (sym is) (stands-so heard ready mid out_mid p t)
 
   becomes : (heard : LinkHeard) (ready : Option Ready) (mid : Talk) (out_mid : List SessionFrame)
       (links links_new : Links) (frames : List SessionFrame) (events : List Event) (new : Talk)
@@ -152,15 +158,15 @@ module _ (old : Talk) (channel : IncomingChannel) (out : List SessionFrame) (it 
       absurd (ready-one old channel out it session told mid out_mid t p)
   becomes heard ready mid out_mid links links_new frames events new p t l = l
 
-  pub detach-taken : (heard : LinkHeard) (ready : Option Ready) (mid : Talk) (out_mid : List SessionFrame)
+  pub detach-taken : (heard : LinkHeard) (took : Option (ℕ × Detached)) → took ≡ detach_of heard → (ready : Option Ready) (mid : Talk) (out_mid : List SessionFrame)
       (links links_new : Links) (new : Talk) (told told_new : List Event) (out_new : List SessionFrame)
       → out_mid ≡ out → Prepares old channel it ready
       → Answered gives old out channel (said.Detach it) (Ok heard) mid out_mid
       → Tells (λ (frames : List SessionFrame) (events : List Event).
-      LeavesBy (detach_of heard) ready mid links frames events new links_new) out_mid told out_new told_new
+      LeavesBy took ready mid links frames events new links_new) out_mid told out_new told_new
       → Tells (λ (frames : List SessionFrame) (events : List Event).
       HearsDetach old links channel it frames events new links_new) out told out_new told_new
-  detach-taken heard ready mid out_mid links links_new new told told_new out_new same p t l =
+  detach-taken heard took is ready mid out_mid links links_new new told told_new out_new same p t l =
       record {
         frames = l.frames;
         events = l.events;
@@ -171,7 +177,9 @@ module _ (old : Talk) (channel : IncomingChannel) (out : List SessionFrame) (it 
               answered =
                   answer-alone gives old mid channel (said.Detach it) (Ok heard) out out_mid []
                   (unsent out out_mid same) t;
-              becomes = becomes heard ready mid out_mid links links_new l.frames l.events new p t l.is_so;
+              becomes =
+                  becomes heard ready mid out_mid links links_new l.frames l.events new p t
+                  (subst (λ (o : Option (ℕ × Detached)). LeavesBy o ready mid links l.frames l.events new links_new) is l.is_so);
             });
         queued = l.queued ∙ ap (λ (o : List SessionFrame). o ++ l.frames) same;
         are_told = l.are_told;

@@ -73,7 +73,7 @@ given limit old handle closed error frames new fit g =
     }
 
 -- a link leaves its session, or not
-out-steps : OutputHandle → Option Link → List LinkStep
+abbrev out-steps : OutputHandle → Option Link → List LinkStep
 out-steps handle None = []
 out-steps handle (Some link) = InSession (Deallocates handle.0) ∷ []
 

@@ -94,7 +94,7 @@ some-there o link is = ap is_some is
 
 -- the link that waited took the peer's Attach
 attach-by : (old new : State Link) (handle : ℕ) (it : AttachFrame) (told : AttachTold) (r : Result AttachTold SessionError)
-    → Ok {E = SessionError} (attach.ByLink told) ≡ by_link r → AttachTaken gives old handle it r new
+    → Ok (attach.ByLink told) ≡ by_link r → AttachTaken gives old handle it r new
     → (link : Link) × (link_at new handle ≡ Some link)
 attach-by old new handle it told (Ok x) is (free, st, rest) =
     (st.after, stepped-there (λ before after. gives.attaches before it (Ok x) after) old handle new st)
@@ -144,7 +144,7 @@ detach-in old new it (Some handle) told (reaches, st, rest) =
     }
 
 detach-by : (old new : Linked) (it : DetachFrame) (told : Detached) (r : Result Detached SessionError)
-    → Ok {E = SessionError} (detach.ByLink told) ≡ detached_by r → DetachTaken gives old.session it r new.session
+    → Ok (detach.ByLink told) ≡ detached_by r → DetachTaken gives old.session it r new.session
     → DetachedThere old new it
 detach-by old new it told (Ok x) is t = detach-in old new it (reached old.session it.handle.0) x t
 detach-by old new it told (Err e) is t = absurd cc

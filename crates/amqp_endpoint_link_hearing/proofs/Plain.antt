@@ -1,5 +1,5 @@
 -- What links answer to a Flow has no properties.
-use Rattle.std.proofs.Common.{◌≡◌, Option, Some, None, Result, Ok, Err, refl, sym, ◌∙◌}
+use Rattle.std.proofs.Common.{◌≡◌, Option, Some, None, Result, Ok, Err, ap}
 use Rattle.amqp_session_performatives.specs.declared.link_flow.LinkFlow.{LinkFlow}
 use Rattle.amqp_session_core.specs.declared.relay.RelayError.{RelayError}
 use Rattle.amqp_link_ends.specs.Ends.{flow_answer, state_of}
@@ -13,9 +13,11 @@ use Rattle.amqp_endpoint_attached.specs.Linked.{gives}
 use Rattle.amqp_endpoint_attached.proofs.Fitting.{reply_plain}
 use Rattle.amqp_endpoint_linking.specs.Linking.{Link}
 
-same-answer : (answer : LinkFlow) (told : Option LinkFlow) → Ok {E = RelayError} (Some answer) ≡ Ok told
-    → told ≡ Some answer
-same-answer answer (Some other) is = let same : other ≡ answer = cc in cc
+abbrev told-ok : Option LinkFlow → Result (Option LinkFlow) RelayError
+told-ok told = Ok told
+
+same-answer : (answer : LinkFlow) (told : Option LinkFlow) → told-ok (Some answer) ≡ told-ok told → told ≡ Some answer
+same-answer answer (Some other) is = let same : other ≡ answer = cc in ap (λ (f : LinkFlow). Some f) same
 same-answer answer None is = absurd cc
 
 at : (standing : Standing) (before after : End) (flow answer : LinkFlow)

@@ -8,6 +8,11 @@ use Rattle.amqp_endpoint_asked.specs.declared.session.AskedSession.{AskedSession
 use Rattle.amqp_endpoint_links.specs.declared.hearing.LinkPerformative.{LinkPerformative}
 use Rattle.amqp_endpoint_links.specs.declared.hearing.LinkPerformative.TheVariants.{Attach, Flow, Transfer, Disposition, Detach}
 use Rattle.amqp_endpoint_links.specs.Hearing.{Hears, says_flow}
+use Rattle.amqp_endpoint_links.specs.declared.hearing.PerformativeTaken.{PerformativeTaken}
+use Rattle.amqp_link_base.specs.declared.detached.Detached.{Detached}
+use Rattle.amqp_link_ends.specs.declared.relay.AttachTold.{AttachTold}
+use Rattle.amqp_link_receiving.specs.declared.answer.Told.{Told}
+use Rattle.amqp_endpoint_conversation.specs.declared.hearing.Heard.TheVariants.{Asked, Live, Dropped}
 use Rattle.amqp_endpoint_sessions.specs.State.{asked_at, live_at, reached}
 use Rattle.amqp_endpoint_conversation.specs.declared.hearing.HearRefusal.TheVariants as hear
 use Rattle.amqp_endpoint_conversation.specs.Hearing.{Answered, AnsweredAt, AnsweredIn, LiveAnswered}
@@ -36,11 +41,11 @@ ends-by (hear.Session number f session) e is = absurd is
 -- nothing but a Flow has frames leave where it is refused, unless the session ends by it
 hears-none : (before after : Session) (it : LinkPerformative) (e : SessionError) (out out_new : List SessionFrame)
     → says_flow it ≡ false → Hears gives before.value out it (Err e) after.value out_new → out_new ≡ out
-hears-none before after (Attach attach named) e out out_new no h = h.1
-hears-none before after (Flow flow) e out out_new no h = absurd cc
-hears-none before after (Transfer transfer payload) e out out_new no h = h.1
-hears-none before after (Disposition disposition) e out out_new no h = h.1
-hears-none before after (Detach detach) e out out_new no h = h.1
+hears-none before after (Attach attach named) e out out_new flowless h = h.1
+hears-none before after (Flow flow) e out out_new flowless h = absurd cc
+hears-none before after (Transfer transfer payload) e out out_new flowless h = h.1
+hears-none before after (Disposition disposition) e out out_new flowless h = h.1
+hears-none before after (Detach detach) e out out_new flowless h = h.1
 
 module _ (old : Talk) (channel : IncomingChannel) (it : LinkPerformative) (out : List SessionFrame) (new : Talk)
     (out_new : List SessionFrame) where
@@ -54,25 +59,25 @@ module _ (old : Talk) (channel : IncomingChannel) (it : LinkPerformative) (out :
 
   live-kept : (number : ℕ) (session : Session) (refusal : LinkRefusal) → says_flow it ≡ false → EndsNone refusal
       → LiveAnswered gives old out number session it (Err refusal) new out_new → out_new ≡ out
-  live-kept number session hear.Memory no none (inl t) = t.2
-  live-kept number session hear.Memory no none (inr t) =
-      hears-none session t.after it t.fault out out_new no ((t.refuses).hears).heard
-  live-kept number session hear.NotFound no none t = absurd t
-  live-kept number session (hear.Asked n e) no none t = absurd t
-  live-kept number session (hear.Session n e s) no none t = absurd none
+  live-kept number session hear.Memory flowless none (inl t) = t.2
+  live-kept number session hear.Memory flowless none (inr t) =
+      hears-none session t.after it t.fault out out_new flowless ((t.refuses).hears).heard
+  live-kept number session hear.NotFound flowless none t = absurd t
+  live-kept number session (hear.Asked n e) flowless none t = absurd t
+  live-kept number session (hear.Session n e s) flowless none t = absurd none
 
   at-kept : (asked : Option (Box AskedSession)) (live : Option Session) (number : ℕ) (refusal : LinkRefusal)
       → says_flow it ≡ false → EndsNone refusal
       → AnsweredAt gives asked live old out number it (Err refusal) new out_new → out_new ≡ out
-  at-kept (Some asked) live number refusal no none t = t.1
-  at-kept None (Some session) number refusal no none t = live-kept number session refusal no none t
-  at-kept None None number refusal no none t = t.2
+  at-kept (Some asked) live number refusal flowless none t = t.1
+  at-kept None (Some session) number refusal flowless none t = live-kept number session refusal flowless none t
+  at-kept None None number refusal flowless none t = t.2
 
   in-kept : (number : Option ℕ) (refusal : LinkRefusal) → says_flow it ≡ false → EndsNone refusal
       → AnsweredIn gives number old out it (Err refusal) new out_new → out_new ≡ out
-  in-kept None refusal no none t = t.2
-  in-kept (Some number) refusal no none t =
-      at-kept (asked_at old.sessions number) (live_at old.sessions number) number refusal no none t
+  in-kept None refusal flowless none t = t.2
+  in-kept (Some number) refusal flowless none t =
+      at-kept (asked_at old.sessions number) (live_at old.sessions number) number refusal flowless none t
 
   ends-none : (refusal : LinkRefusal) (e : EndpointError) → EndsBy refusal e → EndsNone refusal
   ends-none hear.Memory e is = tt
@@ -82,8 +87,8 @@ module _ (old : Talk) (channel : IncomingChannel) (it : LinkPerformative) (out :
 
   pub ends-kept : (refusal : LinkRefusal) (e : EndpointError) → says_flow it ≡ false → Refused refusal
       → EndsBy refusal e → out_new ≡ out
-  ends-kept refusal e no answered is =
-      in-kept (reached old.sessions channel.0) refusal no (ends-none refusal e is) answered
+  ends-kept refusal e flowless answered is =
+      in-kept (reached old.sessions channel.0) refusal flowless (ends-none refusal e is) answered
 
   module _ (goes : Goes 0 old new out out_new) where
     -- the same where nothing was to be sent
@@ -145,5 +150,40 @@ module _ (old : Talk) (channel : IncomingChannel) (it : LinkPerformative) (out :
       pub kept : (refusal : LinkRefusal) (e : EndpointError) → says_flow it ≡ false → Refused refusal
           → RefusalDone links refusal told (Err e) links_new told_new
           → (links_new ≡ links) × (out_new ≡ out) × (told_new ≡ told)
-      kept refusal e no answered done =
-          let is = ended refusal e done in (is.1, ends-kept refusal e no answered is.0, is.2)
+      kept refusal e flowless answered done =
+          let is = ended refusal e done in (is.1, ends-kept refusal e flowless answered is.0, is.2)
+
+-- nothing but a Flow has frames leave where it is taken, either
+taken-none : (before after : Session) (it : LinkPerformative) (told : PerformativeTaken AttachTold Told Detached)
+    (out out_new : List SessionFrame) → says_flow it ≡ false → Hears gives before.value out it (Ok told) after.value out_new
+    → out_new ≡ out
+taken-none before after (Attach attach named) told out out_new flowless h = h.1
+taken-none before after (Flow flow) told out out_new flowless h = absurd cc
+taken-none before after (Transfer transfer payload) told out out_new flowless h = h.1
+taken-none before after (Disposition disposition) told out out_new flowless h = h.1
+taken-none before after (Detach detach) told out out_new flowless h = h.1
+
+module _ (old : Talk) (it : LinkPerformative) (out : List SessionFrame) (new : Talk) (out_new : List SessionFrame)
+    (flowless : says_flow it ≡ false) where
+  live-heard : (number : ℕ) (session : Session) (heard : LinkHeard)
+      → LiveAnswered gives old out number session it (Ok heard) new out_new → out_new ≡ out
+  live-heard number session (Live n told) t =
+      taken-none session (t.1).after it told out out_new flowless ((t.1).hears).heard
+  live-heard number session (Asked n) t = absurd t
+  live-heard number session (Dropped n) t = absurd t
+
+  at-heard : (asked : Option (Box AskedSession)) (live : Option Session) (number : ℕ) (heard : LinkHeard)
+      → AnsweredAt gives asked live old out number it (Ok heard) new out_new → out_new ≡ out
+  at-heard (Some asked) live number heard t = t.1
+  at-heard None (Some session) number heard t = live-heard number session heard t
+  at-heard None None number heard t = t.2
+
+  in-heard : (number : Option ℕ) (heard : LinkHeard) → AnsweredIn gives number old out it (Ok heard) new out_new
+      → out_new ≡ out
+  in-heard None heard t = t.2
+  in-heard (Some number) heard t =
+      at-heard (asked_at old.sessions number) (live_at old.sessions number) number heard t
+
+  pub heard-kept : (channel : IncomingChannel) (heard : LinkHeard)
+      → Answered gives old out channel it (Ok heard) new out_new → out_new ≡ out
+  heard-kept channel heard t = in-heard (reached old.sessions channel.0) heard t

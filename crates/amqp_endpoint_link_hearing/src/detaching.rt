@@ -106,7 +106,8 @@ fn take_detach(
     let said = LinkPerformative::Detach(detach);
     match amqp_endpoint_talk::hear(talk, alloc, out, channel, said) {
         Ok(heard) => {
-            detach_heard(talk, links, detach_of(heard), ready, out, events);
+            let took = detach_of(heard);
+            detach_heard(talk, links, took, ready, out, events);
             Ok(())
         }
         Err(refusal) => match refuse(links, refusal, events) {

@@ -21,9 +21,11 @@ returns-clause-ok c =
 pub returns-clause-kept : goal.returns-clause-kept
 returns-clause-kept c =
     on-err c.close_in-closed.result
-    (λ kept.
-    (unlent-talk c.args.talk.now c.args.session c.in-Some.session.now c.close_in-closed.new.session
-    c.in-Some.ensures.value (kept.0 ∙ c.deref_mut.ensures.value), kept.1))
+    (λ kept. (
+      unlent-talk c.args.talk.now c.args.session c.in-Some.session.now c.close_in-closed.new.session
+          c.in-Some.ensures.value (kept.0 ∙ c.deref_mut.ensures.value),
+      kept.1,
+    ))
     c.close_in-closed.ensures.kept
 
 pub returns-clause-goes : goal.returns-clause-goes
@@ -37,9 +39,11 @@ returns-clause-goes c limit least =
     c.close_in-closed.new.out.items)
     c.close_in-closed.ensures.ok)
     (on-err c.close_in-closed.result
-    (λ kept.
-    (unlent-talk c.args.talk.now c.args.session c.in-Some.session.now c.close_in-closed.new.session
-    c.in-Some.ensures.value (kept.0 ∙ c.deref_mut.ensures.value), kept.1))
+    (λ kept. (
+      unlent-talk c.args.talk.now c.args.session c.in-Some.session.now c.close_in-closed.new.session
+          c.in-Some.ensures.value (kept.0 ∙ c.deref_mut.ensures.value),
+      kept.1,
+    ))
     c.close_in-closed.ensures.kept)
     (c.len-from.ensures ∙ c.args.out.now.ok.0) c.frames_are_read.ensures c.handle_is_read.ensures least
 
@@ -54,7 +58,9 @@ returns-clause-rests c =
     c.close_in-closed.new.out.items)
     c.close_in-closed.ensures.ok)
     (on-err c.close_in-closed.result
-    (λ kept.
-    (unlent-talk c.args.talk.now c.args.session c.in-Some.session.now c.close_in-closed.new.session
-    c.in-Some.ensures.value (kept.0 ∙ c.deref_mut.ensures.value), kept.1))
+    (λ kept. (
+      unlent-talk c.args.talk.now c.args.session c.in-Some.session.now c.close_in-closed.new.session
+          c.in-Some.ensures.value (kept.0 ∙ c.deref_mut.ensures.value),
+      kept.1,
+    ))
     c.close_in-closed.ensures.kept)

@@ -29,16 +29,16 @@ returns-in-Ok-refuse-clause-ok c =
 pub returns-in-Ok-refuse-clause-goes : goal.returns-in-Ok-refuse-clause-goes
 returns-in-Ok-refuse-clause-goes c limit = c.hear.ensures.goes limit answers-plain
 
-pub returns-clause-err : goal.returns-clause-err
-returns-clause-err c =
+pub returns-in-Err-refuse-clause-err : goal.returns-in-Err-refuse-clause-err
+returns-in-Err-refuse-clause-err c =
     let (why, is) =
     bars c.args.talk.now c.args.channel (said.Flow c.args.flow) c.args.out.now.items c.hear.new.talk
     c.hear.new.out.items (c.hear.ensures.goes 0 answers-plain) c.args.links.now c.refuse.new.links
     c.args.events.now.items c.refuse.new.events.items c.in-Err.refusal c.in-Err-refuse.error (forgotten c.args.talk.now c.args.channel c.args.flow c.args.out.now.items c.hear.new.talk c.hear.new.out.items c.hear.result c.in-Err.refusal c.in-Err.ensures c.hear.ensures.step)
     c.in-Err-refuse.ensures in (why, inl is)
 
-pub returns-clause-kept : goal.returns-clause-kept
-returns-clause-kept c =
+pub returns-in-Err-refuse-clause-kept : goal.returns-in-Err-refuse-clause-kept
+returns-in-Err-refuse-clause-kept c =
     let goes = c.hear.ensures.goes 0 answers-plain in
     let is =
     ended c.args.talk.now c.args.channel (said.Flow c.args.flow) c.args.out.now.items c.hear.new.talk
@@ -51,15 +51,15 @@ returns-clause-kept c =
       is.2,
     )
 
-pub returns-clause-goes : goal.returns-clause-goes
-returns-clause-goes c limit =
+pub returns-in-Err-refuse-clause-goes : goal.returns-in-Err-refuse-clause-goes
+returns-in-Err-refuse-clause-goes c limit =
     subst (λ (o : List SessionFrame). Goes limit c.args.talk.now c.hear.new.talk c.args.out.now.items o)
     (sym c.truncate.ensures.items)
     (goes-back c.args.talk.now c.hear.new.talk c.args.out.now.items c.hear.new.out.items c.len-from.result
     (c.len-from.ensures ∙ c.args.out.now.ok.0) limit (c.hear.ensures.goes limit answers-plain))
 
-pub returns-clause-rests : goal.returns-clause-rests
-returns-clause-rests c =
+pub returns-in-Err-refuse-clause-rests : goal.returns-in-Err-refuse-clause-rests
+returns-in-Err-refuse-clause-rests c =
     subst (λ (o : List SessionFrame). Rests c.args.talk.now c.hear.new.talk c.args.out.now.items o)
     (sym c.truncate.ensures.items)
     (rests-back c.args.talk.now c.hear.new.talk c.args.out.now.items c.hear.new.out.items c.len-from.result

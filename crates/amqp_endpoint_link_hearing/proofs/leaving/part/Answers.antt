@@ -12,14 +12,14 @@ pub unreachable-requires : goal.unreachable-requires
 unreachable-requires c =
     absurd (none-lent c.args.talk.now c.args.session c.args.handle c.in_default.ensures.value c.requires.there)
 
-pub part_in-left-requires-there : goal.part_in-left-requires-there
-part_in-left-requires-there c =
+pub part_in-left-requires-clause-there : goal.part_in-left-requires-clause-there
+part_in-left-requires-clause-there c =
     subst (λ (s : Linked). IsSome (end_at s c.args.handle)) (sym c.deref_mut.ensures.value)
     (end-lent c.args.talk.now c.args.session c.args.handle c.in-Some.session.now c.in-Some.ensures.value
     c.requires.there)
 
-pub part_in-left-requires-place : goal.part_in-left-requires-place
-part_in-left-requires-place c =
+pub part_in-left-requires-clause-place : goal.part_in-left-requires-clause-place
+part_in-left-requires-clause-place c =
     subst (λ (s : Linked). room_behind c.args.handle.0 1 s.session.outgoing.queues ≤ c.args.answer.place)
     (sym c.deref_mut.ensures.value)
     (c.requires.place c.in-Some.session.now (sym c.in-Some.ensures.value)).room
