@@ -1,4 +1,9 @@
-use Rattle.std.proofs.Common.{refl}
+use Rattle.std.proofs.Common.{List, refl, subst}
+use Rattle.amqp_session_performatives.specs.declared.attach.Attach.{Attach}
+use Rattle.amqp_session_performatives.specs.declared.session_frame.SessionFrame.{SessionFrame}
+use Rattle.amqp_endpoint_model.specs.declared.event.Event.{Event}
+use Rattle.amqp_endpoint_linking.specs.Handed.{Tells}
+use Rattle.amqp_endpoint_link_hearing.specs.Attaching.{Becomes}
 use Rattle.amqp_endpoint_links.specs.declared.hearing.LinkPerformative.TheVariants as said
 use Rattle.amqp_endpoint_talk.proofs.Goings.{goes-on, rests-on}
 use Rattle.amqp_endpoint_link_hearing.proofs.Attaches.{attach-bars, attach-fails, attach-taken, attach-unclosed, waits-for}
@@ -52,3 +57,29 @@ returns-in-Err-refuse-clause-kept c =
 
 pub returns-in-Err-refuse-clause-goes : goal.returns-in-Err-refuse-clause-goes
 returns-in-Err-refuse-clause-goes c limit least = c.hear.ensures.goes limit answers-plain
+
+pub returns-in-Ok-attach_heard-clause-ok : goal.returns-in-Ok-attach_heard-clause-ok
+returns-in-Ok-attach_heard-clause-ok c =
+    attach-taken c.args.talk.now c.args.links.now c.args.channel c.args.attach c.named_on-named.result
+    c.named_on-named.ensures c.args.out.now.items c.hear.new.out.items c.hear.new.talk
+    (heard-kept c.args.talk.now (said.Attach c.args.attach c.named_on-named.result) c.args.out.now.items
+    c.hear.new.talk c.hear.new.out.items refl c.args.channel c.in-Ok.heard c.in-Ok.ensures.step)
+    c.in-Ok.heard c.in-Ok.ensures.step c.attach_of-took.result c.attach_of-took.ensures c.attach_heard.new.talk
+    c.args.links.now c.in-Ok-attach_heard.left c.args.events.now.items c.attach_heard.new.events.items
+    c.attach_heard.new.out.items refl
+    (subst
+    (λ (attach : Attach).
+    Tells (λ (frames : List SessionFrame) (events : List Event).
+    Becomes c.attach_of-took.result c.named_on-named.result c.hear.new.talk attach c.in-Ok-attach_heard.left frames
+    events c.attach_heard.new.talk) c.hear.new.out.items c.args.events.now.items c.attach_heard.new.out.items
+    c.attach_heard.new.events.items)
+    c.requires.copy c.in-Ok-attach_heard.ensures.ok)
+
+pub returns-in-Err-attach_heard-clause-err : goal.returns-in-Err-attach_heard-clause-err
+returns-in-Err-attach_heard-clause-err c =
+    attach-unclosed c.args.talk.now c.args.links.now c.args.channel c.args.attach c.named_on-named.result
+    c.named_on-named.ensures c.args.out.now.items c.hear.new.out.items c.hear.new.talk
+    (heard-kept c.args.talk.now (said.Attach c.args.attach c.named_on-named.result) c.args.out.now.items
+    c.hear.new.talk c.hear.new.out.items refl c.args.channel c.in-Ok.heard c.in-Ok.ensures.step)
+    c.in-Ok.heard c.in-Ok.ensures.step c.attach_of-took.result c.attach_of-took.ensures c.attach_heard.new.talk
+    c.in-Err-attach_heard.error c.in-Err-attach_heard.ensures.err.0 c.in-Err-attach_heard.ensures.err.1
