@@ -42,16 +42,17 @@ pub struct LinkAttached {
     pub aborts: Array<Abort>,
 }
 
-/// Takes the peer's Attach in the session that its channel reaches (part 2, 2.6.3). The link with its name and the other
-/// role takes it that waits for it in that session: `Attached` is told, and the link is answered, with the deliveries that
-/// it gives up. Where the link refuses it, its own closing Detach is handed out behind what the link has waiting, which
-/// says no condition of a link's own (part 2, 2.8.15), and `Refused` is told. Where there is no such link, the peer asks
-/// for one, and `LinkAsked` is told. In a session that is ending nothing comes of it. A session that refuses it ends by
-/// its fault: its End is handed out, its links are given back, and `Refused` is told.
+/// Takes the peer's Attach in the session that its channel reaches (part 2, 2.6.3). The link with its name and the
+/// other role takes it that waits for it in that session: `Attached` is told, and the link is answered, with the
+/// deliveries that it gives up. Where the link refuses it, its own closing Detach is handed out behind what the link
+/// has waiting, which says no condition of a link's own (part 2, 2.8.15), and `Refused` is told. Where there is no
+/// such link, the peer asks for one, and `LinkAsked` is told. In a session that is ending nothing comes of it. A
+/// session that refuses it ends by its fault: its End is handed out, its links are given back, and `Refused` is told.
 ///
-/// It ends the connection with `Connection` of `NotFound` where the channel reaches no session, with `Session` where one
-/// refuses it that the peer asks for, and with `Memory`. Nothing is handed out or told then, and no link is given back;
-/// nor does a session change, but that where there is no memory a link that has begun may have refused it, or a session.
+/// It ends the connection with `Connection` of `NotFound` where the channel reaches no session, with `Session` where
+/// one refuses it that the peer asks for, and with `Memory`. Nothing is handed out or told then, and no link is given
+/// back; nor does a session change, but that where there is no memory a link that has begun may have refused it, or a
+/// session.
 pub fn hear_attach(
     talk: &mut Conversation<Numbered<LinkEnd>>,
     links: &mut Links<LinkEnd>,

@@ -20,8 +20,8 @@ use serde_amqp_types::Symbol;
 use std::alloc::{AllocError, Global};
 use std::collections::VecDeque;
 
-/// The link with this own handle is closed, where it is attached: its own closing Detach is handed out, or waits behind
-/// what the link has waiting. It is refused where there is no memory, and nothing changes then.
+/// The link with this own handle is closed, where it is attached: its own closing Detach is handed out, or waits
+/// behind what the link has waiting. It is refused where there is no memory, and nothing changes then.
 pub(crate) fn close(
     talk: &mut Conversation<Numbered<LinkEnd>>,
     alloc: Global,

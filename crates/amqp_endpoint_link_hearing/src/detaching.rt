@@ -42,16 +42,16 @@ struct Ready {
 }
 
 /// Takes the peer's Detach in the session that its channel reaches (part 2, 2.6.4 to 2.6.6, 2.7.7). The link that the
-/// peer's handle reaches is answered, where its own Detach hadn't gone, by one that closes it as the peer's does: it is
-/// handed out, or waits behind what the link has waiting, and repeats the peer's error where a frame of 512 bytes holds
-/// it. The link leaves its session, where nothing of it waits there, and is at rest; where either end closed it, it is
-/// unknown from then on. `Detached` is told. A link that the peer asks for is asked for no longer, and nothing is told; nor
-/// is it in a session that is ending. A session that refuses it ends by its fault: its End is handed out, its links are
-/// given back, and `Refused` is told.
+/// peer's handle reaches is answered, where its own Detach hadn't gone, by one that closes it as the peer's does: it
+/// is handed out, or waits behind what the link has waiting, and repeats the peer's error where a frame of 512 bytes
+/// holds it. The link leaves its session, where nothing of it waits there, and is at rest; where either end closed
+/// it, it is unknown from then on. `Detached` is told. A link that the peer asks for is asked for no longer, and
+/// nothing is told; nor is it in a session that is ending. A session that refuses it ends by its fault: its End is
+/// handed out, its links are given back, and `Refused` is told.
 ///
-/// It ends the connection with `Connection` of `NotFound` where the channel reaches no session, with `Session` where one
-/// refuses it that the peer asks for, and with `Memory`. Nothing is handed out or told then, and no link is given back;
-/// nor does a session change, but that where there is no memory one that has begun may have refused it.
+/// It ends the connection with `Connection` of `NotFound` where the channel reaches no session, with `Session` where
+/// one refuses it that the peer asks for, and with `Memory`. Nothing is handed out or told then, and no link is given
+/// back; nor does a session change, but that where there is no memory one that has begun may have refused it.
 pub fn hear_detach(
     talk: &mut Conversation<Numbered<LinkEnd>>,
     links: &mut Links<LinkEnd>,

@@ -20,13 +20,14 @@ use amqp_session_types::IncomingChannel;
 use std::alloc::Global;
 use std::collections::VecDeque;
 
-/// Takes the peer's Flow in the session that its channel reaches (part 2, 2.5.6, 2.7.4): what waits there and lies in the
-/// peer's window is handed out, and what a link answers. Nothing is told. A session that refuses it ends by its fault: its
-/// End is handed out, its links are given back, and `Refused` is told.
+/// Takes the peer's Flow in the session that its channel reaches (part 2, 2.5.6, 2.7.4): what waits there and lies in
+/// the peer's window is handed out, and what a link answers. Nothing is told. A session that refuses it ends by its
+/// fault: its End is handed out, its links are given back, and `Refused` is told.
 ///
-/// It ends the connection with `Connection` of `NotFound` where the channel reaches no session, with `Session` where one
-/// refuses it that the peer asks for, and with `Memory`. Nothing is handed out or told then, and no link is given back;
-/// nor does a session change, but that where there is no memory one that has begun may have taken it, or refused it.
+/// It ends the connection with `Connection` of `NotFound` where the channel reaches no session, with `Session` where
+/// one refuses it that the peer asks for, and with `Memory`. Nothing is handed out or told then, and no link is given
+/// back; nor does a session change, but that where there is no memory one that has begun may have taken it, or
+/// refused it.
 pub fn hear_flow(
     talk: &mut Conversation<Numbered<LinkEnd>>,
     links: &mut Links<LinkEnd>,

@@ -102,8 +102,8 @@ fn part_in(
     take_out(session, handle)
 }
 
-/// What becomes of a link that is detached, and that left its session or didn't: where either end closed it, it is closed
-/// for good; else it is at rest once it left. It takes no memory.
+/// What becomes of a link that is detached, and that left its session or didn't: where either end closed it, it is
+/// closed for good; else it is at rest once it left. It takes no memory.
 pub(crate) fn leave(
     links: &mut Links<LinkEnd>,
     number: u64,
@@ -136,8 +136,8 @@ fn rest(links: &mut Links<LinkEnd>, number: u64, link: LinkEnd)
     let _ = links.rest(number, link);
 }
 
-/// The error of the peer's Detach that the own one repeats, where a frame holds it that every peer takes (part 2, 2.4.1).
-/// It is refused where there is no memory.
+/// The error of the peer's Detach that the own one repeats, where a frame holds it that every peer takes (part 2,
+/// 2.4.1). It is refused where there is no memory.
 pub(crate) fn repeated(
     channel: OutgoingChannel,
     handle: OutputHandle,

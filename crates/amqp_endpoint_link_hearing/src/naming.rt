@@ -12,8 +12,8 @@ use amqp_link_ends::LinkEnd;
 use amqp_session_performatives::Attach;
 use amqp_session_types::{IncomingChannel, OutputHandle, Role};
 
-/// What the endpoint has of the link that the peer's Attach names in the session that the peer's channel reaches (part 2,
-/// 2.6.3): of the one with its name and the other role, where that session holds it.
+/// What the endpoint has of the link that the peer's Attach names in the session that the peer's channel reaches
+/// (part 2, 2.6.3): of the one with its name and the other role, where that session holds it.
 pub(crate) fn named_on(
     talk: &Conversation<Numbered<LinkEnd>>,
     links: &Links<LinkEnd>,
