@@ -1,5 +1,6 @@
 -- What a script prints: a line for each step, and for each of its events.
-use Rattle.std.specs.Prelude.{ℕ, ◌==◌, Bool, true, false, List, [], ◌∷◌, ◌++◌, length, Option, Some, None, if◌then◌else◌, codes, decimal}
+use Rattle.std.specs.Prelude.{ℕ, ◌==◌, Bool, true, false, List, [], ◌∷◌, ◌++◌, length, Option, Some, None}
+use Rattle.std.specs.Prelude.{if◌then◌else◌, codes, decimal}
 use Rattle.hex.specs.Hex.{encode_lower}
 use Rattle.amqp_link_attach.specs.declared.exchange.AttachExchange.{AttachExchange}
 use Rattle.amqp_link_attach.specs.declared.exchange.AttachExchange.TheVariants.{Complete, IncompleteUnsettled, Resume}
@@ -9,7 +10,8 @@ use Rattle.amqp_endpoint_model.specs.declared.error.EndpointError.{EndpointError
 use Rattle.amqp_endpoint_model.specs.declared.event.Event.{Event}
 use Rattle.amqp_endpoint_model.specs.declared.event.Event.TheVariants as event
 use Rattle.amqp_endpoint_model.specs.Numbers.{number}
-use Rattle.amqp_endpoint_model.specs.Said.{Said, done, refused, fed, pulled, count, truth, tried_close, session_begun, tried_end, attaching, link_closed, credit_is, waiting, Told}
+use Rattle.amqp_endpoint_model.specs.Said.{Said, done, refused, fed, pulled, count, truth, tried_close, session_begun}
+use Rattle.amqp_endpoint_model.specs.Said.{tried_end, attaching, link_closed, credit_is, waiting, Told}
 use Rattle.amqp_endpoint_world.specs.declared.step.End.{End}
 use Rattle.amqp_endpoint_world.specs.declared.step.End.TheVariants.{A}
 use Rattle.amqp_endpoint_world.specs.declared.step.Step.{Step}

@@ -6,7 +6,9 @@ use Rattle.amqp_session_types.specs.declared.refusals.TryEndError.TheVariants.{R
 use Rattle.amqp_session_frames.specs.declared.frame.FrameBody.{FrameBody}
 use Rattle.amqp_session_frames.specs.declared.frame.FrameBody.TheVariants.{Begin}
 use Rattle.amqp_endpoint_model.specs.declared.call.Call.{Call}
-use Rattle.amqp_endpoint_model.specs.declared.call.Call.TheVariants.{Begin as BeginCall, AcceptBegin, End, IsEnded, TryEnd, AttachSender, AttachReceiver, Detach, CloseLink, Grant, Drain, Credit, HeldBack, Waiting}
+use Rattle.amqp_endpoint_model.specs.declared.call.Call.TheVariants.{Begin as BeginCall, AcceptBegin, End, IsEnded}
+use Rattle.amqp_endpoint_model.specs.declared.call.Call.TheVariants.{TryEnd, AttachSender, AttachReceiver, Detach}
+use Rattle.amqp_endpoint_model.specs.declared.call.Call.TheVariants.{CloseLink, Grant, Drain, Credit, HeldBack, Waiting}
 use Rattle.amqp_endpoint_model.specs.declared.error.EndpointError.{EndpointError}
 use Rattle.amqp_endpoint_model.specs.declared.error.EndpointError.TheVariants.{Connection, UnknownLink, UnknownSession}
 use Rattle.amqp_endpoint_model.specs.Relay.{Relations}

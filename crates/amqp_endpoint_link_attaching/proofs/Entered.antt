@@ -10,7 +10,8 @@ use Rattle.amqp_endpoint_model.specs.declared.error.EndpointError.{EndpointError
 use Rattle.amqp_endpoint_names.specs.Steps.{Enters, Steps}
 use Rattle.amqp_endpoint_link_attaching.specs.Attaching.{AttachesIn, LinkAttaches, with_room}
 use Rattle.amqp_endpoint_link_attaching.specs.Places.{LinkTalk, LinksBy, name_of}
-use Rattle.amqp_endpoint_link_attaching.specs.Refusals.{BarsAttaching, BarsIn, BarsMade, MayAttach, RefusesIn, of_refusal}
+use Rattle.amqp_endpoint_link_attaching.specs.Refusals.{BarsAttaching, BarsIn, BarsMade, MayAttach, RefusesIn}
+use Rattle.amqp_endpoint_link_attaching.specs.Refusals.{of_refusal}
 use Rattle.amqp_endpoint_link_attaching.specs.declared.placed.Placed.{Placed}
 use Rattle.amqp_endpoint_link_attaching.proofs.Own.{own}
 

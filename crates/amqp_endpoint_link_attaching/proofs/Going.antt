@@ -1,5 +1,6 @@
 -- What a link that attaches hands out fits the limit for which it is made, and what waits goes on to fit.
-use Rattle.std.proofs.Common.{◌≡◌, ◌<◌, ◌^◌, ℕ, true, List, [], ◌∷◌, ◌++◌, Option, Some, None, Result, Ok, Err, refl, sym, ap, subst, ◌∙◌, append-nil, append_assoc, length, drop}
+use Rattle.std.proofs.Common.{◌≡◌, ◌<◌, ◌^◌, ℕ, true, List, [], ◌∷◌, ◌++◌, Option, Some, None, Result, Ok, Err, refl}
+use Rattle.std.proofs.Common.{sym, ap, subst, ◌∙◌, append-nil, append_assoc, length, drop}
 use Rattle.std.specs.Prelude.{All, IfOk, OnErr, option_to_list}
 use Rattle.std.specs.FinMap as map
 use Rattle.std.specs.Global.{Box}

@@ -11,7 +11,9 @@ use Rattle.amqp_endpoint_attached.specs.declared.refusal.AttachRefusal.{AttachRe
 use Rattle.amqp_endpoint_attached.specs.declared.refusal.AttachRefusal.TheVariants as why
 use Rattle.amqp_endpoint_conversation.specs.Ending.{IsMapped}
 use Rattle.amqp_endpoint_model.specs.declared.error.EndpointError.{EndpointError}
-use Rattle.amqp_endpoint_model.specs.declared.error.EndpointError.TheVariants.{UnknownSession, IllegalState, DuplicatedLinkName, HandleMaxReached, FrameTooLarge, Memory, Session, Link}
+use Rattle.amqp_endpoint_model.specs.declared.error.EndpointError.TheVariants.{UnknownSession, IllegalState}
+use Rattle.amqp_endpoint_model.specs.declared.error.EndpointError.TheVariants.{DuplicatedLinkName, HandleMaxReached}
+use Rattle.amqp_endpoint_model.specs.declared.error.EndpointError.TheVariants.{FrameTooLarge, Memory, Session, Link}
 use Rattle.amqp_endpoint_names.specs.State.{IsNewName, name_at}
 use Rattle.amqp_endpoint_sessions.specs.State.{live_at, place_at}
 use Rattle.amqp_endpoint_link_attaching.specs.Places.{LinkTalk, LinksBy, Meets, name_of}

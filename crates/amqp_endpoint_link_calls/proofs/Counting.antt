@@ -1,5 +1,6 @@
 -- The transfers that wait in a session, counted by links.
-use Rattle.std.proofs.Common.{◌≡◌, ℕ, ◌≤◌, ◌+◌, List, [], ◌∷◌, ◌++◌, Option, Some, None, IsSome, refl, ap, ◌∙◌, length, arith}
+use Rattle.std.proofs.Common.{◌≡◌, ℕ, ◌≤◌, ◌+◌, List, [], ◌∷◌, ◌++◌, Option, Some, None, IsSome, refl, ap, ◌∙◌, length}
+use Rattle.std.proofs.Common.{arith}
 use Rattle.amqp_session_outgoing.specs.Queues.{Queues, held_in, turn_of}
 use Rattle.amqp_session_core.specs.State.{link_at}
 use Rattle.amqp_session_core.specs.declared.batch.BehindFrame.{BehindFrame}
@@ -8,7 +9,8 @@ use Rattle.amqp_link_ends.specs.declared.end.End.{End}
 use Rattle.amqp_endpoint_links.specs.declared.numbered.Numbered.{Numbered}
 use Rattle.amqp_endpoint_sessions.specs.declared.place.Place.TheVariants.{Asked, Live, Ending, Over}
 use Rattle.amqp_endpoint_attached.specs.Linked.{LinksIn}
-use Rattle.amqp_endpoint_link_calls.specs.Waiting.{AllAreThere, AllAreThereAt, SessionPlace, by_number, counted, held_at, total, turn_at}
+use Rattle.amqp_endpoint_link_calls.specs.Waiting.{AllAreThere, AllAreThereAt, SessionPlace, by_number, counted}
+use Rattle.amqp_endpoint_link_calls.specs.Waiting.{held_at, total, turn_at}
 
 counted-all : (link : Option (Numbered End)) (count : ℕ) (others : List (ℕ × ℕ)) → IsSome link
     → total (counted link count ++ others) ≡ count + total others

@@ -12,7 +12,8 @@ use Rattle.amqp_endpoint_fitting.specs.Read.{IsRead}
 use Rattle.amqp_endpoint_talk.specs.Going.{Goes}
 use Rattle.amqp_endpoint_talk.proofs.Goings.{read-behind}
 use Rattle.amqp_endpoint_attached.specs.Linked.{Linked}
-use Rattle.amqp_endpoint_attached.specs.Receiving.{CreditGiven, DrainAnswered, DrainWanted, GrantAnswered, drained, receiving, shown_flow}
+use Rattle.amqp_endpoint_attached.specs.Receiving.{CreditGiven, DrainAnswered, DrainWanted, GrantAnswered, drained}
+use Rattle.amqp_endpoint_attached.specs.Receiving.{receiving, shown_flow}
 use Rattle.amqp_endpoint_link_calls.specs.Calling.{DoneIn, gives_credit, wants_drain}
 use Rattle.amqp_endpoint_link_calls.specs.Places.{LinkTalk}
 use Rattle.amqp_endpoint_link_calls.proofs.Done.{changed, done-in}

@@ -1,5 +1,6 @@
 -- How a link is detached in the session that holds it, or isn't.
-use Rattle.std.proofs.Common.{◌≡◌, ℕ, ◌≤◌, ◌<◌, Bool, List, ◌++◌, Some, None, Result, Ok, Err, refl, ap, subst, ◌∙◌, length}
+use Rattle.std.proofs.Common.{◌≡◌, ℕ, ◌≤◌, ◌<◌, Bool, List, ◌++◌, Some, None, Result, Ok, Err, refl, ap, subst, ◌∙◌}
+use Rattle.std.proofs.Common.{length}
 use Rattle.std.specs.Prelude.{◌^◌, All, OnErr, OnOk, drop, ⊤}
 use Rattle.std.specs.Global.{Box}
 use Rattle.amqp_session_types.specs.declared.handles.OutputHandle.{OutputHandle}

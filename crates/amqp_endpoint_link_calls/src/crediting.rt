@@ -4,7 +4,8 @@ ghost use Rattle.amqp_endpoint_names.specs.State.{place_at};
 ghost use Rattle.amqp_endpoint_sessions.specs.State.{live_at};
 ghost use Rattle.amqp_endpoint_attached.specs.Receiving.{RefusesDrain, RefusesGrant};
 ghost use Rattle.amqp_endpoint_talk.specs.Going.{Goes, Rests};
-ghost use Rattle.amqp_endpoint_link_calls.specs.Calling.{BarsDrain, BarsGrant, DoneAt, DoneIn, gives_credit, wants_drain};
+ghost use Rattle.amqp_endpoint_link_calls.specs.Calling.{BarsDrain, BarsGrant, DoneAt, DoneIn, gives_credit};
+ghost use Rattle.amqp_endpoint_link_calls.specs.Calling.{wants_drain};
 ghost use Rattle.amqp_endpoint_link_calls.specs.Places.{end_live};
 
 use crate::holding::{LinkTalk, holder};

@@ -1,5 +1,6 @@
 -- Links that are given back go on by steps of their own.
-use Rattle.std.proofs.Common.{◌≡◌, ℕ, zero, suc, List, [], ◌∷◌, Bool, true, false, Option, Some, None, Ok, Err, refl, subst, length}
+use Rattle.std.proofs.Common.{◌≡◌, ℕ, zero, suc, List, [], ◌∷◌, Bool, true, false, Option, Some, None, Ok, Err, refl}
+use Rattle.std.proofs.Common.{subst, length}
 use Rattle.std.proofs.lemmas.List.Elements.{All-cons, All-nil}
 use Rattle.amqp_link_ends.specs.declared.end.End.{End}
 use Rattle.std.specs.Prelude.{Result, ⊤}
@@ -7,7 +8,8 @@ use Rattle.amqp_endpoint_names.specs.declared.place.LinkPlace.{LinkPlace}
 use Rattle.amqp_endpoint_names.specs.Steps.{Closed, Closes, Rested, Rests}
 use Rattle.amqp_endpoint_attached.specs.Ends.{broken, is_closed_end}
 use Rattle.amqp_endpoint_linking.specs.Linking.{Link, Links, Session, Sessions, Talk, links_of}
-use Rattle.amqp_endpoint_linking.specs.GivingBack.{AllGivenBack, GoOn, IsAtRest, IsClosed, IsGivenBack, SessionGivenBack, StandsAs}
+use Rattle.amqp_endpoint_linking.specs.GivingBack.{AllGivenBack, GoOn, IsAtRest, IsClosed, IsGivenBack}
+use Rattle.amqp_endpoint_linking.specs.GivingBack.{SessionGivenBack, StandsAs}
 use Rattle.amqp_endpoint_linking.specs.Ending.{Finishes, FinishesFirst, Leaves, LeavesFirst, session_of}
 use Rattle.amqp_endpoint_sessions.specs.State.{live_of}
 

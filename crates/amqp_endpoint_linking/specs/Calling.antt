@@ -13,7 +13,9 @@ use Rattle.amqp_endpoint_conversation.specs.Beginning.{AcceptsHere, BeginsHere, 
 use Rattle.amqp_endpoint_conversation.specs.Ending.{EndsHere, IsMapped}
 use Rattle.amqp_endpoint_conversation.specs.Faults.{fault_error}
 use Rattle.amqp_endpoint_model.specs.declared.error.EndpointError.{EndpointError}
-use Rattle.amqp_endpoint_model.specs.declared.error.EndpointError.TheVariants.{IllegalState, LocalChannelMaxReached, Memory, NotAsked, NotConnected, Session as SessionFault, UnknownSession}
+use Rattle.amqp_endpoint_model.specs.declared.error.EndpointError.TheVariants.{IllegalState, LocalChannelMaxReached}
+use Rattle.amqp_endpoint_model.specs.declared.error.EndpointError.TheVariants.{Memory, NotAsked, NotConnected}
+use Rattle.amqp_endpoint_model.specs.declared.error.EndpointError.TheVariants.{Session as SessionFault, UnknownSession}
 use Rattle.amqp_endpoint_model.specs.declared.event.Event.{Event}
 use Rattle.amqp_endpoint_model.specs.declared.event.Event.TheVariants as event
 use Rattle.amqp_endpoint_attached.specs.Linked.{gives}

@@ -8,12 +8,14 @@ use Rattle.amqp_session_performatives.specs.declared.begin.Begin.{Begin}
 use Rattle.amqp_session_performatives.specs.declared.end.End.{End}
 use Rattle.amqp_session_performatives.specs.declared.session_frame.SessionFrame.{SessionFrame}
 use Rattle.amqp_session_connection.specs.declared.state.ConnectionState.{ConnectionState}
-use Rattle.amqp_session_connection.specs.declared.state.ConnectionState.TheVariants.{OpenClosePipe, ClosePipe, CloseSent, Discarding}
+use Rattle.amqp_session_connection.specs.declared.state.ConnectionState.TheVariants.{OpenClosePipe, ClosePipe}
+use Rattle.amqp_session_connection.specs.declared.state.ConnectionState.TheVariants.{CloseSent, Discarding}
 use Rattle.amqp_session_connection.specs.declared.state.ConnectionState.TheVariants as state
 use Rattle.amqp_endpoint_sessions.specs.declared.place.Place.TheVariants as place
 use Rattle.amqp_endpoint_conversation.specs.declared.beginning.BeginHeard.{BeginHeard}
 use Rattle.amqp_endpoint_conversation.specs.declared.beginning.BeginHeard.TheVariants.{Asked, Begun, Dropped}
-use Rattle.amqp_endpoint_conversation.specs.declared.beginning.BeginRefusal.TheVariants.{Connection, Session as SessionRefuses}
+use Rattle.amqp_endpoint_conversation.specs.declared.beginning.BeginRefusal.TheVariants.{Connection}
+use Rattle.amqp_endpoint_conversation.specs.declared.beginning.BeginRefusal.TheVariants.{Session as SessionRefuses}
 use Rattle.amqp_endpoint_conversation.specs.declared.ending.EndHeard.{EndHeard}
 use Rattle.amqp_endpoint_conversation.specs.Beginning.{BeginAnswered}
 use Rattle.amqp_endpoint_conversation.specs.Ending.{EndAnswered}

@@ -2,7 +2,8 @@
 ghost use Rattle.std.specs.Prelude.{◌≡◌, ◌<◌, ◌++◌, ℕ, IfErr, IfOk, OnErr, OnOk};
 ghost use Rattle.std.specs.Vec.{vec_capacity, vec_len};
 ghost use Rattle.amqp_endpoint_talk.specs.Going.{Goes, Rests};
-ghost use Rattle.amqp_endpoint_linking.specs.Calling.{Accepts, BarsAccepting, BarsBeginning, BarsEnding, BarsFailing, Begins, EndsOwn, Fails, fault_told, of_begin};
+ghost use Rattle.amqp_endpoint_linking.specs.Calling.{Accepts, BarsAccepting, BarsBeginning, BarsEnding, BarsFailing};
+ghost use Rattle.amqp_endpoint_linking.specs.Calling.{Begins, EndsOwn, Fails, fault_told, of_begin};
 ghost use Rattle.amqp_endpoint_linking.specs.Handed.{Hands, Tells};
 
 use crate::back::give_back;

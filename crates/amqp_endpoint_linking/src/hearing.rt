@@ -5,7 +5,8 @@ ghost use Rattle.amqp_endpoint_model.specs.Relay.{IsSessionFault};
 ghost use Rattle.amqp_endpoint_sessions.specs.State.{place_at, reached};
 ghost use Rattle.amqp_endpoint_talk.specs.Going.{Goes, Rests};
 ghost use Rattle.amqp_endpoint_linking.specs.Handed.{Tells};
-ghost use Rattle.amqp_endpoint_linking.specs.Hearing.{HearsBegin, RefusesBegin, RefusesEnd, TakesEnd, begin_told, end_told, is_closing, is_told};
+ghost use Rattle.amqp_endpoint_linking.specs.Hearing.{HearsBegin, RefusesBegin, RefusesEnd, TakesEnd, begin_told};
+ghost use Rattle.amqp_endpoint_linking.specs.Hearing.{end_told, is_closing, is_told};
 ghost use Rattle.amqp_endpoint_linking.specs.Linking.{Stood};
 
 use crate::back::give_back_if;
@@ -23,7 +24,8 @@ use std::collections::VecDeque;
 
 /// Takes the peer's Begin (part 2, 2.5.1, 2.7.2): the peer asks for a session, and `SessionAsked` is told; or the
 /// session takes it whose channel it names, what waits there and lies in the peer's window is handed out, and `Begun`
-/// is told. Where that was answered before it ends by this fault, as `fail` ends it. Where it is ending nothing is told.
+/// is told. Where that was answered before it ends by this fault, as `fail` ends it. Where it is ending nothing is
+/// told.
 ///
 /// It ends the connection with `Connection` of `NotAllowed` where it asks for a session on a channel that reaches one,
 /// with `Connection` of `NotFound` where no session has the channel that it names, and with `Memory`. Nothing is handed

@@ -3,7 +3,8 @@ ghost use Rattle.std.specs.Prelude.{◌≡◌, ℕ, length, None};
 ghost use Rattle.amqp_endpoint_model.specs.Relay.{StandsStill};
 ghost use Rattle.amqp_endpoint_sessions.specs.State.{live_at, live_of};
 ghost use Rattle.amqp_endpoint_talk.specs.Going.{NoneLive};
-ghost use Rattle.amqp_endpoint_linking.specs.Ending.{Finishes, FinishesFirst, FinishesOne, Leaves, LeavesFirst, LeavesOne, session_of};
+ghost use Rattle.amqp_endpoint_linking.specs.Ending.{Finishes, FinishesFirst, FinishesOne, Leaves, LeavesFirst};
+ghost use Rattle.amqp_endpoint_linking.specs.Ending.{LeavesOne, session_of};
 
 use crate::back::give_back_if;
 use amqp_endpoint_asked::AskedSession;

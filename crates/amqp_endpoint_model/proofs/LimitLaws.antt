@@ -19,9 +19,15 @@ use Rattle.amqp_endpoint_model.specs.declared.phase.Phase.{Phase}
 use Rattle.amqp_endpoint_model.specs.declared.phase.Phase.TheVariants.{Unconnected, Greeting, Running, Over}
 use Rattle.amqp_endpoint_model.specs.declared.settings.Settings.{Settings}
 use Rattle.amqp_endpoint_model.specs.declared.call.Call.{Call}
-use Rattle.amqp_endpoint_model.specs.declared.call.Call.TheVariants.{Connect, Feed, Pull, Queued, IsIdle, Heartbeat, BreakOff, Close as CloseCall, IsClosed, TryClose, Begin, AcceptBegin, End, IsEnded, TryEnd, AttachSender, AttachReceiver, Detach, CloseLink, Grant, Drain, Credit, HeldBack, Waiting as WaitingCall}
+use Rattle.amqp_endpoint_model.specs.declared.call.Call.TheVariants.{Connect, Feed, Pull, Queued, IsIdle, Heartbeat}
+use Rattle.amqp_endpoint_model.specs.declared.call.Call.TheVariants.{BreakOff, Close as CloseCall, IsClosed, TryClose}
+use Rattle.amqp_endpoint_model.specs.declared.call.Call.TheVariants.{Begin, AcceptBegin, End, IsEnded, TryEnd}
+use Rattle.amqp_endpoint_model.specs.declared.call.Call.TheVariants.{AttachSender, AttachReceiver, Detach, CloseLink}
+use Rattle.amqp_endpoint_model.specs.declared.call.Call.TheVariants.{Grant, Drain, Credit, HeldBack}
+use Rattle.amqp_endpoint_model.specs.declared.call.Call.TheVariants.{Waiting as WaitingCall}
 use Rattle.amqp_endpoint_model.specs.Relay.{Relations}
-use Rattle.amqp_endpoint_model.specs.Said.{Said, done, refused, fed, pulled, count, truth, tried_close, session_begun, tried_end, attaching, link_closed, credit_is, waiting, Told}
+use Rattle.amqp_endpoint_model.specs.Said.{Said, done, refused, fed, pulled, count, truth, tried_close, session_begun}
+use Rattle.amqp_endpoint_model.specs.Said.{tried_end, attaching, link_closed, credit_is, waiting, Told}
 use Rattle.amqp_endpoint_model.specs.State.{State, Waiting, the_frame, text_of, fresh, written, text_or_nothing, text_fits, fits, frame_of, waiting_of, own_open, own_close_with, heartbeat, error_of, limit_of}
 use Rattle.amqp_endpoint_model.specs.Step.{TakesBody, TakesAll, AfterFault, EndsRunning, Ends, ReadsOn, Greets, FeedsIn, opened, cut_off, faulted, condition_of, condition_of_frame, condition_of_connection, framing_error, decode_error, not_allowed, not_found, refusal_of_settings, Step}
 use Rattle.amqp_endpoint_model.specs.History.{Run, Summary, nothing, note, IsWithin, KeepsLimit}

@@ -17,9 +17,15 @@ use Rattle.amqp_endpoint_model.specs.declared.event.Event.{Event}
 use Rattle.amqp_endpoint_model.specs.declared.phase.Phase.{Phase}
 use Rattle.amqp_endpoint_model.specs.declared.phase.Phase.TheVariants.{Unconnected, Greeting, Running, Over}
 use Rattle.amqp_endpoint_model.specs.declared.call.Call.{Call}
-use Rattle.amqp_endpoint_model.specs.declared.call.Call.TheVariants.{Connect, Feed, Pull, Queued, IsIdle, Heartbeat, BreakOff, Close as CloseCall, IsClosed, TryClose, Begin, AcceptBegin, End, IsEnded, TryEnd, AttachSender, AttachReceiver, Detach, CloseLink, Grant, Drain, Credit, HeldBack, Waiting as WaitingCall}
+use Rattle.amqp_endpoint_model.specs.declared.call.Call.TheVariants.{Connect, Feed, Pull, Queued, IsIdle, Heartbeat}
+use Rattle.amqp_endpoint_model.specs.declared.call.Call.TheVariants.{BreakOff, Close as CloseCall, IsClosed, TryClose}
+use Rattle.amqp_endpoint_model.specs.declared.call.Call.TheVariants.{Begin, AcceptBegin, End, IsEnded, TryEnd}
+use Rattle.amqp_endpoint_model.specs.declared.call.Call.TheVariants.{AttachSender, AttachReceiver, Detach, CloseLink}
+use Rattle.amqp_endpoint_model.specs.declared.call.Call.TheVariants.{Grant, Drain, Credit, HeldBack}
+use Rattle.amqp_endpoint_model.specs.declared.call.Call.TheVariants.{Waiting as WaitingCall}
 use Rattle.amqp_endpoint_model.specs.Relay.{Relations}
-use Rattle.amqp_endpoint_model.specs.Said.{Said, done, refused, pulled, count, truth, tried_close, session_begun, tried_end, attaching, link_closed, credit_is, waiting}
+use Rattle.amqp_endpoint_model.specs.Said.{Said, done, refused, pulled, count, truth, tried_close, session_begun}
+use Rattle.amqp_endpoint_model.specs.Said.{tried_end, attaching, link_closed, credit_is, waiting}
 use Rattle.amqp_endpoint_model.specs.State.{State, protocol_header, limit_of}
 use Rattle.amqp_endpoint_model.specs.Step.{Admits, Waits, Front, FrontUnread, FrontRefused, SessionsRefuse, RefusesBody, AfterFault, TakesAll, EndsRunning, Ends, ReadsOn, Greets, BreaksGreeting, FeedsIn, SessionsDo, condition_of, cut_off, opened, Step}
 use Rattle.amqp_endpoint_model.specs.History.{Summary, nothing, first_fault, note_fed, note, FramesTell, has_open, has_close, CloseIsLast, OpenIsOnce, Next, NextOpen, NextRefused, Stops, Framed, Pieces, judge_limit}

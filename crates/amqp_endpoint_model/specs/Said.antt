@@ -5,7 +5,9 @@ use Rattle.amqp_session_types.specs.declared.refusals.TryEndError.{TryEndError}
 use Rattle.amqp_endpoint_model.specs.declared.error.EndpointError.{EndpointError}
 use Rattle.amqp_endpoint_model.specs.declared.event.Event.{Event}
 use Rattle.amqp_endpoint_model.specs.declared.answer.Answer.{Answer}
-use Rattle.amqp_endpoint_model.specs.declared.answer.Answer.TheVariants.{Done, Refused, Fed, Pulled, Count, Truth, TriedClose, Session, TriedEnd, Attaching, LinkClosed, Credit, Waiting}
+use Rattle.amqp_endpoint_model.specs.declared.answer.Answer.TheVariants.{Done, Refused, Fed, Pulled, Count, Truth}
+use Rattle.amqp_endpoint_model.specs.declared.answer.Answer.TheVariants.{TriedClose, Session, TriedEnd, Attaching}
+use Rattle.amqp_endpoint_model.specs.declared.answer.Answer.TheVariants.{LinkClosed, Credit, Waiting}
 use Rattle.amqp_endpoint_model.specs.declared.answer.Reply.{Reply}
 
 pub data Said : Type 0 where

@@ -19,7 +19,12 @@ use Rattle.amqp_endpoint_model.specs.declared.settings.Settings.{Settings}
 use Rattle.amqp_endpoint_model.specs.declared.phase.Phase.{Phase}
 use Rattle.amqp_endpoint_model.specs.declared.phase.Phase.TheVariants.{Unconnected, Greeting, Running, Over}
 use Rattle.amqp_endpoint_model.specs.declared.call.Call.{Call}
-use Rattle.amqp_endpoint_model.specs.declared.call.Call.TheVariants.{Connect, Feed, Pull, Queued, IsIdle, Heartbeat, BreakOff, Close as CloseCall, IsClosed, TryClose, Begin, AcceptBegin, End, IsEnded, TryEnd, AttachSender, AttachReceiver, Detach, CloseLink, Grant, Drain, Credit, HeldBack, Waiting as WaitingCall}
+use Rattle.amqp_endpoint_model.specs.declared.call.Call.TheVariants.{Connect, Feed, Pull, Queued, IsIdle, Heartbeat}
+use Rattle.amqp_endpoint_model.specs.declared.call.Call.TheVariants.{BreakOff, Close as CloseCall, IsClosed, TryClose}
+use Rattle.amqp_endpoint_model.specs.declared.call.Call.TheVariants.{Begin, AcceptBegin, End, IsEnded, TryEnd}
+use Rattle.amqp_endpoint_model.specs.declared.call.Call.TheVariants.{AttachSender, AttachReceiver, Detach, CloseLink}
+use Rattle.amqp_endpoint_model.specs.declared.call.Call.TheVariants.{Grant, Drain, Credit, HeldBack}
+use Rattle.amqp_endpoint_model.specs.declared.call.Call.TheVariants.{Waiting as WaitingCall}
 use Rattle.amqp_session_performatives.specs.declared.open.Open.{Open as OpenFields}
 use Rattle.amqp_session_performatives.specs.declared.session_frame.SessionFrame.{SessionFrame}
 use Rattle.amqp_session_connection.specs.declared.state.ConnectionState.{ConnectionState}
@@ -27,7 +32,8 @@ use Rattle.amqp_session_connection.specs.declared.state.ConnectionState.TheVaria
 use Rattle.amqp_session_connection.specs.State as channels
 use Rattle.amqp_session_connection.specs.Table.{after_incoming_close, after_incoming_open, after_send_close}
 use Rattle.amqp_endpoint_model.specs.Relay.{Relations, IsOfSession, IsSessionFault}
-use Rattle.amqp_endpoint_model.specs.Said.{Said, done, refused, fed, pulled, count, truth, tried_close, session_begun, tried_end, attaching, link_closed, credit_is, waiting}
+use Rattle.amqp_endpoint_model.specs.Said.{Said, done, refused, fed, pulled, count, truth, tried_close, session_begun}
+use Rattle.amqp_endpoint_model.specs.Said.{tried_end, attaching, link_closed, credit_is, waiting}
 use Rattle.amqp_endpoint_model.specs.State.{State, is_unconnected, is_running, has_opened, protocol_header, own_open, own_close_with, error_of, heartbeat, fits, frame_of, limit_of, Waiting, the_header, the_frame, text_of, waiting_of}
 
 -- the first refusal that applies to settings (part 2, 2.7.1; 2.5.6)
@@ -442,8 +448,10 @@ module _ {S : Type 0} (does : Relations S) where
   Step old (End number) done new = SessionsDo old (End number) done new
   Step old (IsEnded number) (truth b) new = SessionsAnswer old (IsEnded number) (truth b) new
   Step old (TryEnd number) (tried_end o) new = SessionsDo old (TryEnd number) (tried_end o) new
-  Step old (AttachSender session settings) (attaching link events) new = SessionsDo old (AttachSender session settings) (attaching link events) new
-  Step old (AttachReceiver session settings) (attaching link events) new = SessionsDo old (AttachReceiver session settings) (attaching link events) new
+  Step old (AttachSender session settings) (attaching link events) new =
+      SessionsDo old (AttachSender session settings) (attaching link events) new
+  Step old (AttachReceiver session settings) (attaching link events) new =
+      SessionsDo old (AttachReceiver session settings) (attaching link events) new
   Step old (Detach link) done new = SessionsDo old (Detach link) done new
   Step old (CloseLink link) (link_closed events) new = SessionsDo old (CloseLink link) (link_closed events) new
   Step old (Grant link credit) (credit_is left) new = SessionsDo old (Grant link credit) (credit_is left) new

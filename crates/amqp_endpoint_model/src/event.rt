@@ -61,7 +61,8 @@ pub struct Attached {
     pub exchange: AttachExchange,
 }
 
-/// A link that the peer detached (part 2, 2.6.5, 2.6.6, 2.7.7). It is answered by the own Detach, where that hadn't gone.
+/// A link that the peer detached (part 2, 2.6.5, 2.6.6, 2.7.7). It is answered by the own Detach, where that hadn't
+/// gone.
 #[derive(Debug, Drop)]
 pub struct Detached {
     /// The link's number.

@@ -5,8 +5,12 @@ ghost use types.Logic.{sem};
 ghost use Rattle.amqp_session_connection.specs.State as channels;
 ghost use Rattle.amqp_session_connection.specs.contracts.connection.Connection.{the_row as connection_row};
 ghost use Rattle.amqp_endpoint_model.specs.Relay.{Called, IsOfSession, Refused, StandsStill, Taken};
-ghost use Rattle.amqp_endpoint_model.specs.Said.{attaching, count, credit_is, done, link_closed, session_begun, tried_end, truth, refusal_in, waiting};
-ghost use Rattle.amqp_endpoint_model.specs.declared.call.Call.TheVariants.{AcceptBegin, AttachReceiver, AttachSender, Begin, CloseLink, Credit, Detach, Drain, End, Grant, HeldBack, IsEnded, TryEnd, Waiting};
+ghost use Rattle.amqp_endpoint_model.specs.Said.{attaching, count, credit_is, done, link_closed, session_begun};
+ghost use Rattle.amqp_endpoint_model.specs.Said.{tried_end, truth, refusal_in, waiting};
+ghost use Rattle.amqp_endpoint_model.specs.declared.call.Call.TheVariants.{AcceptBegin, AttachReceiver, AttachSender};
+ghost use Rattle.amqp_endpoint_model.specs.declared.call.Call.TheVariants.{Begin, CloseLink, Credit, Detach, Drain};
+ghost use Rattle.amqp_endpoint_model.specs.declared.call.Call.TheVariants.{End, Grant, HeldBack, IsEnded, TryEnd};
+ghost use Rattle.amqp_endpoint_model.specs.declared.call.Call.TheVariants.{Waiting};
 
 use crate::answer::Attaching;
 use crate::error::EndpointError;
@@ -21,8 +25,8 @@ use std::collections::VecDeque;
 
 /// The sessions of an endpoint as its connection sees them (part 2, 2.5). They hold the connection, which gives them
 /// their channels; the endpoint moves it on by headers, Open and Close, and hands them the peer's other frames and the
-/// calls that concern sessions and their links. A type that stands for sessions says by its relations, `does`, what these calls do, and
-/// an endpoint is proved for all of them.
+/// calls that concern sessions and their links. A type that stands for sessions says by its relations, `does`, what
+/// these calls do, and an endpoint is proved for all of them.
 ///
 /// A call that sends is handed the limit of written frames, which is 512 bytes at least (part 2, 2.4.1): what it hands
 /// out is no longer, and no frame that waits in a session is. A call that is refused changes nothing. Where no session
@@ -154,8 +158,8 @@ pub trait SessionRelay: Drop {
         ensures idle { does.idle self.old → does.idle self.new }
         ensures still { StandsStill (does.connection self.old) (does.connection self.new) };
 
-    /// Attaches a link as its sending end in the session with this number, and answers the link's number with what comes
-    /// of it at once. Its Attach is handed out (part 2, 2.6.3, 2.7.3).
+    /// Attaches a link as its sending end in the session with this number, and answers the link's number with what
+    /// comes of it at once. Its Attach is handed out (part 2, 2.6.3, 2.7.3).
     fn attach_sender(
         &mut self,
         alloc: Global,
@@ -231,8 +235,8 @@ pub trait SessionRelay: Drop {
         ensures idle { does.idle self.old → does.idle self.new }
         ensures still { StandsStill (does.connection self.old) (does.connection self.new) };
 
-    /// Grants the sender of the link with this number so many messages, and answers the credit that was left before. Its
-    /// Flow is handed out (part 2, 2.6.7, 2.7.4).
+    /// Grants the sender of the link with this number so many messages, and answers the credit that was left before.
+    /// Its Flow is handed out (part 2, 2.6.7, 2.7.4).
     fn grant(
         &mut self,
         alloc: Global,

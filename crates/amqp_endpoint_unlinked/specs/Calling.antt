@@ -15,9 +15,14 @@ use Rattle.amqp_endpoint_conversation.specs.declared.beginning.AcceptRefusal.The
 use Rattle.amqp_endpoint_conversation.specs.Beginning.{AcceptsHere, BeginsHere, RefusesAccept}
 use Rattle.amqp_endpoint_conversation.specs.Ending.{EndsHere, IsMapped}
 use Rattle.amqp_endpoint_model.specs.declared.call.Call.{Call}
-use Rattle.amqp_endpoint_model.specs.declared.call.Call.TheVariants.{Begin, AcceptBegin, End, IsEnded, TryEnd, AttachSender, AttachReceiver, Detach, CloseLink, Grant, Drain, Credit, HeldBack, Waiting as WaitingCall}
+use Rattle.amqp_endpoint_model.specs.declared.call.Call.TheVariants.{Begin, AcceptBegin, End, IsEnded, TryEnd}
+use Rattle.amqp_endpoint_model.specs.declared.call.Call.TheVariants.{AttachSender, AttachReceiver, Detach, CloseLink}
+use Rattle.amqp_endpoint_model.specs.declared.call.Call.TheVariants.{Grant, Drain, Credit, HeldBack}
+use Rattle.amqp_endpoint_model.specs.declared.call.Call.TheVariants.{Waiting as WaitingCall}
 use Rattle.amqp_endpoint_model.specs.declared.error.EndpointError.{EndpointError}
-use Rattle.amqp_endpoint_model.specs.declared.error.EndpointError.TheVariants.{Memory, NotConnected, UnknownSession, UnknownLink, IllegalState, LocalChannelMaxReached, NotAsked}
+use Rattle.amqp_endpoint_model.specs.declared.error.EndpointError.TheVariants.{Memory, NotConnected, UnknownSession}
+use Rattle.amqp_endpoint_model.specs.declared.error.EndpointError.TheVariants.{UnknownLink, IllegalState}
+use Rattle.amqp_endpoint_model.specs.declared.error.EndpointError.TheVariants.{LocalChannelMaxReached, NotAsked}
 use Rattle.amqp_endpoint_model.specs.Said.{Said, count, done, session_begun, tried_end, truth, waiting}
 use Rattle.amqp_endpoint_unlinked.specs.declared.no_link.NoLink.{NoLink}
 use Rattle.amqp_endpoint_unlinked.specs.NoLink.{Talk, no_link}

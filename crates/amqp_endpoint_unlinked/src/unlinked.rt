@@ -16,8 +16,8 @@ use std::alloc::{AllocError, Global};
 use std::collections::VecDeque;
 
 /// The sessions of an endpoint that attaches no link. The peer may begin sessions, ask for links in them, and end them;
-/// whatever it says of a link that isn't there is a fault of its session (part 2, 2.8.17). A link that is to be attached
-/// here is refused with `IllegalState`; no link has a number, and no transfer waits.
+/// whatever it says of a link that isn't there is a fault of its session (part 2, 2.8.17). A link that is to be
+/// attached here is refused with `IllegalState`; no link has a number, and no transfer waits.
 #[derive(Drop)]
 pub struct UnlinkedSessions {
     /// The sessions.

@@ -3,7 +3,12 @@ use Rattle.std.proofs.Common.{◌≡◌, ℕ, Bool, true, false, not, ◌&&◌, 
 use Rattle.std.proofs.lemmas.List.{append-nil}
 use Rattle.amqp_session_frames.specs.Cutting.{joined}
 use Rattle.amqp_endpoint_model.specs.declared.call.Call.{Call}
-use Rattle.amqp_endpoint_model.specs.declared.call.Call.TheVariants.{Connect, Feed, Pull, Queued, IsIdle, Heartbeat, BreakOff, Close, IsClosed, TryClose, Begin, AcceptBegin, End as EndCall, IsEnded, TryEnd, AttachSender, AttachReceiver, Detach as DetachCall, CloseLink, Grant, Drain, Credit, HeldBack, Waiting as WaitingCall}
+use Rattle.amqp_endpoint_model.specs.declared.call.Call.TheVariants.{Connect, Feed, Pull, Queued, IsIdle, Heartbeat}
+use Rattle.amqp_endpoint_model.specs.declared.call.Call.TheVariants.{BreakOff, Close, IsClosed, TryClose, Begin}
+use Rattle.amqp_endpoint_model.specs.declared.call.Call.TheVariants.{AcceptBegin, End as EndCall, IsEnded, TryEnd}
+use Rattle.amqp_endpoint_model.specs.declared.call.Call.TheVariants.{AttachSender, AttachReceiver, Detach as DetachCall}
+use Rattle.amqp_endpoint_model.specs.declared.call.Call.TheVariants.{CloseLink, Grant, Drain, Credit, HeldBack}
+use Rattle.amqp_endpoint_model.specs.declared.call.Call.TheVariants.{Waiting as WaitingCall}
 use Rattle.amqp_endpoint_model.specs.declared.error.EndpointError.{EndpointError}
 use Rattle.amqp_endpoint_model.specs.declared.error.EndpointError.TheVariants.{Memory, AlreadyConnected, NotConnected, IllegalState, NumbersUsedUp, ProtocolHeaderMismatch, SizeUnder8, SizeOverLimit, PeerLimitUnder512, Frame as FrameFault, Connection, Session}
 use Rattle.amqp_endpoint_model.specs.declared.event.Event.{Event}
@@ -11,7 +16,8 @@ use Rattle.amqp_endpoint_model.specs.declared.phase.Phase.{Phase}
 use Rattle.amqp_endpoint_model.specs.declared.phase.Phase.TheVariants.{Unconnected, Greeting, Running, Over}
 use Rattle.amqp_endpoint_model.specs.declared.settings.Settings.{Settings}
 use Rattle.amqp_endpoint_model.specs.Relay.{Relations}
-use Rattle.amqp_endpoint_model.specs.Said.{Said, done, refused, fed, count, truth, tried_close, session_begun, tried_end, attaching, link_closed, credit_is, waiting, Told}
+use Rattle.amqp_endpoint_model.specs.Said.{Said, done, refused, fed, count, truth, tried_close, session_begun}
+use Rattle.amqp_endpoint_model.specs.Said.{tried_end, attaching, link_closed, credit_is, waiting, Told}
 use Rattle.amqp_endpoint_model.specs.State.{State, is_unconnected, is_running, has_opened, waiting_of}
 use Rattle.amqp_endpoint_model.specs.Step.{Breaks, Ends, EndsByFault, FeedsIn, Greets, Pulls, ReadsOn, SessionsDo, Step as EndpointStep, opened}
 use Rattle.amqp_endpoint_model.specs.History.{Summary, note, note_fed, nothing, summary}

@@ -5,7 +5,9 @@ ghost use Rattle.amqp_endpoint_model.specs.Said.{told, said};
 ghost use Rattle.amqp_endpoint_model.specs.declared.event.Event.TheVariants as event;
 ghost use Rattle.amqp_endpoint_world.specs.WorldSaid.{did_said, feed_said, world_told};
 ghost use Rattle.amqp_endpoint_world.specs.WorldState.{other};
-ghost use Rattle.amqp_endpoint.specs.Printed.{bytes_text, closed_word, event_text, events_text, exchange_word, fault_text, hex_word, of_line, ok_text, printed, role_word, step_text, turn_text, two_numbers, world_printed, world_text};
+ghost use Rattle.amqp_endpoint.specs.Printed.{bytes_text, closed_word, event_text, events_text, exchange_word};
+ghost use Rattle.amqp_endpoint.specs.Printed.{fault_text, hex_word, of_line, ok_text, printed, role_word, step_text};
+ghost use Rattle.amqp_endpoint.specs.Printed.{turn_text, two_numbers, world_printed, world_text};
 
 use crate::scenario::script::letter;
 use amqp_endpoint_model::{Answer, Attaching, EndpointError, Event, Fed, Refused, Reply};

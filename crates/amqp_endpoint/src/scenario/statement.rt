@@ -2,7 +2,9 @@
 ghost use Rattle.std.specs.Prelude.{◌≡◌, ◌==◌, ◌^◌, length, map, IfOk};
 ghost use Rattle.std.specs.List.{list_any};
 ghost use Rattle.amqp_endpoint.specs.Digits.{number_under};
-ghost use Rattle.amqp_endpoint.specs.Script.{bytes_of, call_at, call_of, call_with, count_of, end_of, grant_of, move_from, parts_at, receiver_at, sender_at, settings_at, settings_of, statement, three_said, word_said, words_said};
+ghost use Rattle.amqp_endpoint.specs.Script.{bytes_of, call_at, call_of, call_with, count_of, end_of, grant_of};
+ghost use Rattle.amqp_endpoint.specs.Script.{move_from, parts_at, receiver_at, sender_at, settings_at, settings_of};
+ghost use Rattle.amqp_endpoint.specs.Script.{statement, three_said, word_said, words_said};
 
 use crate::scenario::terms::{read_receiver_settings, read_sender_settings};
 use amqp_endpoint_model::{Call, Settings};

@@ -1,6 +1,7 @@
 //! The links that a script attaches.
 ghost use Rattle.std.specs.Prelude.{◌≡◌, IfOk};
-ghost use Rattle.amqp_endpoint.specs.Terms.{plain_settings, plain_source, plain_target, receiver_settings, receiving_mode, sender_settings, sending_mode};
+ghost use Rattle.amqp_endpoint.specs.Terms.{plain_settings, plain_source, plain_target, receiver_settings};
+ghost use Rattle.amqp_endpoint.specs.Terms.{receiving_mode, sender_settings, sending_mode};
 
 use crate::scenario::statement::read_u32;
 use amqp_endpoint_settings::LinkSettings;

@@ -35,8 +35,8 @@ impl<S: SessionRelay> Endpoint<S> {
         self.sessions.held_back(session)
     }
 
-    /// The links of which transfers wait in the session with this number, in turn, each with how many. Their sum is what
-    /// `held_back` answers.
+    /// The links of which transfers wait in the session with this number, in turn, each with how many. Their sum is
+    /// what `held_back` answers.
     ///
     /// `UnknownSession` where no session has the number. `Memory` where there is no memory for the answer.
     pub fn waiting(&self, session: u64) -> Result<Vec<(u64, u64)>, EndpointError>

@@ -9,12 +9,12 @@ use amqp_endpoint_settings::LinkSettings;
 
 impl<S: SessionRelay> Endpoint<S> {
     /// Attaches a link as its sending end in the session with this number: its Attach is queued (part 2, 2.6.3, 2.7.3).
-    /// Answers the number that the link has from now on, and what comes of it at once: Attached where the peer asked for
-    /// the link before.
+    /// Answers the number that the link has from now on, and what comes of it at once: Attached where the peer asked
+    /// for the link before.
     ///
     /// `UnknownSession` where no session has the number, then `IllegalState` where it isn't mapped, then
-    /// `DuplicatedLinkName` where a link here has the name, then `NumbersUsedUp`, then `HandleMaxReached` where no handle
-    /// is left that the peer takes (part 2, 2.7.2), then `Link` where the peer's Attach can't be answered, then
+    /// `DuplicatedLinkName` where a link here has the name, then `NumbersUsedUp`, then `HandleMaxReached` where no
+    /// handle is left that the peer takes (part 2, 2.7.2), then `Link` where the peer's Attach can't be answered, then
     /// `FrameTooLarge` where the Attach is longer than the peer takes. `Memory` where there is no memory. A refusal
     /// changes nothing.
     pub fn attach_sender(
@@ -68,8 +68,8 @@ impl<S: SessionRelay> Endpoint<S> {
         Ok(())
     }
 
-    /// Closes the link with this number: its closing Detach is queued, or waits behind the link's transfers; where it is
-    /// detached at both ends none is sent, and no link has the number any more (part 2, 2.6.6, 2.7.7). Answers the
+    /// Closes the link with this number: its closing Detach is queued, or waits behind the link's transfers; where it
+    /// is detached at both ends none is sent, and no link has the number any more (part 2, 2.6.6, 2.7.7). Answers the
     /// outcomes that this fails.
     ///
     /// `UnknownLink` where no link has the number, then `IllegalState` where it is neither attached nor detached.

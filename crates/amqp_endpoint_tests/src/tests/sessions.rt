@@ -1,5 +1,5 @@
-//! What no script asks for: whether a session is over, that its peer's End is told of once, what waits in it, and the credit
-//! of a link.
+//! What no script asks for: whether a session is over, that its peer's End is told of once, what waits in it, and the
+//! credit of a link.
 use amqp_endpoint::{
     Answer, Call, EndpointError, IncomingChannel, Settings, Text, TryEndError, UnlinkedSessions,
     play,

@@ -18,17 +18,20 @@ invariant_of-self-2 g c =
     let limit_is : c.limit-limit.result ≡ limit =
     c.limit-limit.ensures ∙ ap (λ (s : State g.row.S.Denot). limit_of s.peer_limit) (sym c.self.view_is) in (
       stands_still does c.self.inside.settings c.self.inside.phase c.self.inside.phase c.self.inside.peer_limit
-          c.self.inside.peer_limit c.self.inside.sessions c.attach_receiver.new.self stands c.in_ok-attaching.ensures.still
+          c.self.inside.peer_limit c.self.inside.sessions c.attach_receiver.new.self stands
+          c.in_ok-attaching.ensures.still
           stands.agrees,
       fits,
       least,
       queue_called does limit c.limit-limit.result (call.AttachReceiver c.args.session c.args.settings.now)
           (attaching c.in_ok-attaching.attaching.link c.in_ok-attaching.attaching.events.items)
           c.self.inside.queue.items c.self.inside.out.items
-          c.attach_receiver.new.out.items c.self.inside.sessions c.attach_receiver.new.self limit_is c.in_ok-attaching.ensures.ok within,
+          c.attach_receiver.new.out.items c.self.inside.sessions c.attach_receiver.new.self limit_is
+          c.in_ok-attaching.ensures.ok within,
       wait_least does c.self.inside.phase c.self.inside.peer_limit c.self.inside.sessions c.attach_receiver.new.self
           c.in_ok-attaching.ensures.within least waits,
-      idle_still does c.self.inside.phase c.self.inside.sessions c.attach_receiver.new.self c.in_ok-attaching.ensures.idle idle,
+      idle_still does c.self.inside.phase c.self.inside.sessions c.attach_receiver.new.self
+          c.in_ok-attaching.ensures.idle idle,
     )
 
 pub returns-clause-ok : goal.returns-clause-ok
@@ -37,7 +40,8 @@ returns-clause-ok g c =
     let (stands, fits, least, within, waits, idle) = c.self.invariant in
     let phase : c.self.inside.phase ≡ c.args.self.now.phase =
     ap (λ (s : State g.row.S.Denot). s.phase) c.self.view_is in
-    called g.S.SessionRelay.does c.args.self.now c.limit-limit.result (call.AttachReceiver c.args.session c.args.settings.now)
+    called g.S.SessionRelay.does c.args.self.now c.limit-limit.result
+    (call.AttachReceiver c.args.session c.args.settings.now)
     (attaching c.in_ok-attaching.attaching.link c.in_ok-attaching.attaching.events.items)
     c.self.inside.queue.items
     c.self.inside.out.items c.attach_receiver.new.out.items c.self.inside.sessions c.attach_receiver.new.self _

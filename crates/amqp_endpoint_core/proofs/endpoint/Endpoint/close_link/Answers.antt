@@ -25,7 +25,8 @@ invariant_of-self-2 g c =
       queue_called does limit c.limit-limit.result (call.CloseLink c.args.link)
           (link_closed c.in_ok-events.events.items)
           c.self.inside.queue.items c.self.inside.out.items
-          c.close_link.new.out.items c.self.inside.sessions c.close_link.new.self limit_is c.in_ok-events.ensures.ok within,
+          c.close_link.new.out.items c.self.inside.sessions c.close_link.new.self limit_is
+          c.in_ok-events.ensures.ok within,
       wait_least does c.self.inside.phase c.self.inside.peer_limit c.self.inside.sessions c.close_link.new.self
           c.in_ok-events.ensures.within least waits,
       idle_still does c.self.inside.phase c.self.inside.sessions c.close_link.new.self c.in_ok-events.ensures.idle idle,
