@@ -16,7 +16,8 @@ impl<S: SessionRelay> Endpoint<S> {
     /// `DuplicatedLinkName` where a link here has the name, then `NumbersUsedUp`, then `HandleMaxReached` where no
     /// handle is left that the peer takes (part 2, 2.7.2), then `Link` where the peer's Attach can't be answered, then
     /// `FrameTooLarge` where the Attach is longer than the peer takes. `Memory` where there is no memory. A refusal
-    /// changes nothing.
+    /// changes nothing. Exactly when each comes say the sessions (`bars` of their relations): those that attach no link
+    /// answer `IllegalState` in every session that there is, and `UnknownLink` of every link.
     pub fn attach_sender(
         &mut self,
         session: u64,
