@@ -91,11 +91,11 @@ detaches_in s handle closed n after there moved =
 
 -- its Detach is handed out
 pub detach_given : (old : Linked) (handle : OutputHandle) (closed : Bool) (error : Option Error) (mid new : LinksIn)
-    (detach : Detach) (out out_mid out_new : List SessionFrame) → DetachesIn old.session handle closed mid
-    → detach ≡ own_detach handle closed error → out_mid ≡ out
-    → HandsOut gives mid handle (behind.Detach (record detach { handle = record { 0 = handle.0 } })) out_mid new out_new
+    (detach : Detach) (out out_new : List SessionFrame) → DetachesIn old.session handle closed mid
+    → detach ≡ own_detach handle closed error
+    → HandsOut gives mid handle (behind.Detach (record detach { handle = record { 0 = handle.0 } })) out new out_new
     → DetachGiven old handle closed error out (record old { session = new }) out_new
-detach_given old handle closed error mid new detach out out_mid out_new detaches is same handed =
+detach_given old handle closed error mid new detach out out_new detaches is handed =
     record {
       number = detaches.number;
       before = detaches.before;
@@ -116,7 +116,7 @@ detach_given old handle closed error mid new detach out out_mid out_new detaches
             frames_are = refl;
             rest = refl;
           };
-      added = handed.added ∙ ap (λ (frames : List SessionFrame). frames ++ option_to_list handed.answer) same;
+      added = handed.added;
     }
 
 -- and so is the one that answers the peer's

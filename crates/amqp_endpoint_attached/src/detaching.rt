@@ -7,7 +7,8 @@ ghost use Rattle.amqp_link_attach.specs.State.{is_attached};
 ghost use Rattle.amqp_link_receiver.specs.Ending as receiver_ending;
 ghost use Rattle.amqp_link_sender.specs.Ending as sender_ending;
 ghost use Rattle.amqp_endpoint_attached.specs.Linked.{end_at, end_in};
-ghost use Rattle.amqp_endpoint_attached.specs.Detaching.{detach_sent, is_there, own_detach, DetachAnswered, DetachReplied, DetachesIn};
+ghost use Rattle.amqp_endpoint_attached.specs.Detaching.{detach_sent, is_there, own_detach};
+ghost use Rattle.amqp_endpoint_attached.specs.Detaching.{DetachAnswered, DetachGiven, DetachReplied, DetachesIn};
 
 use crate::sending::{LinkSession, room_for_frame, send_detach};
 use amqp_endpoint_links::Numbered;
@@ -46,10 +47,29 @@ pub fn detach(
     let Ok(place) = room_for_frame(&session.session, alloc, handle, out) else {
         return Err(EndpointError::Memory);
     };
+    detach_placed(session, handle, place, closed, error, out);
+    Ok(())
+}
+
+/// Detaches the link with this own handle, which is attached, or closes it, as `detach` does, where there is room for
+/// its Detach already. It takes no memory.
+pub fn detach_placed(
+    session: &mut LinkSession,
+    handle: OutputHandle,
+    place: Place<BehindFrame>,
+    closed: bool,
+    error: Option<definitions::Error>,
+    out: &mut VecDeque<SessionFrame>,
+)
+    requires there { is_there (end_at session.old handle) ≡ true }
+    requires place { room_behind handle.0 1 session.old.session.outgoing.queues ≤ place }
+    requires spare { deque_len out.old < deque_capacity out.old }
+    ensures given { DetachGiven session.old handle closed error out.old.items session.new out.new.items }
+    ensures capacity { deque_capacity out.new ≡ deque_capacity out.old }
+{
     detach_in(&mut session.session, handle, closed);
     let detach = own_detach(handle, closed, error);
     send_detach(&mut session.session, handle, place, detach, out);
-    Ok(())
 }
 
 /// Answers the Detach that the peer sent of the link with this own handle: the own one, which closes the link or

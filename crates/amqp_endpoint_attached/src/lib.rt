@@ -20,7 +20,7 @@ mod sending;
 
 pub use answering::{Answered, answer};
 pub use attaching::attach;
-pub use detaching::{answer_detach, detach};
+pub use detaching::{answer_detach, detach, detach_placed};
 pub use ends::{break_off, credit, is_closed, role, stands};
 pub use leaving::take_out;
 pub use making::{receiver, sender};

@@ -1,9 +1,11 @@
-use Rattle.amqp_endpoint_attached.proofs.Detached.{detach_given}
+use Rattle.std.proofs.Common.{List, subst}
+use Rattle.amqp_session_performatives.specs.declared.session_frame.SessionFrame.{SessionFrame}
+use Rattle.amqp_endpoint_attached.specs.Detaching.{DetachGiven}
 use Rattle.amqp_endpoint_attached.proofs.detaching.detach.Goals as goal
 
 pub returns-clause-answer : goal.returns-clause-answer
 returns-clause-answer c =
-    detach_given c.args.session.now c.args.handle c.args.closed c.args.error c.detach_in.new.session
-    c.send_detach.new.session c.own_detach-detach.result c.args.out.now.items c.room_for_frame.new.out.items
-    c.send_detach.new.out.items c.detach_in.ensures.detaches c.own_detach-detach.ensures c.in-Ok.ensures.same
-    c.send_detach.ensures.sent
+    subst (λ (out : List SessionFrame).
+    DetachGiven c.args.session.now c.args.handle c.args.closed c.args.error out c.detach_placed.new.session
+    c.detach_placed.new.out.items)
+    c.in-Ok.ensures.same c.detach_placed.ensures.given

@@ -1,0 +1,166 @@
+-- What is done for a link in its session hands out frames that fit.
+use Rattle.std.proofs.Common.{◌≡◌, ◌≤◌, ◌<◌, ℕ, Bool, true, false, List, [], ◌∷◌, ◌++◌, Option, Some, None, refl, sym, ap, subst, ◌∙◌, append-nil, length, drop}
+use Rattle.std.specs.Prelude.{◌^◌, All, option_to_list}
+use Rattle.std.proofs.lemmas.List.Elements.{All-nil}
+use Rattle.amqp_session_types.specs.declared.error.Error.{Error}
+use Rattle.amqp_session_types.specs.declared.handles.OutputHandle.{OutputHandle}
+use Rattle.amqp_session_performatives.specs.declared.session_frame.SessionFrame.{SessionFrame}
+use Rattle.amqp_session_core.specs.declared.batch.BehindFrame.TheVariants as behind
+use Rattle.amqp_session_core.specs.Steps.{Changes, Deallocates, SendsBehind}
+use Rattle.amqp_link_base.specs.declared.detached.Detached.{Detached}
+use Rattle.amqp_link_ends.specs.declared.end.End.{End}
+use Rattle.amqp_link_ends.specs.declared.relay.AttachTold.{AttachTold}
+use Rattle.amqp_link_receiving.specs.declared.answer.Told.{Told}
+use Rattle.amqp_endpoint_links.specs.declared.numbered.Numbered.{Numbered}
+use Rattle.amqp_endpoint_links.specs.History.{AskingHistory, AskingStep, InSession}
+use Rattle.amqp_endpoint_sessions.specs.Steps.{ChangesLive, Steps}
+use Rattle.amqp_endpoint_model.specs.State.{error_of, fits, frame_of}
+use Rattle.amqp_endpoint_model.specs.Step.{not_allowed}
+use Rattle.amqp_endpoint_lengths.specs.Plain.{IsPlainDetach, SaysConditionAlone}
+use Rattle.amqp_endpoint_lengths.proofs.Frames.{detach_fits, larger_fits, not_allowed-short}
+use Rattle.amqp_endpoint_fitting.specs.Handed.{AllAskingEndFit, AllAskingHand, AllAskingSendFit}
+use Rattle.amqp_endpoint_fitting.specs.Read.{IsRead}
+use Rattle.amqp_endpoint_talk.specs.Going.{Goes, Rests}
+use Rattle.amqp_endpoint_talk.proofs.Calls.{changed-goes, changed-rests}
+use Rattle.amqp_endpoint_talk.proofs.Goings.{read-behind}
+use Rattle.amqp_endpoint_attached.specs.Detaching.{DetachGiven, DetachReplied, is_there, own_detach}
+use Rattle.amqp_endpoint_attached.specs.Linked.{Linked, end_at, gives}
+use Rattle.amqp_endpoint_attached.specs.TakenOut.{TakenOut}
+use Rattle.amqp_endpoint_linking.specs.Linking.{Link, Session, Talk}
+use Rattle.amqp_endpoint_linking.specs.Handed.{Hands}
+use Rattle.amqp_endpoint_link_hearing.specs.InSession.{AnswersIf, Closes, ClosesIf, GoesOn, Parts}
+use Rattle.amqp_endpoint_link_hearing.specs.Leaving.{detach_frame}
+use Rattle.amqp_endpoint_link_hearing.proofs.Plain.{answers-plain}
+
+abbrev pub LinkStep : Type 0
+LinkStep = AskingStep Link AttachTold Told Detached
+
+-- what is done in a session is done by steps that bring what fits
+pub record Done (limit : ℕ) (old : Linked) (frames : List SessionFrame) (new : Linked) : Type 0 where
+  pub steps : List LinkStep
+  pub history : AskingHistory gives old steps new
+  pub sends : AllAskingSendFit old.session.fields.channel.0 limit steps
+  pub ends : AllAskingEndFit limit steps
+  pub hand : AllAskingHand steps frames
+
+pub unchanged : (limit : ℕ) (old : Linked) (frames : List SessionFrame) (new : Linked) → new ≡ old → frames ≡ []
+    → Done limit old frames new
+unchanged limit old frames new is none =
+    record { steps = []; history = is; sends = tt; ends = tt; hand = none }
+
+-- the own Detach of a link fits every peer's limit
+abbrev pub Fits : ℕ → Linked → OutputHandle → Bool → Option Error → Type 0
+Fits limit old handle closed error =
+    fits limit (frame_of (detach_frame old.session.fields.channel (own_detach handle closed error))) ≡ true
+
+-- a link sends its Detach, as it is changed
+given : (limit : ℕ) (old : Linked) (handle : OutputHandle) (closed : Bool) (error : Option Error)
+    (frames : List SessionFrame) (new : Linked) → Fits limit old handle closed error
+    → DetachGiven old handle closed error [] new frames → Done limit old frames new
+given limit old handle closed error frames new fit g =
+    let s = g.sent in
+    record {
+      steps =
+          InSession (Changes handle.0 (record { number = g.number; link = g.before })
+          (record { number = g.number; link = g.after }))
+          ∷ InSession (SendsBehind handle (behind.Detach (own_detach handle closed error)) s.left s.answer) ∷ [];
+      history =
+          (record old { session = s.mid }, (s.changed, refl), (new, (s.sent, s.rest), refl));
+      sends = (tt, (fit, tt));
+      ends = (tt, (tt, tt));
+      hand =
+          ([], g.frames, refl, (g.frames, [], s.frames_are, refl, sym (append-nil g.frames)), g.added);
+    }
+
+-- a link leaves its session, or not
+abbrev out-steps : OutputHandle → Option Link → List LinkStep
+out-steps handle None = []
+out-steps handle (Some link) = InSession (Deallocates handle.0) ∷ []
+
+out-history : (old : Linked) (handle : OutputHandle) (left : Option Link) (new : Linked) → TakenOut old handle left new
+    → AskingHistory gives old (out-steps handle left) new
+out-history old handle None new (why, same) = same
+out-history old handle (Some link) new (there, stepped, rest) = (new, (stepped, rest), refl)
+
+out-sends : (channel limit : ℕ) (handle : OutputHandle) (left : Option Link)
+    → AllAskingSendFit channel limit (out-steps handle left)
+out-sends channel limit handle None = tt
+out-sends channel limit handle (Some link) = (tt, tt)
+
+out-ends : (limit : ℕ) (handle : OutputHandle) (left : Option Link) → AllAskingEndFit limit (out-steps handle left)
+out-ends limit handle None = tt
+out-ends limit handle (Some link) = (tt, tt)
+
+out-hand : (handle : OutputHandle) (left : Option Link) → AllAskingHand (out-steps handle left) []
+out-hand handle None = refl
+out-hand handle (Some link) = ([], [], refl, refl, refl)
+
+-- it is answered before, or not
+parted : (limit : ℕ) (old : Linked) (handle : OutputHandle) (answers closed : Bool) (error : Option Error)
+    (left : Option Link) (frames : List SessionFrame) (mid new : Linked) → Fits limit old handle closed error
+    → AnswersIf answers old handle closed error frames mid → TakenOut mid handle left new → Done limit old frames new
+parted limit old handle true closed error left frames mid new fit r t =
+    let s = r.said in
+    record {
+      steps =
+          InSession (SendsBehind handle (behind.Detach (own_detach handle closed error)) s.left s.answer)
+          ∷ out-steps handle left;
+      history = (mid, (s.sent, s.rest), out-history mid handle left new t);
+      sends = (fit, out-sends old.session.fields.channel.0 limit handle left);
+      ends = (tt, out-ends limit handle left);
+      hand =
+          (r.frames, [], s.frames_are, out-hand handle left, r.added ∙ sym (append-nil r.frames));
+    }
+parted limit old handle false closed error left frames mid new fit r t =
+    record {
+      steps = out-steps handle left;
+      history =
+          subst (λ (s : Linked). AskingHistory gives s (out-steps handle left) new) r.0
+          (out-history mid handle left new t);
+      sends = out-sends old.session.fields.channel.0 limit handle left;
+      ends = out-ends limit handle left;
+      hand = subst (λ (fs : List SessionFrame). AllAskingHand (out-steps handle left) fs) (sym r.1)
+          (out-hand handle left);
+    }
+
+pub parts-done : (limit : ℕ) (old : Linked) (handle : OutputHandle) (answers closed : Bool) (error : Option Error)
+    (left : Option Link) (frames : List SessionFrame) (new : Linked) → Fits limit old handle closed error
+    → Parts handle answers closed error left frames old new → Done limit old frames new
+parts-done limit old handle answers closed error left frames new fit p =
+    parted limit old handle answers closed error left frames p.mid new fit p.answered p.out
+
+-- a Detach that says the condition alone fits
+pub condition-fits : (limit : ℕ) (old : Linked) (handle : OutputHandle) → handle.0 < 2 ^ 32 → 512 ≤ limit
+    → Fits limit old handle true (Some (error_of not_allowed))
+condition-fits limit old handle small least =
+    larger_fits limit
+    (frame_of (detach_frame old.session.fields.channel (own_detach handle true (Some (error_of not_allowed))))) least
+    (detach_fits old.session.fields.channel.0 (own_detach handle true (Some (error_of not_allowed)))
+    (record { handle = small; error = not_allowed-short }))
+
+closed-if : (there : Bool) (limit : ℕ) (old : Linked) (handle : OutputHandle) (frames : List SessionFrame)
+    (new : Linked) → Fits limit old handle true (Some (error_of not_allowed))
+    → ClosesIf there old handle frames new → Done limit old frames new
+closed-if true limit old handle frames new fit g =
+    given limit old handle true (Some (error_of not_allowed)) frames new fit g
+closed-if false limit old handle frames new fit g = unchanged limit old frames new g.0 g.1
+
+pub closes-done : (limit : ℕ) (old : Linked) (handle : OutputHandle) (frames : List SessionFrame) (new : Linked)
+    → handle.0 < 2 ^ 32 → 512 ≤ limit → Closes handle frames old new → Done limit old frames new
+closes-done limit old handle frames new small least c =
+    closed-if (is_there (end_at old handle)) limit old handle frames new (condition-fits limit old handle small least) c
+
+-- so it goes on
+module _ (Does : List SessionFrame → Linked → Linked → Type 0) (old : Talk) (session : ℕ) (new : Talk)
+    (out out_new : List SessionFrame)
+    (h : Hands (λ (frames : List SessionFrame). GoesOn (Does frames) old session new) out out_new) where
+  pub done-goes : (limit from : ℕ) → from ≡ length out → All IsRead (drop from out_new)
+      → Done limit ((h.is_so).before).value h.frames ((h.is_so).after).value → Goes limit old new out out_new
+  done-goes limit from is reads d =
+      let g = h.is_so in
+      subst (λ (fs : List SessionFrame). Goes limit old new out fs) (sym h.queued)
+      (changed-goes gives limit session old new g.before g.after d.steps h.frames out g.stepped d.history answers-plain
+      d.sends d.ends d.hand (read-behind out out_new h.frames from is h.queued reads))
+
+  pub done-rests : Rests old new out out_new
+  done-rests = let g = h.is_so in changed-rests session old new g.before g.after out out_new g.stepped

@@ -1,0 +1,12 @@
+mod Plain
+mod Refusals
+mod Lending
+mod Flows
+mod Doing
+mod Heard
+mod Attaches
+mod Detaches
+mod Sizes
+mod Lent
+mod Closings
+mod Takes

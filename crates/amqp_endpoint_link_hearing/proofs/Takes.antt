@@ -1,0 +1,123 @@
+-- A link that took the peer's Attach, or its Detach, and what is told of it.
+use Rattle.std.proofs.Common.{◌≡◌, ℕ, Bool, List, [], ◌∷◌, ◌++◌, Option, Some, None, Result, Ok, Err, IsSome, refl, sym, ap, subst, ◌∙◌, append-nil}
+use Rattle.amqp_session_types.specs.declared.handles.OutputHandle.{OutputHandle}
+use Rattle.amqp_session_performatives.specs.declared.session_frame.SessionFrame.{SessionFrame}
+use Rattle.amqp_link_base.specs.declared.detached.Detached.{Detached}
+use Rattle.amqp_link_ends.specs.declared.relay.AttachTold.{AttachTold}
+use Rattle.amqp_link_sender.specs.declared.attaching.Attaching.{Attaching}
+use Rattle.amqp_link_types.specs.declared.link_error.LinkError.{LinkError}
+use Rattle.amqp_endpoint_model.specs.declared.event.Event.{Event}
+use Rattle.amqp_endpoint_linking.specs.Linking.{Link, Links, Talk}
+use Rattle.amqp_endpoint_linking.specs.Handed.{Hands, Tells}
+use Rattle.amqp_endpoint_link_hearing.specs.Attaching.{ByLink, LinkTakes, attached_told, left_by, outcome_of, refused_told}
+use Rattle.amqp_endpoint_link_hearing.specs.Detaching.{detached_told}
+use Rattle.amqp_endpoint_link_hearing.specs.InSession.{Closes, GoesOn, Parts}
+use Rattle.amqp_endpoint_link_hearing.specs.Leaves.{LinkLeaves}
+use Rattle.amqp_endpoint_link_hearing.specs.Leaving.{IsLeft}
+use Rattle.amqp_endpoint_link_hearing.specs.Naming.{link_of}
+use Rattle.amqp_endpoint_link_hearing.specs.declared.attaching.LinkAttached.{LinkAttached}
+use Rattle.amqp_endpoint_link_hearing.specs.declared.detaching.Ready.{Ready}
+
+-- the link that is there, with its number
+pub record IsNumbered (talk : Talk) (session : ℕ) (handle : OutputHandle) (number : ℕ) : Type 0 where
+  pub link : Link
+  pub there : link_of talk session handle ≡ Some link
+  pub is : number ≡ link.number
+
+some-of : (o : Option Link) (number : ℕ) → IsSome o → ((link : Link) → o ≡ Some link → number ≡ link.number)
+    → (link : Link) × (o ≡ Some link) × (number ≡ link.number)
+some-of None number is named = absurd cc
+some-of (Some link) number is named = (link, refl, named link refl)
+
+pub numbered : (talk : Talk) (session : ℕ) (handle : OutputHandle) (number : ℕ) → IsSome (link_of talk session handle)
+    → ((link : Link) → link_of talk session handle ≡ Some link → number ≡ link.number)
+    → IsNumbered talk session handle number
+numbered talk session handle number is named =
+    let (link, there, same) = some-of (link_of talk session handle) number is named in
+    record { link = link; there = there; is = same }
+
+module _ (old : Talk) (session : ℕ) (handle : OutputHandle) (number : ℕ) (n : IsNumbered old session handle number)
+    (told : AttachTold) (out : List SessionFrame) (events events_new : List Event) where
+  -- it accepts it
+  pub link-attached : (attaching : Attaching) → Ok attaching ≡ outcome_of told
+      → events_new ≡ events ++ attached_told number attaching.exchange
+      → Tells (λ (frames : List SessionFrame) (told_now : List Event).
+      ByLink old session handle told
+      (Some (record { session = session; handle = handle; link = number; aborts = attaching.aborts })) frames told_now
+      old) out events out events_new
+  link-attached attaching is are =
+      record {
+        frames = [];
+        events = attached_told number attaching.exchange;
+        is_so =
+            record {
+              link = n.link;
+              there = n.there;
+              takes =
+                  subst
+                  (λ (o : Result Attaching LinkError).
+                  LinkTakes o old session handle n.link
+                  (Some (record { session = session; handle = handle; link = number; aborts = attaching.aborts })) []
+                  (attached_told number attaching.exchange) old)
+                  is (
+                    ap (λ (k : ℕ). Some (left_by session handle k attaching)) n.is,
+                    refl,
+                    ap (λ (k : ℕ). attached_told k attaching.exchange) n.is,
+                    refl,
+                  );
+            };
+        queued = sym (append-nil out);
+        are_told = are;
+      }
+
+  -- it refuses it, and is closed
+  pub link-refused : (error : LinkError) (new : Talk) (out_new : List SessionFrame) → Err error ≡ outcome_of told
+      → Hands (λ (frames : List SessionFrame). GoesOn (Closes handle frames) old session new) out out_new
+      → events_new ≡ events ++ refused_told session number error
+      → Tells (λ (frames : List SessionFrame) (told_now : List Event).
+      ByLink old session handle told None frames told_now new) out events out_new events_new
+  link-refused error new out_new is h are =
+      record {
+        frames = h.frames;
+        events = refused_told session number error;
+        is_so =
+            record {
+              link = n.link;
+              there = n.there;
+              takes =
+                  subst
+                  (λ (o : Result Attaching LinkError).
+                  LinkTakes o old session handle n.link None h.frames (refused_told session number error) new)
+                  is (refl, h.is_so, ap (λ (k : ℕ). refused_told session k error) n.is);
+            };
+        queued = h.queued;
+        are_told = are;
+      }
+
+-- a link leaves its session
+pub link-left : (old : Talk) (session : ℕ) (ready : Ready) (number : ℕ) → IsNumbered old session ready.handle number
+    → (told : Detached) (left : Option Link) (new : Talk) (links links_new : Links) (out out_new : List SessionFrame)
+    (events events_new : List Event)
+    → Hands (λ (frames : List SessionFrame).
+    GoesOn (Parts ready.handle told.answer (ready.answer).closed (ready.answer).error left frames) old session new) out
+    out_new
+    → IsLeft told.closed links number left links_new
+    → events_new ≡ events ++ detached_told number told.closed ready.error
+    → Tells (λ (frames : List SessionFrame) (told_now : List Event).
+    LinkLeaves session told ready old links frames told_now new links_new) out events out_new events_new
+link-left old session ready number n told left new links links_new out out_new events events_new h l are =
+    record {
+      frames = h.frames;
+      events = detached_told number told.closed ready.error;
+      is_so =
+          record {
+            link = n.link;
+            there = n.there;
+            left = left;
+            parts = h.is_so;
+            is_left = subst (λ (k : ℕ). IsLeft told.closed links k left links_new) n.is l;
+            tells = ap (λ (k : ℕ). detached_told k told.closed ready.error) n.is;
+          };
+      queued = h.queued;
+      are_told = are;
+    }

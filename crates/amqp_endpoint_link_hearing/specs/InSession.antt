@@ -1,0 +1,48 @@
+-- What is done for a link in a session that has begun (part 2, 2.6.4 to 2.6.6).
+use Rattle.std.specs.Prelude.{◌≡◌, ℕ, List, [], Bool, true, false, Option, Some}
+use Rattle.amqp_session_types.specs.declared.error.Error.{Error}
+use Rattle.amqp_session_types.specs.declared.handles.OutputHandle.{OutputHandle}
+use Rattle.amqp_session_performatives.specs.declared.session_frame.SessionFrame.{SessionFrame}
+use Rattle.amqp_endpoint_sessions.specs.Steps.{Steps, ChangesLive}
+use Rattle.amqp_endpoint_lengths.specs.Plain.{message_size_exceeded, transfer_limit_exceeded}
+use Rattle.amqp_endpoint_model.specs.Step.{not_allowed}
+use Rattle.amqp_endpoint_attached.specs.Detaching.{DetachGiven, DetachReplied, is_there}
+use Rattle.amqp_endpoint_attached.specs.Linked.{Linked, end_at}
+use Rattle.amqp_endpoint_attached.specs.TakenOut.{TakenOut}
+use Rattle.amqp_endpoint_linking.specs.Linking.{Link, Session, Talk}
+use Rattle.amqp_endpoint_link_hearing.specs.declared.closing.Condition.{Condition}
+use Rattle.amqp_endpoint_link_hearing.specs.declared.closing.Condition.TheVariants as condition
+
+-- the session with this number goes on, by what is done in it, and all else stays
+pub record GoesOn (Does : Linked → Linked → Type 0) (old : Talk) (session : ℕ) (new : Talk) : Type 0 where
+  pub before : Session
+  pub after : Session
+  pub done : Does before.value after.value
+  pub stepped : Steps old.sessions (ChangesLive session before after) new.sessions
+  pub rest : new ≡ record old { sessions = new.sessions }
+
+-- the condition's name (part 2, 2.8.15, 2.8.18)
+abbrev pub name_of : Condition → List ℕ
+name_of condition.NotAllowed = not_allowed
+name_of condition.TransferLimitExceeded = transfer_limit_exceeded
+name_of condition.MessageSizeExceeded = message_size_exceeded
+
+-- a link is closed here: its own closing Detach says why, and is sent where the link is attached
+abbrev pub ClosesIf : Bool → Option Error → Linked → OutputHandle → List SessionFrame → Linked → Type 0
+ClosesIf true why old handle frames new = DetachGiven old handle true why [] new frames
+ClosesIf false why old handle frames new = (new ≡ old) × (frames ≡ [])
+
+abbrev pub Closes : Option Error → OutputHandle → List SessionFrame → Linked → Linked → Type 0
+Closes why handle frames old new = ClosesIf (is_there (end_at old handle)) why old handle frames new
+
+-- the peer's Detach is answered, where the own one hadn't gone
+abbrev pub AnswersIf : Bool → Linked → OutputHandle → Bool → Option Error → List SessionFrame → Linked → Type 0
+AnswersIf true old handle closed error frames new = DetachReplied old handle closed error [] new frames
+AnswersIf false old handle closed error frames new = (new ≡ old) × (frames ≡ [])
+
+-- and the link leaves its session, where nothing of it waits there
+pub record Parts (handle : OutputHandle) (answers closed : Bool) (error : Option Error) (left : Option Link)
+    (frames : List SessionFrame) (old new : Linked) : Type 0 where
+  pub mid : Linked
+  pub answered : AnswersIf answers old handle closed error frames mid
+  pub out : TakenOut mid handle left new

@@ -1,0 +1,59 @@
+-- What is made ready for a link that the peer detaches, and what is done by it (part 2, 2.6.4 to 2.6.6).
+use Rattle.std.specs.Prelude.{◌≡◌, ℕ, List, [], Option, Some, None, IsSome}
+use Rattle.amqp_session_types.specs.declared.channels.IncomingChannel.{IncomingChannel}
+use Rattle.amqp_session_performatives.specs.declared.detach.Detach.{Detach}
+use Rattle.amqp_session_performatives.specs.declared.session_frame.SessionFrame.{SessionFrame}
+use Rattle.amqp_session_core.specs.State as session_state
+use Rattle.amqp_link_base.specs.declared.detached.Detached.{Detached}
+use Rattle.amqp_endpoint_sessions.specs.State.{live_at, reached}
+use Rattle.amqp_endpoint_model.specs.declared.event.Event.{Event}
+use Rattle.amqp_endpoint_attached.specs.Linked.{Linked}
+use Rattle.amqp_endpoint_linking.specs.Linking.{Link, Links, Session, Talk}
+use Rattle.amqp_endpoint_link_hearing.specs.InSession.{GoesOn, Parts}
+use Rattle.amqp_endpoint_link_hearing.specs.Leaving.{HasPlace, IsLeft, repeated}
+use Rattle.amqp_endpoint_link_hearing.specs.Naming.{link_of}
+use Rattle.amqp_endpoint_link_hearing.specs.Detaching.{Withdraws, detached_told}
+use Rattle.amqp_endpoint_link_hearing.specs.declared.detaching.Ready.{Ready}
+
+-- the answer is made for the link that the peer's handle reaches
+pub record IsReady (s : Linked) (it : Detach) (ready : Ready) : Type 0 where
+  pub reaches : session_state.reached s.session it.handle.0 ≡ Some ready.handle.0
+  pub closes : ready.answer.closed ≡ it.closed
+  pub answers : ready.answer.error ≡ repeated s.session.fields.channel ready.handle it.closed it.error
+  pub tells : ready.error ≡ it.error
+  pub place : HasPlace s ready.handle ready.answer.closed ready.answer.error ready.answer.place
+
+abbrev pub ReadyFor : Linked → Detach → Option Ready → Type 0
+ReadyFor s it None = session_state.reached s.session it.handle.0 ≡ None
+ReadyFor s it (Some ready) = IsReady s it ready
+
+-- in the session that the channel reaches, if that has begun
+abbrev pub Prepares : Talk → IncomingChannel → Detach → Option Ready → Type 0
+Prepares talk channel it ready =
+    (number : ℕ) (s : Session) → reached talk.sessions channel.0 ≡ Some number
+    → live_at talk.sessions number ≡ Some s → ReadyFor s.value it ready
+
+-- the link took the Detach, and what was made ready serves
+abbrev pub StandsFor : Talk → Option (ℕ × Detached) → Option Ready → Type 0
+StandsFor mid (Some (session, told)) (Some ready) =
+    IsSome (link_of mid session ready.handle)
+    × ((s : Session) → live_at mid.sessions session ≡ Some s
+    → HasPlace s.value ready.handle ready.answer.closed ready.answer.error ready.answer.place)
+StandsFor mid took ready = Unit {0}
+
+-- it is answered and leaves its session
+pub record LinkLeaves (session : ℕ) (told : Detached) (ready : Ready) (mid : Talk) (links : Links)
+    (frames : List SessionFrame) (events : List Event) (new : Talk) (links_new : Links) : Type 0 where
+  pub link : Link
+  pub there : link_of mid session ready.handle ≡ Some link
+  pub left : Option Link
+  pub parts :
+      GoesOn (Parts ready.handle told.answer ready.answer.closed ready.answer.error left frames) mid session new
+  pub is_left : IsLeft told.closed links link.number left links_new
+  pub tells : events ≡ detached_told link.number told.closed ready.error
+
+abbrev pub LeavesBy : Option (ℕ × Detached) → Option Ready → Talk → Links → List SessionFrame → List Event → Talk → Links
+    → Type 0
+LeavesBy (Some (session, told)) (Some ready) mid links frames events new links_new =
+    LinkLeaves session told ready mid links frames events new links_new
+LeavesBy took ready mid links frames events new links_new = Withdraws links mid frames events new links_new

@@ -1,0 +1,11 @@
+pub mod Saying
+pub mod Heard
+pub mod Flowing
+pub mod Naming
+pub mod InSession
+pub mod Attaching
+pub mod Leaving
+pub mod Detaching
+pub mod Leaves
+pub mod Disposing
+pub mod Transferring

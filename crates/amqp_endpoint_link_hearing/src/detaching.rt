@@ -1,0 +1,240 @@
+//! The peer's Detach (part 2, 2.6.4 to 2.6.6, 2.7.7).
+ghost use Rattle.std.specs.Prelude.{◌≡◌, ◌<◌, ◌≤◌, ◌++◌, ℕ, IfErr, IfOk, IsSome, OnErr, OnOk, Some};
+ghost use Rattle.std.specs.Vec.{vec_capacity, vec_len};
+ghost use Rattle.std.specs.VecDeque.{deque_capacity, deque_len};
+ghost use Rattle.amqp_endpoint_links.specs.declared.hearing.LinkPerformative.TheVariants as said;
+ghost use Rattle.amqp_endpoint_model.specs.Relay.{IsSessionFault};
+ghost use Rattle.amqp_endpoint_talk.specs.Going.{Goes, Rests};
+ghost use Rattle.amqp_endpoint_linking.specs.Handed.{Tells};
+ghost use Rattle.amqp_endpoint_sessions.specs.State.{live_at};
+ghost use Rattle.amqp_endpoint_linking.specs.Linking.{Session};
+ghost use Rattle.amqp_endpoint_link_hearing.specs.Detaching.{HearsDetach, detached_told};
+ghost use Rattle.amqp_endpoint_link_hearing.specs.Leaves.{LeavesBy, LinkLeaves, Prepares, ReadyFor, StandsFor};
+ghost use Rattle.amqp_endpoint_link_hearing.specs.Leaving.{HasPlace};
+ghost use Rattle.amqp_endpoint_link_hearing.specs.Naming.{link_of};
+ghost use Rattle.amqp_endpoint_link_hearing.specs.Saying.{RefusesSaid};
+
+use crate::hearing::detach_of;
+use crate::leaving::{Answer, leave, part, repeated};
+use crate::naming::number_of;
+use crate::refusing::refuse;
+use amqp_endpoint_attached::LinkSession;
+use amqp_endpoint_conversation::Conversation;
+use amqp_endpoint_links::{LinkPerformative, Numbered};
+use amqp_endpoint_model::{Detached as DetachedEvent, EndpointError, Event};
+use amqp_endpoint_names::Links;
+use amqp_link_base::Detached;
+use amqp_link_ends::LinkEnd;
+use amqp_session_performatives::{Detach, SessionFrame};
+use amqp_session_types::{IncomingChannel, InputHandle, OutputHandle, definitions};
+use std::alloc::{AllocError, Global};
+use std::collections::VecDeque;
+
+/// What is made ready for a link that the peer detaches, before the link knows of it.
+#[derive(Drop)]
+struct Ready {
+    /// Its own handle.
+    handle: OutputHandle,
+    /// The answer to the peer's Detach.
+    answer: Answer,
+    /// The error of that, for what is told.
+    error: Option<definitions::Error>,
+}
+
+/// Takes the peer's Detach in the session that its channel reaches (part 2, 2.6.4 to 2.6.6, 2.7.7). The link that the
+/// peer's handle reaches is answered, where its own Detach hadn't gone, by one that closes it as the peer's does: it
+/// is handed out, or waits behind what the link has waiting, and repeats the peer's error where a frame of 512 bytes
+/// holds it. The link leaves its session, where nothing of it waits there, and is at rest; where either end closed
+/// it, it is unknown from then on. `Detached` is told. A link that the peer asks for is asked for no longer, and
+/// nothing is told; nor is it in a session that is ending. A session that refuses it ends by its fault: its End is
+/// handed out, its links are given back, and `Refused` is told.
+///
+/// It ends the connection with `Connection` of `NotFound` where the channel reaches no session, with `Session` where
+/// one refuses it that the peer asks for, and with `Memory`. Nothing is handed out or told then, and no link is given
+/// back; nor does a session change, but that where there is no memory one that has begun may have refused it.
+pub fn hear_detach(
+    talk: &mut Conversation<Numbered<LinkEnd>>,
+    links: &mut Links<LinkEnd>,
+    alloc: Global,
+    channel: IncomingChannel,
+    detach: Detach,
+    out: &mut VecDeque<SessionFrame>,
+    events: &mut Vec<Event>,
+) -> Result<(), EndpointError>
+    ensures ok { OnOk result
+        (Tells (λ frames told. HearsDetach talk.old links.old channel detach frames told talk.new links.new)
+        out.old.items events.old.items out.new.items events.new.items) }
+    ensures err { IfErr result (λ e.
+        IsSessionFault e × RefusesSaid talk.old channel (said.Detach detach) e talk.new) }
+    ensures kept { OnErr result ((links.new ≡ links.old) × (out.new.items ≡ out.old.items)
+        × (events.new.items ≡ events.old.items)) }
+    ensures goes { (limit : ℕ) → 512 ≤ limit → Goes limit talk.old talk.new out.old.items out.new.items }
+    ensures rests { Rests talk.old talk.new out.old.items out.new.items }
+{
+    events.reserve(1)?;
+    out.reserve(1)?;
+    let ready = make_ready(talk, alloc, channel, &detach)?;
+    take_detach(talk, links, alloc, channel, detach, ready, out, events)?;
+    Ok(())
+}
+
+/// Takes it. There is room for what it tells, and for its answer.
+#[inline(never)]
+fn take_detach(
+    talk: &mut Conversation<Numbered<LinkEnd>>,
+    links: &mut Links<LinkEnd>,
+    alloc: Global,
+    channel: IncomingChannel,
+    detach: Detach,
+    ready: Option<Ready>,
+    out: &mut VecDeque<SessionFrame>,
+    events: &mut Vec<Event>,
+) -> Result<(), EndpointError>
+    requires ready { Prepares talk.old channel detach ready }
+    requires spare { deque_len out.old < deque_capacity out.old }
+    requires room { vec_len events.old < vec_capacity events.old }
+    ensures ok { OnOk result
+        (Tells (λ frames told. HearsDetach talk.old links.old channel detach frames told talk.new links.new)
+        out.old.items events.old.items out.new.items events.new.items) }
+    ensures err { IfErr result (λ e.
+        IsSessionFault e × RefusesSaid talk.old channel (said.Detach detach) e talk.new) }
+    ensures kept { OnErr result ((links.new ≡ links.old) × (out.new.items ≡ out.old.items)
+        × (events.new.items ≡ events.old.items)) }
+    ensures goes { (limit : ℕ) → 512 ≤ limit → Goes limit talk.old talk.new out.old.items out.new.items }
+    ensures rests { Rests talk.old talk.new out.old.items out.new.items }
+{
+    let said = LinkPerformative::Detach(detach);
+    match amqp_endpoint_talk::hear(talk, alloc, out, channel, said) {
+        Ok(heard) => {
+            let took = detach_of(heard);
+            detach_heard(talk, links, took, ready, out, events);
+            Ok(())
+        }
+        Err(refusal) => match refuse(links, refusal, events) {
+            Ok(()) => Ok(()),
+            Err(error) => Err(error),
+        },
+    }
+}
+
+/// The Detach was heard, and this link took it, if one did. There is room for what is told.
+fn detach_heard(
+    talk: &mut Conversation<Numbered<LinkEnd>>,
+    links: &mut Links<LinkEnd>,
+    took: Option<(u64, Detached)>,
+    ready: Option<Ready>,
+    out: &mut VecDeque<SessionFrame>,
+    events: &mut Vec<Event>,
+)
+    requires stands { StandsFor talk.old took ready }
+    requires spare { deque_len out.old < deque_capacity out.old }
+    requires room { vec_len events.old < vec_capacity events.old }
+    ensures leaves { Tells (λ frames told. LeavesBy took ready talk.old links.old frames told talk.new links.new)
+        out.old.items events.old.items out.new.items events.new.items }
+    ensures goes { (limit : ℕ) → 512 ≤ limit → Goes limit talk.old talk.new out.old.items out.new.items }
+    ensures rests { Rests talk.old talk.new out.old.items out.new.items }
+{
+    let Some((session, told)) = took else {
+        return;
+    };
+    let Some(ready) = ready else {
+        return;
+    };
+    leave_by_link(talk, links, session, told, ready, out, events);
+}
+
+/// The link for which this is ready took the Detach. There is room for what is told.
+fn leave_by_link(
+    talk: &mut Conversation<Numbered<LinkEnd>>,
+    links: &mut Links<LinkEnd>,
+    session: u64,
+    told: Detached,
+    ready: Ready,
+    out: &mut VecDeque<SessionFrame>,
+    events: &mut Vec<Event>,
+)
+    requires there { IsSome (link_of talk.old session ready.handle) }
+    requires place { (s : Session) → live_at talk.old.sessions session ≡ Some s →
+        HasPlace s.value ready.handle ready.answer.closed ready.answer.error ready.answer.place }
+    requires spare { deque_len out.old < deque_capacity out.old }
+    requires room { vec_len events.old < vec_capacity events.old }
+    ensures leaves { Tells (λ frames events. LinkLeaves session told ready talk.old links.old frames events
+        talk.new links.new) out.old.items events.old.items out.new.items events.new.items }
+    ensures goes { (limit : ℕ) → 512 ≤ limit → Goes limit talk.old talk.new out.old.items out.new.items }
+    ensures rests { Rests talk.old talk.new out.old.items out.new.items }
+{
+    let Ready {
+        handle,
+        answer,
+        error,
+    } = ready;
+    let link = number_of(talk, session, handle);
+    let left = part(talk, session, handle, told.answer, answer, out);
+    leave(links, link, told.closed, left);
+    tell_detached(link, told.closed, error, events);
+}
+
+/// Tells that the peer detached a link. There is room for it.
+fn tell_detached(
+    link: u64,
+    closed: bool,
+    error: Option<definitions::Error>,
+    events: &mut Vec<Event>,
+)
+    requires { vec_len events.old < vec_capacity events.old }
+    ensures { events.new.items ≡ events.old.items ++ detached_told link closed error }
+{
+    events.push_reserved(Event::Detached(DetachedEvent {
+        link,
+        closed,
+        error,
+    }));
+}
+
+/// What is made ready for the link that the peer's handle reaches, if one is reached. It is refused where there is no
+/// memory.
+fn make_ready(
+    talk: &Conversation<Numbered<LinkEnd>>,
+    alloc: Global,
+    channel: IncomingChannel,
+    detach: &Detach,
+) -> Result<Option<Ready>, AllocError>
+    ensures { IfOk result (Prepares talk.now channel detach.now) }
+{
+    let Some(number) = talk.sessions.reached(channel) else {
+        return Ok(None);
+    };
+    let Some(session) = talk.sessions.live(number) else {
+        return Ok(None);
+    };
+    make_ready_in(session, alloc, detach)
+}
+
+/// The same in its session.
+fn make_ready_in(
+    session: &LinkSession,
+    alloc: Global,
+    detach: &Detach,
+) -> Result<Option<Ready>, AllocError>
+    ensures { IfOk result (ReadyFor session.now detach.now) }
+{
+    let input = InputHandle(detach.handle.0);
+    let Some(handle) = session.session.link_by_input_handle(input) else {
+        return Ok(None);
+    };
+    let Ok(place) = session.session.place_behind(alloc, handle, 1) else {
+        return Err(AllocError);
+    };
+    let channel = session.session.outgoing_channel();
+    let error = repeated(channel, handle, detach.closed, &detach.error)?;
+    let answer = Answer {
+        closed: detach.closed,
+        error,
+        place,
+    };
+    Ok(Some(Ready {
+        handle,
+        answer,
+        error: detach.error.clone()?,
+    }))
+}
