@@ -1,16 +1,24 @@
 //! What no script asks for: whether a session is over, that its peer's End is told of once, what waits in it, and the
 //! credit of a link.
 use amqp_endpoint::{
-    Answer, Call, EndpointError, IncomingChannel, Settings, Text, TryEndError, LinkedSessions,
-    play,
+    Answer, Boxed, Call, EndpointError, IncomingChannel, LinkSettings, LinkedSessions,
+    ReceiverSettleMode, SenderSettleMode, Settings, Text, TryEndError, play,
 };
 use bytes::Bytes;
+use std::alloc::{AllocError, Global};
 use std::test::Fail;
 
 // The protocol header, an Open with a max-frame-size of 512, and a Begin that names no channel.
 const BEGUN: &[u8] = b"AMQP\x00\x01\x00\x00\
 \x00\x00\x00\x17\x02\x00\x00\x00\x00\x53\x10\xc0\x0a\x03\xa1\x01a\x40\x70\x00\x00\x02\x00\
 \x00\x00\x00\x14\x02\x00\x00\x00\x00\x53\x11\xc0\x07\x04\x40\x43\x52\x05\x52\x05";
+
+// The same, an Attach of a receiving link "l", and its Flow with a credit of 3.
+const ASKED: &[u8] = b"AMQP\x00\x01\x00\x00\
+\x00\x00\x00\x17\x02\x00\x00\x00\x00\x53\x10\xc0\x0a\x03\xa1\x01a\x40\x70\x00\x00\x02\x00\
+\x00\x00\x00\x14\x02\x00\x00\x00\x00\x53\x11\xc0\x07\x04\x40\x43\x52\x05\x52\x05\
+\x00\x00\x00\x1d\x02\x00\x00\x00\x00\x53\x12\xc0\x10\x07\xa1\x01l\x43\x41\x40\x40\x00\x53\x28\x45\x00\x53\x29\x45\
+\x00\x00\x00\x18\x02\x00\x00\x00\x00\x53\x13\xc0\x0b\x07\x40\x52\x05\x43\x52\x05\x43\x40\x52\x03";
 
 const END: &[u8] = b"\x00\x00\x00\x0c\x02\x00\x00\x00\x00\x53\x17\x45";
 
@@ -21,6 +29,8 @@ fn said(answer: &Answer) -> &'static str {
         Answer::Truth(false) => "no",
         Answer::Session(0) => "session 0",
         Answer::Count(0) => "none",
+        Answer::Credit(3) => "credit 3",
+        Answer::Attaching(attaching) if attaching.events.len() == 1 => "attached",
         Answer::Refused(EndpointError::UnknownSession) => "unknown session",
         Answer::Refused(EndpointError::UnknownLink) => "unknown link",
         Answer::TriedEnd(Ok(())) => "told",
@@ -31,17 +41,64 @@ fn said(answer: &Answer) -> &'static str {
     }
 }
 
-#[test]
-fn sessions_are_asked(rt: HostRuntime) -> Result<(), Fail> {
-    let alloc = rt.alloc();
-    let settings = Settings {
+fn settings(alloc: Global) -> Result<Settings, AllocError> {
+    Ok(Settings {
         container_id: Text::new(String::from_str(alloc, "a")?),
         max_frame_size: 512,
         channel_max: 255,
         incoming_window: 2048,
         idle_time_out: None,
         first_transfer_number: 0,
-    };
+    })
+}
+
+fn link(alloc: Global) -> Result<Boxed<LinkSettings>, AllocError> {
+    Boxed::new(
+        alloc,
+        LinkSettings {
+            name: Text::new(String::from_str(alloc, "l")?),
+            source: None,
+            target: None,
+            snd_settle_mode: SenderSettleMode::Mixed,
+            rcv_settle_mode: ReceiverSettleMode::First,
+            initial_delivery_count: 0,
+            max_message_size: 0,
+        },
+    )
+}
+
+#[test]
+fn credit_of_an_asked_link_is_kept(rt: HostRuntime) -> Result<(), Fail> {
+    let alloc = rt.alloc();
+    let calls = [
+        Call::Connect,
+        Call::Feed(Bytes::from_static(ASKED)),
+        Call::AcceptBegin(IncomingChannel(0)),
+        Call::AttachSender(0, link(alloc)?),
+        Call::Credit(0),
+        Call::HeldBack(0),
+        Call::Detach(0),
+    ];
+    let wanted = [
+        ("done", 1),
+        ("fed", 2),
+        ("session 0", 3),
+        ("attached", 4),
+        ("credit 3", 4),
+        ("none", 4),
+        ("done", 5),
+    ];
+    let replies = play::<LinkedSessions>(alloc, settings(alloc)?, &calls)?;
+    assert_eq!(rt; replies.len(), wanted.len());
+    for (reply, wanted) in replies.iter().zip(wanted) {
+        assert_eq!(rt; (said(&reply.answer), reply.queued), wanted);
+    }
+    Ok(())
+}
+
+#[test]
+fn sessions_are_asked(rt: HostRuntime) -> Result<(), Fail> {
+    let alloc = rt.alloc();
     let calls = [
         Call::Connect,
         Call::IsEnded(0),
@@ -80,7 +137,7 @@ fn sessions_are_asked(rt: HostRuntime) -> Result<(), Fail> {
         ("unknown session", 4),
         ("unknown link", 4),
     ];
-    let replies = play::<LinkedSessions>(alloc, settings, &calls)?;
+    let replies = play::<LinkedSessions>(alloc, settings(alloc)?, &calls)?;
     assert_eq!(rt; replies.len(), wanted.len());
     for (reply, wanted) in replies.iter().zip(wanted) {
         assert_eq!(rt; (said(&reply.answer), reply.queued), wanted);

@@ -1,6 +1,6 @@
 //! Two endpoints that open and close, with the bytes between them cut.
 use amqp_endpoint::world::{Did, End, Moved, Step, run};
-use amqp_endpoint::{Answer, Call, EndpointError, Settings, Text, LinkedSessions};
+use amqp_endpoint::{Answer, Call, EndpointError, LinkedSessions, Settings, Text};
 use std::alloc::{AllocError, Global};
 use std::test::Fail;
 
