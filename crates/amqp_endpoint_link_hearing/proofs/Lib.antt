@@ -10,3 +10,4 @@ mod Sizes
 mod Lent
 mod Closings
 mod Takes
+mod Becoming

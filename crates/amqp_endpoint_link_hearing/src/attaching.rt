@@ -2,6 +2,7 @@
 ghost use Rattle.std.specs.Prelude.{◌≡◌, ◌<◌, ◌≤◌, ◌++◌, ℕ, IsSome, Some, IfErr, IfOk, OnErr, true};
 ghost use Rattle.std.specs.Vec.{vec_capacity, vec_len};
 ghost use Rattle.std.specs.VecDeque.{deque_capacity, deque_len};
+ghost use Rattle.amqp_endpoint_links.specs.declared.asking.NamedLink.TheVariants.{Waiting};
 ghost use Rattle.amqp_endpoint_model.specs.Relay.{IsSessionFault};
 ghost use Rattle.amqp_endpoint_model.specs.State.{error_of};
 ghost use Rattle.amqp_endpoint_model.specs.Step.{not_allowed};
@@ -88,8 +89,7 @@ pub fn hear_attach(
     Ok(left)
 }
 
-/// Makes ready to close the link that waits for the Attach in the session that the channel reaches, if one does and
-/// that has begun. It is refused where there is no memory.
+/// Makes ready to close the link that waits for the Attach, if one does. It is refused where there is no memory.
 fn make_ready(
     talk: &Conversation<Numbered<LinkEnd>>,
     alloc: Global,
@@ -98,9 +98,22 @@ fn make_ready(
 ) -> Result<Option<Answer>, AllocError>
     ensures { IfOk result (Readies talk.now channel named) }
 {
-    let NamedLink::Waiting(handle) = named else {
-        return Ok(None);
-    };
+    match named {
+        NamedLink::Waiting(handle) => make_ready_for(talk, alloc, channel, handle),
+        NamedLink::Absent => Ok(None),
+        NamedLink::Attached => Ok(None),
+    }
+}
+
+/// Makes ready to close the link with this own handle in the session that the channel reaches, if that has begun.
+fn make_ready_for(
+    talk: &Conversation<Numbered<LinkEnd>>,
+    alloc: Global,
+    channel: IncomingChannel,
+    handle: OutputHandle,
+) -> Result<Option<Answer>, AllocError>
+    ensures { IfOk result (Readies talk.now channel (Waiting handle)) }
+{
     let Some(number) = talk.sessions.reached(channel) else {
         return Ok(None);
     };
@@ -173,21 +186,21 @@ fn attach_heard(
     ensures goes { (limit : ℕ) → 512 ≤ limit → Goes limit talk.old talk.new out.old.items out.new.items }
     ensures rests { Rests talk.old talk.new out.old.items out.new.items }
 {
-    let (session, told) = match took {
+    match took {
         Took::Asked(session) => {
             tell_asked(session, attach, events);
-            return None;
+            None
         }
-        Took::ByLink(session, told) => (session, told),
-        Took::Nothing => return None,
-    };
-    let NamedLink::Waiting(handle) = named else {
-        return None;
-    };
-    let Some(closing) = closing else {
-        unreachable!()
-    };
-    take_by_link(talk, alloc, session, handle, told, closing, out, events)
+        Took::ByLink(session, told) => match named {
+            NamedLink::Waiting(handle) => match closing {
+                Some(closing) => take_by_link(talk, alloc, session, handle, told, closing, out, events),
+                None => unreachable!(),
+            },
+            NamedLink::Absent => None,
+            NamedLink::Attached => None,
+        },
+        Took::Nothing => None,
+    }
 }
 
 /// The link with this own handle took the Attach, or refuses it and is closed. There is room for what is told, and for
