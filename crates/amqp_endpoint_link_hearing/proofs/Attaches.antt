@@ -16,7 +16,7 @@ use Rattle.amqp_session_outgoing.specs.State as sending
 use Rattle.amqp_link_ends.specs.declared.relay.AttachTold.{AttachTold}
 use Rattle.amqp_endpoint_links.specs.declared.asking.AttachTaken.TheVariants as attach
 use Rattle.amqp_endpoint_links.specs.declared.asking.NamedLink.{NamedLink}
-use Rattle.amqp_endpoint_links.specs.declared.asking.NamedLink.TheVariants.{Waiting}
+use Rattle.amqp_endpoint_links.specs.declared.asking.NamedLink.TheVariants.{Absent, Attached, Waiting}
 use Rattle.amqp_endpoint_links.specs.declared.hearing.LinkPerformative.TheVariants as said
 use Rattle.amqp_endpoint_links.specs.declared.hearing.PerformativeTaken.TheVariants as taken
 use Rattle.amqp_endpoint_conversation.specs.declared.hearing.Heard.TheVariants.{Live}
@@ -92,6 +92,17 @@ module _ (old : Talk) (channel : IncomingChannel) (out : List SessionFrame) (it 
                 (same_Some _ _ (sym taken-there.stands ∙ live)) serves;
       }
 
+-- where none waits there is none to close
+closes-absent : (talk : Talk) (it : Took) (closing : Option Answer) → ClosesIn talk it Absent closing
+closes-absent talk (took.Asked session) closing = tt
+closes-absent talk (took.ByLink session told) closing = tt
+closes-absent talk took.Nothing closing = tt
+
+closes-attached : (talk : Talk) (it : Took) (closing : Option Answer) → ClosesIn talk it Attached closing
+closes-attached talk (took.Asked session) closing = tt
+closes-attached talk (took.ByLink session told) closing = tt
+closes-attached talk took.Nothing closing = tt
+
 closes-in : (old : Talk) (channel : IncomingChannel) (out : List SessionFrame) (it : Attach) (named : NamedLink)
     (closing : Option Answer) (heard : LinkHeard) (new : Talk) (out_new : List SessionFrame)
     → Readies old channel named closing
@@ -100,7 +111,9 @@ closes-in : (old : Talk) (channel : IncomingChannel) (out : List SessionFrame) (
 closes-in old channel out it (Waiting handle) closing (Live session (taken.Attach (attach.ByLink told))) new out_new p
     t =
     closes-by old channel out it handle session told new out_new t closing p
-closes-in old channel out it named closing heard new out_new p t = tt
+closes-in old channel out it (Waiting handle) closing heard new out_new p t = tt
+closes-in old channel out it Absent closing heard new out_new p t = closes-absent new (attach_of heard) closing
+closes-in old channel out it Attached closing heard new out_new p t = closes-attached new (attach_of heard) closing
 
 pub closes-for : (old : Talk) (channel : IncomingChannel) (out : List SessionFrame) (it : Attach) (named : NamedLink)
     (closing : Option Answer) (heard : LinkHeard) (it_took : Took) → it_took ≡ attach_of heard → (new : Talk)

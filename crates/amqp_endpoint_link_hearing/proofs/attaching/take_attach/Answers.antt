@@ -1,4 +1,5 @@
-use Rattle.std.proofs.Common.{List, refl, subst}
+use Rattle.std.proofs.Common.{◌<◌, List, refl, sym, subst}
+use Rattle.std.specs.VecDeque.{deque_capacity, deque_len}
 use Rattle.amqp_session_performatives.specs.declared.attach.Attach.{Attach}
 use Rattle.amqp_session_performatives.specs.declared.session_frame.SessionFrame.{SessionFrame}
 use Rattle.amqp_endpoint_model.specs.declared.event.Event.{Event}
@@ -52,8 +53,8 @@ returns-in-Ok-refuse-clause-ok c =
 pub returns-in-Ok-refuse-clause-goes : goal.returns-in-Ok-refuse-clause-goes
 returns-in-Ok-refuse-clause-goes c limit least = c.hear.ensures.goes limit answers-plain
 
-pub returns-in-Err-refuse-clause-err : goal.returns-in-Err-refuse-clause-err
-returns-in-Err-refuse-clause-err c =
+pub returns-clause-err : goal.returns-clause-err
+returns-clause-err c =
     attach-bars c.args.talk.now c.args.links.now c.args.channel c.args.attach c.args.named
     c.requires.named c.hear.new.talk c.in-Err-refuse.error
     (bars c.args.talk.now c.args.channel (said.Attach c.args.attach c.args.named) c.args.out.now.items
@@ -61,12 +62,16 @@ returns-in-Err-refuse-clause-err c =
     c.args.events.now.items c.refuse.new.events.items c.in-Err.refusal c.in-Err-refuse.error c.in-Err.ensures.step
     c.in-Err-refuse.ensures)
 
-pub returns-in-Err-refuse-clause-kept : goal.returns-in-Err-refuse-clause-kept
-returns-in-Err-refuse-clause-kept c =
+pub returns-clause-kept : goal.returns-clause-kept
+returns-clause-kept c =
     kept c.args.talk.now c.args.channel (said.Attach c.args.attach c.args.named) c.args.out.now.items
     c.hear.new.talk c.hear.new.out.items (c.hear.ensures.goes 0 answers-plain) c.args.links.now c.refuse.new.links
     c.args.events.now.items c.refuse.new.events.items c.in-Err.refusal c.in-Err-refuse.error refl
     c.in-Err.ensures.step c.in-Err-refuse.ensures
 
-pub returns-in-Err-refuse-clause-goes : goal.returns-in-Err-refuse-clause-goes
-returns-in-Err-refuse-clause-goes c limit least = c.hear.ensures.goes limit answers-plain
+pub returns-clause-goes : goal.returns-clause-goes
+returns-clause-goes c limit least = c.hear.ensures.goes limit answers-plain
+
+pub attach_heard-requires-clause-spare : goal.attach_heard-requires-clause-spare
+attach_heard-requires-clause-spare c =
+    subst (λ o. deque_len o < deque_capacity o) (sym (c.in-Ok.ensures.untouched refl)) c.requires.spare
