@@ -11,3 +11,6 @@ mod Lent
 mod Closings
 mod Takes
 mod Becoming
+mod Dispositions
+mod Transfers
+mod Transferred

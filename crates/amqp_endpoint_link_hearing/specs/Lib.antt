@@ -10,3 +10,4 @@ pub mod Leaves
 pub mod Readied
 pub mod Disposing
 pub mod Transferring
+pub mod Taking
