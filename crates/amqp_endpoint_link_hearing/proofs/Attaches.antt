@@ -88,8 +88,8 @@ module _ (old : Talk) (channel : IncomingChannel) (out : List SessionFrame) (it 
         says = ready.says;
         place =
             λ s live.
-                subst (λ (a : Session). HasPlace a.value handle true closing.error closing.place)
-                (same_Some _ _ (sym taken-there.stands ∙ live)) serves;
+            subst (λ (a : Session). HasPlace a.value handle true closing.error closing.place)
+            (same_Some _ _ (sym taken-there.stands ∙ live)) serves;
       }
 
 -- where none waits there is none to close

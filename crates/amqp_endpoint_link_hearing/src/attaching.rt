@@ -85,7 +85,9 @@ pub fn hear_attach(
     let asked = attach.clone()?;
     let named = named_on(talk, links, channel, &attach);
     let closing = make_ready(talk, alloc, channel, named)?;
-    let left = take_attach(talk, links, alloc, channel, attach, asked, named, closing, out, events)?;
+    let left = take_attach(
+        talk, links, alloc, channel, attach, asked, named, closing, out, events,
+    )?;
     Ok(left)
 }
 
@@ -193,7 +195,9 @@ fn attach_heard(
         }
         Took::ByLink(session, told) => match named {
             NamedLink::Waiting(handle) => match closing {
-                Some(closing) => take_by_link(talk, alloc, session, handle, told, closing, out, events),
+                Some(closing) => take_by_link(
+                    talk, alloc, session, handle, told, closing, out, events,
+                ),
                 None => unreachable!(),
             },
             NamedLink::Absent => None,
