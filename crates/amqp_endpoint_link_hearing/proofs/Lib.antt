@@ -10,3 +10,5 @@ mod Sizes
 mod Lent
 mod Closings
 mod Takes
+mod Partings
+mod Readies
