@@ -7,8 +7,8 @@ use Rattle.amqp_endpoint_model.specs.Said.{Told}
 use Rattle.amqp_endpoint_model.specs.State.{State, fresh}
 use Rattle.amqp_endpoint_model.specs.Step.{refusal_of_settings}
 use Rattle.amqp_endpoint_model.specs.History.{Run}
-use Rattle.amqp_endpoint_unlinked.specs.declared.unlinked.UnlinkedSessions.{UnlinkedSessions}
-use Rattle.amqp_endpoint_unlinked.specs.Does.{unlinked}
+use Rattle.amqp_endpoint_linked.specs.declared.linked.LinkedSessions.{LinkedSessions}
+use Rattle.amqp_endpoint_linked.specs.Does.{linked}
 use Rattle.amqp_endpoint_world.specs.WorldSaid.{WorldTold}
 use Rattle.amqp_endpoint_world.specs.WorldState.{IsNewWorld, WorldState}
 use Rattle.amqp_endpoint_world.specs.WorldStep.{WorldRun}
@@ -18,19 +18,19 @@ use Rattle.amqp_endpoint.specs.Printed.{printed, world_printed, line_end}
 -- the endpoint of these settings may answer the steps so, and that is printed
 pub record Plays (script : OneScript) (output : List ℕ) : Type 0 where
   pub tolds : List Told
-  pub sessions : UnlinkedSessions
-  pub last : State UnlinkedSessions
-  pub new : IsNew unlinked (script.given).settings sessions
-  pub run : Run unlinked (fresh (script.given).settings sessions) script.calls tolds last
+  pub sessions : LinkedSessions
+  pub last : State LinkedSessions
+  pub new : IsNew linked (script.given).settings sessions
+  pub run : Run linked (fresh (script.given).settings sessions) script.calls tolds last
   pub output_is : output ≡ printed script.lines tolds
 
 -- two endpoints of these settings may do the steps so, and that is printed
 pub record PlaysTwo (script : TwoScript) (output : List ℕ) : Type 0 where
   pub tolds : List WorldTold
-  pub start : WorldState UnlinkedSessions
-  pub last : WorldState UnlinkedSessions
-  pub new : IsNewWorld unlinked (script.given_a).settings (script.given_b).settings start
-  pub run : WorldRun unlinked start script.steps tolds last
+  pub start : WorldState LinkedSessions
+  pub last : WorldState LinkedSessions
+  pub new : IsNewWorld linked (script.given_a).settings (script.given_b).settings start
+  pub run : WorldRun linked start script.steps tolds last
   pub output_is : output ≡ world_printed script.lines script.steps tolds
 
 -- settings are refused

@@ -4,17 +4,17 @@
 pub mod scenario;
 pub mod world;
 
-/// One end of an AMQP connection, with its sessions. It attaches no link: the peer may ask for links, and whatever else
-/// it says of one is a fault of its session (part 2, 2.8.17).
-pub type Endpoint = amqp_endpoint_core::Endpoint<UnlinkedSessions>;
+/// One end of an AMQP connection, with its sessions and their links. No message is sent or handed out yet: a link that
+/// has a whole message of its peer's is closed, and `Refused` is told.
+pub type Endpoint = amqp_endpoint_core::Endpoint<LinkedSessions>;
 
 pub use amqp_endpoint_core::play;
+pub use amqp_endpoint_linked::LinkedSessions;
 pub use amqp_endpoint_model::{
     Answer, Attached, Attaching, Begun, Call, Closed, Detached, Ended, EndpointError, Event, Fed,
     LinkAsked, Opened, Refused, Reply, SessionAsked, SessionRelay, Settings,
 };
 pub use amqp_endpoint_settings::LinkSettings;
-pub use amqp_endpoint_unlinked::{NoLink, UnlinkedSessions};
 pub use amqp_link_attach::AttachExchange;
 pub use amqp_link_types::{LinkError, LinkStateError};
 pub use amqp_session_frames::{

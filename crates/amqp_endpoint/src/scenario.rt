@@ -17,7 +17,7 @@ mod terms;
 
 use amqp_endpoint_core::play;
 use amqp_endpoint_model::{EndpointError, Settings};
-use amqp_endpoint_unlinked::UnlinkedSessions;
+use amqp_endpoint_linked::LinkedSessions;
 use amqp_endpoint_world::world;
 use printing::{print_replies, print_world};
 use script::{Given, OneScript, Parsed, TwoScript, parse};
@@ -163,7 +163,7 @@ fn perform_one(alloc: Global, script: OneScript) -> Result<Outcome, AllocError>
         calls,
     } = script;
     let Given { line, settings } = given;
-    match play::<UnlinkedSessions>(alloc, settings, calls.as_slice()) {
+    match play::<LinkedSessions>(alloc, settings, calls.as_slice()) {
         Ok(replies) => Ok(Outcome {
             output: print_replies(alloc, lines.as_slice(), replies.as_slice())?,
             status: 0,
@@ -185,7 +185,7 @@ fn perform_two(alloc: Global, script: TwoScript) -> Result<Outcome, AllocError>
     if let Some(error) = refusal_of_settings(alloc, &given_a.settings)? {
         return refused_on(alloc, given_a.line, &error);
     }
-    match world::run::<UnlinkedSessions>(
+    match world::run::<LinkedSessions>(
         alloc,
         given_a.settings,
         given_b.settings,
@@ -211,7 +211,7 @@ fn refusal_of_settings(
 ) -> Result<Option<EndpointError>, AllocError>
     ensures { IfOk result (λ refusal. refusal ≡ refusal_of_settings settings.now) }
 {
-    match play::<UnlinkedSessions>(alloc, copy_settings(settings)?, &[]) {
+    match play::<LinkedSessions>(alloc, copy_settings(settings)?, &[]) {
         Ok(_) => Ok(None),
         Err(error) => Ok(Some(unless_memory(error)?)),
     }

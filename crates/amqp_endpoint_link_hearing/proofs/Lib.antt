@@ -12,3 +12,7 @@ mod Closings
 mod Takes
 mod Partings
 mod Readies
+mod Becoming
+mod Dispositions
+mod Transfers
+mod Transferred

@@ -8,11 +8,9 @@ mod back;
 mod calling;
 mod hearing;
 pub mod laws;
-mod linked;
 mod over;
 
 pub use back::give_back;
 pub use calling::{accept_begin, begin, end, fail};
 pub use hearing::{hear_begin, hear_end};
-pub use linked::LinkedSessions;
 pub use over::{finish, leave};

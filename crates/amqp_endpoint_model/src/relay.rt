@@ -132,6 +132,7 @@ pub trait SessionRelay: Drop {
         out: &mut VecDeque<SessionFrame>,
     ) -> Result<(), EndpointError>
         requires least { 512 ≤ limit }
+        requires waiting { does.within limit self.old }
         ensures ok { OnOk result
             (Called does self.old limit (End number) done out.old.items self.new out.new.items) }
         ensures err { IfErr result (does.bars self.old limit (End number)) }
@@ -169,6 +170,7 @@ pub trait SessionRelay: Drop {
         out: &mut VecDeque<SessionFrame>,
     ) -> Result<Attaching, EndpointError>
         requires least { 512 ≤ limit }
+        requires waiting { does.within limit self.old }
         ensures ok { IfOk result (λ a. Called does self.old limit (AttachSender session settings.now)
             (attaching a.link a.events.items) out.old.items self.new out.new.items) }
         ensures err { IfErr result (does.bars self.old limit (AttachSender session settings.now)) }
@@ -188,6 +190,7 @@ pub trait SessionRelay: Drop {
         out: &mut VecDeque<SessionFrame>,
     ) -> Result<Attaching, EndpointError>
         requires least { 512 ≤ limit }
+        requires waiting { does.within limit self.old }
         ensures ok { IfOk result (λ a. Called does self.old limit (AttachReceiver session settings.now)
             (attaching a.link a.events.items) out.old.items self.new out.new.items) }
         ensures err { IfErr result (does.bars self.old limit (AttachReceiver session settings.now)) }
@@ -207,6 +210,7 @@ pub trait SessionRelay: Drop {
         out: &mut VecDeque<SessionFrame>,
     ) -> Result<(), EndpointError>
         requires least { 512 ≤ limit }
+        requires waiting { does.within limit self.old }
         ensures ok { OnOk result
             (Called does self.old limit (Detach link) done out.old.items self.new out.new.items) }
         ensures err { IfErr result (does.bars self.old limit (Detach link)) }
@@ -226,6 +230,7 @@ pub trait SessionRelay: Drop {
         out: &mut VecDeque<SessionFrame>,
     ) -> Result<Vec<Event>, EndpointError>
         requires least { 512 ≤ limit }
+        requires waiting { does.within limit self.old }
         ensures ok { IfOk result (λ events. Called does self.old limit (CloseLink link) (link_closed events.items)
             out.old.items self.new out.new.items) }
         ensures err { IfErr result (does.bars self.old limit (CloseLink link)) }
@@ -246,6 +251,7 @@ pub trait SessionRelay: Drop {
         out: &mut VecDeque<SessionFrame>,
     ) -> Result<u32, EndpointError>
         requires least { 512 ≤ limit }
+        requires waiting { does.within limit self.old }
         ensures ok { IfOk result (λ left. Called does self.old limit (Grant link credit) (credit_is left)
             out.old.items self.new out.new.items) }
         ensures err { IfErr result (does.bars self.old limit (Grant link credit)) }
@@ -264,6 +270,7 @@ pub trait SessionRelay: Drop {
         out: &mut VecDeque<SessionFrame>,
     ) -> Result<(), EndpointError>
         requires least { 512 ≤ limit }
+        requires waiting { does.within limit self.old }
         ensures ok { OnOk result
             (Called does self.old limit (Drain link) done out.old.items self.new out.new.items) }
         ensures err { IfErr result (does.bars self.old limit (Drain link)) }

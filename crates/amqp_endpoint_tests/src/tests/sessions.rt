@@ -1,7 +1,7 @@
 //! What no script asks for: whether a session is over, that its peer's End is told of once, what waits in it, and the
 //! credit of a link.
 use amqp_endpoint::{
-    Answer, Call, EndpointError, IncomingChannel, Settings, Text, TryEndError, UnlinkedSessions,
+    Answer, Call, EndpointError, IncomingChannel, Settings, Text, TryEndError, LinkedSessions,
     play,
 };
 use bytes::Bytes;
@@ -80,7 +80,7 @@ fn sessions_are_asked(rt: HostRuntime) -> Result<(), Fail> {
         ("unknown session", 4),
         ("unknown link", 4),
     ];
-    let replies = play::<UnlinkedSessions>(alloc, settings, &calls)?;
+    let replies = play::<LinkedSessions>(alloc, settings, &calls)?;
     assert_eq!(rt; replies.len(), wanted.len());
     for (reply, wanted) in replies.iter().zip(wanted) {
         assert_eq!(rt; (said(&reply.answer), reply.queued), wanted);

@@ -1,6 +1,6 @@
 //! Two endpoints that open and close, with the bytes between them cut.
 use amqp_endpoint::world::{Did, End, Moved, Step, run};
-use amqp_endpoint::{Answer, Call, EndpointError, Settings, Text, UnlinkedSessions};
+use amqp_endpoint::{Answer, Call, EndpointError, Settings, Text, LinkedSessions};
 use std::alloc::{AllocError, Global};
 use std::test::Fail;
 
@@ -61,7 +61,7 @@ fn two_ends_open_and_close(rt: HostRuntime) -> Result<(), Fail> {
         ((3, 0, 0), 0, 0),
     ];
     let alloc = rt.alloc();
-    let replies = run::<UnlinkedSessions>(
+    let replies = run::<LinkedSessions>(
         alloc,
         settings(alloc, "a")?,
         settings(alloc, "b")?,

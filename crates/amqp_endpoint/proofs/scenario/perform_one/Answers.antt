@@ -5,7 +5,7 @@ use Rattle.amqp_endpoint_model.specs.declared.error.EndpointError.{EndpointError
 use Rattle.amqp_endpoint_model.specs.Said.{told}
 use Rattle.amqp_endpoint_model.specs.State.{fresh}
 use Rattle.amqp_endpoint_model.specs.History.{Run}
-use Rattle.amqp_endpoint_unlinked.specs.Does.{unlinked}
+use Rattle.amqp_endpoint_linked.specs.Does.{linked}
 use Rattle.amqp_endpoint.specs.Parsed.{one_of}
 use Rattle.amqp_endpoint.specs.Performed.{one_with}
 use Rattle.amqp_endpoint.specs.Printed.{printed}
@@ -18,7 +18,7 @@ returns-in-Ok-clause-output c =
     λ o. one_with (one_of c.args.script) o (string_bytes c.in_ok-print_replies-in-Ok.field-0) 0 in
     let R : List Call → Type 0 =
     λ calls.
-    Run unlinked (fresh c.args.script.given.settings sessions) calls (map told c.in-Ok.replies.items) last in
+    Run linked (fresh c.args.script.given.settings sessions) calls (map told c.in-Ok.replies.items) last in
     subst P (sym c.in-Ok.ensures.accepted) (
       record {
         tolds = map told c.in-Ok.replies.items;

@@ -1,7 +1,7 @@
 use Rattle.std.proofs.Common.{ℕ, List, map, Option, None, string_bytes, refl, sym, ap, subst, ◌∙◌}
 use Rattle.amqp_endpoint_model.specs.declared.error.EndpointError.{EndpointError}
 use Rattle.amqp_endpoint_model.specs.Step.{refusal_of_settings}
-use Rattle.amqp_endpoint_unlinked.specs.Does.{unlinked}
+use Rattle.amqp_endpoint_linked.specs.Does.{linked}
 use Rattle.amqp_endpoint_world.specs.declared.reply.WorldReply.{WorldReply}
 use Rattle.amqp_endpoint_world.specs.declared.step.Step.{Step}
 use Rattle.amqp_endpoint_world.specs.WorldSaid.{world_told}
@@ -17,7 +17,7 @@ returns-in-Ok-clause-output c =
     let P : Option EndpointError → Option EndpointError → Type 0 =
     λ a b. two_with (two_of c.args.script) a b (string_bytes c.in_ok-print_world-in-Ok.field-0) 0 in
     let R : List Step → Type 0 =
-    λ steps. WorldRun unlinked start steps (map world_told c.in-Ok.replies.items) last in
+    λ steps. WorldRun linked start steps (map world_told c.in-Ok.replies.items) last in
     subst (λ (a : Option EndpointError). P a (refusal_of_settings c.args.script.given_b.settings))
     (sym c.in-Ok.ensures.accepted.0) (
     subst (λ (b : Option EndpointError). P None b) (sym c.in-Ok.ensures.accepted.1) (

@@ -1,0 +1,36 @@
+-- What the sessions of an endpoint do, with their links.
+use Rattle.amqp_endpoint_names.specs.State as names
+use Rattle.amqp_endpoint_sessions.specs.State.{fresh}
+use Rattle.amqp_endpoint_model.specs.Relay.{Relations}
+use Rattle.amqp_endpoint_talk.specs.Going.{NoneLive, Within}
+use Rattle.amqp_endpoint_linking.specs.Ending.{Finishes, Leaves}
+use Rattle.amqp_endpoint_linked.specs.declared.linked.LinkedSessions.{LinkedSessions}
+use Rattle.amqp_endpoint_linked.specs.Calling.{BarsCall, Calls}
+use Rattle.amqp_endpoint_linked.specs.Hearing.{Hears, Refuses}
+
+abbrev pub linked : Relations LinkedSessions
+linked =
+    record {
+      fresh = λ connection first window. record {
+        talk = record {
+          sessions = fresh connection;
+          first_transfer_number = first;
+          incoming_window = window;
+        };
+        links = names.fresh;
+      };
+      connection = λ s. s.talk.sessions.connection;
+      moved = λ s connection. record s {
+        talk = record s.talk { sessions = record s.talk.sessions { connection = connection } };
+      };
+      takes = λ s limit channel it frames events new.
+          Hears s.talk s.links (record { 0 = channel }) it frames events new.talk new.links;
+      refuses = λ s limit channel it e new.
+          Refuses s.talk s.links (record { 0 = channel }) it e new.talk new.links;
+      calls = λ s limit call answer frames new. Calls s limit call answer frames new;
+      bars = λ s limit call e. BarsCall s limit call e;
+      within = λ limit s. Within limit s.talk;
+      idle = λ s. NoneLive s.talk;
+      closes = λ s new. Leaves s.talk s.links new.talk new.links;
+      finishes = λ s new. Finishes s.talk s.links new.talk new.links;
+    }

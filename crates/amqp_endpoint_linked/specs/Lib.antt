@@ -1,0 +1,4 @@
+pub mod Hearing
+pub mod Attaching
+pub mod Calling
+pub mod Does

@@ -1,9 +1,0 @@
-use Rattle.std.proofs.Common.{◌≡◌, length}
-use Rattle.amqp_endpoint_unlinked.specs.Ending.{FinishesFirst}
-use Rattle.amqp_endpoint_unlinked.proofs.over.finish.Given as goal
-
-abbrev pub invariant-loop-number : goal.invariant-loop-number
-invariant-loop-number l = record {
-  end : l.number-end ≡ length (l.initial.sessions.places);
-  finished : FinishesFirst l.number l.initial.sessions l.sessions;
-}
