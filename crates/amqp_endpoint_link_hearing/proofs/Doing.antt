@@ -15,9 +15,9 @@ use Rattle.amqp_endpoint_links.specs.declared.numbered.Numbered.{Numbered}
 use Rattle.amqp_endpoint_links.specs.History.{AskingHistory, AskingStep, InSession}
 use Rattle.amqp_endpoint_sessions.specs.Steps.{ChangesLive, Steps}
 use Rattle.amqp_endpoint_model.specs.State.{error_of, fits, frame_of}
-use Rattle.amqp_endpoint_model.specs.Step.{not_allowed}
-use Rattle.amqp_endpoint_lengths.specs.Plain.{IsPlainDetach, SaysConditionAlone}
-use Rattle.amqp_endpoint_lengths.proofs.Frames.{detach_fits, larger_fits, not_allowed-short}
+use Rattle.amqp_session_outgoing.specs.Queues.{room_behind}
+use Rattle.amqp_endpoint_lengths.specs.Plain.{SaysConditionAlone}
+use Rattle.amqp_endpoint_lengths.proofs.Frames.{detach_fits, message_size_exceeded-short, not_allowed-short, transfer_limit_exceeded-short}
 use Rattle.amqp_endpoint_fitting.specs.Handed.{AllAskingEndFit, AllAskingHand, AllAskingSendFit}
 use Rattle.amqp_endpoint_fitting.specs.Read.{IsRead}
 use Rattle.amqp_endpoint_talk.specs.Going.{Goes, Rests}
@@ -28,8 +28,10 @@ use Rattle.amqp_endpoint_attached.specs.Linked.{Linked, end_at, gives}
 use Rattle.amqp_endpoint_attached.specs.TakenOut.{TakenOut}
 use Rattle.amqp_endpoint_linking.specs.Linking.{Link, Session, Talk}
 use Rattle.amqp_endpoint_linking.specs.Handed.{Hands}
-use Rattle.amqp_endpoint_link_hearing.specs.InSession.{AnswersIf, Closes, ClosesIf, GoesOn, Parts}
-use Rattle.amqp_endpoint_link_hearing.specs.Leaving.{detach_frame}
+use Rattle.amqp_endpoint_link_hearing.specs.InSession.{AnswersIf, Closes, ClosesIf, GoesOn, Parts, name_of}
+use Rattle.amqp_endpoint_link_hearing.specs.Leaving.{HasPlace, detach_frame}
+use Rattle.amqp_endpoint_link_hearing.specs.declared.closing.Condition.{Condition}
+use Rattle.amqp_endpoint_link_hearing.specs.declared.closing.Condition.TheVariants as condition
 use Rattle.amqp_endpoint_link_hearing.proofs.Plain.{answers-plain}
 
 abbrev pub LinkStep : Type 0
@@ -129,26 +131,37 @@ pub parts-done : (limit : ℕ) (old : Linked) (handle : OutputHandle) (answers c
 parts-done limit old handle answers closed error left frames new fit p =
     parted limit old handle answers closed error left frames p.mid new fit p.answered p.out
 
--- a Detach that says the condition alone fits
-pub condition-fits : (limit : ℕ) (old : Linked) (handle : OutputHandle) → handle.0 < 2 ^ 32 → 512 ≤ limit
-    → Fits limit old handle true (Some (error_of not_allowed))
-condition-fits limit old handle small least =
-    larger_fits limit
-    (frame_of (detach_frame old.session.fields.channel (own_detach handle true (Some (error_of not_allowed))))) least
-    (detach_fits old.session.fields.channel.0 (own_detach handle true (Some (error_of not_allowed)))
-    (record { handle = small; error = not_allowed-short }))
+-- each condition that a link is closed with is short
+condition-short : (condition : Condition) → SaysConditionAlone (error_of (name_of condition))
+condition-short condition.NotAllowed = not_allowed-short
+condition-short condition.TransferLimitExceeded = transfer_limit_exceeded-short
+condition-short condition.MessageSizeExceeded = message_size_exceeded-short
 
-closed-if : (there : Bool) (limit : ℕ) (old : Linked) (handle : OutputHandle) (frames : List SessionFrame)
-    (new : Linked) → Fits limit old handle true (Some (error_of not_allowed))
-    → ClosesIf there old handle frames new → Done limit old frames new
-closed-if true limit old handle frames new fit g =
-    given limit old handle true (Some (error_of not_allowed)) frames new fit g
-closed-if false limit old handle frames new fit g = unchanged limit old frames new g.0 g.1
+-- so there is a place for the closing Detach, which fits
+pub closing-placed : (s : Linked) (handle : OutputHandle) (condition : Condition) (name : List ℕ) (place : ℕ)
+    → name ≡ name_of condition → handle.0 < 2 ^ 32 → room_behind handle.0 1 s.session.outgoing.queues ≤ place
+    → HasPlace s handle true (Some (error_of name)) place
+closing-placed s handle condition name place is small room =
+    record {
+      room = room;
+      fit =
+          detach_fits s.session.fields.channel.0 (own_detach handle true (Some (error_of name)))
+          (record {
+            handle = small;
+            error = subst (λ (n : List ℕ). SaysConditionAlone (error_of n)) (sym is) (condition-short condition);
+          });
+    }
 
-pub closes-done : (limit : ℕ) (old : Linked) (handle : OutputHandle) (frames : List SessionFrame) (new : Linked)
-    → handle.0 < 2 ^ 32 → 512 ≤ limit → Closes handle frames old new → Done limit old frames new
-closes-done limit old handle frames new small least c =
-    closed-if (is_there (end_at old handle)) limit old handle frames new (condition-fits limit old handle small least) c
+closed-if : (there : Bool) (limit : ℕ) (why : Option Error) (old : Linked) (handle : OutputHandle)
+    (frames : List SessionFrame) (new : Linked) → Fits limit old handle true why
+    → ClosesIf there why old handle frames new → Done limit old frames new
+closed-if true limit why old handle frames new fit g = given limit old handle true why frames new fit g
+closed-if false limit why old handle frames new fit g = unchanged limit old frames new g.0 g.1
+
+pub closes-done : (limit : ℕ) (why : Option Error) (old : Linked) (handle : OutputHandle) (frames : List SessionFrame)
+    (new : Linked) → Fits limit old handle true why → Closes why handle frames old new → Done limit old frames new
+closes-done limit why old handle frames new fit c =
+    closed-if (is_there (end_at old handle)) limit why old handle frames new fit c
 
 -- so it goes on
 module _ (Does : List SessionFrame → Linked → Linked → Type 0) (old : Talk) (session : ℕ) (new : Talk)

@@ -5,6 +5,7 @@ use Rattle.std.proofs.lemmas.List.Elements.{All-nil}
 use Rattle.amqp_session_types.specs.declared.channels.IncomingChannel.{IncomingChannel}
 use Rattle.amqp_session_performatives.specs.declared.flow.Flow.{Flow}
 use Rattle.amqp_session_performatives.specs.declared.session_frame.SessionFrame.{SessionFrame}
+use Rattle.amqp_endpoint_links.specs.declared.hearing.LinkPerformative.{LinkPerformative}
 use Rattle.amqp_endpoint_links.specs.declared.hearing.LinkPerformative.TheVariants as said
 use Rattle.amqp_endpoint_conversation.specs.Hearing.{Answered}
 use Rattle.amqp_endpoint_model.specs.declared.error.EndpointError.{EndpointError}
@@ -79,16 +80,15 @@ module _ (old : Talk) (channel : IncomingChannel) (flow : Flow) (out : List Sess
       }
 
 -- what was refused
-pub forgotten : (old : Talk) (channel : IncomingChannel) (flow : Flow) (out : List SessionFrame) (new : Talk)
+pub forgotten : (old : Talk) (channel : IncomingChannel) (it : LinkPerformative) (out : List SessionFrame) (new : Talk)
     (out_new : List SessionFrame) (r : Result LinkHeard LinkRefusal) (refusal : LinkRefusal) → Forgets r (Err refusal)
-    → Answered gives old out channel (said.Flow flow) r new out_new
-    → Answered gives old out channel (said.Flow flow) (Err refusal) new out_new
-forgotten old channel flow out new out_new (Ok heard) refusal is answered = absurd is
-forgotten old channel flow out new out_new (Err why) refusal is answered =
-    subst (λ (x : LinkRefusal). Answered gives old out channel (said.Flow flow) (Err x) new out_new) (sym is) answered
+    → Answered gives old out channel it r new out_new → Answered gives old out channel it (Err refusal) new out_new
+forgotten old channel it out new out_new (Ok heard) refusal is answered = absurd is
+forgotten old channel it out new out_new (Err why) refusal is answered =
+    subst (λ (x : LinkRefusal). Answered gives old out channel it (Err x) new out_new) (sym is) answered
 
 -- there is no memory even for what is told
-pub flow-untold : (old : Talk) (channel : IncomingChannel) (flow : Flow) (e : EndpointError) → e ≡ fault.Memory
-    → IsSessionFault e × RefusesSaid old channel (said.Flow flow) e old
-flow-untold old channel flow e is =
+pub untold : (old : Talk) (channel : IncomingChannel) (it : LinkPerformative) (e : EndpointError) → e ≡ fault.Memory
+    → IsSessionFault e × RefusesSaid old channel it e old
+untold old channel it e is =
     let why : IsSessionFault e = subst IsSessionFault (sym is) tt in (why, inr (is, refl))

@@ -97,25 +97,26 @@ module _ (Does : List SessionFrame → Linked → Linked → Type 0) (old : Talk
         queued = h.queued;
       }
 
--- a link is closed, or there is no memory for it
-module _ (old : Talk) (session : ℕ) (handle : OutputHandle) (new : Talk) (out out_new : List SessionFrame) where
+-- a link is closed, where there is a place for its Detach
+module _ (old : Talk) (session : ℕ) (handle : OutputHandle) (why : Option Error) (new : Talk)
+    (out out_new : List SessionFrame) where
   abbrev ClosedSo : Type 0
-  ClosedSo = Hands (λ (frames : List SessionFrame). GoesOn (Closes handle frames) old session new) out out_new
+  ClosedSo = Hands (λ (frames : List SessionFrame). GoesOn (Closes why handle frames) old session new) out out_new
 
-  pub closed-goes : {E : Type 0} (r : Result ⊤ E) (limit from : ℕ) → OnOk r ClosedSo
-      → OnErr r ((new ≡ old) × (out_new ≡ out)) → from ≡ length out → All IsRead (drop from out_new)
-      → handle.0 < 2 ^ 32 → 512 ≤ limit → Goes limit old new out out_new
-  closed-goes (Ok done) limit from h kept is reads small least =
+  pub closed-goes : (limit from place : ℕ) → (h : ClosedSo) → from ≡ length out → All IsRead (drop from out_new)
+      → ((s : Session) → live_at old.sessions session ≡ Some s → HasPlace s.value handle true why place)
+      → 512 ≤ limit → Goes limit old new out out_new
+  closed-goes limit from place h is reads places least =
       let g = h.is_so in
-      done-goes (Closes handle) old session new out out_new h limit from is reads
-      (closes-done limit (g.before).value handle h.frames (g.after).value small least g.done)
-  closed-goes (Err e) limit from h kept is reads small least =
-      goes-same limit old new out out_new kept.0 kept.1
+      let before = (g.before).value in
+      let short = (places g.before (g.stepped).0).fit in
+      done-goes (Closes why handle) old session new out out_new h limit from is reads
+      (closes-done limit why before handle h.frames (g.after).value
+      (larger_fits limit
+      (frame_of (detach_frame before.session.fields.channel (own_detach handle true why))) least short) g.done)
 
-  pub closed-rests : {E : Type 0} (r : Result ⊤ E) → OnOk r ClosedSo → OnErr r ((new ≡ old) × (out_new ≡ out))
-      → Rests old new out out_new
-  closed-rests (Ok done) h kept = done-rests (Closes handle) old session new out out_new h
-  closed-rests (Err e) h kept = rests-same old new out out_new kept.0 kept.1
+  pub closed-rests : ClosedSo → Rests old new out out_new
+  closed-rests h = done-rests (Closes why handle) old session new out out_new h
 
 -- a link leaves its session
 module _ (old : Talk) (session : ℕ) (handle : OutputHandle) (answers closed : Bool) (error : Option Error)

@@ -10,3 +10,6 @@ mod Sizes
 mod Lent
 mod Closings
 mod Takes
+mod Dispositions
+mod Transfers
+mod Transferred

@@ -9,3 +9,4 @@ pub mod Detaching
 pub mod Leaves
 pub mod Disposing
 pub mod Transferring
+pub mod Taking

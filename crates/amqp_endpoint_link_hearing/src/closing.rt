@@ -1,5 +1,5 @@
 //! A link is closed here, for its peer's fault (part 2, 2.6.6).
-ghost use Rattle.std.specs.Prelude.{◌≡◌, ◌≤◌, ◌<◌, ℕ, IfOk, IsSome, Some, true};
+ghost use Rattle.std.specs.Prelude.{◌≡◌, ◌≤◌, ◌<◌, ◌+◌, ℕ, IfOk, IsSome, Some, true};
 ghost use Rattle.std.specs.VecDeque.{deque_capacity, deque_len};
 ghost use Rattle.amqp_session_outgoing.specs.Queues.{room_behind};
 ghost use Rattle.amqp_endpoint_model.specs.State.{error_of};
@@ -92,9 +92,9 @@ pub(crate) fn close(
         out.old.items out.new.items }
     ensures goes { (limit : ℕ) → 512 ≤ limit → Goes limit talk.old talk.new out.old.items out.new.items }
     ensures rests { Rests talk.old talk.new out.old.items out.new.items }
+    ensures added { deque_len out.new ≤ deque_len out.old + 1 }
     ensures capacity { deque_capacity out.new ≡ deque_capacity out.old }
 {
-    handle_is_read(handle);
     let from = out.len();
     let Some(session) = talk.sessions.live_mut(session) else {
         unreachable!()
@@ -114,6 +114,7 @@ fn close_in(
     requires spare { deque_len out.old < deque_capacity out.old }
     ensures closed { Hands (λ frames. Closes closing.error handle frames session.old session.new)
         out.old.items out.new.items }
+    ensures added { deque_len out.new ≤ deque_len out.old + 1 }
     ensures capacity { deque_capacity out.new ≡ deque_capacity out.old }
 {
     if !is_attached(session, handle) {

@@ -1,18 +1,23 @@
-//! What the peer says of links in the sessions of an endpoint: its Attach, its Flows and its Detach (part 2, 2.6.3 to
-//! 2.6.6, 2.7.4).
+//! What the peer says of links in the sessions of an endpoint: its Attach, its Flows, its Transfers and Dispositions, and
+//! its Detach (part 2, 2.6.3 to 2.6.6, 2.7.3 to 2.7.7).
 //!
-//! What comes of it say specs/: Attaching, Flowing and Detaching; how a session refuses it, Saying.
+//! What comes of it say specs/: Attaching, Flowing, Transferring, Disposing and Detaching; how a session refuses it,
+//! Saying.
 #![tactic(auto)]
 
 mod attaching;
 mod closing;
 mod detaching;
+mod disposing;
 mod flowing;
 mod hearing;
 mod leaving;
 mod naming;
 mod refusing;
+mod transferring;
 
 pub use attaching::{LinkAttached, hear_attach};
 pub use detaching::hear_detach;
+pub use disposing::hear_disposition;
 pub use flowing::hear_flow;
+pub use transferring::hear_transfer;

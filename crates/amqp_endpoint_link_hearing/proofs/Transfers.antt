@@ -1,0 +1,252 @@
+-- The peer's Transfer, once it is heard.
+use Rattle.std.proofs.Common.{◌≡◌, ◌≤◌, inl, inr, ℕ, Bool, true, false, List, [], ◌∷◌, ◌++◌, Option, Some, None, Ok, IsSome, refl, sym, ap, subst, ◌∙◌, append-nil, arith}
+use Rattle.std.specs.Prelude.{is_some, if◌then◌else◌, slice_index_or}
+use Rattle.std.proofs.lemmas.Option.{none-some, same_Some}
+use Rattle.amqp_session_types.specs.declared.channels.IncomingChannel.{IncomingChannel}
+use Rattle.amqp_session_performatives.specs.declared.session_frame.SessionFrame.{SessionFrame}
+use Rattle.amqp_session_performatives.specs.declared.transfer.Transfer.{Transfer}
+use Rattle.amqp_session_core.specs.State.{link_at, live_in, reached}
+use Rattle.amqp_session_core.specs.Told.{TransferAt}
+use Rattle.amqp_session_core.specs.declared.incoming.TransferTaken.{TransferTaken}
+use Rattle.std.specs.FinMap as map
+use Rattle.amqp_link_receiving.specs.declared.answer.Told.{Told}
+use Rattle.amqp_link_types.specs.declared.refusals.ReceiverTransferError.{ReceiverTransferError}
+use Rattle.amqp_endpoint_links.specs.declared.hearing.LinkPerformative.TheVariants as said
+use Rattle.amqp_endpoint_links.specs.declared.hearing.PerformativeTaken.TheVariants as taken
+use Rattle.amqp_endpoint_conversation.specs.declared.hearing.Heard.TheVariants.{Live}
+use Rattle.amqp_endpoint_conversation.specs.Hearing.{Answered}
+use Rattle.amqp_endpoint_fitting.specs.Read.{IsRead}
+use Rattle.amqp_endpoint_fitting.proofs.Due.{due}
+use Rattle.amqp_endpoint_sessions.specs.State.{live_at}
+use Rattle.amqp_endpoint_model.specs.declared.error.EndpointError.{EndpointError}
+use Rattle.amqp_endpoint_model.specs.declared.error.EndpointError.TheVariants as fault
+use Rattle.amqp_endpoint_model.specs.declared.event.Event.{Event}
+use Rattle.amqp_endpoint_model.specs.Relay.{IsSessionFault}
+use Rattle.amqp_endpoint_model.specs.State.{fits, frame_of}
+use Rattle.amqp_endpoint_talk.proofs.Alone.{answer-alone}
+use Rattle.amqp_endpoint_attached.specs.Linked.{Linked, gives}
+use Rattle.amqp_endpoint_attached.proofs.There.{replaced}
+use Rattle.amqp_endpoint_linking.specs.Linking.{Link, Links, Session, Talk}
+use Rattle.amqp_endpoint_linking.specs.Handed.{Tells}
+use Rattle.amqp_endpoint_link_hearing.specs.Saying.{Answers, FailsBySaid, LinkHeard}
+use Rattle.amqp_endpoint_link_hearing.specs.Taking.{ClosesBy, ClosesFor, FailsFor, FailsIn, FlowFits, StandsIn, TakenIn, reached_in, reached_of}
+use Rattle.amqp_endpoint_link_hearing.specs.Transferring.{Becomes, ClosedBy, ClosedIf, HearsTransfer, IsUnclosed, RefusesTransfer, fault_of, transfer_of}
+use Rattle.amqp_endpoint_link_hearing.proofs.Heard.{IsTaken, taken-in}
+
+-- a handle that reached a link reaches it while the link is there
+still-live : (links new : List (Option Link)) (r : Option ℕ) (handle : ℕ) (link : Link)
+    → live_in links r ≡ Some handle → slice_index_or new handle None ≡ Some link → live_in new r ≡ Some handle
+still-live links new None handle link is there = absurd (none-some _ is)
+still-live links new (Some h) handle link is there = by (is_some (slice_index_or links h None)) is
+  where
+    by : (b : Bool) → (if b then Some h else None) ≡ Some handle → live_in new (Some h) ≡ Some handle
+    by true e =
+        let same : h ≡ handle = same_Some _ _ e in
+        let P : ℕ → Type 0 = λ k. live_in new (Some k) ≡ Some handle in
+        let here : live_in new (Some handle) ≡ Some handle =
+        ap (λ (o : Option Link). if is_some o then Some handle else None) there in subst P (sym same) here
+    by false e = absurd (none-some _ e)
+
+-- the link that the peer's handle reached took its Transfer
+pub record TransferredThere (old new : Linked) (it : Transfer) : Type 0 where
+  pub handle : ℕ
+  pub reaches : reached old.session it.handle.0 ≡ Some handle
+  pub still : reached new.session it.handle.0 ≡ Some handle
+  pub link : Link
+  pub there : link_at new.session handle ≡ Some link
+
+transfer-in : (old new : Linked) (it : Transfer) (payload : List ℕ) (at : Option ℕ) (told : TransferTaken Told)
+    → TransferAt gives old.session it payload at (Ok told) new.session → TransferredThere old new it
+transfer-in old new it payload None told t = absurd t
+transfer-in old new it payload (Some handle) told t =
+    let s = t.stepped in
+    let there : link_at new.session handle ≡ Some (s.1).after =
+    ap (λ (ls : List (Option Link)). slice_index_or ls handle None) (s.1).others
+    ∙ replaced old.session handle (s.1).before (s.1).after (sym (s.1).had) in
+    record {
+      handle = handle;
+      reaches = s.0;
+      still =
+          ap (λ st. reached st it.handle.0) s.3
+          ∙ still-live old.session.links new.session.links (map.get old.session.routes it.handle.0) handle
+          (s.1).after s.0 there;
+      link = (s.1).after;
+      there = there;
+    }
+
+-- the Flow of the session fits
+flow-fits : (o : Option SessionFrame)
+    → ((flow : SessionFrame) → o ≡ Some flow → IsRead flow → fits 512 (frame_of flow) ≡ true) → FlowFits o
+flow-fits None f = tt
+flow-fits (Some flow) f = f flow refl
+
+module _ (old : Talk) (channel : IncomingChannel) (out : List SessionFrame) (it : Transfer) (payload : List ℕ)
+    (session : ℕ) (told : TransferTaken Told) (mid : Talk) (out_mid : List SessionFrame)
+    (t : Answered gives old out channel (said.Transfer it payload) (Ok (Live session (taken.Transfer told))) mid
+    out_mid) where
+  taken-there : IsTaken old channel out (said.Transfer it payload) session (taken.Transfer told) mid out_mid
+  taken-there = taken-in old channel out (said.Transfer it payload) session (taken.Transfer told) mid out_mid t
+
+  link-there : TransferredThere (taken-there.before).value ((taken-there.takes).after).value it
+  link-there =
+      transfer-in (taken-there.before).value ((taken-there.takes).after).value it payload
+      (reached ((taken-there.before).value).session it.handle.0) told
+      ((((taken-there.takes).hears).heard).0).0
+
+  reaches-on : reached_of mid session it.handle.0 ≡ Some link-there.handle
+  reaches-on = ap (λ (o : Option Session). reached_in o it.handle.0) taken-there.stands ∙ link-there.still
+
+  stands : IsSome (reached_of mid session it.handle.0) × FlowFits told.flow
+  stands = (
+    ap is_some reaches-on,
+    flow-fits told.flow
+        (λ flow is reads.
+        due gives 512 (taken-there.before).value ((taken-there.takes).after).value out out_mid
+        (said.Transfer it payload) told flow (omega arith) ((taken-there.takes).hears).heard is reads),
+  )
+
+  closed-by : (error : ReceiverTransferError) (frames : List SessionFrame) (events : List Event) (new : Talk)
+      → ClosesBy error mid session it.handle.0 frames events new
+      → ClosedBy old it session error mid frames events new
+  closed-by error frames events new c =
+      let same : link-there.handle ≡ (c.handle).0 = same_Some _ _ (sym reaches-on ∙ c.reaches) in
+      record {
+        stood = taken-there.before;
+        live = taken-there.live;
+        handle = c.handle;
+        reaches = link-there.reaches ∙ ap (λ (n : ℕ). Some n) same;
+        link = (c.closed).link;
+        there = (c.closed).there;
+        closes = (c.closed).closes;
+        tells = (c.closed).tells;
+      }
+
+  closed-if : (why : Option ReceiverTransferError) (frames : List SessionFrame) (events : List Event) (new : Talk)
+      → ClosesFor why mid session it.handle.0 frames events new → ClosedIf why old it session mid frames events new
+  closed-if (Some error) frames events new c = closed-by error frames events new c
+  closed-if None frames events new c = c
+
+  unclosed-for : (why : Option ReceiverTransferError) → fault_of told.told ≡ why → (e : EndpointError)
+      → FailsFor why e → Answers old channel (said.Transfer it payload) (Ok (Live session (taken.Transfer told))) [] mid
+      → IsSessionFault e × IsUnclosed old channel it payload e mid
+  unclosed-for (Some error) is e fails answered =
+      let why : IsSessionFault e = subst IsSessionFault (sym fails) tt in (
+        why,
+        record {
+          heard = Live session (taken.Transfer told);
+          answered = answered;
+          session = session;
+          took = told;
+          error = error;
+          by_link = refl;
+          refused = is;
+          is = fails;
+        },
+      )
+  unclosed-for None is e fails answered = absurd fails
+
+module _ (old : Talk) (channel : IncomingChannel) (out : List SessionFrame) (it : Transfer) (payload : List ℕ) where
+  stands-so : (heard : LinkHeard) (mid : Talk) (out_mid : List SessionFrame)
+      → Answered gives old out channel (said.Transfer it payload) (Ok heard) mid out_mid
+      → StandsIn mid it.handle.0 (transfer_of heard)
+  stands-so (Live session (taken.Transfer told)) mid out_mid t =
+      stands old channel out it payload session told mid out_mid t
+  stands-so heard mid out_mid t = tt
+
+  pub stands-for : (heard : LinkHeard) (took : Option (ℕ × TransferTaken Told)) → took ≡ transfer_of heard
+      → (mid : Talk) (out_mid : List SessionFrame)
+      → Answered gives old out channel (said.Transfer it payload) (Ok heard) mid out_mid
+      → StandsIn mid it.handle.0 took
+  stands-for heard took is mid out_mid t =
+      subst (λ (o : Option (ℕ × TransferTaken Told)). StandsIn mid it.handle.0 o) (sym is)
+      (stands-so heard mid out_mid t)
+
+  becomes : (heard : LinkHeard) (mid : Talk) (out_mid frames : List SessionFrame) (events : List Event) (new : Talk)
+      → Answered gives old out channel (said.Transfer it payload) (Ok heard) mid out_mid
+      → TakenIn (transfer_of heard) mid it.handle.0 frames events new
+      → Becomes (transfer_of heard) old it mid frames events new
+  becomes (Live session (taken.Transfer told)) mid out_mid frames events new t l =
+      record {
+        own = l.own;
+        closed =
+            closed-if old channel out it payload session told mid out_mid t (fault_of told.told) l.own events new
+            l.closes;
+        sent = l.sent;
+      }
+  becomes heard mid out_mid frames events new t l = l
+
+  heard-alone : (heard : LinkHeard) (mid : Talk) (out_mid : List SessionFrame) → out_mid ≡ out
+      → Answered gives old out channel (said.Transfer it payload) (Ok heard) mid out_mid
+      → Answers old channel (said.Transfer it payload) (Ok heard) [] mid
+  heard-alone heard mid out_mid same t =
+      answer-alone gives old mid channel (said.Transfer it payload) (Ok heard) out out_mid []
+      (same ∙ sym (append-nil out)) t
+
+  pub transfer-taken : (heard : LinkHeard) (took : Option (ℕ × TransferTaken Told)) → took ≡ transfer_of heard
+      → (mid : Talk) (out_mid : List SessionFrame) (links links_new : Links) (new : Talk) (told told_new : List Event)
+      (out_new : List SessionFrame) → out_mid ≡ out → links_new ≡ links
+      → Answered gives old out channel (said.Transfer it payload) (Ok heard) mid out_mid
+      → Tells (λ (frames : List SessionFrame) (events : List Event).
+      TakenIn took mid it.handle.0 frames events new) out_mid told out_new told_new
+      → Tells (λ (frames : List SessionFrame) (events : List Event).
+      HearsTransfer old links channel it payload frames events new links_new) out told out_new told_new
+  transfer-taken heard took is mid out_mid links links_new new told told_new out_new same rest t l =
+      record {
+        frames = l.frames;
+        events = l.events;
+        is_so =
+            inl (record {
+              heard = heard;
+              mid = mid;
+              answered = heard-alone heard mid out_mid same t;
+              becomes =
+                  becomes heard mid out_mid l.frames l.events new t
+                  (subst (λ (o : Option (ℕ × TransferTaken Told)).
+                  TakenIn o mid it.handle.0 l.frames l.events new) is l.is_so);
+              same = rest;
+            });
+        queued = l.queued ∙ ap (λ (o : List SessionFrame). o ++ l.frames) same;
+        are_told = l.are_told;
+      }
+
+  pub transfer-fails : (links links_new : Links) (new : Talk) (told told_new : List Event)
+      (out_new : List SessionFrame)
+      → Tells (λ (frames : List SessionFrame) (events : List Event).
+      FailsBySaid old links channel (said.Transfer it payload) frames events new links_new) out told out_new told_new
+      → Tells (λ (frames : List SessionFrame) (events : List Event).
+      HearsTransfer old links channel it payload frames events new links_new) out told out_new told_new
+  transfer-fails links links_new new told told_new out_new t =
+      record {
+        frames = t.frames;
+        events = t.events;
+        is_so = inr t.is_so;
+        queued = t.queued;
+        are_told = t.are_told;
+      }
+
+  -- there is no memory for the Detach of the link
+  unclosed-so : (heard : LinkHeard) (mid : Talk) (out_mid : List SessionFrame) (e : EndpointError) → out_mid ≡ out
+      → Answered gives old out channel (said.Transfer it payload) (Ok heard) mid out_mid
+      → FailsIn (transfer_of heard) e → IsSessionFault e × IsUnclosed old channel it payload e mid
+  unclosed-so (Live session (taken.Transfer told)) mid out_mid e same t fails =
+      unclosed-for old channel out it payload session told mid out_mid t (fault_of told.told) refl e fails
+      (heard-alone (Live session (taken.Transfer told)) mid out_mid same t)
+  unclosed-so heard mid out_mid e same t fails = absurd fails
+
+  pub transfer-unclosed : (heard : LinkHeard) (took : Option (ℕ × TransferTaken Told)) → took ≡ transfer_of heard
+      → (mid : Talk) (out_mid : List SessionFrame) (e : EndpointError) (new : Talk) → out_mid ≡ out
+      → Answered gives old out channel (said.Transfer it payload) (Ok heard) mid out_mid → FailsIn took e
+      → new ≡ mid → IsSessionFault e × RefusesTransfer old channel it payload e new
+  transfer-unclosed heard took is mid out_mid e new same t fails stays =
+      let (why, unclosed) =
+      unclosed-so heard mid out_mid e same t
+      (subst (λ (o : Option (ℕ × TransferTaken Told)). FailsIn o e) is fails) in (
+        why,
+        inr (subst (λ (n : Talk). IsUnclosed old channel it payload e n) (sym stays) unclosed),
+      )
+
+-- there is no memory even for what is told
+pub transfer-untold : (old : Talk) (channel : IncomingChannel) (it : Transfer) (payload : List ℕ) (e : EndpointError)
+    → e ≡ fault.Memory → IsSessionFault e × RefusesTransfer old channel it payload e old
+transfer-untold old channel it payload e is =
+    let why : IsSessionFault e = subst IsSessionFault (sym is) tt in (why, inl (inr (is, refl)))

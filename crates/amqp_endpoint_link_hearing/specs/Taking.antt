@@ -1,0 +1,94 @@
+-- What is done for the link that took a Transfer, in its session (part 2, 2.5.6, 2.7.5).
+use Rattle.std.specs.Prelude.{◌≡◌, ℕ, List, [], ◌++◌, true, Option, Some, None, IsSome, option_to_list}
+use Rattle.amqp_session_types.specs.declared.error.Error.{Error}
+use Rattle.amqp_session_types.specs.declared.handles.OutputHandle.{OutputHandle}
+use Rattle.amqp_session_performatives.specs.declared.session_frame.SessionFrame.{SessionFrame}
+use Rattle.amqp_session_core.specs.State.{reached}
+use Rattle.amqp_session_core.specs.declared.incoming.TransferTaken.{TransferTaken}
+use Rattle.amqp_link_types.specs.declared.link_error.LinkError.TheVariants.{ReceiverTransfer}
+use Rattle.amqp_link_types.specs.declared.refusals.ReceiverTransferError.{ReceiverTransferError}
+use Rattle.amqp_link_receiving.specs.declared.answer.Told.{Told}
+use Rattle.amqp_endpoint_fitting.specs.Read.{IsRead}
+use Rattle.amqp_endpoint_sessions.specs.State.{live_at}
+use Rattle.amqp_endpoint_model.specs.declared.error.EndpointError.{EndpointError}
+use Rattle.amqp_endpoint_model.specs.declared.error.EndpointError.TheVariants.{Memory}
+use Rattle.amqp_endpoint_model.specs.declared.event.Event.{Event}
+use Rattle.amqp_endpoint_model.specs.State.{error_of, fits, frame_of}
+use Rattle.amqp_endpoint_linking.specs.Linking.{Link, Session, Talk}
+use Rattle.amqp_endpoint_link_hearing.specs.Attaching.{refused_told}
+use Rattle.amqp_endpoint_link_hearing.specs.InSession.{Closes, GoesOn, name_of}
+use Rattle.amqp_endpoint_link_hearing.specs.Leaving.{HasPlace}
+use Rattle.amqp_endpoint_link_hearing.specs.Naming.{link_of}
+use Rattle.amqp_endpoint_link_hearing.specs.Transferring.{condition_of, fault_of}
+use Rattle.amqp_endpoint_link_hearing.specs.declared.leaving.Answer.{Answer}
+
+-- the own handle of the link that a handle of the peer's reaches in a session that has begun (part 2, 2.6.2)
+abbrev pub reached_in : Option Session → ℕ → Option ℕ
+reached_in None input = None
+reached_in (Some session) input = reached session.value.session input
+
+abbrev pub reached_of : Talk → ℕ → ℕ → Option ℕ
+reached_of talk session input = reached_in (live_at talk.sessions session) input
+
+-- this is told of a link that is closed for a fault
+abbrev pub fault_told : ℕ → ℕ → ReceiverTransferError → List Event
+fault_told session link error = refused_told session link (ReceiverTransfer error)
+
+-- the link's Detach is made ready, and says the fault's condition
+pub record IsClosing (talk : Talk) (session input : ℕ) (error : ReceiverTransferError) (handle : OutputHandle)
+    (answer : Answer) : Type 0 where
+  pub reaches : reached_of talk session input ≡ Some handle.0
+  pub there : IsSome (link_of talk session handle)
+  pub says : answer.error ≡ Some (error_of (name_of (condition_of error)))
+  pub place : (s : Session) → live_at talk.sessions session ≡ Some s
+      → HasPlace s.value handle true answer.error answer.place
+
+-- it is closed by it, and this is told
+pub record IsClosedFor (old : Talk) (session : ℕ) (handle : OutputHandle) (why : Option Error)
+    (error : ReceiverTransferError) (frames : List SessionFrame) (events : List Event) (new : Talk) : Type 0 where
+  pub link : Link
+  pub there : link_of old session handle ≡ Some link
+  pub closes : GoesOn (Closes why handle frames) old session new
+  pub tells : events ≡ fault_told session link.number error
+
+-- that is the link that the peer's handle reaches, and the Detach says the fault's condition
+pub record ClosesBy (error : ReceiverTransferError) (old : Talk) (session input : ℕ) (frames : List SessionFrame)
+    (events : List Event) (new : Talk) : Type 0 where
+  pub handle : OutputHandle
+  pub reaches : reached_of old session input ≡ Some handle.0
+  pub closed :
+      IsClosedFor old session handle (Some (error_of (name_of (condition_of error)))) error frames events new
+
+abbrev pub ClosesFor : Option ReceiverTransferError → Talk → ℕ → ℕ → List SessionFrame → List Event → Talk → Type 0
+ClosesFor (Some error) old session input frames events new = ClosesBy error old session input frames events new
+ClosesFor None old session input frames events new = (frames ≡ []) × (events ≡ []) × (new ≡ old)
+
+-- behind that goes the Flow of the session
+pub record TakenBy (old : Talk) (session input : ℕ) (took : TransferTaken Told) (frames : List SessionFrame)
+    (events : List Event) (new : Talk) : Type 0 where
+  pub own : List SessionFrame
+  pub closes : ClosesFor (fault_of took.told) old session input own events new
+  pub sent : frames ≡ own ++ option_to_list took.flow
+
+abbrev pub TakenIn : Option (ℕ × TransferTaken Told) → Talk → ℕ → List SessionFrame → List Event → Talk → Type 0
+TakenIn (Some (session, took)) old input frames events new = TakenBy old session input took frames events new
+TakenIn None old input frames events new = (frames ≡ []) × (events ≡ []) × (new ≡ old)
+
+-- a link is to be closed, and there is no memory for its Detach
+abbrev pub FailsFor : Option ReceiverTransferError → EndpointError → Type 0
+FailsFor (Some error) e = e ≡ Memory
+FailsFor None e = ⊥
+
+abbrev pub FailsIn : Option (ℕ × TransferTaken Told) → EndpointError → Type 0
+FailsIn (Some (session, took)) e = FailsFor (fault_of took.told) e
+FailsIn None e = ⊥
+
+-- the Flow of the session fits every peer's limit, once its numbers are read
+abbrev pub FlowFits : Option SessionFrame → Type 0
+FlowFits None = Unit {0}
+FlowFits (Some flow) = IsRead flow → fits 512 (frame_of flow) ≡ true
+
+-- the link that took it is there, and the Flow fits
+abbrev pub StandsIn : Talk → ℕ → Option (ℕ × TransferTaken Told) → Type 0
+StandsIn talk input (Some (session, took)) = IsSome (reached_of talk session input) × FlowFits took.flow
+StandsIn talk input None = Unit {0}

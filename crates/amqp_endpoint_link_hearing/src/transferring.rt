@@ -1,0 +1,319 @@
+//! The peer's Transfer (part 2, 2.5.6, 2.6.12, 2.7.5).
+ghost use Rattle.std.specs.Prelude.{◌≡◌, ◌≤◌, ◌<◌, ◌+◌, ◌++◌, ℕ, IfErr, IfOk, IfSome, IsSome, OnErr, OnOk};
+ghost use Rattle.std.specs.Prelude.{option_to_list, true};
+ghost use Rattle.std.specs.Vec.{vec_capacity, vec_len};
+ghost use Rattle.std.specs.VecDeque.{deque_capacity, deque_len};
+ghost use Rattle.amqp_endpoint_fitting.specs.Read.{IsRead};
+ghost use Rattle.amqp_endpoint_model.specs.Relay.{IsSessionFault};
+ghost use Rattle.amqp_endpoint_sessions.specs.State.{live_at};
+ghost use Rattle.amqp_endpoint_talk.specs.Going.{Goes, Rests};
+ghost use Rattle.amqp_endpoint_linking.specs.Handed.{Tells};
+ghost use Rattle.amqp_endpoint_linking.specs.Linking.{Session};
+ghost use Rattle.amqp_endpoint_link_hearing.specs.Leaving.{HasPlace};
+ghost use Rattle.amqp_endpoint_link_hearing.specs.Naming.{link_of};
+ghost use Rattle.amqp_endpoint_link_hearing.specs.Taking.{ClosesFor, FailsFor, FailsIn, FlowFits, IsClosing};
+ghost use Rattle.amqp_endpoint_link_hearing.specs.Taking.{IsClosedFor, StandsIn, TakenBy, TakenIn, fault_told, reached_of};
+ghost use Rattle.amqp_endpoint_link_hearing.specs.Transferring.{HearsTransfer, RefusesTransfer, condition_of, fault_of};
+ghost use Rattle.amqp_endpoint_link_hearing.specs.Transferring.{transfer_of};
+
+use crate::closing::{Condition, close, make_closing};
+use crate::leaving::Answer;
+use crate::naming::number_of;
+use crate::refusing::refuse;
+use amqp_endpoint_conversation::{Conversation, Heard};
+use amqp_endpoint_fitting::frames_are_read;
+use amqp_endpoint_links::{LinkPerformative, Numbered, PerformativeTaken};
+use amqp_endpoint_model::{EndpointError, Event, Refused};
+use amqp_endpoint_names::Links;
+use amqp_link_base::Detached;
+use amqp_link_ends::{AttachTold, LinkEnd};
+use amqp_link_receiving::Told;
+use amqp_link_types::{LinkError, ReceiverTransferError};
+use amqp_session_core::TransferTaken;
+use amqp_session_performatives::{SessionFrame, Transfer};
+use amqp_session_types::{Handle, IncomingChannel, InputHandle, OutputHandle};
+use bytes::Bytes;
+use std::alloc::{AllocError, Global};
+use std::collections::VecDeque;
+
+/// Takes the peer's Transfer, with its payload, in the session that its channel reaches (part 2, 2.5.6, 2.6.12, 2.7.5):
+/// the link that the peer's handle reaches takes it. No message is handed out yet: a link that has a whole message is
+/// closed with amqp:not-allowed, and `Refused` is told. So is a link that refuses the transfer, with
+/// amqp:link:transfer-limit-exceeded, amqp:link:message-size-exceeded or amqp:not-allowed (part 2, 2.8.15, 2.8.18): its
+/// own closing Detach is handed out, or waits behind what the link has waiting. Behind that the Flow of the session is
+/// handed out that the transfer makes due. In a session that is ending nothing comes of it. A session that refuses it
+/// ends by its fault: its End is handed out, its links are given back, and `Refused` is told.
+///
+/// It ends the connection with `Connection` of `NotFound` where the channel reaches no session, with `Session` where
+/// one refuses it that the peer asks for, and with `Memory`. Nothing is handed out or told then, and no link is given
+/// back; nor does a session change, but that where there is no memory one that has begun may have refused it, or taken
+/// it for a link that is to be closed for it.
+pub fn hear_transfer(
+    talk: &mut Conversation<Numbered<LinkEnd>>,
+    links: &mut Links<LinkEnd>,
+    alloc: Global,
+    channel: IncomingChannel,
+    transfer: Transfer,
+    payload: Bytes,
+    out: &mut VecDeque<SessionFrame>,
+    events: &mut Vec<Event>,
+) -> Result<(), EndpointError>
+    ensures ok { OnOk result
+        (Tells (λ frames told. HearsTransfer talk.old links.old channel transfer payload frames told talk.new links.new)
+        out.old.items events.old.items out.new.items events.new.items) }
+    ensures err { IfErr result (λ e. IsSessionFault e × RefusesTransfer talk.old channel transfer payload e talk.new) }
+    ensures kept { OnErr result ((links.new ≡ links.old) × (out.new.items ≡ out.old.items)
+        × (events.new.items ≡ events.old.items)) }
+    ensures goes { (limit : ℕ) → 512 ≤ limit → Goes limit talk.old talk.new out.old.items out.new.items }
+    ensures rests { Rests talk.old talk.new out.old.items out.new.items }
+{
+    events.reserve(1)?;
+    out.reserve(2)?;
+    take_transfer(talk, links, alloc, channel, transfer, payload, out, events)?;
+    Ok(())
+}
+
+/// Takes it. There is room for what it tells, for a Detach and for the session's Flow.
+#[inline(never)]
+fn take_transfer(
+    talk: &mut Conversation<Numbered<LinkEnd>>,
+    links: &mut Links<LinkEnd>,
+    alloc: Global,
+    channel: IncomingChannel,
+    transfer: Transfer,
+    payload: Bytes,
+    out: &mut VecDeque<SessionFrame>,
+    events: &mut Vec<Event>,
+) -> Result<(), EndpointError>
+    requires spare { deque_len out.old + 1 < deque_capacity out.old }
+    requires room { vec_len events.old < vec_capacity events.old }
+    ensures ok { OnOk result
+        (Tells (λ frames told. HearsTransfer talk.old links.old channel transfer payload frames told talk.new links.new)
+        out.old.items events.old.items out.new.items events.new.items) }
+    ensures err { IfErr result (λ e. IsSessionFault e × RefusesTransfer talk.old channel transfer payload e talk.new) }
+    ensures kept { OnErr result ((links.new ≡ links.old) × (out.new.items ≡ out.old.items)
+        × (events.new.items ≡ events.old.items)) }
+    ensures goes { (limit : ℕ) → 512 ≤ limit → Goes limit talk.old talk.new out.old.items out.new.items }
+    ensures rests { Rests talk.old talk.new out.old.items out.new.items }
+{
+    let handle = transfer.handle;
+    let said = LinkPerformative::Transfer(transfer, payload);
+    match amqp_endpoint_talk::hear(talk, alloc, out, channel, said) {
+        Ok(heard) => {
+            let took = transfer_of(heard);
+            match transfer_heard(talk, alloc, handle, took, out, events) {
+                Ok(()) => Ok(()),
+                Err(error) => Err(error),
+            }
+        }
+        Err(refusal) => match refuse(links, refusal, events) {
+            Ok(()) => Ok(()),
+            Err(error) => Err(error),
+        },
+    }
+}
+
+/// The session of the link that took a Transfer that was heard, what the link tells, and the Flow of the session that
+/// it makes due, if one took it.
+fn transfer_of(
+    heard: Heard<AttachTold, Told, Detached>,
+) -> Option<(u64, TransferTaken<Told>)>
+    ensures { result ≡ transfer_of heard }
+{
+    match heard {
+        Heard::Live(session, taken) => match taken {
+            PerformativeTaken::Transfer(taken) => Some((session, taken)),
+            _ => None,
+        },
+        Heard::Asked(_) | Heard::Dropped(_) => None,
+    }
+}
+
+/// The Transfer was heard, and the link that the peer's handle reaches took it, if one did. There is room for what is
+/// told, for a Detach and for the session's Flow.
+fn transfer_heard(
+    talk: &mut Conversation<Numbered<LinkEnd>>,
+    alloc: Global,
+    handle: Handle,
+    took: Option<(u64, TransferTaken<Told>)>,
+    out: &mut VecDeque<SessionFrame>,
+    events: &mut Vec<Event>,
+) -> Result<(), EndpointError>
+    requires stands { StandsIn talk.old handle.0 took }
+    requires spare { deque_len out.old + 1 < deque_capacity out.old }
+    requires room { vec_len events.old < vec_capacity events.old }
+    ensures ok { OnOk result (Tells (λ frames told. TakenIn took talk.old handle.0 frames told talk.new)
+        out.old.items events.old.items out.new.items events.new.items) }
+    ensures err { IfErr result (λ e. FailsIn took e × (talk.new ≡ talk.old)) }
+    ensures kept { OnErr result ((out.new.items ≡ out.old.items) × (events.new.items ≡ events.old.items)) }
+    ensures goes { (limit : ℕ) → 512 ≤ limit → Goes limit talk.old talk.new out.old.items out.new.items }
+    ensures rests { Rests talk.old talk.new out.old.items out.new.items }
+{
+    let Some(it) = took else {
+        return Ok(());
+    };
+    let (session, taken) = it;
+    taken_by_link(talk, alloc, session, handle, taken, out, events)
+}
+
+/// The link that the peer's handle reaches took it: where it is to be closed for it, it is, and the session's Flow goes
+/// behind. There is room for all that.
+fn taken_by_link(
+    talk: &mut Conversation<Numbered<LinkEnd>>,
+    alloc: Global,
+    session: u64,
+    handle: Handle,
+    taken: TransferTaken<Told>,
+    out: &mut VecDeque<SessionFrame>,
+    events: &mut Vec<Event>,
+) -> Result<(), EndpointError>
+    requires there { IsSome (reached_of talk.old session handle.0) }
+    requires flow { FlowFits taken.flow }
+    requires spare { deque_len out.old + 1 < deque_capacity out.old }
+    requires room { vec_len events.old < vec_capacity events.old }
+    ensures ok { OnOk result (Tells (λ frames told. TakenBy talk.old session handle.0 taken frames told talk.new)
+        out.old.items events.old.items out.new.items events.new.items) }
+    ensures err { IfErr result (λ e. FailsFor (fault_of taken.told) e × (talk.new ≡ talk.old)) }
+    ensures kept { OnErr result ((out.new.items ≡ out.old.items) × (events.new.items ≡ events.old.items)) }
+    ensures goes { (limit : ℕ) → 512 ≤ limit → Goes limit talk.old talk.new out.old.items out.new.items }
+    ensures rests { Rests talk.old talk.new out.old.items out.new.items }
+{
+    let TransferTaken { told, flow } = taken;
+    let fault = fault_of(told);
+    match close_for(talk, alloc, session, handle, fault, out, events) {
+        Ok(()) => {
+            hand_out(flow, out);
+            Ok(())
+        }
+        Err(error) => {
+            drop(flow);
+            Err(error)
+        }
+    }
+}
+
+/// Why the link is closed by what it tells of a Transfer, if it is.
+fn fault_of(told: Told) -> Option<ReceiverTransferError>
+    ensures { result ≡ fault_of told }
+{
+    match told {
+        Told::Refused(error) => Some(error),
+        Told::Message(_) => Some(ReceiverTransferError::IllegalState),
+        _ => None,
+    }
+}
+
+/// What the Detach of the link says of that (part 2, 2.8.15, 2.8.18).
+fn condition_of(error: ReceiverTransferError) -> Condition
+    ensures { result ≡ condition_of error }
+{
+    match error {
+        ReceiverTransferError::TransferLimitExceeded => Condition::TransferLimitExceeded,
+        ReceiverTransferError::MessageSizeExceeded => Condition::MessageSizeExceeded,
+        _ => Condition::NotAllowed,
+    }
+}
+
+/// The session's Flow is handed out, where one is due. There is room for it.
+fn hand_out(flow: Option<SessionFrame>, out: &mut VecDeque<SessionFrame>)
+    requires spare { deque_len out.old < deque_capacity out.old }
+    ensures handed { out.new.items ≡ out.old.items ++ option_to_list flow }
+    ensures read { IfSome flow IsRead }
+{
+    let Some(frame) = flow else {
+        return;
+    };
+    let from = out.len();
+    out.push_back_reserved(frame);
+    frames_are_read(out, from);
+}
+
+/// The link that the peer's handle reaches is closed for this fault, if there is one. There is room for it.
+fn close_for(
+    talk: &mut Conversation<Numbered<LinkEnd>>,
+    alloc: Global,
+    session: u64,
+    handle: Handle,
+    fault: Option<ReceiverTransferError>,
+    out: &mut VecDeque<SessionFrame>,
+    events: &mut Vec<Event>,
+) -> Result<(), EndpointError>
+    requires there { IsSome (reached_of talk.old session handle.0) }
+    requires spare { deque_len out.old + 1 < deque_capacity out.old }
+    requires room { vec_len events.old < vec_capacity events.old }
+    ensures ok { OnOk result (Tells (λ frames told. ClosesFor fault talk.old session handle.0 frames told talk.new)
+        out.old.items events.old.items out.new.items events.new.items) }
+    ensures err { IfErr result (λ e. FailsFor fault e × (talk.new ≡ talk.old)) }
+    ensures kept { OnErr result ((out.new.items ≡ out.old.items) × (events.new.items ≡ events.old.items)) }
+    ensures spare { deque_len out.new < deque_capacity out.new }
+    ensures goes { (limit : ℕ) → 512 ≤ limit → Goes limit talk.old talk.new out.old.items out.new.items }
+    ensures rests { Rests talk.old talk.new out.old.items out.new.items }
+{
+    let Some(error) = fault else {
+        return Ok(());
+    };
+    let (handle, answer) = closing_of(talk, alloc, session, handle, error)?;
+    close_by_link(talk, session, handle, answer, error, out, events);
+    Ok(())
+}
+
+/// Makes ready to close the link that the peer's handle reaches: its own handle, and its Detach. It is refused where
+/// there is no memory.
+fn closing_of(
+    talk: &Conversation<Numbered<LinkEnd>>,
+    alloc: Global,
+    session: u64,
+    handle: Handle,
+    error: ReceiverTransferError,
+) -> Result<(OutputHandle, Answer), AllocError>
+    requires { IsSome (reached_of talk.now session handle.0) }
+    ensures { IfOk result (λ it. IsClosing talk.now session handle.0 error it.0 it.1) }
+{
+    let Some(session) = talk.sessions.live(session) else {
+        unreachable!()
+    };
+    let Some(handle) = session.session.link_by_input_handle(InputHandle(handle.0)) else {
+        unreachable!()
+    };
+    let answer = make_closing(session, alloc, handle, condition_of(error))?;
+    Ok((handle, answer))
+}
+
+/// The link is closed for this fault by what was made ready. There is room for it.
+fn close_by_link(
+    talk: &mut Conversation<Numbered<LinkEnd>>,
+    session: u64,
+    handle: OutputHandle,
+    answer: Answer,
+    error: ReceiverTransferError,
+    out: &mut VecDeque<SessionFrame>,
+    events: &mut Vec<Event>,
+)
+    requires there { IsSome (link_of talk.old session handle) }
+    requires place { (s : Session) → live_at talk.old.sessions session ≡ Some s →
+        HasPlace s.value handle true answer.error answer.place }
+    requires spare { deque_len out.old < deque_capacity out.old }
+    requires room { vec_len events.old < vec_capacity events.old }
+    ensures closed { Tells (λ frames told. IsClosedFor talk.old session handle answer.error error frames told talk.new)
+        out.old.items events.old.items out.new.items events.new.items }
+    ensures added { deque_len out.new ≤ deque_len out.old + 1 }
+    ensures capacity { deque_capacity out.new ≡ deque_capacity out.old }
+    ensures goes { (limit : ℕ) → 512 ≤ limit → Goes limit talk.old talk.new out.old.items out.new.items }
+    ensures rests { Rests talk.old talk.new out.old.items out.new.items }
+{
+    let link = number_of(talk, session, handle);
+    close(talk, session, handle, answer, out);
+    tell_fault(session, link, error, events);
+}
+
+/// Tells that a link is closed here, for this fault of its peer. There is room for it.
+fn tell_fault(session: u64, link: u64, error: ReceiverTransferError, events: &mut Vec<Event>)
+    requires { vec_len events.old < vec_capacity events.old }
+    ensures { events.new.items ≡ events.old.items ++ fault_told session link error }
+{
+    events.push_reserved(Event::Refused(Refused {
+        session,
+        link: Some(link),
+        error: EndpointError::Link(LinkError::ReceiverTransfer(error)),
+    }));
+}
