@@ -1,9 +1,9 @@
 -- The link that took what the peer said stands in its session.
-use Rattle.std.proofs.Common.{◌≡◌, inl, inr, ℕ, Bool, true, false, List, [], Option, Some, None, Result, Ok, Err, IsSome, refl, sym, ap, subst, ◌∙◌}
-use Rattle.std.specs.Prelude.{is_some, slice_index_or, slice_set, ⊤}
+use Rattle.std.proofs.Common.{◌≡◌, ℕ, Bool, true, false, List, Option, Some, None, Result, Ok, Err}
+use Rattle.std.proofs.Common.{refl, sym, ap, subst, ◌∙◌}
+use Rattle.std.specs.Prelude.{is_some, slice_index_or}
 use Rattle.std.specs.Global.{Box}
 use Rattle.std.specs.FinMap as map
-use Rattle.std.proofs.lemmas.Option.{none-some, same_Some}
 use Rattle.amqp_session_types.specs.declared.channels.IncomingChannel.{IncomingChannel}
 use Rattle.amqp_session_types.specs.declared.handles.OutputHandle.{OutputHandle}
 use Rattle.amqp_session_types.specs.declared.refusals.SessionError.{SessionError}
@@ -16,19 +16,15 @@ use Rattle.amqp_session_core.specs.Told as told_core
 use Rattle.amqp_link_base.specs.declared.detached.Detached.{Detached}
 use Rattle.amqp_link_ends.specs.declared.relay.AttachTold.{AttachTold}
 use Rattle.amqp_link_receiving.specs.declared.answer.Told.{Told}
-use Rattle.amqp_endpoint_asked.specs.declared.links.AskRefusal.{AskRefusal}
-use Rattle.amqp_endpoint_asked.specs.declared.links.AskRefusal.TheVariants as ask
 use Rattle.amqp_endpoint_asked.specs.declared.session.AskedSession.{AskedSession}
-use Rattle.amqp_endpoint_links.specs.declared.asking.AttachTaken.{AttachTaken as Taken}
 use Rattle.amqp_endpoint_links.specs.declared.asking.AttachTaken.TheVariants as attach
 use Rattle.amqp_endpoint_links.specs.declared.asking.DetachTaken.TheVariants as detach
-use Rattle.amqp_endpoint_links.specs.declared.asking.NamedLink.{NamedLink}
-use Rattle.amqp_endpoint_links.specs.declared.asking.NamedLink.TheVariants.{Absent, Attached, Waiting}
+use Rattle.amqp_endpoint_links.specs.declared.asking.NamedLink.TheVariants.{Waiting}
 use Rattle.amqp_endpoint_links.specs.declared.hearing.LinkPerformative.{LinkPerformative}
 use Rattle.amqp_endpoint_links.specs.declared.hearing.LinkPerformative.TheVariants.{Attach, Detach}
 use Rattle.amqp_endpoint_links.specs.declared.hearing.PerformativeTaken.{PerformativeTaken}
 use Rattle.amqp_endpoint_links.specs.declared.hearing.PerformativeTaken.TheVariants as taken
-use Rattle.amqp_endpoint_links.specs.Asking.{AttachAt, AttachAnswered, DetachAt, DetachAnswered, asked_answer, by_link, detached_by, in_use}
+use Rattle.amqp_endpoint_links.specs.Asking.{AttachAt, DetachAt, by_link, detached_by, in_use}
 use Rattle.amqp_endpoint_sessions.specs.State.{asked_at, live_at}
 use Rattle.amqp_endpoint_sessions.specs.State as sessions
 use Rattle.amqp_endpoint_conversation.specs.declared.hearing.Heard.TheVariants.{Live}
@@ -89,36 +85,38 @@ pub is-there : (talk : Talk) (session : ℕ) (handle : OutputHandle) (after : Se
     → link_of talk session handle ≡ Some link
 is-there talk session handle after link live there = ap (λ (s : Option Session). link_in s handle) live ∙ there
 
-some-there : (o : Option Link) (link : Link) → o ≡ Some link → IsSome o
-some-there o link is = ap is_some is
-
 -- the link that waited took the peer's Attach
-attach-by : (old new : State Link) (handle : ℕ) (it : AttachFrame) (told : AttachTold) (r : Result AttachTold SessionError)
-    → Ok (attach.ByLink told) ≡ by_link r → AttachTaken gives old handle it r new
-    → (link : Link) × (link_at new handle ≡ Some link)
+pub record AttachedThere (old new : Linked) (handle : OutputHandle) : Type 0 where
+  pub link : Link
+  pub there : link_at new.session handle.0 ≡ Some link
+  pub fields : new.session.fields ≡ old.session.fields
+  pub outgoing : new.session.outgoing ≡ old.session.outgoing
+
+attach-by : (old new : Linked) (handle : OutputHandle) (it : AttachFrame) (told : AttachTold)
+    (r : Result AttachTold SessionError) → Ok (attach.ByLink told) ≡ by_link r
+    → AttachTaken gives old.session handle.0 it r new.session → AttachedThere old new handle
 attach-by old new handle it told (Ok x) is (free, st, rest) =
-    (st.after, stepped-there (λ before after. gives.attaches before it (Ok x) after) old handle new st)
+    record {
+      link = st.after;
+      there =
+          stepped-there (λ before after. gives.attaches before it (Ok x) after) old.session handle.0 new.session st;
+      fields = ap (λ (s : State Link). s.fields) rest;
+      outgoing = ap (λ (s : State Link). s.outgoing) rest;
+    }
 attach-by old new handle it told (Err e) is t = absurd cc
 
 attach-at : (used : Bool) (old new : Linked) (handle : OutputHandle) (it : AttachFrame) (told : AttachTold)
-    → AttachAt gives used old it (Waiting handle) (Ok (attach.ByLink told)) new
-    → (link : Link) × (link_at new.session handle.0 ≡ Some link)
+    → AttachAt gives used old it (Waiting handle) (Ok (attach.ByLink told)) new → AttachedThere old new handle
 attach-at true old new handle it told t = let clash = t.0 in absurd cc
-attach-at false old new handle it told t =
-    attach-by old.session new.session handle.0 it told t.told t.answer t.taken
+attach-at false old new handle it told t = attach-by old new handle it told t.told t.answer t.taken
 
 pub attach-there : (old : Talk) (channel : IncomingChannel) (out : List SessionFrame) (it : AttachFrame)
     (handle : OutputHandle) (session : ℕ) (told : AttachTold) (new : Talk) (out_new : List SessionFrame)
-    → Answered gives old out channel (Attach it (Waiting handle)) (Ok (Live session (taken.Attach (attach.ByLink told))))
-    new out_new
-    → IsSome (link_of new session handle)
-attach-there old channel out it handle session told new out_new t =
-    let s = taken-in old channel out (Attach it (Waiting handle)) session (taken.Attach (attach.ByLink told)) new out_new t
-    in
-    let after = (s.takes).after in
-    let (link, there) =
-    attach-at (in_use s.before.value it.handle.0) s.before.value after.value handle it told (((s.takes).hears).heard).0 in
-    some-there (link_of new session handle) link (is-there new session handle after link s.stands there)
+    → (s : IsTaken old channel out (Attach it (Waiting handle)) session (taken.Attach (attach.ByLink told)) new out_new)
+    → AttachedThere (s.before).value ((s.takes).after).value handle
+attach-there old channel out it handle session told new out_new s =
+    attach-at (in_use (s.before).value it.handle.0) (s.before).value ((s.takes).after).value handle it told
+    (((s.takes).hears).heard).0
 
 -- the link that the peer's handle reached took its Detach
 pub record DetachedThere (old new : Linked) (it : DetachFrame) : Type 0 where

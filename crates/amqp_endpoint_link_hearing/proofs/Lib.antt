@@ -10,6 +10,7 @@ mod Sizes
 mod Lent
 mod Closings
 mod Takes
+mod Becoming
 mod Dispositions
 mod Transfers
 mod Transferred

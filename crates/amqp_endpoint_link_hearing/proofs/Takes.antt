@@ -1,5 +1,7 @@
 -- A link that took the peer's Attach, or its Detach, and what is told of it.
-use Rattle.std.proofs.Common.{◌≡◌, ℕ, Bool, List, [], ◌∷◌, ◌++◌, Option, Some, None, Result, Ok, Err, IsSome, refl, sym, ap, subst, ◌∙◌, append-nil}
+use Rattle.std.proofs.Common.{◌≡◌, ℕ, List, [], ◌++◌, Option, Some, None, Result, Ok, Err, IsSome}
+use Rattle.std.proofs.Common.{refl, sym, ap, subst, append-nil}
+use Rattle.amqp_session_types.specs.declared.error.Error.{Error}
 use Rattle.amqp_session_types.specs.declared.handles.OutputHandle.{OutputHandle}
 use Rattle.amqp_session_performatives.specs.declared.session_frame.SessionFrame.{SessionFrame}
 use Rattle.amqp_link_base.specs.declared.detached.Detached.{Detached}
@@ -7,15 +9,17 @@ use Rattle.amqp_link_ends.specs.declared.relay.AttachTold.{AttachTold}
 use Rattle.amqp_link_sender.specs.declared.attaching.Attaching.{Attaching}
 use Rattle.amqp_link_types.specs.declared.link_error.LinkError.{LinkError}
 use Rattle.amqp_endpoint_model.specs.declared.event.Event.{Event}
+use Rattle.amqp_endpoint_model.specs.State.{error_of}
+use Rattle.amqp_endpoint_model.specs.Step.{not_allowed}
 use Rattle.amqp_endpoint_linking.specs.Linking.{Link, Links, Talk}
 use Rattle.amqp_endpoint_linking.specs.Handed.{Hands, Tells}
-use Rattle.amqp_endpoint_link_hearing.specs.Attaching.{ByLink, LinkTakes, attached_told, left_by, outcome_of, refused_told}
+use Rattle.amqp_endpoint_link_hearing.specs.Attaching.{ByLink, LinkTakes, left_by, outcome_of}
+use Rattle.amqp_endpoint_link_hearing.specs.Attaching.{attached_told, refused_told}
 use Rattle.amqp_endpoint_link_hearing.specs.Detaching.{detached_told}
 use Rattle.amqp_endpoint_link_hearing.specs.InSession.{Closes, GoesOn, Parts}
 use Rattle.amqp_endpoint_link_hearing.specs.Leaves.{LinkLeaves}
 use Rattle.amqp_endpoint_link_hearing.specs.Leaving.{IsLeft}
 use Rattle.amqp_endpoint_link_hearing.specs.Naming.{link_of}
-use Rattle.amqp_endpoint_link_hearing.specs.declared.attaching.LinkAttached.{LinkAttached}
 use Rattle.amqp_endpoint_link_hearing.specs.declared.detaching.Ready.{Ready}
 
 -- the link that is there, with its number
@@ -71,12 +75,13 @@ module _ (old : Talk) (session : ℕ) (handle : OutputHandle) (number : ℕ) (n 
       }
 
   -- it refuses it, and is closed
-  pub link-refused : (error : LinkError) (new : Talk) (out_new : List SessionFrame) → Err error ≡ outcome_of told
-      → Hands (λ (frames : List SessionFrame). GoesOn (Closes handle frames) old session new) out out_new
+  pub link-refused : (error : LinkError) (why : Option Error) (new : Talk) (out_new : List SessionFrame)
+      → Err error ≡ outcome_of told → why ≡ Some (error_of not_allowed)
+      → Hands (λ (frames : List SessionFrame). GoesOn (Closes why handle frames) old session new) out out_new
       → events_new ≡ events ++ refused_told session number error
       → Tells (λ (frames : List SessionFrame) (told_now : List Event).
       ByLink old session handle told None frames told_now new) out events out_new events_new
-  link-refused error new out_new is h are =
+  link-refused error why new out_new is says h are =
       record {
         frames = h.frames;
         events = refused_told session number error;
@@ -88,7 +93,11 @@ module _ (old : Talk) (session : ℕ) (handle : OutputHandle) (number : ℕ) (n 
                   subst
                   (λ (o : Result Attaching LinkError).
                   LinkTakes o old session handle n.link None h.frames (refused_told session number error) new)
-                  is (refl, h.is_so, ap (λ (k : ℕ). refused_told session k error) n.is);
+                  is (
+                    refl,
+                    subst (λ (w : Option Error). GoesOn (Closes w handle h.frames) old session new) says h.is_so,
+                    ap (λ (k : ℕ). refused_told session k error) n.is,
+                  );
             };
         queued = h.queued;
         are_told = are;

@@ -1,5 +1,5 @@
 -- The peer's Attach (part 2, 2.6.3, 2.7.3).
-use Rattle.std.specs.Prelude.{◌≡◌, ◌⊎◌, ℕ, List, [], ◌∷◌, Option, Some, None, Result, Ok, Err, IsSome}
+use Rattle.std.specs.Prelude.{◌≡◌, ◌⊎◌, ℕ, List, [], ◌∷◌, Option, Some, None, Result, Ok, Err}
 use Rattle.amqp_session_types.specs.declared.channels.IncomingChannel.{IncomingChannel}
 use Rattle.amqp_session_types.specs.declared.handles.OutputHandle.{OutputHandle}
 use Rattle.amqp_session_performatives.specs.declared.attach.Attach.{Attach}
@@ -33,7 +33,8 @@ use Rattle.amqp_endpoint_link_hearing.specs.declared.hearing.Took.TheVariants as
 use Rattle.amqp_endpoint_link_hearing.specs.Saying.{Answers, BarsSaid, FailsBySaid, LinkHeard}
 use Rattle.amqp_endpoint_link_hearing.specs.declared.attaching.LinkAttached.{LinkAttached}
 
--- what a link makes of the peer's Attach: what is left to be done, or why it refuses it. A receiver gives no delivery up
+-- what a link makes of the peer's Attach: what is left to be done, or why it refuses it. A receiver gives no delivery
+-- up
 abbrev pub of_sender : AttachAnswer → Result Attaching LinkError
 of_sender (sender.Refused error) = Err (SenderAttach error)
 of_sender (sender.Attached attaching) = Ok attaching
@@ -83,11 +84,6 @@ pub record ByLink (old : Talk) (session : ℕ) (handle : OutputHandle) (told : A
 -- nothing more comes of it than what is told
 abbrev pub IsTold : List Event → Talk → Option LinkAttached → List SessionFrame → List Event → Talk → Type 0
 IsTold told old left frames events new = (left ≡ None) × (frames ≡ []) × (events ≡ told) × (new ≡ old)
-
--- the link that waited for it is there
-abbrev pub WaitsIn : Talk → Took → NamedLink → Type 0
-WaitsIn talk (took.ByLink session told) (Waiting handle) = IsSome (link_of talk session handle)
-WaitsIn talk took named = Unit {0}
 
 -- what comes of it once it is heard: the link that waited for it takes it, or the peer asks for a link; in a session
 -- that is ending nothing does

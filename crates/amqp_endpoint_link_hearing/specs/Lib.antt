@@ -7,6 +7,7 @@ pub mod Attaching
 pub mod Leaving
 pub mod Detaching
 pub mod Leaves
+pub mod Readied
 pub mod Disposing
 pub mod Transferring
 pub mod Taking

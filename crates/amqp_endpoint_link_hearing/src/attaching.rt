@@ -1,16 +1,25 @@
 //! The peer's Attach (part 2, 2.6.3, 2.7.3).
-ghost use Rattle.std.specs.Prelude.{◌≡◌, ◌<◌, ◌≤◌, ◌++◌, [], ◌∷◌, ℕ, IsSome, Some, None, Ok, Err, IfErr, IfOk, OnErr, OnOk};
+ghost use Rattle.std.specs.Prelude.{◌≡◌, ◌<◌, ◌≤◌, ◌++◌, ℕ, IsSome, Some, IfErr, IfOk, OnErr, true};
 ghost use Rattle.std.specs.Vec.{vec_capacity, vec_len};
+ghost use Rattle.std.specs.VecDeque.{deque_capacity, deque_len};
 ghost use Rattle.amqp_endpoint_links.specs.declared.asking.NamedLink.TheVariants.{Waiting};
 ghost use Rattle.amqp_endpoint_model.specs.Relay.{IsSessionFault};
+ghost use Rattle.amqp_endpoint_model.specs.State.{error_of};
+ghost use Rattle.amqp_endpoint_model.specs.Step.{not_allowed};
+ghost use Rattle.amqp_endpoint_sessions.specs.State.{live_at};
 ghost use Rattle.amqp_endpoint_talk.specs.Going.{Goes, Rests};
-ghost use Rattle.amqp_endpoint_linking.specs.Linking.{Link};
+ghost use Rattle.amqp_endpoint_linking.specs.Linking.{Session};
 ghost use Rattle.amqp_endpoint_linking.specs.Handed.{Tells};
-ghost use Rattle.amqp_endpoint_link_hearing.specs.Attaching.{Becomes, ByLink, HearsAttach, IsRefusedBy, RefusesAttach, WaitsIn, asked_told, attached_told, of_receiver, of_sender, outcome_of, refused_told};
-ghost use Rattle.amqp_endpoint_link_hearing.specs.Naming.{link_of};
+ghost use Rattle.amqp_endpoint_link_hearing.specs.Attaching.{Becomes, ByLink, HearsAttach, RefusesAttach};
+ghost use Rattle.amqp_endpoint_link_hearing.specs.Attaching.{asked_told, attached_told, refused_told};
+ghost use Rattle.amqp_endpoint_link_hearing.specs.Attaching.{of_receiver, of_sender, outcome_of};
+ghost use Rattle.amqp_endpoint_link_hearing.specs.Leaving.{HasPlace};
+ghost use Rattle.amqp_endpoint_link_hearing.specs.Naming.{IsNamedOn, link_of};
+ghost use Rattle.amqp_endpoint_link_hearing.specs.Readied.{ClosesIn, Readies};
 
-use crate::closing::close;
+use crate::closing::{Condition, close, make_closing};
 use crate::hearing::{Took, attach_of};
+use crate::leaving::Answer;
 use crate::naming::{named_on, number_of};
 use crate::refusing::refuse;
 use amqp_endpoint_conversation::Conversation;
@@ -26,7 +35,7 @@ use amqp_link_types::LinkError;
 use amqp_session_performatives::{Attach, SessionFrame};
 use amqp_session_types::{Boxed, IncomingChannel, OutputHandle};
 use serde_amqp_types::Array;
-use std::alloc::Global;
+use std::alloc::{AllocError, Global};
 use std::collections::VecDeque;
 
 /// A link that took the peer's Attach. The transfers that give deliveries up are still to be sent (part 2, 2.6.13).
@@ -51,8 +60,7 @@ pub struct LinkAttached {
 ///
 /// It ends the connection with `Connection` of `NotFound` where the channel reaches no session, with `Session` where
 /// one refuses it that the peer asks for, and with `Memory`. Nothing is handed out or told then, and no link is given
-/// back; nor does a session change, but that where there is no memory a link that has begun may have refused it, or a
-/// session.
+/// back; nor does a session change, but that where there is no memory one that has begun may have refused it.
 pub fn hear_attach(
     talk: &mut Conversation<Numbered<LinkEnd>>,
     links: &mut Links<LinkEnd>,
@@ -73,12 +81,53 @@ pub fn hear_attach(
     ensures rests { Rests talk.old talk.new out.old.items out.new.items }
 {
     events.reserve(1)?;
+    out.reserve(1)?;
     let asked = attach.clone()?;
-    let left = take_attach(talk, links, alloc, channel, attach, asked, out, events)?;
+    let named = named_on(talk, links, channel, &attach);
+    let closing = make_ready(talk, alloc, channel, named)?;
+    let left = take_attach(
+        talk, links, alloc, channel, attach, asked, named, closing, out, events,
+    )?;
     Ok(left)
 }
 
-/// Takes it, and a copy of it. There is room for what it tells.
+/// Makes ready to close the link that waits for the Attach, if one does. It is refused where there is no memory.
+fn make_ready(
+    talk: &Conversation<Numbered<LinkEnd>>,
+    alloc: Global,
+    channel: IncomingChannel,
+    named: NamedLink,
+) -> Result<Option<Answer>, AllocError>
+    ensures { IfOk result (Readies talk.now channel named) }
+{
+    match named {
+        NamedLink::Waiting(handle) => make_ready_for(talk, alloc, channel, handle),
+        NamedLink::Absent => Ok(None),
+        NamedLink::Attached => Ok(None),
+    }
+}
+
+/// Makes ready to close the link with this own handle in the session that the channel reaches, if that has begun.
+fn make_ready_for(
+    talk: &Conversation<Numbered<LinkEnd>>,
+    alloc: Global,
+    channel: IncomingChannel,
+    handle: OutputHandle,
+) -> Result<Option<Answer>, AllocError>
+    ensures { IfOk result (Readies talk.now channel (Waiting handle)) }
+{
+    let Some(number) = talk.sessions.reached(channel) else {
+        return Ok(None);
+    };
+    let Some(session) = talk.sessions.live(number) else {
+        return Ok(None);
+    };
+    let closing = make_closing(session, alloc, handle, Condition::NotAllowed)?;
+    Ok(Some(closing))
+}
+
+/// Takes it, and a copy of it. There is room for what it tells, and for the Detach that closes the link that waits for
+/// it, if one does.
 #[inline(never)]
 fn take_attach(
     talk: &mut Conversation<Numbered<LinkEnd>>,
@@ -87,10 +136,15 @@ fn take_attach(
     channel: IncomingChannel,
     attach: Boxed<Attach>,
     asked: Boxed<Attach>,
+    named: NamedLink,
+    closing: Option<Answer>,
     out: &mut VecDeque<SessionFrame>,
     events: &mut Vec<Event>,
 ) -> Result<Option<LinkAttached>, EndpointError>
     requires copy { asked ≡ attach }
+    requires named { IsNamedOn talk.old links.old channel attach named }
+    requires ready { Readies talk.old channel named closing }
+    requires spare { deque_len out.old < deque_capacity out.old }
     requires room { vec_len events.old < vec_capacity events.old }
     ensures ok { IfOk result (λ left.
         Tells (λ frames told. HearsAttach talk.old links.old channel attach left frames told talk.new links.new)
@@ -102,15 +156,11 @@ fn take_attach(
     ensures goes { (limit : ℕ) → 512 ≤ limit → Goes limit talk.old talk.new out.old.items out.new.items }
     ensures rests { Rests talk.old talk.new out.old.items out.new.items }
 {
-    let named = named_on(talk, links, channel, &attach);
     let said = LinkPerformative::Attach(attach, named);
     match amqp_endpoint_talk::hear(talk, alloc, out, channel, said) {
         Ok(heard) => {
             let took = attach_of(heard);
-            match attach_heard(talk, alloc, took, named, asked, out, events) {
-                Ok(left) => Ok(left),
-                Err(error) => Err(error),
-            }
+            Ok(attach_heard(talk, alloc, took, named, closing, asked, out, events))
         }
         Err(refusal) => match refuse(links, refusal, events) {
             Ok(()) => Ok(None),
@@ -119,59 +169,64 @@ fn take_attach(
     }
 }
 
-/// The Attach was heard. There is room for what is told.
+/// The Attach was heard. There is room for what is told, and for the Detach that closes the link that waited for it.
 fn attach_heard(
     talk: &mut Conversation<Numbered<LinkEnd>>,
     alloc: Global,
     took: Took,
     named: NamedLink,
+    closing: Option<Answer>,
     attach: Boxed<Attach>,
     out: &mut VecDeque<SessionFrame>,
     events: &mut Vec<Event>,
-) -> Result<Option<LinkAttached>, EndpointError>
-    requires waits { WaitsIn talk.old took named }
+) -> Option<LinkAttached>
+    requires closes { ClosesIn talk.old took named closing }
+    requires spare { deque_len out.old < deque_capacity out.old }
     requires room { vec_len events.old < vec_capacity events.old }
-    ensures ok { IfOk result (λ left.
-        Tells (λ frames told. Becomes took named talk.old attach left frames told talk.new)
-        out.old.items events.old.items out.new.items events.new.items) }
-    ensures err { IfErr result (λ e. IsRefusedBy took named e × (talk.new ≡ talk.old)) }
-    ensures kept { OnErr result ((out.new.items ≡ out.old.items) × (events.new.items ≡ events.old.items)) }
+    ensures becomes { Tells (λ frames told. Becomes took named talk.old attach result frames told talk.new)
+        out.old.items events.old.items out.new.items events.new.items }
     ensures goes { (limit : ℕ) → 512 ≤ limit → Goes limit talk.old talk.new out.old.items out.new.items }
     ensures rests { Rests talk.old talk.new out.old.items out.new.items }
 {
     match took {
         Took::Asked(session) => {
             tell_asked(session, attach, events);
-            Ok(None)
+            None
         }
         Took::ByLink(session, told) => match named {
-            NamedLink::Waiting(handle) => {
-                take_by_link(talk, alloc, session, handle, told, out, events)
-            }
-            NamedLink::Absent | NamedLink::Attached => Ok(None),
+            NamedLink::Waiting(handle) => match closing {
+                Some(closing) => take_by_link(
+                    talk, alloc, session, handle, told, closing, out, events,
+                ),
+                None => unreachable!(),
+            },
+            NamedLink::Absent => None,
+            NamedLink::Attached => None,
         },
-        Took::Nothing => Ok(None),
+        Took::Nothing => None,
     }
 }
 
-/// The link with this own handle took the Attach, or refuses it. There is room for what is told.
+/// The link with this own handle took the Attach, or refuses it and is closed. There is room for what is told, and for
+/// its Detach.
 fn take_by_link(
     talk: &mut Conversation<Numbered<LinkEnd>>,
     alloc: Global,
     session: u64,
     handle: OutputHandle,
     told: AttachTold,
+    closing: Answer,
     out: &mut VecDeque<SessionFrame>,
     events: &mut Vec<Event>,
-) -> Result<Option<LinkAttached>, EndpointError>
+) -> Option<LinkAttached>
     requires there { IsSome (link_of talk.old session handle) }
+    requires says { closing.error ≡ Some (error_of not_allowed) }
+    requires place { (s : Session) → live_at talk.old.sessions session ≡ Some s →
+        HasPlace s.value handle true closing.error closing.place }
+    requires spare { deque_len out.old < deque_capacity out.old }
     requires room { vec_len events.old < vec_capacity events.old }
-    ensures ok { IfOk result (λ left.
-        Tells (λ frames events. ByLink talk.old session handle told left frames events talk.new)
-        out.old.items events.old.items out.new.items events.new.items) }
-    ensures err { IfErr result (λ e. (e ≡ EndpointError.Memory) × ((error : LinkError) × (outcome_of told ≡ Err error))
-        × (talk.new ≡ talk.old)) }
-    ensures kept { OnErr result ((out.new.items ≡ out.old.items) × (events.new.items ≡ events.old.items)) }
+    ensures takes { Tells (λ frames told_now. ByLink talk.old session handle told result frames told_now talk.new)
+        out.old.items events.old.items out.new.items events.new.items }
     ensures goes { (limit : ℕ) → 512 ≤ limit → Goes limit talk.old talk.new out.old.items out.new.items }
     ensures rests { Rests talk.old talk.new out.old.items out.new.items }
 {
@@ -180,20 +235,18 @@ fn take_by_link(
         Ok(attaching) => {
             let Attaching { exchange, aborts } = attaching;
             tell_attached(link, exchange, events);
-            Ok(Some(LinkAttached {
+            Some(LinkAttached {
                 session,
                 handle,
                 link,
                 aborts,
-            }))
+            })
         }
-        Err(error) => match close(talk, alloc, session, handle, Condition::NotAllowed, out) {
-            Ok(()) => {
-                tell_refused(session, link, error, events);
-                Ok(None)
-            }
-            Err(_) => Err(EndpointError::Memory),
-        },
+        Err(error) => {
+            close(talk, session, handle, closing, out);
+            tell_refused(session, link, error, events);
+            None
+        }
     }
 }
 

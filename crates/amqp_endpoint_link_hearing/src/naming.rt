@@ -1,6 +1,7 @@
 //! The link that a peer's Attach names (part 2, 2.6.1, 2.6.3).
 ghost use Rattle.std.specs.Prelude.{◌≡◌, IsSome, Some, option_copied};
-ghost use Rattle.amqp_endpoint_link_hearing.specs.Naming.{IsNamed, IsNamedOn, is_other, link_of, named_end, named_held, standing};
+ghost use Rattle.amqp_endpoint_link_hearing.specs.Naming.{IsNamed, IsNamedOn};
+ghost use Rattle.amqp_endpoint_link_hearing.specs.Naming.{is_other, link_of, named_end, named_held, standing};
 ghost use Rattle.amqp_endpoint_linking.specs.Linking.{Link};
 
 use amqp_endpoint_attached::role;
