@@ -88,7 +88,7 @@ module _ (old new : LinkedSessions) (limit : ℕ) (channel : IncomingChannel) (b
   refused (Ok u) h = tt
   refused (Err e) h = record { ends = h.0; refuses = h.1 }
 
--- what is kept where it is refused, without its first part
-pub kept-behind : (P Q : Type 0) (r : Result ⊤ EndpointError) → OnErr r (P × Q) → OnErr r Q
-kept-behind P Q (Ok u) kept = tt
-kept-behind P Q (Err e) kept = kept.1
+-- what is kept where it is refused
+pub kept-so : (P Q : Type 0) → (P → Q) → (r : Result ⊤ EndpointError) → OnErr r P → OnErr r Q
+kept-so P Q by (Ok u) kept = tt
+kept-so P Q by (Err e) kept = by kept

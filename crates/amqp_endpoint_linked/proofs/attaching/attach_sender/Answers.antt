@@ -10,7 +10,7 @@ tell_placed-link-requires c =
 
 pub returns-clause-ok : goal.returns-clause-ok
 returns-clause-ok c =
-    let call = c.attach_sender-placed in
+    let call = c.attach_sender in
     attached c.args.talk.now call.new.talk c.args.links.now call.new.links c.args.limit c.args.session
     (sender_by c.args.settings.now) c.in_ok-placed.placed c.tell_placed-link.result c.tell_placed-link.new.events.items
     c.args.out.now.items call.new.out.items c.in_ok-placed.ensures.ok c.tell_placed-link.ensures.link

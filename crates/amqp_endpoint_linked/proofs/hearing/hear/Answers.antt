@@ -1,6 +1,6 @@
 use Rattle.std.proofs.Common.{◌≡◌}
 use Rattle.amqp_session_frames.specs.declared.frame.FrameBody.TheVariants as body
-use Rattle.amqp_endpoint_linked.proofs.Heard.{hears-if, kept-behind, refuses-if}
+use Rattle.amqp_endpoint_linked.proofs.Heard.{hears-if, kept-so, refuses-if}
 use Rattle.amqp_endpoint_linked.proofs.hearing.hear.Goals as goal
 
 pub returns-in-Begin-clause-ok : goal.returns-in-Begin-clause-ok
@@ -120,17 +120,19 @@ returns-in-End-clause-err c =
     let call = c.hear_end in
     refuses-if c.args.talk.now call.new.talk c.args.links.now call.new.links c.args.channel c.args.body
     (body.End c.in-End.end)
-    ((call.new.talk ≡ c.args.talk.now) × (call.new.links ≡ c.args.links.now) × (call.new.out.items ≡ c.args.out.now.items)
-    × (call.new.events.items ≡ c.args.events.now.items))
-    (λ kept. kept.1.0) c.in-End.is call.result call.ensures.err call.ensures.kept
+    ((call.new.talk ≡ c.args.talk.now) × (call.new.links ≡ c.args.links.now)
+    × (call.new.out.items ≡ c.args.out.now.items) × (call.new.events.items ≡ c.args.events.now.items))
+    (λ kept. kept.1) c.in-End.is call.result call.ensures.err call.ensures.kept
 
 pub returns-in-End-clause-kept : goal.returns-in-End-clause-kept
 returns-in-End-clause-kept c =
     let call = c.hear_end in
-    kept-behind (call.new.talk ≡ c.args.talk.now)
+    kept-so
+    ((call.new.talk ≡ c.args.talk.now) × (call.new.links ≡ c.args.links.now)
+    × (call.new.out.items ≡ c.args.out.now.items) × (call.new.events.items ≡ c.args.events.now.items))
     ((call.new.links ≡ c.args.links.now) × (call.new.out.items ≡ c.args.out.now.items)
     × (call.new.events.items ≡ c.args.events.now.items))
-    call.result call.ensures.kept
+    (λ kept. (kept.1, kept.2, kept.3)) call.result call.ensures.kept
 
 pub returns-in-End-clause-goes : goal.returns-in-End-clause-goes
 returns-in-End-clause-goes c limit least = c.hear_end.ensures.goes limit

@@ -1,5 +1,5 @@
 use Rattle.std.proofs.Common.{◌≡◌}
-use Rattle.amqp_endpoint_linked.proofs.Heard.{kept-behind, refused, taken}
+use Rattle.amqp_endpoint_linked.proofs.Heard.{kept-so, refused, taken}
 use Rattle.amqp_endpoint_linked.specs.declared.linked.LinkedSessions.{LinkedSessions}
 use Rattle.amqp_endpoint_linked.proofs.linked.LinkedSessionsSessionRelay.on_incoming.Goals as goal
 
@@ -20,9 +20,11 @@ returns-clause-err c =
 
 pub returns-clause-kept : goal.returns-clause-kept
 returns-clause-kept c =
-    kept-behind (c.hear.new.links ≡ c.args.self.now.links)
+    kept-so
+    ((c.hear.new.links ≡ c.args.self.now.links) × (c.hear.new.out.items ≡ c.args.out.now.items)
+    × (c.hear.new.events.items ≡ c.args.events.now.items))
     ((c.hear.new.out.items ≡ c.args.out.now.items) × (c.hear.new.events.items ≡ c.args.events.now.items))
-    c.hear.result c.hear.ensures.kept
+    (λ kept. (kept.1, kept.2)) c.hear.result c.hear.ensures.kept
 
 pub returns-clause-within : goal.returns-clause-within
 returns-clause-within c = (c.hear.ensures.goes c.args._limit c.requires.least).waits c.requires.waiting
