@@ -1,32 +1,30 @@
 -- What is done for a link in its session hands out frames that fit.
-use Rattle.std.proofs.Common.{◌≡◌, ◌≤◌, ◌<◌, ℕ, Bool, true, false, List, [], ◌∷◌, ◌++◌, Option, Some, None, refl, sym, ap, subst, ◌∙◌, append-nil, length, drop}
-use Rattle.std.specs.Prelude.{◌^◌, All, option_to_list}
-use Rattle.std.proofs.lemmas.List.Elements.{All-nil}
+use Rattle.std.proofs.Common.{◌≡◌, ◌≤◌, ◌<◌, ℕ, Bool, true, false, List, [], ◌∷◌, Option, Some, None, refl, sym}
+use Rattle.std.proofs.Common.{subst, ◌∙◌, append-nil, length, drop}
+use Rattle.std.specs.Prelude.{◌^◌, All}
 use Rattle.amqp_session_types.specs.declared.error.Error.{Error}
 use Rattle.amqp_session_types.specs.declared.handles.OutputHandle.{OutputHandle}
 use Rattle.amqp_session_performatives.specs.declared.session_frame.SessionFrame.{SessionFrame}
 use Rattle.amqp_session_core.specs.declared.batch.BehindFrame.TheVariants as behind
 use Rattle.amqp_session_core.specs.Steps.{Changes, Deallocates, SendsBehind}
 use Rattle.amqp_link_base.specs.declared.detached.Detached.{Detached}
-use Rattle.amqp_link_ends.specs.declared.end.End.{End}
 use Rattle.amqp_link_ends.specs.declared.relay.AttachTold.{AttachTold}
 use Rattle.amqp_link_receiving.specs.declared.answer.Told.{Told}
-use Rattle.amqp_endpoint_links.specs.declared.numbered.Numbered.{Numbered}
 use Rattle.amqp_endpoint_links.specs.History.{AskingHistory, AskingStep, InSession}
-use Rattle.amqp_endpoint_sessions.specs.Steps.{ChangesLive, Steps}
 use Rattle.amqp_endpoint_model.specs.State.{error_of, fits, frame_of}
 use Rattle.amqp_session_outgoing.specs.Queues.{room_behind}
 use Rattle.amqp_endpoint_lengths.specs.Plain.{SaysConditionAlone}
-use Rattle.amqp_endpoint_lengths.proofs.Frames.{detach_fits, message_size_exceeded-short, not_allowed-short, transfer_limit_exceeded-short}
+use Rattle.amqp_endpoint_lengths.proofs.Frames.{detach_fits, message_size_exceeded-short, not_allowed-short}
+use Rattle.amqp_endpoint_lengths.proofs.Frames.{transfer_limit_exceeded-short}
 use Rattle.amqp_endpoint_fitting.specs.Handed.{AllAskingEndFit, AllAskingHand, AllAskingSendFit}
 use Rattle.amqp_endpoint_fitting.specs.Read.{IsRead}
 use Rattle.amqp_endpoint_talk.specs.Going.{Goes, Rests}
 use Rattle.amqp_endpoint_talk.proofs.Calls.{changed-goes, changed-rests}
 use Rattle.amqp_endpoint_talk.proofs.Goings.{read-behind}
-use Rattle.amqp_endpoint_attached.specs.Detaching.{DetachGiven, DetachReplied, is_there, own_detach}
+use Rattle.amqp_endpoint_attached.specs.Detaching.{DetachGiven, is_there, own_detach}
 use Rattle.amqp_endpoint_attached.specs.Linked.{Linked, end_at, gives}
 use Rattle.amqp_endpoint_attached.specs.TakenOut.{TakenOut}
-use Rattle.amqp_endpoint_linking.specs.Linking.{Link, Session, Talk}
+use Rattle.amqp_endpoint_linking.specs.Linking.{Link, Talk}
 use Rattle.amqp_endpoint_linking.specs.Handed.{Hands}
 use Rattle.amqp_endpoint_link_hearing.specs.InSession.{AnswersIf, Closes, ClosesIf, GoesOn, Parts, name_of}
 use Rattle.amqp_endpoint_link_hearing.specs.Leaving.{HasPlace, detach_frame}

@@ -1,5 +1,6 @@
 -- Sessions that are lent: one that stays as it was, and one that is changed.
-use Rattle.std.proofs.Common.{◌≡◌, ℕ, zero, suc, List, [], ◌∷◌, Option, Some, None, refl, sym, ap, ◌∙◌, slice_get, slice_set, slice_index_or, false}
+use Rattle.std.proofs.Common.{◌≡◌, ℕ, zero, suc, List, [], ◌∷◌, Option, Some, None, refl, sym, ap, ◌∙◌, slice_get}
+use Rattle.std.proofs.Common.{slice_set, slice_index_or, false}
 use Rattle.std.proofs.lemmas.List.{set-get_or}
 use Rattle.std.proofs.lemmas.Option.{none-some, same_Some, get_or_from_slice_get}
 use Rattle.amqp_endpoint_sessions.specs.declared.place.PeerEnd.TheVariants.{Missing}
@@ -26,7 +27,8 @@ module _ {A S : Type 0} (s : State A S) (n : ℕ) (x : S) where
       by (Some (Ending c)) e q = absurd (none-some _ q)
       by (Some (Over p c)) e q = absurd (none-some _ q)
 
-get-same : {X : Type 0} (xs : List X) (i : ℕ) (x v : X) → slice_get xs i ≡ Some x → slice_get (slice_set xs i v) i ≡ Some v
+get-same : {X : Type 0} (xs : List X) (i : ℕ) (x v : X) → slice_get xs i ≡ Some x
+    → slice_get (slice_set xs i v) i ≡ Some v
 get-same [] i x v e = absurd (none-some _ e)
 get-same (y ∷ ys) zero x v e = refl
 get-same (y ∷ ys) (suc i) x v e = get-same ys i x v e

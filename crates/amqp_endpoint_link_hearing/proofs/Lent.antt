@@ -1,14 +1,13 @@
 -- What is done in a session that is lent.
-use Rattle.std.proofs.Common.{◌≡◌, ◌≤◌, ◌<◌, ℕ, Bool, true, false, List, [], ◌∷◌, ◌++◌, Option, Some, None, Result, Ok, Err, IsSome, OnOk, OnErr, refl, sym, ap, subst, ◌∙◌, append-nil, length, drop}
-use Rattle.std.specs.Prelude.{◌^◌, All, ⊤, is_some, option_map}
+use Rattle.std.proofs.Common.{◌≡◌, ◌≤◌, ℕ, Bool, true, List, [], Option, Some, None, Result, Ok}
+use Rattle.std.proofs.Common.{Err, IsSome, OnOk, OnErr, refl, sym, ap, subst, ◌∙◌, append-nil, length, drop}
+use Rattle.std.specs.Prelude.{All, ⊤, option_map}
 use Rattle.std.specs.Box.{with_value}
-use Rattle.std.specs.Global.{Box}
 use Rattle.std.proofs.lemmas.List.Elements.{All-nil}
 use Rattle.amqp_session_types.specs.declared.error.Error.{Error}
 use Rattle.amqp_session_types.specs.declared.handles.OutputHandle.{OutputHandle}
 use Rattle.amqp_session_performatives.specs.declared.session_frame.SessionFrame.{SessionFrame}
 use Rattle.amqp_session_core.specs.State.{link_at}
-use Rattle.amqp_link_ends.specs.declared.end.End.{End}
 use Rattle.amqp_endpoint_sessions.specs.Lends.{set_live}
 use Rattle.amqp_endpoint_sessions.specs.State.{live_at}
 use Rattle.amqp_endpoint_fitting.specs.Read.{IsRead}

@@ -10,6 +10,8 @@ mod Sizes
 mod Lent
 mod Closings
 mod Takes
+mod Partings
+mod Readies
 mod Becoming
 mod Dispositions
 mod Transfers

@@ -1,5 +1,6 @@
 -- What is done for the link that took a Transfer.
-use Rattle.std.proofs.Common.{◌≡◌, ◌≤◌, ℕ, Bool, true, false, List, [], ◌∷◌, ◌++◌, Option, Some, None, Result, IsSome, OnOk, refl, sym, ap, subst, ◌∙◌, append-nil, append_assoc, length, drop}
+use Rattle.std.proofs.Common.{◌≡◌, ◌≤◌, ℕ, Bool, true, false, List, [], ◌∷◌, ◌++◌, Option, Some, None, Result, IsSome}
+use Rattle.std.proofs.Common.{OnOk, refl, sym, ap, subst, ◌∙◌, append-nil, append_assoc, length, drop}
 use Rattle.std.specs.Prelude.{⊤, All, IfSome, if◌then◌else◌, is_some, option_to_list, slice_index_or}
 use Rattle.std.proofs.lemmas.List.Elements.{All-append, All-cons, All-head, All-nil}
 use Rattle.std.proofs.lemmas.Option.{none-some, same_Some}
@@ -7,7 +8,7 @@ use Rattle.std.specs.FinMap as map
 use Rattle.amqp_session_types.specs.declared.error.Error.{Error}
 use Rattle.amqp_session_types.specs.declared.handles.OutputHandle.{OutputHandle}
 use Rattle.amqp_session_performatives.specs.declared.session_frame.SessionFrame.{SessionFrame}
-use Rattle.amqp_session_core.specs.State.{link_at, live_in, reached}
+use Rattle.amqp_session_core.specs.State.{live_in, reached}
 use Rattle.amqp_session_core.specs.declared.incoming.TransferTaken.{TransferTaken}
 use Rattle.amqp_link_receiving.specs.declared.answer.Told.{Told}
 use Rattle.amqp_link_types.specs.declared.refusals.ReceiverTransferError.{ReceiverTransferError}
@@ -16,14 +17,15 @@ use Rattle.amqp_endpoint_lengths.proofs.Frames.{larger_fits}
 use Rattle.amqp_endpoint_sessions.specs.State.{live_at}
 use Rattle.amqp_endpoint_model.specs.declared.event.Event.{Event}
 use Rattle.amqp_endpoint_model.specs.State.{error_of, fits, frame_of}
-use Rattle.amqp_endpoint_talk.specs.Going.{Goes, NoneLive, Rests}
+use Rattle.amqp_endpoint_talk.specs.Going.{Goes, Rests}
 use Rattle.amqp_endpoint_talk.proofs.Goings.{read-behind}
 use Rattle.amqp_endpoint_linking.specs.Linking.{Link, Session, Talk}
 use Rattle.amqp_endpoint_linking.specs.Handed.{Hands, Tells}
 use Rattle.amqp_endpoint_link_hearing.specs.InSession.{Closes, GoesOn, name_of}
 use Rattle.amqp_endpoint_link_hearing.specs.Leaving.{HasPlace}
-use Rattle.amqp_endpoint_link_hearing.specs.Naming.{link_in, link_of}
-use Rattle.amqp_endpoint_link_hearing.specs.Taking.{ClosesBy, ClosesFor, FlowFits, IsClosedFor, IsClosing, TakenBy, TakenIn, fault_told, reached_in, reached_of}
+use Rattle.amqp_endpoint_link_hearing.specs.Naming.{link_in}
+use Rattle.amqp_endpoint_link_hearing.specs.Taking.{ClosesBy, ClosesFor, FlowFits, IsClosedFor, IsClosing, TakenBy}
+use Rattle.amqp_endpoint_link_hearing.specs.Taking.{TakenIn, fault_told, reached_in, reached_of}
 use Rattle.amqp_endpoint_link_hearing.specs.Transferring.{condition_of, fault_of}
 use Rattle.amqp_endpoint_link_hearing.specs.declared.leaving.Answer.{Answer}
 use Rattle.amqp_endpoint_link_hearing.proofs.Takes.{IsNumbered}
@@ -33,6 +35,10 @@ pub one-read : (frame : SessionFrame) (out out_new : List SessionFrame) (from : 
     → out_new ≡ out ++ frame ∷ [] → All IsRead (drop from out_new) → IsRead frame
 one-read frame out out_new from is queued reads =
     All-head IsRead frame [] (read-behind out out_new (frame ∷ []) from is queued reads)
+
+pub flow-read : (flow : Option SessionFrame) (frame : SessionFrame) → flow ≡ Some frame → IsRead frame
+    → IfSome flow IsRead
+flow-read flow frame is read = subst (λ (o : Option SessionFrame). IfSome o IsRead) (sym is) read
 
 flow-fit : (limit : ℕ) (o : Option SessionFrame) → 512 ≤ limit → FlowFits o → IfSome o IsRead
     → All (λ (f : SessionFrame). fits limit (frame_of f) ≡ true) (option_to_list o)
@@ -122,38 +128,44 @@ closed-by old session handle number n why error new out out_new events events_ne
     }
 
 -- the link that the peer's handle reaches is closed by what was made ready
-pub closes-for : (old : Talk) (session input : ℕ) (error : ReceiverTransferError) (handle : OutputHandle)
-    (answer : Answer) → IsClosing old session input error handle answer → (new : Talk)
-    (out out_new : List SessionFrame) (events events_new : List Event)
+pub closes-for : (old : Talk) (session input : ℕ) (why : Option ReceiverTransferError) (error : ReceiverTransferError)
+    → why ≡ Some error → (handle : OutputHandle) (answer : Answer) → IsClosing old session input error handle answer
+    → (new : Talk) (out out_new : List SessionFrame) (events events_new : List Event)
     → Tells (λ (frames : List SessionFrame) (told : List Event).
     IsClosedFor old session handle answer.error error frames told new) out events out_new events_new
     → Tells (λ (frames : List SessionFrame) (told : List Event).
-    ClosesFor (Some error) old session input frames told new) out events out_new events_new
-closes-for old session input error handle answer ready new out out_new events events_new t =
+    ClosesFor why old session input frames told new) out events out_new events_new
+closes-for old session input why error is handle answer ready new out out_new events events_new t =
+    let so : ClosesBy error old session input t.frames t.events new =
+    record {
+      handle = handle;
+      reaches = ready.reaches;
+      closed =
+          subst (λ (e : Option Error). IsClosedFor old session handle e error t.frames t.events new) ready.says
+          t.is_so;
+    } in
     record {
       frames = t.frames;
       events = t.events;
       is_so =
-          record {
-            handle = handle;
-            reaches = ready.reaches;
-            closed =
-                subst (λ (why : Option Error). IsClosedFor old session handle why error t.frames t.events new)
-                ready.says t.is_so;
-          };
+          subst (λ (o : Option ReceiverTransferError). ClosesFor o old session input t.frames t.events new) (sym is)
+          so;
       queued = t.queued;
       are_told = t.are_told;
     }
 
 -- or nothing is
-pub closes-none : (old : Talk) (session input : ℕ) (out : List SessionFrame) (events : List Event)
+pub closes-none : (old : Talk) (session input : ℕ) (why : Option ReceiverTransferError) → why ≡ None
+    → (out : List SessionFrame) (events : List Event)
     → Tells (λ (frames : List SessionFrame) (told : List Event).
-    ClosesFor None old session input frames told old) out events out events
-closes-none old session input out events =
+    ClosesFor why old session input frames told old) out events out events
+closes-none old session input why is out events =
     record {
       frames = [];
       events = [];
-      is_so = (refl, refl, refl);
+      is_so =
+          subst (λ (o : Option ReceiverTransferError). ClosesFor o old session input [] [] old) (sym is)
+          (refl, refl, refl);
       queued = sym (append-nil out);
       are_told = sym (append-nil events);
     }
@@ -177,7 +189,7 @@ module _ (talk : Talk) (session input : ℕ) (lent : Session) (is : Some lent �
   pub none-there : None ≡ reached lent.value.session input → IsSome (reached_of talk session input) → ⊥
   none-there reaches there =
       let P : Option ℕ → Type 0 = λ r. IsSome r in
-      let clash : IsSome None = subst P (here ∙ sym reaches) there in absurd cc
+      let clash : IsSome {T = ℕ} None = subst P (here ∙ sym reaches) there in absurd cc
 
   pub made-ready : (error : ReceiverTransferError) (handle : OutputHandle) (answer : Answer)
       → Some handle.0 ≡ reached lent.value.session input

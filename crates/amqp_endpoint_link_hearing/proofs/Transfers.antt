@@ -1,5 +1,6 @@
 -- The peer's Transfer, once it is heard.
-use Rattle.std.proofs.Common.{◌≡◌, ◌≤◌, inl, inr, ℕ, Bool, true, false, List, [], ◌∷◌, ◌++◌, Option, Some, None, Ok, IsSome, refl, sym, ap, subst, ◌∙◌, append-nil, arith}
+use Rattle.std.proofs.Common.{◌≡◌, inl, inr, ℕ, Bool, true, false, List, [], ◌++◌, Option, Some, None, Ok}
+use Rattle.std.proofs.Common.{IsSome, refl, sym, ap, subst, ◌∙◌, append-nil, arith}
 use Rattle.std.specs.Prelude.{is_some, if◌then◌else◌, slice_index_or}
 use Rattle.std.proofs.lemmas.Option.{none-some, same_Some}
 use Rattle.amqp_session_types.specs.declared.channels.IncomingChannel.{IncomingChannel}
@@ -17,7 +18,6 @@ use Rattle.amqp_endpoint_conversation.specs.declared.hearing.Heard.TheVariants.{
 use Rattle.amqp_endpoint_conversation.specs.Hearing.{Answered}
 use Rattle.amqp_endpoint_fitting.specs.Read.{IsRead}
 use Rattle.amqp_endpoint_fitting.proofs.Due.{due}
-use Rattle.amqp_endpoint_sessions.specs.State.{live_at}
 use Rattle.amqp_endpoint_model.specs.declared.error.EndpointError.{EndpointError}
 use Rattle.amqp_endpoint_model.specs.declared.error.EndpointError.TheVariants as fault
 use Rattle.amqp_endpoint_model.specs.declared.event.Event.{Event}
@@ -29,8 +29,10 @@ use Rattle.amqp_endpoint_attached.proofs.There.{replaced}
 use Rattle.amqp_endpoint_linking.specs.Linking.{Link, Links, Session, Talk}
 use Rattle.amqp_endpoint_linking.specs.Handed.{Tells}
 use Rattle.amqp_endpoint_link_hearing.specs.Saying.{Answers, FailsBySaid, LinkHeard}
-use Rattle.amqp_endpoint_link_hearing.specs.Taking.{ClosesBy, ClosesFor, FailsFor, FailsIn, FlowFits, StandsIn, TakenIn, reached_in, reached_of}
-use Rattle.amqp_endpoint_link_hearing.specs.Transferring.{Becomes, ClosedBy, ClosedIf, HearsTransfer, IsUnclosed, RefusesTransfer, fault_of, transfer_of}
+use Rattle.amqp_endpoint_link_hearing.specs.Taking.{ClosesBy, ClosesFor, FailsFor, FailsIn, FlowFits, StandsIn, TakenIn}
+use Rattle.amqp_endpoint_link_hearing.specs.Taking.{reached_in, reached_of}
+use Rattle.amqp_endpoint_link_hearing.specs.Transferring.{Becomes, ClosedBy, ClosedIf, HearsTransfer, IsUnclosed}
+use Rattle.amqp_endpoint_link_hearing.specs.Transferring.{RefusesTransfer, fault_of, transfer_of}
 use Rattle.amqp_endpoint_link_hearing.proofs.Heard.{IsTaken, taken-in}
 
 -- a handle that reached a link reaches it while the link is there

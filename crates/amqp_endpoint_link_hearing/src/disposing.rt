@@ -21,9 +21,9 @@ use std::alloc::Global;
 use std::collections::VecDeque;
 
 /// Takes the peer's Disposition in the session that its channel reaches (part 2, 2.6.12, 2.7.6): the links hear of
-/// their deliveries that it names. Nothing is handed out or told. What it asks to be echoed isn't sent here: no delivery
-/// of an own message stands unsettled, as no message is sent yet. A session that refuses it ends by its fault: its End
-/// is handed out, its links are given back, and `Refused` is told.
+/// their deliveries that it names. Nothing is handed out or told. What it asks to be echoed isn't sent here: no
+/// delivery of an own message stands unsettled, as no message is sent yet. A session that refuses it ends by its fault:
+/// its End is handed out, its links are given back, and `Refused` is told.
 ///
 /// It ends the connection with `Connection` of `NotFound` where the channel reaches no session, with `Session` where
 /// one refuses it that the peer asks for, and with `Memory`. Nothing is handed out or told then, and no link is given

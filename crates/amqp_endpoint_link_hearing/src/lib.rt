@@ -1,5 +1,5 @@
-//! What the peer says of links in the sessions of an endpoint: its Attach, its Flows, its Transfers and Dispositions, and
-//! its Detach (part 2, 2.6.3 to 2.6.6, 2.7.3 to 2.7.7).
+//! What the peer says of links in the sessions of an endpoint: its Attach, its Flows, its Transfers and Dispositions,
+//! and its Detach (part 2, 2.6.3 to 2.6.6, 2.7.3 to 2.7.7).
 //!
 //! What comes of it say specs/: Attaching, Flowing, Transferring, Disposing and Detaching; how a session refuses it,
 //! Saying.

@@ -12,7 +12,8 @@ ghost use Rattle.amqp_endpoint_linking.specs.Linking.{Session};
 ghost use Rattle.amqp_endpoint_link_hearing.specs.Leaving.{HasPlace};
 ghost use Rattle.amqp_endpoint_link_hearing.specs.Naming.{link_of};
 ghost use Rattle.amqp_endpoint_link_hearing.specs.Taking.{ClosesFor, FailsFor, FailsIn, FlowFits, IsClosing};
-ghost use Rattle.amqp_endpoint_link_hearing.specs.Taking.{IsClosedFor, StandsIn, TakenBy, TakenIn, fault_told, reached_of};
+ghost use Rattle.amqp_endpoint_link_hearing.specs.Taking.{IsClosedFor, StandsIn, TakenBy, TakenIn, fault_told};
+ghost use Rattle.amqp_endpoint_link_hearing.specs.Taking.{reached_of};
 ghost use Rattle.amqp_endpoint_link_hearing.specs.Transferring.{HearsTransfer, RefusesTransfer, condition_of, fault_of};
 ghost use Rattle.amqp_endpoint_link_hearing.specs.Transferring.{transfer_of};
 
@@ -115,9 +116,7 @@ fn take_transfer(
 
 /// The session of the link that took a Transfer that was heard, what the link tells, and the Flow of the session that
 /// it makes due, if one took it.
-fn transfer_of(
-    heard: Heard<AttachTold, Told, Detached>,
-) -> Option<(u64, TransferTaken<Told>)>
+fn transfer_of(heard: Heard<AttachTold, Told, Detached>) -> Option<(u64, TransferTaken<Told>)>
     ensures { result ≡ transfer_of heard }
 {
     match heard {

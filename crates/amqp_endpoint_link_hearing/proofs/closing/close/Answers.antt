@@ -1,4 +1,4 @@
-use Rattle.std.proofs.Common.{List, refl, sym, ap, subst, ◌∙◌}
+use Rattle.std.proofs.Common.{sym, subst, ◌∙◌}
 use Rattle.std.specs.Prelude.{◌≤◌}
 use Rattle.amqp_session_outgoing.specs.Queues.{room_behind}
 use Rattle.amqp_endpoint_attached.specs.Linked.{Linked}

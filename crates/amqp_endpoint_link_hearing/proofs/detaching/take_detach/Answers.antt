@@ -11,6 +11,11 @@ detach_heard-requires-clause-stands c =
     stands-for c.args.talk.now c.args.channel c.args.out.now.items c.args.detach c.in-Ok.heard c.detach_of-took.result
     c.detach_of-took.ensures c.args.ready c.hear.new.talk c.hear.new.out.items c.requires.ready c.in-Ok.ensures.step
 
+pub returns-in-Ok-clause-rests : goal.returns-in-Ok-clause-rests
+returns-in-Ok-clause-rests c =
+    rests-on c.args.talk.now c.hear.new.talk c.detach_heard.new.talk c.args.out.now.items c.hear.new.out.items
+    c.detach_heard.new.out.items c.hear.ensures.rests c.detach_heard.ensures.rests
+
 pub returns-in-Ok-clause-ok : goal.returns-in-Ok-clause-ok
 returns-in-Ok-clause-ok c =
     detach-taken c.args.talk.now c.args.channel c.args.out.now.items c.args.detach c.in-Ok.heard c.detach_of-took.result
@@ -38,20 +43,20 @@ returns-in-Ok-refuse-clause-ok c =
 pub returns-in-Ok-refuse-clause-goes : goal.returns-in-Ok-refuse-clause-goes
 returns-in-Ok-refuse-clause-goes c limit least = c.hear.ensures.goes limit answers-plain
 
-pub returns-in-Err-refuse-clause-err : goal.returns-in-Err-refuse-clause-err
-returns-in-Err-refuse-clause-err c =
+pub returns-clause-err : goal.returns-clause-err
+returns-clause-err c =
     let (why, is) =
     bars c.args.talk.now c.args.channel (said.Detach c.args.detach) c.args.out.now.items c.hear.new.talk
     c.hear.new.out.items (c.hear.ensures.goes 0 answers-plain) c.args.links.now c.refuse.new.links
     c.args.events.now.items c.refuse.new.events.items c.in-Err.refusal c.in-Err-refuse.error c.in-Err.ensures.step
     c.in-Err-refuse.ensures in (why, inl is)
 
-pub returns-in-Err-refuse-clause-kept : goal.returns-in-Err-refuse-clause-kept
-returns-in-Err-refuse-clause-kept c =
+pub returns-clause-kept : goal.returns-clause-kept
+returns-clause-kept c =
     kept c.args.talk.now c.args.channel (said.Detach c.args.detach) c.args.out.now.items c.hear.new.talk
     c.hear.new.out.items (c.hear.ensures.goes 0 answers-plain) c.args.links.now c.refuse.new.links
     c.args.events.now.items c.refuse.new.events.items c.in-Err.refusal c.in-Err-refuse.error refl
     c.in-Err.ensures.step c.in-Err-refuse.ensures
 
-pub returns-in-Err-refuse-clause-goes : goal.returns-in-Err-refuse-clause-goes
-returns-in-Err-refuse-clause-goes c limit least = c.hear.ensures.goes limit answers-plain
+pub returns-clause-goes : goal.returns-clause-goes
+returns-clause-goes c limit least = c.hear.ensures.goes limit answers-plain

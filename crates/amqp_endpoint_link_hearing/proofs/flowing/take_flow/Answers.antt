@@ -1,4 +1,4 @@
-use Rattle.std.proofs.Common.{inl, ℕ, List, refl, sym, subst, ◌∙◌}
+use Rattle.std.proofs.Common.{inl, List, refl, sym, subst, ◌∙◌}
 use Rattle.amqp_session_performatives.specs.declared.session_frame.SessionFrame.{SessionFrame}
 use Rattle.amqp_endpoint_links.specs.declared.hearing.LinkPerformative.TheVariants as said
 use Rattle.amqp_endpoint_talk.specs.Going.{Goes, Rests}
@@ -23,7 +23,9 @@ returns-in-Ok-refuse-clause-ok c =
     c.refuse.new.events.items
     (fails c.args.talk.now c.args.channel (said.Flow c.args.flow) c.args.out.now.items c.hear.new.talk
     c.hear.new.out.items (c.hear.ensures.goes 0 answers-plain) c.args.links.now c.refuse.new.links
-    c.args.events.now.items c.refuse.new.events.items c.in-Err.refusal (forgotten c.args.talk.now c.args.channel (said.Flow c.args.flow) c.args.out.now.items c.hear.new.talk c.hear.new.out.items c.hear.result c.in-Err.refusal c.in-Err.ensures c.hear.ensures.step)
+    c.args.events.now.items c.refuse.new.events.items c.in-Err.refusal
+    (forgotten c.args.talk.now c.args.channel (said.Flow c.args.flow) c.args.out.now.items c.hear.new.talk
+    c.hear.new.out.items c.hear.result c.in-Err.refusal c.in-Err.ensures c.hear.ensures.step)
     c.in-Ok-refuse.ensures)
 
 pub returns-in-Ok-refuse-clause-goes : goal.returns-in-Ok-refuse-clause-goes
@@ -34,7 +36,9 @@ returns-in-Err-refuse-clause-err c =
     let (why, is) =
     bars c.args.talk.now c.args.channel (said.Flow c.args.flow) c.args.out.now.items c.hear.new.talk
     c.hear.new.out.items (c.hear.ensures.goes 0 answers-plain) c.args.links.now c.refuse.new.links
-    c.args.events.now.items c.refuse.new.events.items c.in-Err.refusal c.in-Err-refuse.error (forgotten c.args.talk.now c.args.channel (said.Flow c.args.flow) c.args.out.now.items c.hear.new.talk c.hear.new.out.items c.hear.result c.in-Err.refusal c.in-Err.ensures c.hear.ensures.step)
+    c.args.events.now.items c.refuse.new.events.items c.in-Err.refusal c.in-Err-refuse.error
+    (forgotten c.args.talk.now c.args.channel (said.Flow c.args.flow) c.args.out.now.items c.hear.new.talk
+    c.hear.new.out.items c.hear.result c.in-Err.refusal c.in-Err.ensures c.hear.ensures.step)
     c.in-Err-refuse.ensures in (why, inl is)
 
 pub returns-in-Err-refuse-clause-kept : goal.returns-in-Err-refuse-clause-kept

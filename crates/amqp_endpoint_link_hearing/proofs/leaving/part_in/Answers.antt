@@ -1,5 +1,5 @@
 use Rattle.std.proofs.Common.{refl}
-use Rattle.amqp_endpoint_link_hearing.proofs.Closings.{parts-answered, parts-silent}
+use Rattle.amqp_endpoint_link_hearing.proofs.Partings.{parts-answered, parts-silent}
 use Rattle.amqp_endpoint_link_hearing.proofs.leaving.part_in.Goals as goal
 
 pub returns-then-answers : goal.returns-then-answers

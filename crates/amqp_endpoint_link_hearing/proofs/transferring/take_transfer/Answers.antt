@@ -46,8 +46,8 @@ pub returns-in-Err-transfer_heard-clause-kept : goal.returns-in-Err-transfer_hea
 returns-in-Err-transfer_heard-clause-kept c = (
   refl,
   c.in-Err-transfer_heard.ensures.kept.0
-    ∙ (heard-kept c.args.talk.now (said.Transfer c.args.transfer c.args.payload) c.args.out.now.items c.hear.new.talk
-    c.hear.new.out.items refl c.args.channel c.in-Ok.heard c.in-Ok.ensures.step),
+      ∙ (heard-kept c.args.talk.now (said.Transfer c.args.transfer c.args.payload) c.args.out.now.items c.hear.new.talk
+      c.hear.new.out.items refl c.args.channel c.in-Ok.heard c.in-Ok.ensures.step),
   c.in-Err-transfer_heard.ensures.kept.1,
 )
 
@@ -67,9 +67,9 @@ returns-in-Ok-refuse-clause-ok c =
     transfer-fails c.args.talk.now c.args.channel c.args.out.now.items c.args.transfer c.args.payload
     c.args.links.now c.refuse.new.links c.hear.new.talk c.args.events.now.items c.refuse.new.events.items
     c.hear.new.out.items
-    (fails c.args.talk.now c.args.channel (said.Transfer c.args.transfer c.args.payload) c.args.out.now.items c.hear.new.talk
-    c.hear.new.out.items (c.hear.ensures.goes 0 answers-plain) c.args.links.now c.refuse.new.links
-    c.args.events.now.items c.refuse.new.events.items c.in-Err.refusal c.in-Err.ensures.step
+    (fails c.args.talk.now c.args.channel (said.Transfer c.args.transfer c.args.payload) c.args.out.now.items
+    c.hear.new.talk c.hear.new.out.items (c.hear.ensures.goes 0 answers-plain) c.args.links.now
+    c.refuse.new.links c.args.events.now.items c.refuse.new.events.items c.in-Err.refusal c.in-Err.ensures.step
     c.in-Ok-refuse.ensures)
 
 pub returns-in-Ok-refuse-clause-goes : goal.returns-in-Ok-refuse-clause-goes
@@ -78,16 +78,16 @@ returns-in-Ok-refuse-clause-goes c limit least = c.hear.ensures.goes limit answe
 pub returns-in-Err-refuse-clause-err : goal.returns-in-Err-refuse-clause-err
 returns-in-Err-refuse-clause-err c =
     let (why, is) =
-    bars c.args.talk.now c.args.channel (said.Transfer c.args.transfer c.args.payload) c.args.out.now.items c.hear.new.talk
-    c.hear.new.out.items (c.hear.ensures.goes 0 answers-plain) c.args.links.now c.refuse.new.links
-    c.args.events.now.items c.refuse.new.events.items c.in-Err.refusal
+    bars c.args.talk.now c.args.channel (said.Transfer c.args.transfer c.args.payload) c.args.out.now.items
+    c.hear.new.talk c.hear.new.out.items (c.hear.ensures.goes 0 answers-plain) c.args.links.now
+    c.refuse.new.links c.args.events.now.items c.refuse.new.events.items c.in-Err.refusal
     c.in-Err-refuse.error c.in-Err.ensures.step c.in-Err-refuse.ensures in (why, inl (inl is))
 
 pub returns-in-Err-refuse-clause-kept : goal.returns-in-Err-refuse-clause-kept
 returns-in-Err-refuse-clause-kept c =
-    kept c.args.talk.now c.args.channel (said.Transfer c.args.transfer c.args.payload) c.args.out.now.items c.hear.new.talk
-    c.hear.new.out.items (c.hear.ensures.goes 0 answers-plain) c.args.links.now c.refuse.new.links
-    c.args.events.now.items c.refuse.new.events.items c.in-Err.refusal
+    kept c.args.talk.now c.args.channel (said.Transfer c.args.transfer c.args.payload) c.args.out.now.items
+    c.hear.new.talk c.hear.new.out.items (c.hear.ensures.goes 0 answers-plain) c.args.links.now
+    c.refuse.new.links c.args.events.now.items c.refuse.new.events.items c.in-Err.refusal
     c.in-Err-refuse.error refl c.in-Err.ensures.step c.in-Err-refuse.ensures
 
 pub returns-in-Err-refuse-clause-goes : goal.returns-in-Err-refuse-clause-goes

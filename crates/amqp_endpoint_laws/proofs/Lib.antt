@@ -1,0 +1,3 @@
+mod Keeping
+mod Kept
+mod LinksKept

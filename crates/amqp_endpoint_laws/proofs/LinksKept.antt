@@ -1,0 +1,177 @@
+-- The links of an endpoint go on by steps of their own.
+use Rattle.std.proofs.Common.{◌≡◌, inl, inr, ℕ, Bool, true, false, List, [], ◌∷◌, ◌++◌, Option, Some, None, Ok, Err, refl, sym, ap, subst, ◌∙◌}
+use Rattle.std.specs.Prelude.{Result, ⊤, max}
+use Rattle.amqp_session_types.specs.declared.channels.IncomingChannel.{IncomingChannel}
+use Rattle.amqp_session_performatives.specs.declared.session_frame.SessionFrame.{SessionFrame}
+use Rattle.amqp_session_frames.specs.declared.frame.FrameBody.{FrameBody}
+use Rattle.amqp_session_frames.specs.declared.frame.FrameBody.TheVariants as body
+use Rattle.amqp_link_base.specs.declared.detached.Detached.{Detached}
+use Rattle.amqp_link_ends.specs.declared.end.End.{End}
+use Rattle.amqp_endpoint_names.specs.declared.place.LinkPlace.{LinkPlace}
+use Rattle.amqp_endpoint_names.specs.declared.place.LinkPlace.TheVariants.{AtRest, Held}
+use Rattle.amqp_endpoint_names.specs.State.{AreApart, fresh, place_at}
+use Rattle.amqp_endpoint_names.specs.Steps.{Closed, Closes, Enters, History, MakesRoom, Rested, Rests, Step}
+use Rattle.amqp_endpoint_names.proofs.Apart.{none_apart, stay_apart}
+use Rattle.amqp_endpoint_model.specs.declared.call.Call.{Call}
+use Rattle.amqp_endpoint_model.specs.declared.call.Call.TheVariants as call
+use Rattle.amqp_endpoint_model.specs.declared.error.EndpointError.{EndpointError}
+use Rattle.amqp_endpoint_model.specs.declared.event.Event.{Event}
+use Rattle.amqp_endpoint_model.specs.declared.settings.Settings.{Settings}
+use Rattle.amqp_endpoint_model.specs.History.{Run}
+use Rattle.amqp_endpoint_model.specs.Relay.{IsNew}
+use Rattle.amqp_endpoint_model.specs.Said.{Said, Told, attaching, count, credit_is, done, link_closed, session_begun}
+use Rattle.amqp_endpoint_model.specs.Said.{tried_end, truth, waiting}
+use Rattle.amqp_endpoint_model.specs.State.{State, fresh as fresh_endpoint}
+use Rattle.amqp_endpoint_linking.specs.Linking.{Link, Links, Session, Talk}
+use Rattle.amqp_endpoint_linking.specs.GivingBack.{AllGivenBack, GoOn, IsAtRest, IsClosed, SessionGivenBack}
+use Rattle.amqp_endpoint_linking.proofs.BackLaws.{back-goes-on, finished-goes-on, left-goes-on}
+use Rattle.amqp_endpoint_link_attaching.specs.Attaching.{LinkAttaches, with_room}
+use Rattle.amqp_endpoint_link_calls.specs.Closing.{ClosedAt}
+use Rattle.amqp_endpoint_link_calls.specs.Places.{Where}
+use Rattle.amqp_endpoint_link_hearing.specs.Detaching.{Becomes}
+use Rattle.amqp_endpoint_link_hearing.specs.Leaving.{IsLeft}
+use Rattle.amqp_endpoint_linked.specs.Attaching.{LinkAttached}
+use Rattle.amqp_endpoint_linked.specs.Calling.{Calls}
+use Rattle.amqp_endpoint_linked.specs.Does.{linked}
+use Rattle.amqp_endpoint_linked.specs.Hearing.{Hears}
+use Rattle.amqp_endpoint_linked.specs.declared.linked.LinkedSessions.{LinkedSessions}
+use Rattle.amqp_endpoint_laws.proofs.Keeping.{Keeps}
+use Rattle.amqp_endpoint_laws.specs.Linking.{HaveCome}
+use Rattle.amqp_endpoint_laws.proofs.Kept.{run-keeps}
+
+more : (start mid end : Links) (steps others : List (Step End)) → History start steps mid → History mid others end
+    → History start (steps ++ others) end
+more start mid end [] others same h = subst (λ (l : Links). History l others end) same h
+more start mid end (step ∷ steps) others (next, one, rest) h = (next, one, more next mid end steps others rest h)
+
+-- from links that came so, by further steps
+module _ (old new : Links) (came : HaveCome old) where
+  by : (steps : List (Step End)) → History old steps new → HaveCome new
+  by steps h =
+      record { steps = came.steps ++ steps; history = more fresh old new came.steps steps came.history h }
+
+  same : new ≡ old → HaveCome new
+  same is = subst HaveCome (sym is) came
+
+  goes-on : GoOn old new → HaveCome new
+  goes-on g = by g.steps g.history
+
+  back : (left : List Link) → AllGivenBack old left new → HaveCome new
+  back left given = goes-on (back-goes-on old new left given)
+
+  session-back : (session : Option Session) → SessionGivenBack old session new → HaveCome new
+  session-back None is = same is
+  session-back (Some session) given = back _ given
+
+  closed : (number : ℕ) (place : Option (LinkPlace End)) → Closed old number place new → HaveCome new
+  closed number None t = same t.1
+  closed number (Some place) t = by (Closes number place ∷ []) (new, t, refl)
+
+  rested : (number : ℕ) (link : End) (left : Result ⊤ End) → Rested old number link left new → HaveCome new
+  rested number link (Err given) t = same t.2
+  rested number link (Ok given) t = by (Rests number link ∷ []) (new, t, refl)
+
+  left-so : (is_closed : Bool) (number : ℕ) (left : Option Link) → IsLeft is_closed old number left new → HaveCome new
+  left-so true number left c = closed number c.place c.closed
+  left-so false number None is = same is
+  left-so false number (Some link) r = rested number link.link r.back r.rested
+
+  attached : (old_talk new_talk : Talk) (limit session : ℕ) (link : End) (number : ℕ) (events : List Event)
+      (frames : List SessionFrame)
+      → LinkAttached old_talk old limit session link number events frames new_talk new → HaveCome new
+  attached old_talk new_talk limit session link number events frames a =
+      by (MakesRoom _ ∷ Enters _ _ _ _ ∷ [])
+      (with_room old, (a.attaches.entered.0, refl), new, a.attaches.entered, refl)
+
+  closed-at : (place : Where) (number : ℕ) (old_talk new_talk : Talk) (frames : List SessionFrame)
+      → place_at old number ≡ place → ClosedAt place old_talk old number [] new_talk new frames → HaveCome new
+  closed-at None number old_talk new_talk frames is c = absurd c
+  closed-at (Some (AtRest end)) number old_talk new_talk frames is c =
+      by (Closes number (AtRest end) ∷ []) (new, (is, c.forgotten), refl)
+  closed-at (Some (Held session handle)) number old_talk new_talk frames is c = same c.kept
+
+heard-detach : (took : Option (ℕ × Detached)) (old mid new : Talk) (links links_new : Links) (frames : List SessionFrame)
+    (events : List Event) (it : _) → Becomes took old links it mid frames events new links_new → HaveCome links
+    → HaveCome links_new
+heard-detach (Some (session, told)) old mid new links links_new frames events it b came =
+    left-so links links_new came told.closed b.link.number b.left b.is_left
+heard-detach None old mid new links links_new frames events it b came = same links links_new came b.same
+
+heard : (said : FrameBody) (old new : Talk) (links links_new : Links) (channel : IncomingChannel)
+    (frames : List SessionFrame) (events : List Event) → Hears old links channel said frames events new links_new
+    → HaveCome links → HaveCome links_new
+heard (body.Begin begin) old new links links_new channel frames events (inl t) came = same links links_new came t.same
+heard (body.Begin begin) old new links links_new channel frames events (inr f) came =
+    back links links_new came _ f.fails.back
+heard (body.Attach attach) old new links links_new channel frames events a came =
+    elim a.hears [ inl t ↦ same links links_new came t.same | inr f ↦ back links links_new came _ f.fails.back ]
+heard (body.Flow flow) old new links links_new channel frames events (inl t) came = same links links_new came t.same
+heard (body.Flow flow) old new links links_new channel frames events (inr f) came =
+    back links links_new came _ f.back
+heard (body.Transfer transfer payload) old new links links_new channel frames events (inl t) came =
+    same links links_new came t.same
+heard (body.Transfer transfer payload) old new links links_new channel frames events (inr f) came =
+    back links links_new came _ f.back
+heard (body.Disposition disposition) old new links links_new channel frames events (inl t) came =
+    same links links_new came t.same
+heard (body.Disposition disposition) old new links links_new channel frames events (inr f) came =
+    back links links_new came _ f.back
+heard (body.Detach detach) old new links links_new channel frames events (inl t) came =
+    heard-detach _ old t.mid new links links_new frames events detach t.becomes came
+heard (body.Detach detach) old new links links_new channel frames events (inr f) came =
+    back links links_new came _ f.back
+heard (body.End end) old new links links_new channel frames events t came =
+    session-back links links_new came t.heard.ended t.back
+heard said old new links links_new channel frames events h came = absurd h
+
+called : (by_call : Call) (answer : Said) (old new : LinkedSessions) (limit : ℕ) (frames : List SessionFrame)
+    → Calls old limit by_call answer frames new → HaveCome old.links → HaveCome new.links
+called call.Begin (session_begun n) old new limit frames c came = same old.links new.links came c.same
+called (call.AcceptBegin channel) (session_begun n) old new limit frames c came = same old.links new.links came c.same
+called (call.End n) done old new limit frames c came = back old.links new.links came _ c.back
+called (call.IsEnded n) (truth b) old new limit frames c came =
+    same old.links new.links came (ap (λ (s : LinkedSessions). s.links) c.same)
+called (call.TryEnd n) (tried_end o) old new limit frames c came =
+    same old.links new.links came (ap (λ (s : LinkedSessions). s.links) c.rest)
+called (call.AttachSender n settings) (attaching link events) old new limit frames c came =
+    attached old.links new.links came old.talk new.talk limit n _ link events frames c
+called (call.AttachReceiver n settings) (attaching link events) old new limit frames c came =
+    attached old.links new.links came old.talk new.talk limit n _ link events frames c
+called (call.Detach link) done old new limit frames c came = same old.links new.links came c.same
+called (call.CloseLink link) (link_closed events) old new limit frames c came =
+    closed-at old.links new.links came _ link old.talk new.talk frames refl c.closes
+called (call.Grant link n) (credit_is left) old new limit frames c came = same old.links new.links came c.same
+called (call.Drain link) done old new limit frames c came = same old.links new.links came c.same
+called (call.Credit link) (credit_is left) old new limit frames c came =
+    same old.links new.links came (ap (λ (s : LinkedSessions). s.links) c.same)
+called (call.HeldBack n) (count m) old new limit frames c came =
+    same old.links new.links came (ap (λ (s : LinkedSessions). s.links) c.same)
+called (call.Waiting n) (waiting turn) old new limit frames c came =
+    same old.links new.links came (ap (λ (s : LinkedSessions). s.links) c.same)
+called by_call answer old new limit frames c came = absurd c
+
+links-keep : Keeps linked (λ (s : LinkedSessions). HaveCome s.links)
+links-keep =
+    record {
+      moved = λ s connection came. came;
+      taken = λ old new limit channel said frames events h came.
+          heard said old.talk new.talk old.links new.links (record { 0 = channel }) frames events h came;
+      refused = λ old new limit channel said e r came. same old.links new.links came r.same;
+      called = λ old new limit by_call answer frames c came. called by_call answer old new limit frames c came;
+      closed = λ old new c came.
+          goes-on old.links new.links came (left-goes-on old.talk new.talk old.links new.links c);
+      finished = λ old new f came.
+          goes-on old.links new.links came (finished-goes-on old.talk new.talk old.links new.links f);
+    }
+
+module _ (sessions : LinkedSessions) (settings : Settings) (calls : List Call) (told : List Told)
+    (end : State LinkedSessions) (new : IsNew linked settings sessions)
+    (run : Run linked (fresh_endpoint settings sessions) calls told end) where
+  pub have-come : HaveCome end.sessions.links
+  have-come =
+      run-keeps linked (λ (s : LinkedSessions). HaveCome s.links) links-keep (fresh_endpoint settings sessions) end
+      calls told run
+      (record { steps = []; history = ap (λ (s : LinkedSessions). s.links) new.is })
+
+  pub are-apart : AreApart end.sessions.links.links
+  are-apart = stay_apart fresh end.sessions.links have-come.steps (none_apart End) have-come.history

@@ -1,0 +1,5 @@
+use Rattle.amqp_endpoint_laws.proofs.LinksKept.{have-come}
+use Rattle.amqp_endpoint_laws.proofs.laws.links_have_a_history.Goals as goal
+
+pub returns : goal.returns
+returns c = λ sessions settings calls told end new run. have-come sessions settings calls told end new run
