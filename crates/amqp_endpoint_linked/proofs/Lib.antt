@@ -1,0 +1,3 @@
+mod Related
+mod Heard
+mod Attached

@@ -1,5 +1,6 @@
 -- What the calls do that concern sessions and links (part 2, 2.5, 2.6).
-use Rattle.std.specs.Prelude.{◌≡◌, ℕ, List, [], Option, Some, None, Result, Ok, Err, ⊤}
+use Rattle.std.specs.Prelude.{◌≡◌, ℕ, false, List, [], Option, Some, None, Result, Ok, Err, ⊤}
+use Rattle.amqp_session_types.specs.declared.channels.IncomingChannel.{IncomingChannel}
 use Rattle.amqp_session_types.specs.declared.refusals.TryEndError.{TryEndError}
 use Rattle.amqp_session_performatives.specs.declared.session_frame.SessionFrame.{SessionFrame}
 use Rattle.amqp_link_ends.specs.declared.end.End.{End}
@@ -12,7 +13,7 @@ use Rattle.amqp_endpoint_model.specs.declared.error.EndpointError.{EndpointError
 use Rattle.amqp_endpoint_model.specs.declared.event.Event.{Event}
 use Rattle.amqp_endpoint_model.specs.Said.{Said, attaching, count, credit_is, done, link_closed, session_begun}
 use Rattle.amqp_endpoint_model.specs.Said.{tried_end, truth, waiting}
-use Rattle.amqp_endpoint_attached.specs.Ends.{receiver_by, sender_by}
+use Rattle.amqp_endpoint_attached.specs.Links.{receiver_by, sender_by}
 use Rattle.amqp_endpoint_linking.specs.Calling.{Accepts, BarsAccepting, BarsBeginning, BarsEnding, Begins, EndsOwn}
 use Rattle.amqp_endpoint_link_attaching.specs.Refusals.{BarsAttaching}
 use Rattle.amqp_endpoint_link_calls.specs.Calling.{BarsDetach, BarsDrain, BarsGrant, Does, DoneAt}
@@ -31,9 +32,9 @@ pub record BeginsOwn (old : LinkedSessions) (number : ℕ) (frames : List Sessio
   pub same : new.links ≡ old.links
 
 -- one begins that the peer asks for
-pub record AcceptsOwn (old : LinkedSessions) (channel : ℕ) (number : ℕ) (frames : List SessionFrame)
+pub record AcceptsOwn (old : LinkedSessions) (channel : IncomingChannel) (number : ℕ) (frames : List SessionFrame)
     (new : LinkedSessions) : Type 0 where
-  pub accepts : Accepts old.talk (record { 0 = channel }) number frames new.talk
+  pub accepts : Accepts old.talk channel number frames new.talk
   pub same : new.links ≡ old.links
 
 -- whether the peer's End came is told once, without a frame
@@ -76,7 +77,7 @@ pub record IsTold (Told : Type 0) (old : LinkedSessions) (frames : List SessionF
 abbrev pub Calls : LinkedSessions → ℕ → Call → Said → List SessionFrame → LinkedSessions → Type 0
 Calls old limit call.Begin (session_begun number) frames new = BeginsOwn old number frames new
 Calls old limit (call.AcceptBegin channel) (session_begun number) frames new =
-    AcceptsOwn old channel.0 number frames new
+    AcceptsOwn old channel number frames new
 Calls old limit (call.End number) done frames new =
     EndsOwn old.talk old.links number frames new.talk new.links
 Calls old limit (call.IsEnded number) (truth answer) frames new =

@@ -2,7 +2,7 @@
 ghost use Rattle.std.specs.Prelude.{◌≡◌, ◌<◌, ◌≤◌, ◌++◌, ℕ, [], IfErr, IfOk, OnErr};
 ghost use Rattle.std.specs.Vec.{vec_capacity, vec_len};
 ghost use Rattle.amqp_endpoint_talk.specs.Going.{Goes, Rests, Within};
-ghost use Rattle.amqp_endpoint_attached.specs.Ends.{receiver_by, sender_by};
+ghost use Rattle.amqp_endpoint_attached.specs.Links.{receiver_by, sender_by};
 ghost use Rattle.amqp_endpoint_link_attaching.specs.Refusals.{BarsAttaching, MayAttach};
 ghost use Rattle.amqp_endpoint_linking.specs.Handed.{Hands};
 ghost use Rattle.amqp_endpoint_linked.specs.Attaching.{LinkAttached, exchange_told};
@@ -41,16 +41,10 @@ pub(crate) fn attach_sender(
     ensures waits { (most : ℕ) → Within most talk.old → Within most talk.new }
     ensures rests { Rests talk.old talk.new out.old.items out.new.items }
 {
-    let Ok(mut events) = room_to_tell(talk, links, alloc, session, &settings.name) else {
-        return Err(EndpointError::Memory);
-    };
-    match link::attach_sender(talk, links, alloc, limit, session, settings, out) {
-        Ok(placed) => {
-            let link = tell_placed(placed, &mut events);
-            Ok(Attaching { link, events })
-        }
-        Err(error) => Err(error),
-    }
+    let mut events = room_to_tell(talk, links, alloc, session, &settings.name)?;
+    let placed = link::attach_sender(talk, links, alloc, limit, session, settings, out)?;
+    let link = tell_placed(placed, &mut events);
+    Ok(Attaching { link, events })
 }
 
 /// Attaches a receiving link with these settings, as `attach_sender` does a sending one.
@@ -72,16 +66,10 @@ pub(crate) fn attach_receiver(
     ensures waits { (most : ℕ) → Within most talk.old → Within most talk.new }
     ensures rests { Rests talk.old talk.new out.old.items out.new.items }
 {
-    let Ok(mut events) = room_to_tell(talk, links, alloc, session, &settings.name) else {
-        return Err(EndpointError::Memory);
-    };
-    match link::attach_receiver(talk, links, alloc, limit, session, settings, out) {
-        Ok(placed) => {
-            let link = tell_placed(placed, &mut events);
-            Ok(Attaching { link, events })
-        }
-        Err(error) => Err(error),
-    }
+    let mut events = room_to_tell(talk, links, alloc, session, &settings.name)?;
+    let placed = link::attach_receiver(talk, links, alloc, limit, session, settings, out)?;
+    let link = tell_placed(placed, &mut events);
+    Ok(Attaching { link, events })
 }
 
 /// Room for what comes of a link at once, where it may attach in the session with this number by this name. It is
@@ -97,7 +85,10 @@ fn room_to_tell(
         × (MayAttach talk.now links.now session name.now → vec_len events < vec_capacity events)) }
     ensures err { OnErr result (MayAttach talk.now links.now session name.now) }
 {
-    if !talk.is_mapped(session) || links.named(name).is_some() {
+    if !talk.is_mapped(session) {
+        return Ok(Vec::new(alloc));
+    }
+    if links.named(name).is_some() {
         return Ok(Vec::new(alloc));
     }
     Vec::with_capacity(alloc, 1)

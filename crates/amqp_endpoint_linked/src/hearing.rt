@@ -15,8 +15,7 @@ use amqp_endpoint_names::Links;
 use amqp_link_ends::LinkEnd;
 use amqp_session_frames::FrameBody;
 use amqp_session_performatives::{Attach, SessionFrame};
-use amqp_session_types::IncomingChannel;
-use serde_amqp_types::Boxed;
+use amqp_session_types::{Boxed, IncomingChannel};
 use std::alloc::Global;
 use std::collections::VecDeque;
 
@@ -36,7 +35,8 @@ pub(crate) fn hear(
         (Tells (λ frames told. Hears talk.old links.old channel body frames told talk.new links.new)
         out.old.items events.old.items out.new.items events.new.items) }
     ensures err { IfErr result (λ e. IsSessionFault e × Refuses talk.old links.old channel body e talk.new links.new) }
-    ensures kept { OnErr result ((out.new.items ≡ out.old.items) × (events.new.items ≡ events.old.items)) }
+    ensures kept { OnErr result ((links.new ≡ links.old) × (out.new.items ≡ out.old.items)
+        × (events.new.items ≡ events.old.items)) }
     ensures goes { (limit : ℕ) → 512 ≤ limit → Goes limit talk.old talk.new out.old.items out.new.items }
     ensures rests { Rests talk.old talk.new out.old.items out.new.items }
 {

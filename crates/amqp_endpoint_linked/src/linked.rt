@@ -75,8 +75,7 @@ impl SessionRelay for LinkedSessions {
         out: &mut VecDeque<SessionFrame>,
         events: &mut Vec<Event>,
     ) -> Result<(), EndpointError> {
-        hear(&mut self.talk, &mut self.links, alloc, channel, body, out, events)?;
-        Ok(())
+        hear(&mut self.talk, &mut self.links, alloc, channel, body, out, events)
     }
 
     fn begin(
@@ -104,8 +103,7 @@ impl SessionRelay for LinkedSessions {
         number: u64,
         out: &mut VecDeque<SessionFrame>,
     ) -> Result<(), EndpointError> {
-        linking::end(&mut self.talk, &mut self.links, number, out)?;
-        Ok(())
+        linking::end(&mut self.talk, &mut self.links, number, out)
     }
 
     fn is_ended(&self, number: u64) -> bool {
@@ -113,8 +111,7 @@ impl SessionRelay for LinkedSessions {
     }
 
     fn try_end(&mut self, number: u64) -> Result<(), TryEndError> {
-        self.talk.sessions.try_end(number)?;
-        Ok(())
+        self.talk.sessions.try_end(number)
     }
 
     fn attach_sender(
@@ -146,8 +143,7 @@ impl SessionRelay for LinkedSessions {
         link: u64,
         out: &mut VecDeque<SessionFrame>,
     ) -> Result<(), EndpointError> {
-        calls::detach(&mut self.talk, alloc, &self.links, link, out)?;
-        Ok(())
+        calls::detach(&mut self.talk, alloc, &self.links, link, out)
     }
 
     fn close_link(
@@ -179,8 +175,7 @@ impl SessionRelay for LinkedSessions {
         link: u64,
         out: &mut VecDeque<SessionFrame>,
     ) -> Result<(), EndpointError> {
-        calls::drain(&mut self.talk, alloc, &self.links, link, out)?;
-        Ok(())
+        calls::drain(&mut self.talk, alloc, &self.links, link, out)
     }
 
     fn credit(&self, link: u64) -> Result<u32, EndpointError> {

@@ -1,0 +1,5 @@
+use Rattle.amqp_endpoint_talk.proofs.Calls.{none-within}
+use Rattle.amqp_endpoint_linked.proofs.linked.LinkedSessionsSessionRelay.leave.Goals as goal
+
+pub returns-clause-within : goal.returns-clause-within
+returns-clause-within c limit = none-within limit c.leave.new.talk c.leave.ensures.none
