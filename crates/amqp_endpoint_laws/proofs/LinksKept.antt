@@ -91,8 +91,8 @@ module _ (old new : Links) (came : HaveCome old) where
   closed-at (Some (Held session handle)) number old_talk new_talk frames is c = same c.kept
 
 heard-detach : (took : Option (ℕ × Detached)) (old mid new : Talk) (links links_new : Links)
-    (frames : List SessionFrame) (events : List Event) (it : _) → Becomes took old links it mid frames events new links_new → HaveCome links
-    → HaveCome links_new
+    (frames : List SessionFrame) (events : List Event) (it : _)
+    → Becomes took old links it mid frames events new links_new → HaveCome links → HaveCome links_new
 heard-detach (Some (session, told)) old mid new links links_new frames events it b came =
     left-so links links_new came told.closed b.link.number b.left b.is_left
 heard-detach None old mid new links links_new frames events it b came = same links links_new came b.same
