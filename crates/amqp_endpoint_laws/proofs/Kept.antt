@@ -1,8 +1,7 @@
 -- What sessions keep by all that they do, each run of their endpoint keeps.
-use Rattle.std.proofs.Common.{◌≡◌, ℕ, Bool, true, false, List, [], ◌∷◌, Option, Some, None, inl, inr, sym, subst}
+use Rattle.std.proofs.Common.{ℕ, Bool, true, false, List, [], ◌∷◌, Option, Some, None, inl, inr, sym, subst}
 use Rattle.amqp_session_performatives.specs.declared.open.Open.{Open as OpenFields}
 use Rattle.amqp_session_connection.specs.declared.state.ConnectionState.{ConnectionState}
-use Rattle.amqp_session_connection.specs.declared.state.ConnectionState.TheVariants.{HeaderExchange, OpenSent}
 use Rattle.amqp_session_frames.specs.declared.frame.Frame.{Frame}
 use Rattle.amqp_session_frames.specs.declared.frame.FrameBody.{FrameBody}
 use Rattle.amqp_session_frames.specs.declared.frame.FrameBody.TheVariants.{Empty, Open, Close}
@@ -24,8 +23,8 @@ use Rattle.amqp_endpoint_model.specs.Relay.{Relations}
 use Rattle.amqp_endpoint_model.specs.Said.{Said, done, refused, fed, pulled, count, truth, tried_close, session_begun}
 use Rattle.amqp_endpoint_model.specs.Said.{tried_end, attaching, link_closed, credit_is, waiting, Told}
 use Rattle.amqp_endpoint_model.specs.State.{State, limit_of}
-use Rattle.amqp_endpoint_model.specs.Step.{AfterFault, Breaks, BreaksGreeting, ClosesBoth, ClosesBy, ClosesOwn, Ends}
-use Rattle.amqp_endpoint_model.specs.Step.{EndsByFault, EndsRunning, FeedsIn, FrontBarred, FrontRefused, Greets}
+use Rattle.amqp_endpoint_model.specs.Step.{AfterFault, BreaksGreeting, ClosesBoth, ClosesBy, ClosesOwn, Ends}
+use Rattle.amqp_endpoint_model.specs.Step.{EndsRunning, FeedsIn, FrontBarred, FrontRefused, Greets}
 use Rattle.amqp_endpoint_model.specs.Step.{MovesBy, MovesByOpen, ReadsOn, RefusesBody, SendsClose, Step, TakesAll}
 use Rattle.amqp_endpoint_model.specs.Step.{TakesBody, condition_of, opened}
 use Rattle.amqp_endpoint_model.specs.History.{Run}

@@ -1,6 +1,7 @@
 -- The links of an endpoint go on by steps of their own.
-use Rattle.std.proofs.Common.{◌≡◌, inl, inr, ℕ, Bool, true, false, List, [], ◌∷◌, ◌++◌, Option, Some, None, Ok, Err, refl, sym, ap, subst, ◌∙◌}
-use Rattle.std.specs.Prelude.{Result, ⊤, max}
+use Rattle.std.proofs.Common.{◌≡◌, inl, inr, ℕ, Bool, true, false, List, [], ◌∷◌, ◌++◌, Option, Some, None, Ok, Err}
+use Rattle.std.proofs.Common.{refl, sym, ap, subst}
+use Rattle.std.specs.Prelude.{Result, ⊤}
 use Rattle.amqp_session_types.specs.declared.channels.IncomingChannel.{IncomingChannel}
 use Rattle.amqp_session_performatives.specs.declared.session_frame.SessionFrame.{SessionFrame}
 use Rattle.amqp_session_frames.specs.declared.frame.FrameBody.{FrameBody}
@@ -14,7 +15,6 @@ use Rattle.amqp_endpoint_names.specs.Steps.{Closed, Closes, Enters, History, Mak
 use Rattle.amqp_endpoint_names.proofs.Apart.{none_apart, stay_apart}
 use Rattle.amqp_endpoint_model.specs.declared.call.Call.{Call}
 use Rattle.amqp_endpoint_model.specs.declared.call.Call.TheVariants as call
-use Rattle.amqp_endpoint_model.specs.declared.error.EndpointError.{EndpointError}
 use Rattle.amqp_endpoint_model.specs.declared.event.Event.{Event}
 use Rattle.amqp_endpoint_model.specs.declared.settings.Settings.{Settings}
 use Rattle.amqp_endpoint_model.specs.History.{Run}
@@ -23,9 +23,9 @@ use Rattle.amqp_endpoint_model.specs.Said.{Said, Told, attaching, count, credit_
 use Rattle.amqp_endpoint_model.specs.Said.{tried_end, truth, waiting}
 use Rattle.amqp_endpoint_model.specs.State.{State, fresh as fresh_endpoint}
 use Rattle.amqp_endpoint_linking.specs.Linking.{Link, Links, Session, Talk}
-use Rattle.amqp_endpoint_linking.specs.GivingBack.{AllGivenBack, GoOn, IsAtRest, IsClosed, SessionGivenBack}
+use Rattle.amqp_endpoint_linking.specs.GivingBack.{AllGivenBack, GoOn, SessionGivenBack}
 use Rattle.amqp_endpoint_linking.proofs.BackLaws.{back-goes-on, finished-goes-on, left-goes-on}
-use Rattle.amqp_endpoint_link_attaching.specs.Attaching.{LinkAttaches, with_room}
+use Rattle.amqp_endpoint_link_attaching.specs.Attaching.{with_room}
 use Rattle.amqp_endpoint_link_calls.specs.Closing.{ClosedAt}
 use Rattle.amqp_endpoint_link_calls.specs.Places.{Where}
 use Rattle.amqp_endpoint_link_hearing.specs.Detaching.{Becomes}
@@ -90,8 +90,8 @@ module _ (old new : Links) (came : HaveCome old) where
       by (Closes number (AtRest end) ∷ []) (new, (is, c.forgotten), refl)
   closed-at (Some (Held session handle)) number old_talk new_talk frames is c = same c.kept
 
-heard-detach : (took : Option (ℕ × Detached)) (old mid new : Talk) (links links_new : Links) (frames : List SessionFrame)
-    (events : List Event) (it : _) → Becomes took old links it mid frames events new links_new → HaveCome links
+heard-detach : (took : Option (ℕ × Detached)) (old mid new : Talk) (links links_new : Links)
+    (frames : List SessionFrame) (events : List Event) (it : _) → Becomes took old links it mid frames events new links_new → HaveCome links
     → HaveCome links_new
 heard-detach (Some (session, told)) old mid new links links_new frames events it b came =
     left-so links links_new came told.closed b.link.number b.left b.is_left

@@ -1,5 +1,6 @@
 -- The peer's Detach, once it is heard.
-use Rattle.std.proofs.Common.{◌≡◌, ◌≤◌, inl, inr, ℕ, Bool, true, List, [], ◌++◌, Option, Some, None, Result, Ok, Err, IsSome, refl, sym, ap, subst, ◌∙◌, append-nil}
+use Rattle.std.proofs.Common.{◌≡◌, ◌≤◌, inl, inr, ℕ, Bool, true, List, [], ◌++◌, Option, Some, None, Ok, IsSome, refl}
+use Rattle.std.proofs.Common.{sym, ap, subst, ◌∙◌, append-nil}
 use Rattle.std.specs.Prelude.{is_some}
 use Rattle.std.proofs.lemmas.Option.{none-some, same_Some}
 use Rattle.amqp_session_types.specs.declared.channels.IncomingChannel.{IncomingChannel}
@@ -7,7 +8,7 @@ use Rattle.amqp_session_types.specs.declared.error.Error.{Error}
 use Rattle.amqp_session_types.specs.declared.handles.OutputHandle.{OutputHandle}
 use Rattle.amqp_session_performatives.specs.declared.detach.Detach.{Detach}
 use Rattle.amqp_session_performatives.specs.declared.session_frame.SessionFrame.{SessionFrame}
-use Rattle.amqp_session_core.specs.State.{State, link_at, reached}
+use Rattle.amqp_session_core.specs.State.{link_at}
 use Rattle.amqp_session_core.specs.declared.batch.BehindFrame.{BehindFrame}
 use Rattle.amqp_session_core.specs.declared.batch.TransferFrame.{TransferFrame}
 use Rattle.amqp_session_core.specs.declared.fields.SessionFields.{SessionFields}
@@ -17,7 +18,7 @@ use Rattle.amqp_link_base.specs.declared.detached.Detached.{Detached}
 use Rattle.amqp_endpoint_links.specs.declared.asking.DetachTaken.TheVariants as detach
 use Rattle.amqp_endpoint_links.specs.declared.hearing.LinkPerformative.TheVariants as said
 use Rattle.amqp_endpoint_links.specs.declared.hearing.PerformativeTaken.TheVariants as taken
-use Rattle.amqp_endpoint_conversation.specs.declared.hearing.Heard.TheVariants.{Asked, Live, Dropped}
+use Rattle.amqp_endpoint_conversation.specs.declared.hearing.Heard.TheVariants.{Live}
 use Rattle.amqp_endpoint_conversation.specs.Hearing.{Answered}
 use Rattle.amqp_endpoint_sessions.specs.State.{live_at}
 use Rattle.amqp_endpoint_model.specs.declared.error.EndpointError.{EndpointError}
@@ -28,15 +29,15 @@ use Rattle.amqp_endpoint_model.specs.State.{fits, frame_of}
 use Rattle.amqp_endpoint_talk.proofs.Alone.{answer-alone}
 use Rattle.amqp_endpoint_attached.specs.Detaching.{own_detach}
 use Rattle.amqp_endpoint_attached.specs.Linked.{Linked, gives}
-use Rattle.amqp_endpoint_linking.specs.Linking.{Link, Links, Session, Talk}
+use Rattle.amqp_endpoint_linking.specs.Linking.{Links, Session, Talk}
 use Rattle.amqp_endpoint_linking.specs.Handed.{Tells}
-use Rattle.amqp_endpoint_link_hearing.specs.Detaching.{Becomes, ByLink, HearsDetach, Withdraws, detached_told}
+use Rattle.amqp_endpoint_link_hearing.specs.Detaching.{Becomes, ByLink, HearsDetach, detached_told}
 use Rattle.amqp_endpoint_link_hearing.specs.Heard.{detach_of}
 use Rattle.amqp_endpoint_link_hearing.specs.InSession.{GoesOn, Parts}
-use Rattle.amqp_endpoint_link_hearing.specs.Leaves.{IsReady, LeavesBy, LinkLeaves, Prepares, ReadyFor, StandsFor}
-use Rattle.amqp_endpoint_link_hearing.specs.Leaving.{HasPlace, detach_frame, repeated}
+use Rattle.amqp_endpoint_link_hearing.specs.Leaves.{IsReady, LeavesBy, LinkLeaves, Prepares, StandsFor}
+use Rattle.amqp_endpoint_link_hearing.specs.Leaving.{HasPlace, detach_frame}
 use Rattle.amqp_endpoint_link_hearing.specs.Naming.{link_of}
-use Rattle.amqp_endpoint_link_hearing.specs.Saying.{Answers, FailsBySaid, LinkHeard, RefusesSaid}
+use Rattle.amqp_endpoint_link_hearing.specs.Saying.{FailsBySaid, LinkHeard, RefusesSaid}
 use Rattle.amqp_endpoint_link_hearing.specs.declared.detaching.Ready.{Ready}
 use Rattle.amqp_endpoint_link_hearing.proofs.Heard.{DetachedThere, IsTaken, detach-there, is-there, taken-in}
 
@@ -62,8 +63,8 @@ place-serves old new handle closed error place fields outgoing p =
 same-handle : (handle : OutputHandle) (n : ℕ) → n ≡ handle.0 → record { 0 = n } ≡ handle
 same-handle handle n is = ap (λ (k : ℕ). record { 0 = k }) is
 
-module _ (old : Talk) (channel : IncomingChannel) (out : List SessionFrame) (it : Detach) (session : ℕ) (told : Detached)
-    (mid : Talk) (out_mid : List SessionFrame)
+module _ (old : Talk) (channel : IncomingChannel) (out : List SessionFrame) (it : Detach) (session : ℕ)
+    (told : Detached) (mid : Talk) (out_mid : List SessionFrame)
     (t : Answered gives old out channel (said.Detach it) (Ok (Live session (taken.Detach (detach.ByLink told)))) mid
     out_mid) where
   taken-there : IsTaken old channel out (said.Detach it) session (taken.Detach (detach.ByLink told)) mid out_mid
@@ -151,15 +152,15 @@ module _ (old : Talk) (channel : IncomingChannel) (out : List SessionFrame) (it 
       → Prepares old channel it ready → Answered gives old out channel (said.Detach it) (Ok heard) mid out_mid
       → LeavesBy (detach_of heard) ready mid links frames events new links_new
       → Becomes (detach_of heard) old links it mid frames events new links_new
-  becomes (Live session (taken.Detach (detach.ByLink told))) (Some ready) mid out_mid links links_new frames events new p
-      t l =
+  becomes (Live session (taken.Detach (detach.ByLink told))) (Some ready) mid out_mid links links_new frames events new
+      p t l =
       left-by old channel out it session told mid out_mid t ready p links links_new frames events new l
   becomes (Live session (taken.Detach (detach.ByLink told))) None mid out_mid links links_new frames events new p t l =
       absurd (ready-one old channel out it session told mid out_mid t p)
   becomes heard ready mid out_mid links links_new frames events new p t l = l
 
-  pub detach-taken : (heard : LinkHeard) (took : Option (ℕ × Detached)) → took ≡ detach_of heard → (ready : Option Ready) (mid : Talk) (out_mid : List SessionFrame)
-      (links links_new : Links) (new : Talk) (told told_new : List Event) (out_new : List SessionFrame)
+  pub detach-taken : (heard : LinkHeard) (took : Option (ℕ × Detached)) → took ≡ detach_of heard
+      → (ready : Option Ready) (mid : Talk) (out_mid : List SessionFrame) (links links_new : Links) (new : Talk) (told told_new : List Event) (out_new : List SessionFrame)
       → out_mid ≡ out → Prepares old channel it ready
       → Answered gives old out channel (said.Detach it) (Ok heard) mid out_mid
       → Tells (λ (frames : List SessionFrame) (events : List Event).
@@ -179,7 +180,8 @@ module _ (old : Talk) (channel : IncomingChannel) (out : List SessionFrame) (it 
                   (unsent out out_mid same) t;
               becomes =
                   becomes heard ready mid out_mid links links_new l.frames l.events new p t
-                  (subst (λ (o : Option (ℕ × Detached)). LeavesBy o ready mid links l.frames l.events new links_new) is l.is_so);
+                  (subst (λ (o : Option (ℕ × Detached)). LeavesBy o ready mid links l.frames l.events new links_new) is
+                  l.is_so);
             });
         queued = l.queued ∙ ap (λ (o : List SessionFrame). o ++ l.frames) same;
         are_told = l.are_told;

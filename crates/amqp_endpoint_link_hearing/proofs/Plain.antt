@@ -1,5 +1,5 @@
 -- What links answer to a Flow has no properties.
-use Rattle.std.proofs.Common.{◌≡◌, Option, Some, None, Result, Ok, Err, ap}
+use Rattle.std.proofs.Common.{◌≡◌, Option, Some, None, Result, Ok, ap}
 use Rattle.amqp_session_performatives.specs.declared.link_flow.LinkFlow.{LinkFlow}
 use Rattle.amqp_session_core.specs.declared.relay.RelayError.{RelayError}
 use Rattle.amqp_link_ends.specs.Ends.{flow_answer, state_of}
@@ -11,7 +11,6 @@ use Rattle.amqp_link_ends.specs.declared.standing.Standing.TheVariants.{Attached
 use Rattle.amqp_endpoint_talk.specs.Going.{AnswersPlain}
 use Rattle.amqp_endpoint_attached.specs.Linked.{gives}
 use Rattle.amqp_endpoint_attached.proofs.Fitting.{reply_plain}
-use Rattle.amqp_endpoint_linking.specs.Linking.{Link}
 
 abbrev told-ok : Option LinkFlow → Result (Option LinkFlow) RelayError
 told-ok told = Ok told

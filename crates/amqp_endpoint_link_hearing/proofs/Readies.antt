@@ -1,5 +1,6 @@
 -- What is made ready for a link that the peer detaches.
-use Rattle.std.proofs.Common.{◌≡◌, ◌≤◌, ℕ, Bool, true, List, [], Option, Some, None, Result, Ok, Err, refl, sym, ap, subst, ◌∙◌, append-nil}
+use Rattle.std.proofs.Common.{◌≡◌, ◌≤◌, ℕ, Bool, true, List, [], Option, Some, None, Result, Ok, Err, refl, sym, ap}
+use Rattle.std.proofs.Common.{subst, ◌∙◌, append-nil}
 use Rattle.std.specs.Prelude.{IfOk}
 use Rattle.std.proofs.lemmas.Option.{same_Some}
 use Rattle.amqp_session_types.specs.declared.channels.IncomingChannel.{IncomingChannel}
@@ -38,7 +39,8 @@ made-ready s it ready channel reaches is closes (repeats, fit) tells room =
           record {
             room = room;
             fit =
-                ap (λ (closed : Bool). AnswerFits s.session.fields.channel ready.handle closed ready.answer.error) closes
+                ap (λ (closed : Bool). AnswerFits s.session.fields.channel ready.handle closed ready.answer.error)
+                closes
                 ∙ ap (λ (k : OutgoingChannel). AnswerFits k ready.handle it.closed ready.answer.error) (sym is)
                 ∙ fit;
           };
@@ -60,11 +62,12 @@ module _ (talk : Talk) (channel : IncomingChannel) (it : Detach) where
 module _ (mid : Talk) (links : Links) (out : List SessionFrame) (told : List Event) where
   abbrev pub NothingSo : Option (ℕ × Detached) → Option Ready → Type 0
   NothingSo took ready =
-      Tells (λ (frames : List SessionFrame) (events : List Event). LeavesBy took ready mid links frames events mid links)
+      Tells (λ (frames : List SessionFrame) (events : List Event).
+      LeavesBy took ready mid links frames events mid links)
       out told out told
 
-  withdrawn : Tells (λ (frames : List SessionFrame) (events : List Event). Withdraws links mid frames events mid links) out
-      told out told
+  withdrawn : Tells (λ (frames : List SessionFrame) (events : List Event).
+      Withdraws links mid frames events mid links) out told out told
   withdrawn =
       record {
         frames = [];

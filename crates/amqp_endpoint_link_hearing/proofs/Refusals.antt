@@ -1,12 +1,13 @@
 -- What comes of what a session refuses.
-use Rattle.std.proofs.Common.{◌≡◌, inl, inr, ℕ, Bool, true, false, List, [], ◌∷◌, ◌++◌, Option, Some, None, Result, Ok, Err, refl, sym, ap, subst, ◌∙◌, append-nil}
+use Rattle.std.proofs.Common.{◌≡◌, inl, inr, ℕ, false, List, Option, Some, None, Result, Ok, Err, refl, sym, subst}
 use Rattle.std.specs.Global.{Box}
 use Rattle.amqp_session_types.specs.declared.channels.IncomingChannel.{IncomingChannel}
 use Rattle.amqp_session_types.specs.declared.refusals.SessionError.{SessionError}
 use Rattle.amqp_session_performatives.specs.declared.session_frame.SessionFrame.{SessionFrame}
 use Rattle.amqp_endpoint_asked.specs.declared.session.AskedSession.{AskedSession}
 use Rattle.amqp_endpoint_links.specs.declared.hearing.LinkPerformative.{LinkPerformative}
-use Rattle.amqp_endpoint_links.specs.declared.hearing.LinkPerformative.TheVariants.{Attach, Flow, Transfer, Disposition, Detach}
+use Rattle.amqp_endpoint_links.specs.declared.hearing.LinkPerformative.TheVariants.{Attach, Flow, Transfer, Disposition}
+use Rattle.amqp_endpoint_links.specs.declared.hearing.LinkPerformative.TheVariants.{Detach}
 use Rattle.amqp_endpoint_links.specs.Hearing.{Hears, says_flow}
 use Rattle.amqp_endpoint_links.specs.declared.hearing.PerformativeTaken.{PerformativeTaken}
 use Rattle.amqp_link_base.specs.declared.detached.Detached.{Detached}
@@ -27,7 +28,8 @@ use Rattle.amqp_endpoint_attached.specs.Linked.{gives}
 use Rattle.amqp_endpoint_linking.specs.Linking.{Links, Session, Talk}
 use Rattle.amqp_endpoint_linking.specs.Calling.{fault_told}
 use Rattle.amqp_endpoint_linking.specs.Handed.{Tells}
-use Rattle.amqp_endpoint_link_hearing.specs.Saying.{Answers, BarsSaid, EndsBy, FailsBySaid, LinkHeard, LinkRefusal, RefusalDone}
+use Rattle.amqp_endpoint_link_hearing.specs.Saying.{Answers, BarsSaid, EndsBy, FailsBySaid, LinkHeard, LinkRefusal}
+use Rattle.amqp_endpoint_link_hearing.specs.Saying.{RefusalDone}
 
 is-fault : (e why : EndpointError) → e ≡ why → IsSessionFault why → IsSessionFault e
 is-fault e why is fault = subst IsSessionFault (sym is) fault
@@ -155,8 +157,8 @@ module _ (old : Talk) (channel : IncomingChannel) (it : LinkPerformative) (out :
 
 -- nothing but a Flow has frames leave where it is taken, either
 taken-none : (before after : Session) (it : LinkPerformative) (told : PerformativeTaken AttachTold Told Detached)
-    (out out_new : List SessionFrame) → says_flow it ≡ false → Hears gives before.value out it (Ok told) after.value out_new
-    → out_new ≡ out
+    (out out_new : List SessionFrame) → says_flow it ≡ false
+    → Hears gives before.value out it (Ok told) after.value out_new → out_new ≡ out
 taken-none before after (Attach attach named) told out out_new flowless h = h.1
 taken-none before after (Flow flow) told out out_new flowless h = absurd cc
 taken-none before after (Transfer transfer payload) told out out_new flowless h = h.1

@@ -52,8 +52,8 @@ pub record Withdraws (links : Links) (mid : Talk) (frames : List SessionFrame) (
 
 -- what comes of it once it is heard: a link that the peer asks for is asked for no longer, and nothing is told; in a
 -- session that is ending nothing comes of it
-abbrev pub Becomes : Option (ℕ × Detached) → Talk → Links → Detach → Talk → List SessionFrame → List Event → Talk → Links
-    → Type 0
+abbrev pub Becomes : Option (ℕ × Detached) → Talk → Links → Detach → Talk → List SessionFrame → List Event → Talk
+    → Links → Type 0
 Becomes (Some (session, told)) old links it mid frames events new links_new =
     ByLink old links it session told mid frames events new links_new
 Becomes None old links it mid frames events new links_new = Withdraws links mid frames events new links_new

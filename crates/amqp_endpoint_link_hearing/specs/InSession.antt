@@ -1,5 +1,5 @@
 -- What is done for a link in a session that has begun (part 2, 2.6.4 to 2.6.6).
-use Rattle.std.specs.Prelude.{◌≡◌, ℕ, List, [], Bool, true, false, Option, Some}
+use Rattle.std.specs.Prelude.{◌≡◌, ℕ, List, [], Bool, true, false, Option}
 use Rattle.amqp_session_types.specs.declared.error.Error.{Error}
 use Rattle.amqp_session_types.specs.declared.handles.OutputHandle.{OutputHandle}
 use Rattle.amqp_session_performatives.specs.declared.session_frame.SessionFrame.{SessionFrame}

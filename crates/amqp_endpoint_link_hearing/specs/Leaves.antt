@@ -1,5 +1,5 @@
 -- What is made ready for a link that the peer detaches, and what is done by it (part 2, 2.6.4 to 2.6.6).
-use Rattle.std.specs.Prelude.{◌≡◌, ℕ, List, [], Option, Some, None, IsSome}
+use Rattle.std.specs.Prelude.{◌≡◌, ℕ, List, Option, Some, None, IsSome}
 use Rattle.amqp_session_types.specs.declared.channels.IncomingChannel.{IncomingChannel}
 use Rattle.amqp_session_performatives.specs.declared.detach.Detach.{Detach}
 use Rattle.amqp_session_performatives.specs.declared.session_frame.SessionFrame.{SessionFrame}
@@ -52,8 +52,8 @@ pub record LinkLeaves (session : ℕ) (told : Detached) (ready : Ready) (mid : T
   pub is_left : IsLeft told.closed links link.number left links_new
   pub tells : events ≡ detached_told link.number told.closed ready.error
 
-abbrev pub LeavesBy : Option (ℕ × Detached) → Option Ready → Talk → Links → List SessionFrame → List Event → Talk → Links
-    → Type 0
+abbrev pub LeavesBy : Option (ℕ × Detached) → Option Ready → Talk → Links → List SessionFrame → List Event → Talk
+    → Links → Type 0
 LeavesBy (Some (session, told)) (Some ready) mid links frames events new links_new =
     LinkLeaves session told ready mid links frames events new links_new
 LeavesBy took ready mid links frames events new links_new = Withdraws links mid frames events new links_new

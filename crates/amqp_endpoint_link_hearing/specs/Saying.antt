@@ -13,7 +13,8 @@ use Rattle.amqp_endpoint_conversation.specs.declared.hearing.HearRefusal.{HearRe
 use Rattle.amqp_endpoint_conversation.specs.declared.hearing.HearRefusal.TheVariants as hear
 use Rattle.amqp_endpoint_conversation.specs.Hearing.{Answered}
 use Rattle.amqp_endpoint_model.specs.declared.error.EndpointError.{EndpointError}
-use Rattle.amqp_endpoint_model.specs.declared.error.EndpointError.TheVariants.{Memory, Connection, Session as SessionFault}
+use Rattle.amqp_endpoint_model.specs.declared.error.EndpointError.TheVariants.{Memory, Connection}
+use Rattle.amqp_endpoint_model.specs.declared.error.EndpointError.TheVariants.{Session as SessionFault}
 use Rattle.amqp_endpoint_model.specs.declared.event.Event.{Event}
 use Rattle.amqp_endpoint_attached.specs.Linked.{gives}
 use Rattle.amqp_endpoint_linking.specs.Linking.{Link, Links, Session, Talk, links_of}
@@ -33,8 +34,8 @@ abbrev pub Answers : Talk → IncomingChannel → LinkPerformative → Result Li
     → Type 0
 Answers old channel it result frames new = Answered gives old [] channel it result new frames
 
--- the session refuses it, and ends by that fault: its End says the fault's condition, its links are given back, and this
--- is told
+-- the session refuses it, and ends by that fault: its End says the fault's condition, its links are given back, and
+-- this is told
 pub record FailsBySaid (old : Talk) (links : Links) (channel : IncomingChannel) (it : LinkPerformative)
     (frames : List SessionFrame) (events : List Event) (new : Talk) (links_new : Links) : Type 0 where
   pub number : ℕ

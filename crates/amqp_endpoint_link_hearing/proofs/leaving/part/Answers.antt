@@ -1,11 +1,10 @@
-use Rattle.std.proofs.Common.{List, refl, sym, ap, subst, ◌∙◌}
-use Rattle.std.specs.Global.{Box}
-use Rattle.amqp_session_performatives.specs.declared.session_frame.SessionFrame.{SessionFrame}
+use Rattle.std.proofs.Common.{sym, subst, ◌∙◌}
 use Rattle.amqp_endpoint_attached.specs.Linked.{Linked, end_at}
 use Rattle.std.specs.Prelude.{IsSome, ◌≤◌}
 use Rattle.amqp_session_outgoing.specs.Queues.{room_behind}
 use Rattle.amqp_endpoint_link_hearing.specs.InSession.{Parts}
-use Rattle.amqp_endpoint_link_hearing.proofs.Lent.{behind-talk, end-lent, hands-on, none-lent, parted-goes, parted-rests}
+use Rattle.amqp_endpoint_link_hearing.proofs.Lent.{behind-talk, end-lent, hands-on, none-lent, parted-goes}
+use Rattle.amqp_endpoint_link_hearing.proofs.Lent.{parted-rests}
 use Rattle.amqp_endpoint_link_hearing.proofs.leaving.part.Goals as goal
 
 pub unreachable-requires : goal.unreachable-requires
