@@ -1,5 +1,5 @@
 -- What the peer's frames do is what they are related by, and what is handed out fits the limit.
-use Rattle.std.proofs.Common.{◌≡◌, ◌≤◌, ℕ, List, ◌++◌, Option, Result, Ok, Err, sym, subst, ◌∙◌}
+use Rattle.std.proofs.Common.{◌≡◌, ◌≤◌, ℕ, List, Option, Result, Ok, Err, sym, subst, ◌∙◌}
 use Rattle.std.specs.Prelude.{⊤, IfErr, OnErr, OnOk}
 use Rattle.std.proofs.lemmas.List.{append_cancel_left}
 use Rattle.amqp_session_types.specs.declared.channels.IncomingChannel.{IncomingChannel}

@@ -1,5 +1,5 @@
 -- What the calls of the sessions do is what they are related by, and what they hand out fits the limit.
-use Rattle.std.proofs.Common.{◌≡◌, ◌≤◌, ℕ, true, List, [], ◌++◌, Result, Ok, Err, Some, None, refl, sym, subst, ◌∙◌, append-nil}
+use Rattle.std.proofs.Common.{◌≡◌, ◌≤◌, ℕ, List, [], Result, Ok, Err, Some, None, refl, sym, subst, ◌∙◌, append-nil}
 use Rattle.std.specs.Prelude.{⊤, IfOk, OnOk}
 use Rattle.std.proofs.lemmas.List.{append_cancel_left}
 use Rattle.amqp_session_types.specs.declared.refusals.TryEndError.{TryEndError}

@@ -1,4 +1,4 @@
--- What the peer's frames of sessions do to an endpoint's sessions and links, and what is told of them (part 2, 2.5, 2.6).
+-- What the peer's frames do to an endpoint's sessions and links, and what is told of them (part 2, 2.5, 2.6).
 use Rattle.std.specs.Prelude.{◌≡◌, List, Option}
 use Rattle.amqp_session_types.specs.declared.channels.IncomingChannel.{IncomingChannel}
 use Rattle.amqp_session_performatives.specs.declared.attach.Attach.{Attach}

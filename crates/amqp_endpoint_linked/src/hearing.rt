@@ -7,7 +7,9 @@ ghost use Rattle.amqp_endpoint_link_hearing.specs.Attaching.{RefusesAttach};
 ghost use Rattle.amqp_endpoint_linked.specs.Hearing.{AttachHeard, Hears, Refuses};
 
 use amqp_endpoint_conversation::Conversation;
-use amqp_endpoint_link_hearing::{hear_attach, hear_detach, hear_disposition, hear_flow, hear_transfer};
+use amqp_endpoint_link_hearing::{
+    hear_attach, hear_detach, hear_disposition, hear_flow, hear_transfer,
+};
 use amqp_endpoint_linking::{hear_begin, hear_end};
 use amqp_endpoint_links::Numbered;
 use amqp_endpoint_model::{EndpointError, Event};
@@ -47,7 +49,16 @@ pub(crate) fn hear(
         FrameBody::Transfer {
             performative,
             payload,
-        } => hear_transfer(talk, links, alloc, channel, performative, payload, out, events),
+        } => hear_transfer(
+            talk,
+            links,
+            alloc,
+            channel,
+            performative,
+            payload,
+            out,
+            events,
+        ),
         FrameBody::Disposition(disposition) => {
             hear_disposition(talk, links, alloc, channel, disposition, out, events)
         }

@@ -75,7 +75,15 @@ impl SessionRelay for LinkedSessions {
         out: &mut VecDeque<SessionFrame>,
         events: &mut Vec<Event>,
     ) -> Result<(), EndpointError> {
-        hear(&mut self.talk, &mut self.links, alloc, channel, body, out, events)
+        hear(
+            &mut self.talk,
+            &mut self.links,
+            alloc,
+            channel,
+            body,
+            out,
+            events,
+        )
     }
 
     fn begin(
@@ -122,7 +130,15 @@ impl SessionRelay for LinkedSessions {
         settings: &LinkSettings,
         out: &mut VecDeque<SessionFrame>,
     ) -> Result<Attaching, EndpointError> {
-        attach_sender(&mut self.talk, &mut self.links, alloc, limit, session, settings, out)
+        attach_sender(
+            &mut self.talk,
+            &mut self.links,
+            alloc,
+            limit,
+            session,
+            settings,
+            out,
+        )
     }
 
     fn attach_receiver(
@@ -133,7 +149,15 @@ impl SessionRelay for LinkedSessions {
         settings: &LinkSettings,
         out: &mut VecDeque<SessionFrame>,
     ) -> Result<Attaching, EndpointError> {
-        attach_receiver(&mut self.talk, &mut self.links, alloc, limit, session, settings, out)
+        attach_receiver(
+            &mut self.talk,
+            &mut self.links,
+            alloc,
+            limit,
+            session,
+            settings,
+            out,
+        )
     }
 
     fn detach(

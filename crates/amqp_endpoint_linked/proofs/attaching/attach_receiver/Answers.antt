@@ -1,4 +1,3 @@
-use Rattle.std.proofs.Common.{sym, subst, ◌∙◌}
 use Rattle.amqp_endpoint_attached.specs.Links.{receiver_by}
 use Rattle.amqp_endpoint_linked.proofs.Attached.{attached, goes-still, rests-still, told-first}
 use Rattle.amqp_endpoint_linked.proofs.attaching.attach_receiver.Goals as goal
@@ -12,8 +11,9 @@ pub returns-clause-ok : goal.returns-clause-ok
 returns-clause-ok c =
     let call = c.attach_receiver in
     attached c.args.talk.now call.new.talk c.args.links.now call.new.links c.args.limit c.args.session
-    (receiver_by c.args.settings.now) c.in_ok-placed.placed c.tell_placed-link.result c.tell_placed-link.new.events.items
-    c.args.out.now.items call.new.out.items c.in_ok-placed.ensures.ok c.tell_placed-link.ensures.link
+    (receiver_by c.args.settings.now) c.in_ok-placed.placed c.tell_placed-link.result
+    c.tell_placed-link.new.events.items c.args.out.now.items call.new.out.items c.in_ok-placed.ensures.ok
+    c.tell_placed-link.ensures.link
     (told-first c.in_ok-events.events.items c.tell_placed-link.new.events.items _ c.in_ok-events.ensures.ok.0
     c.tell_placed-link.ensures.told)
 

@@ -7,8 +7,8 @@ pub returns-in-Begin-clause-ok : goal.returns-in-Begin-clause-ok
 returns-in-Begin-clause-ok c =
     let call = c.hear_begin in
     hears-if c.args.talk.now call.new.talk c.args.links.now call.new.links c.args.channel c.args.body
-    (body.Begin c.in-Begin.begin) c.args.out.now.items call.new.out.items c.args.events.now.items call.new.events.items
-    c.in-Begin.is call.result call.ensures.ok
+    (body.Begin c.in-Begin.begin) c.args.out.now.items call.new.out.items
+    c.args.events.now.items call.new.events.items c.in-Begin.is call.result call.ensures.ok
 
 pub returns-in-Begin-clause-err : goal.returns-in-Begin-clause-err
 returns-in-Begin-clause-err c =
@@ -26,8 +26,8 @@ pub returns-in-Attach-clause-ok : goal.returns-in-Attach-clause-ok
 returns-in-Attach-clause-ok c =
     let call = c.take_attach in
     hears-if c.args.talk.now call.new.talk c.args.links.now call.new.links c.args.channel c.args.body
-    (body.Attach c.in-Attach.attach) c.args.out.now.items call.new.out.items c.args.events.now.items call.new.events.items
-    c.in-Attach.is call.result call.ensures.ok
+    (body.Attach c.in-Attach.attach) c.args.out.now.items call.new.out.items
+    c.args.events.now.items call.new.events.items c.in-Attach.is call.result call.ensures.ok
 
 pub returns-in-Attach-clause-err : goal.returns-in-Attach-clause-err
 returns-in-Attach-clause-err c =
@@ -42,8 +42,8 @@ pub returns-in-Flow-clause-ok : goal.returns-in-Flow-clause-ok
 returns-in-Flow-clause-ok c =
     let call = c.hear_flow in
     hears-if c.args.talk.now call.new.talk c.args.links.now call.new.links c.args.channel c.args.body
-    (body.Flow c.in-Flow.flow) c.args.out.now.items call.new.out.items c.args.events.now.items call.new.events.items
-    c.in-Flow.is call.result call.ensures.ok
+    (body.Flow c.in-Flow.flow) c.args.out.now.items call.new.out.items
+    c.args.events.now.items call.new.events.items c.in-Flow.is call.result call.ensures.ok
 
 pub returns-in-Flow-clause-err : goal.returns-in-Flow-clause-err
 returns-in-Flow-clause-err c =
@@ -61,8 +61,8 @@ pub returns-in-Transfer-clause-ok : goal.returns-in-Transfer-clause-ok
 returns-in-Transfer-clause-ok c =
     let call = c.hear_transfer in
     hears-if c.args.talk.now call.new.talk c.args.links.now call.new.links c.args.channel c.args.body
-    (body.Transfer c.in-Transfer.performative c.in-Transfer.payload) c.args.out.now.items call.new.out.items c.args.events.now.items call.new.events.items
-    c.in-Transfer.is call.result call.ensures.ok
+    (body.Transfer c.in-Transfer.performative c.in-Transfer.payload) c.args.out.now.items call.new.out.items
+    c.args.events.now.items call.new.events.items c.in-Transfer.is call.result call.ensures.ok
 
 pub returns-in-Transfer-clause-err : goal.returns-in-Transfer-clause-err
 returns-in-Transfer-clause-err c =
@@ -77,8 +77,8 @@ pub returns-in-Disposition-clause-ok : goal.returns-in-Disposition-clause-ok
 returns-in-Disposition-clause-ok c =
     let call = c.hear_disposition in
     hears-if c.args.talk.now call.new.talk c.args.links.now call.new.links c.args.channel c.args.body
-    (body.Disposition c.in-Disposition.disposition) c.args.out.now.items call.new.out.items c.args.events.now.items call.new.events.items
-    c.in-Disposition.is call.result call.ensures.ok
+    (body.Disposition c.in-Disposition.disposition) c.args.out.now.items call.new.out.items
+    c.args.events.now.items call.new.events.items c.in-Disposition.is call.result call.ensures.ok
 
 pub returns-in-Disposition-clause-err : goal.returns-in-Disposition-clause-err
 returns-in-Disposition-clause-err c =
@@ -96,8 +96,8 @@ pub returns-in-Detach-clause-ok : goal.returns-in-Detach-clause-ok
 returns-in-Detach-clause-ok c =
     let call = c.hear_detach in
     hears-if c.args.talk.now call.new.talk c.args.links.now call.new.links c.args.channel c.args.body
-    (body.Detach c.in-Detach.detach) c.args.out.now.items call.new.out.items c.args.events.now.items call.new.events.items
-    c.in-Detach.is call.result call.ensures.ok
+    (body.Detach c.in-Detach.detach) c.args.out.now.items call.new.out.items
+    c.args.events.now.items call.new.events.items c.in-Detach.is call.result call.ensures.ok
 
 pub returns-in-Detach-clause-err : goal.returns-in-Detach-clause-err
 returns-in-Detach-clause-err c =
@@ -112,8 +112,8 @@ pub returns-in-End-clause-ok : goal.returns-in-End-clause-ok
 returns-in-End-clause-ok c =
     let call = c.hear_end in
     hears-if c.args.talk.now call.new.talk c.args.links.now call.new.links c.args.channel c.args.body
-    (body.End c.in-End.end) c.args.out.now.items call.new.out.items c.args.events.now.items call.new.events.items
-    c.in-End.is call.result call.ensures.ok
+    (body.End c.in-End.end) c.args.out.now.items call.new.out.items
+    c.args.events.now.items call.new.events.items c.in-End.is call.result call.ensures.ok
 
 pub returns-in-End-clause-err : goal.returns-in-End-clause-err
 returns-in-End-clause-err c =
