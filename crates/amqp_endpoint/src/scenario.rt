@@ -16,8 +16,8 @@ mod statement;
 mod terms;
 
 use amqp_endpoint_core::play;
-use amqp_endpoint_model::{EndpointError, Settings};
 use amqp_endpoint_linked::LinkedSessions;
+use amqp_endpoint_model::{EndpointError, Settings};
 use amqp_endpoint_world::world;
 use printing::{print_replies, print_world};
 use script::{Given, OneScript, Parsed, TwoScript, parse};
