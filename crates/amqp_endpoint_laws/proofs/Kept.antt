@@ -1,11 +1,12 @@
 -- What sessions keep by all that they do, each run of their endpoint keeps.
-use Rattle.std.proofs.Common.{ℕ, Bool, true, false, List, [], ◌∷◌, Option, Some, None, inl, inr, sym, subst}
+use Rattle.std.proofs.Common.{◌≡◌, ℕ, Bool, true, false, List, [], ◌∷◌, Option, Some, None, inl, inr, sym, subst}
+use Rattle.std.specs.Prelude.{◌⊎◌}
 use Rattle.amqp_session_performatives.specs.declared.open.Open.{Open as OpenFields}
 use Rattle.amqp_session_connection.specs.declared.state.ConnectionState.{ConnectionState}
 use Rattle.amqp_session_frames.specs.declared.frame.Frame.{Frame}
 use Rattle.amqp_session_frames.specs.declared.frame.FrameBody.{FrameBody}
 use Rattle.amqp_session_frames.specs.declared.frame.FrameBody.TheVariants.{Empty, Open, Close}
-use Rattle.amqp_session_types.specs.declared.refusals.ConnectionError.TheVariants.{OutOfOrder}
+use Rattle.amqp_session_types.specs.declared.refusals.ConnectionError.TheVariants.{IllegalState as OutOfOrder}
 use Rattle.amqp_endpoint_model.specs.declared.call.Call.{Call}
 use Rattle.amqp_endpoint_model.specs.declared.call.Call.TheVariants.{Connect, Feed, Pull, Queued, IsIdle, Heartbeat}
 use Rattle.amqp_endpoint_model.specs.declared.call.Call.TheVariants.{BreakOff, Close as CloseCall, IsClosed, TryClose}
@@ -31,7 +32,7 @@ use Rattle.amqp_endpoint_model.specs.History.{Run}
 use Rattle.amqp_endpoint_laws.proofs.Keeping.{Keeps}
 
 module _ {S : Type 0} (does : Relations S) (P : S → Type 0) (k : Keeps does P) where
-  Holds : State S → Type 0
+  abbrev Holds : State S → Type 0
   Holds s = P s.sessions
 
   moves-by : (row : ConnectionState → Option ConnectionState) (old new : S) → MovesBy does row old new → P old
@@ -88,15 +89,21 @@ module _ {S : Type 0} (does : Relations S) (P : S → Type 0) (k : Keeps does P)
       → P s.sessions → P sessions
   barred e s left sessions b p = refuses-body e b.frame.body s b.frame.channel sessions b.refuses p
 
+  -- there was no memory for it, or none to tell of a refusal
+  unread : (s : State S) (left : List ℕ) (sessions : S)
+      → (sessions ≡ s.sessions) ⊎ ((e : EndpointError) × FrontBarred does s left e sessions) → P s.sessions
+      → P sessions
+  unread s left sessions (inl same) p = subst P (sym same) p
+  unread s left sessions (inr (e, b)) p = barred e s left sessions b p
+
   front-refused : (e : EndpointError) (s : State S) (left : List ℕ) (sessions : S)
       → FrontRefused does s left e sessions → P s.sessions → P sessions
   front-refused PeerLimitUnder512 s left sessions r p = barred PeerLimitUnder512 s left sessions r p
   front-refused (Connection e) s left sessions r p = barred (Connection e) s left sessions r p
   front-refused (Session e) s left sessions r p = barred (Session e) s left sessions r p
   front-refused NumbersUsedUp s left sessions r p = barred NumbersUsedUp s left sessions r p
-  front-refused Memory s left sessions (inl same) p = subst P (sym same) p
-  front-refused Memory s left sessions (inr (e, b)) p = barred e s left sessions b p
-  front-refused e s left sessions (unread, same) p = subst P (sym same) p
+  front-refused Memory s left sessions r p = unread s left sessions r p
+  front-refused e s left sessions r p = subst P (sym r.1) p
 
   ends-running : (mid : State S) (left : List ℕ) (fault : Option EndpointError) (new : State S)
       → EndsRunning does mid left fault new → P mid.sessions → P new.sessions

@@ -24,7 +24,7 @@ use Rattle.amqp_endpoint_model.specs.Said.{tried_end, truth, waiting}
 use Rattle.amqp_endpoint_model.specs.State.{State, fresh as fresh_endpoint}
 use Rattle.amqp_endpoint_linking.specs.Linking.{Link, Links, Session, Talk}
 use Rattle.amqp_endpoint_linking.specs.GivingBack.{AllGivenBack, GoOn, SessionGivenBack}
-use Rattle.amqp_endpoint_linking.proofs.BackLaws.{back-goes-on, finished-goes-on, left-goes-on}
+use Rattle.amqp_endpoint_linking.specs.Ending.{Finishes, Leaves}
 use Rattle.amqp_endpoint_link_attaching.specs.Attaching.{with_room}
 use Rattle.amqp_endpoint_link_calls.specs.Closing.{ClosedAt}
 use Rattle.amqp_endpoint_link_calls.specs.Places.{Where}
@@ -44,8 +44,18 @@ more : (start mid end : Links) (steps others : List (Step End)) → History star
 more start mid end [] others same h = subst (λ (l : Links). History l others end) same h
 more start mid end (step ∷ steps) others (next, one, rest) h = (next, one, more next mid end steps others rest h)
 
+-- links that are given back go on by steps of their own
+abbrev BackGoesOn : Type 0
+BackGoesOn = (old new : Links) (left : List Link) → AllGivenBack old left new → GoOn old new
+
+abbrev LeftGoesOn : Type 0
+LeftGoesOn = (old new : Talk) (links links_new : Links) → Leaves old links new links_new → GoOn links links_new
+
+abbrev FinishedGoesOn : Type 0
+FinishedGoesOn = (old new : Talk) (links links_new : Links) → Finishes old links new links_new → GoOn links links_new
+
 -- from links that came so, by further steps
-module _ (old new : Links) (came : HaveCome old) where
+module _ (back_on : BackGoesOn) (old new : Links) (came : HaveCome old) where
   by : (steps : List (Step End)) → History old steps new → HaveCome new
   by steps h =
       record { steps = came.steps ++ steps; history = more fresh old new came.steps steps came.history h }
@@ -57,7 +67,7 @@ module _ (old new : Links) (came : HaveCome old) where
   goes-on g = by g.steps g.history
 
   back : (left : List Link) → AllGivenBack old left new → HaveCome new
-  back left given = goes-on (back-goes-on old new left given)
+  back left given = goes-on (back_on old new left given)
 
   session-back : (session : Option Session) → SessionGivenBack old session new → HaveCome new
   session-back None is = same is
@@ -81,7 +91,7 @@ module _ (old new : Links) (came : HaveCome old) where
       → LinkAttached old_talk old limit session link number events frames new_talk new → HaveCome new
   attached old_talk new_talk limit session link number events frames a =
       by (MakesRoom _ ∷ Enters _ _ _ _ ∷ [])
-      (with_room old, (a.attaches.entered.0, refl), new, a.attaches.entered, refl)
+      (with_room old, (a.attaches.entered.0, refl), (new, a.attaches.entered, refl))
 
   closed-at : (place : Where) (number : ℕ) (old_talk new_talk : Talk) (frames : List SessionFrame)
       → place_at old number ≡ place → ClosedAt place old_talk old number [] new_talk new frames → HaveCome new
@@ -90,88 +100,89 @@ module _ (old new : Links) (came : HaveCome old) where
       by (Closes number (AtRest end) ∷ []) (new, (is, c.forgotten), refl)
   closed-at (Some (Held session handle)) number old_talk new_talk frames is c = same c.kept
 
-heard-detach : (took : Option (ℕ × Detached)) (old mid new : Talk) (links links_new : Links)
-    (frames : List SessionFrame) (events : List Event) (it : _) → Becomes took old links it mid frames events new links_new → HaveCome links
-    → HaveCome links_new
-heard-detach (Some (session, told)) old mid new links links_new frames events it b came =
-    left-so links links_new came told.closed b.link.number b.left b.is_left
-heard-detach None old mid new links links_new frames events it b came = same links links_new came b.same
+heard-detach : (back_on : BackGoesOn) (took : Option (ℕ × Detached)) (old mid new : Talk) (links links_new : Links)
+    (frames : List SessionFrame) (events : List Event) (it : _)
+    → Becomes took old links it mid frames events new links_new → HaveCome links → HaveCome links_new
+heard-detach back_on (Some (session, told)) old mid new links links_new frames events it b came =
+    left-so back_on links links_new came told.closed b.link.number b.left b.is_left
+heard-detach back_on None old mid new links links_new frames events it b came = same back_on links links_new came b.same
 
-heard : (said : FrameBody) (old new : Talk) (links links_new : Links) (channel : IncomingChannel)
+heard : (back_on : BackGoesOn) (said : FrameBody) (old new : Talk) (links links_new : Links) (channel : IncomingChannel)
     (frames : List SessionFrame) (events : List Event) → Hears old links channel said frames events new links_new
     → HaveCome links → HaveCome links_new
-heard (body.Begin begin) old new links links_new channel frames events (inl t) came = same links links_new came t.same
-heard (body.Begin begin) old new links links_new channel frames events (inr f) came =
-    back links links_new came _ f.fails.back
-heard (body.Attach attach) old new links links_new channel frames events a came =
-    elim a.hears [ inl t ↦ same links links_new came t.same | inr f ↦ back links links_new came _ f.fails.back ]
-heard (body.Flow flow) old new links links_new channel frames events (inl t) came = same links links_new came t.same
-heard (body.Flow flow) old new links links_new channel frames events (inr f) came =
-    back links links_new came _ f.back
-heard (body.Transfer transfer payload) old new links links_new channel frames events (inl t) came =
-    same links links_new came t.same
-heard (body.Transfer transfer payload) old new links links_new channel frames events (inr f) came =
-    back links links_new came _ f.back
-heard (body.Disposition disposition) old new links links_new channel frames events (inl t) came =
-    same links links_new came t.same
-heard (body.Disposition disposition) old new links links_new channel frames events (inr f) came =
-    back links links_new came _ f.back
-heard (body.Detach detach) old new links links_new channel frames events (inl t) came =
-    heard-detach _ old t.mid new links links_new frames events detach t.becomes came
-heard (body.Detach detach) old new links links_new channel frames events (inr f) came =
-    back links links_new came _ f.back
-heard (body.End end) old new links links_new channel frames events t came =
-    session-back links links_new came t.heard.ended t.back
-heard said old new links links_new channel frames events h came = absurd h
+heard back_on (body.Begin begin) old new links links_new channel frames events (inl t) came = same back_on links links_new came t.same
+heard back_on (body.Begin begin) old new links links_new channel frames events (inr f) came =
+    back back_on links links_new came _ f.fails.back
+heard back_on (body.Attach attach) old new links links_new channel frames events a came =
+    elim a.hears [ inl t ↦ same back_on links links_new came t.same | inr f ↦ back back_on links links_new came _ f.fails.back ]
+heard back_on (body.Flow flow) old new links links_new channel frames events (inl t) came = same back_on links links_new came t.same
+heard back_on (body.Flow flow) old new links links_new channel frames events (inr f) came =
+    back back_on links links_new came _ f.back
+heard back_on (body.Transfer transfer payload) old new links links_new channel frames events (inl t) came =
+    same back_on links links_new came t.same
+heard back_on (body.Transfer transfer payload) old new links links_new channel frames events (inr f) came =
+    back back_on links links_new came _ f.back
+heard back_on (body.Disposition disposition) old new links links_new channel frames events (inl t) came =
+    same back_on links links_new came t.same
+heard back_on (body.Disposition disposition) old new links links_new channel frames events (inr f) came =
+    back back_on links links_new came _ f.back
+heard back_on (body.Detach detach) old new links links_new channel frames events (inl t) came =
+    heard-detach back_on _ old t.mid new links links_new frames events detach t.becomes came
+heard back_on (body.Detach detach) old new links links_new channel frames events (inr f) came =
+    back back_on links links_new came _ f.back
+heard back_on (body.End end) old new links links_new channel frames events t came =
+    session-back back_on links links_new came t.heard.ended t.back
+heard back_on said old new links links_new channel frames events h came = absurd h
 
-called : (by_call : Call) (answer : Said) (old new : LinkedSessions) (limit : ℕ) (frames : List SessionFrame)
+called : (back_on : BackGoesOn) (by_call : Call) (answer : Said) (old new : LinkedSessions) (limit : ℕ) (frames : List SessionFrame)
     → Calls old limit by_call answer frames new → HaveCome old.links → HaveCome new.links
-called call.Begin (session_begun n) old new limit frames c came = same old.links new.links came c.same
-called (call.AcceptBegin channel) (session_begun n) old new limit frames c came = same old.links new.links came c.same
-called (call.End n) done old new limit frames c came = back old.links new.links came _ c.back
-called (call.IsEnded n) (truth b) old new limit frames c came =
-    same old.links new.links came (ap (λ (s : LinkedSessions). s.links) c.same)
-called (call.TryEnd n) (tried_end o) old new limit frames c came =
-    same old.links new.links came (ap (λ (s : LinkedSessions). s.links) c.rest)
-called (call.AttachSender n settings) (attaching link events) old new limit frames c came =
-    attached old.links new.links came old.talk new.talk limit n _ link events frames c
-called (call.AttachReceiver n settings) (attaching link events) old new limit frames c came =
-    attached old.links new.links came old.talk new.talk limit n _ link events frames c
-called (call.Detach link) done old new limit frames c came = same old.links new.links came c.same
-called (call.CloseLink link) (link_closed events) old new limit frames c came =
-    closed-at old.links new.links came _ link old.talk new.talk frames refl c.closes
-called (call.Grant link n) (credit_is left) old new limit frames c came = same old.links new.links came c.same
-called (call.Drain link) done old new limit frames c came = same old.links new.links came c.same
-called (call.Credit link) (credit_is left) old new limit frames c came =
-    same old.links new.links came (ap (λ (s : LinkedSessions). s.links) c.same)
-called (call.HeldBack n) (count m) old new limit frames c came =
-    same old.links new.links came (ap (λ (s : LinkedSessions). s.links) c.same)
-called (call.Waiting n) (waiting turn) old new limit frames c came =
-    same old.links new.links came (ap (λ (s : LinkedSessions). s.links) c.same)
-called by_call answer old new limit frames c came = absurd c
+called back_on call.Begin (session_begun n) old new limit frames c came = same back_on old.links new.links came c.same
+called back_on (call.AcceptBegin channel) (session_begun n) old new limit frames c came = same back_on old.links new.links came c.same
+called back_on (call.End n) done old new limit frames c came = back back_on old.links new.links came _ c.back
+called back_on (call.IsEnded n) (truth b) old new limit frames c came =
+    same back_on old.links new.links came (ap (λ (s : LinkedSessions). s.links) c.same)
+called back_on (call.TryEnd n) (tried_end o) old new limit frames c came =
+    same back_on old.links new.links came (ap (λ (s : LinkedSessions). s.links) c.rest)
+called back_on (call.AttachSender n settings) (attaching link events) old new limit frames c came =
+    attached back_on old.links new.links came old.talk new.talk limit n _ link events frames c
+called back_on (call.AttachReceiver n settings) (attaching link events) old new limit frames c came =
+    attached back_on old.links new.links came old.talk new.talk limit n _ link events frames c
+called back_on (call.Detach link) done old new limit frames c came = same back_on old.links new.links came c.same
+called back_on (call.CloseLink link) (link_closed events) old new limit frames c came =
+    closed-at back_on old.links new.links came _ link old.talk new.talk frames refl c.closes
+called back_on (call.Grant link n) (credit_is left) old new limit frames c came = same back_on old.links new.links came c.same
+called back_on (call.Drain link) done old new limit frames c came = same back_on old.links new.links came c.same
+called back_on (call.Credit link) (credit_is left) old new limit frames c came =
+    same back_on old.links new.links came (ap (λ (s : LinkedSessions). s.links) c.same)
+called back_on (call.HeldBack n) (count m) old new limit frames c came =
+    same back_on old.links new.links came (ap (λ (s : LinkedSessions). s.links) c.same)
+called back_on (call.Waiting n) (waiting turn) old new limit frames c came =
+    same back_on old.links new.links came (ap (λ (s : LinkedSessions). s.links) c.same)
+called back_on by_call answer old new limit frames c came = absurd c
 
-links-keep : Keeps linked (λ (s : LinkedSessions). HaveCome s.links)
-links-keep =
-    record {
-      moved = λ s connection came. came;
-      taken = λ old new limit channel said frames events h came.
-          heard said old.talk new.talk old.links new.links (record { 0 = channel }) frames events h came;
-      refused = λ old new limit channel said e r came. same old.links new.links came r.same;
-      called = λ old new limit by_call answer frames c came. called by_call answer old new limit frames c came;
-      closed = λ old new c came.
-          goes-on old.links new.links came (left-goes-on old.talk new.talk old.links new.links c);
-      finished = λ old new f came.
-          goes-on old.links new.links came (finished-goes-on old.talk new.talk old.links new.links f);
-    }
+module _ (back_on : BackGoesOn) (left_on : LeftGoesOn) (finished_on : FinishedGoesOn) where
+  links-keep : Keeps linked (λ (s : LinkedSessions). HaveCome s.links)
+  links-keep =
+      record {
+        moved = λ s connection came. came;
+        taken = λ old new limit channel said frames events h came.
+            heard back_on said old.talk new.talk old.links new.links (record { 0 = channel }) frames events h came;
+        refused = λ old new limit channel said e r came. same back_on old.links new.links came r.same;
+        called = λ old new limit by_call answer frames c came.
+            called back_on by_call answer old new limit frames c came;
+        closed = λ old new c came.
+            goes-on back_on old.links new.links came (left_on old.talk new.talk old.links new.links c);
+        finished = λ old new f came.
+            goes-on back_on old.links new.links came (finished_on old.talk new.talk old.links new.links f);
+      }
 
-module _ (sessions : LinkedSessions) (settings : Settings) (calls : List Call) (told : List Told)
-    (end : State LinkedSessions) (new : IsNew linked settings sessions)
-    (run : Run linked (fresh_endpoint settings sessions) calls told end) where
-  pub have-come : HaveCome end.sessions.links
-  have-come =
+  pub have-come : (sessions : LinkedSessions) (settings : Settings) (calls : List Call) (told : List Told)
+      (end : State LinkedSessions) → IsNew linked settings sessions
+      → Run linked (fresh_endpoint settings sessions) calls told end → HaveCome end.sessions.links
+  have-come sessions settings calls told end new run =
       run-keeps linked (λ (s : LinkedSessions). HaveCome s.links) links-keep (fresh_endpoint settings sessions) end
       calls told run
       (record { steps = []; history = ap (λ (s : LinkedSessions). s.links) new.is })
 
-  pub are-apart : AreApart end.sessions.links.links
-  are-apart = stay_apart fresh end.sessions.links have-come.steps (none_apart End) have-come.history
+pub are-apart : (links : Links) → HaveCome links → AreApart links.links
+are-apart links came = stay_apart fresh links came.steps (none_apart End) came.history

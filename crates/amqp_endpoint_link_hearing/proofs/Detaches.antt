@@ -160,8 +160,8 @@ module _ (old : Talk) (channel : IncomingChannel) (out : List SessionFrame) (it 
   becomes heard ready mid out_mid links links_new frames events new p t l = l
 
   pub detach-taken : (heard : LinkHeard) (took : Option (ℕ × Detached)) → took ≡ detach_of heard
-      → (ready : Option Ready) (mid : Talk) (out_mid : List SessionFrame) (links links_new : Links) (new : Talk) (told told_new : List Event) (out_new : List SessionFrame)
-      → out_mid ≡ out → Prepares old channel it ready
+      → (ready : Option Ready) (mid : Talk) (out_mid : List SessionFrame) (links links_new : Links) (new : Talk)
+      (told told_new : List Event) (out_new : List SessionFrame) → out_mid ≡ out → Prepares old channel it ready
       → Answered gives old out channel (said.Detach it) (Ok heard) mid out_mid
       → Tells (λ (frames : List SessionFrame) (events : List Event).
       LeavesBy took ready mid links frames events new links_new) out_mid told out_new told_new

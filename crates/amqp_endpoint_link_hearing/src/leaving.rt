@@ -8,7 +8,7 @@ ghost use Rattle.amqp_endpoint_model.specs.State.{fits, frame_of};
 ghost use Rattle.amqp_endpoint_talk.specs.Going.{Goes, Rests};
 ghost use Rattle.amqp_endpoint_sessions.specs.State.{live_at};
 ghost use Rattle.amqp_endpoint_attached.specs.Detaching.{own_detach};
-ghost use Rattle.amqp_endpoint_attached.specs.Linked.{Linked, end_at};
+ghost use Rattle.amqp_endpoint_attached.specs.Linked.{end_at};
 ghost use Rattle.amqp_endpoint_linking.specs.GivingBack.{IsAtRest, IsClosed};
 ghost use Rattle.amqp_endpoint_linking.specs.Handed.{Hands};
 ghost use Rattle.amqp_endpoint_linking.specs.Linking.{Session};

@@ -1,5 +1,5 @@
 //! What is done of what a session refuses (part 2, 2.5.2).
-ghost use Rattle.std.specs.Prelude.{◌≡◌, ◌<◌};
+ghost use Rattle.std.specs.Prelude.{◌<◌};
 ghost use Rattle.std.specs.Vec.{vec_capacity, vec_len};
 ghost use Rattle.amqp_endpoint_link_hearing.specs.Saying.{RefusalDone};
 
