@@ -22,7 +22,10 @@ use std::alloc::{AllocError, Global};
 use std::collections::VecDeque;
 
 /// Attaches a sending link with these settings in the session with this number, and answers its number with what comes
-/// of it at once.
+/// of it at once (part 2, 2.6.3).
+///
+/// It is refused as `amqp_endpoint_link_attaching::attach_sender` is, with `Memory` also where there is none for what
+/// is told. Nothing changes then.
 pub(crate) fn attach_sender(
     talk: &mut Conversation<Numbered<LinkEnd>>,
     links: &mut Links<LinkEnd>,
@@ -47,7 +50,7 @@ pub(crate) fn attach_sender(
     Ok(Attaching { link, events })
 }
 
-/// Attaches a receiving link with these settings, as `attach_sender` does a sending one.
+/// Attaches a receiving link with these settings, as `attach_sender` does a sending one. It is refused as that is.
 pub(crate) fn attach_receiver(
     talk: &mut Conversation<Numbered<LinkEnd>>,
     links: &mut Links<LinkEnd>,

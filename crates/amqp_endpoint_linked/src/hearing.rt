@@ -21,7 +21,9 @@ use amqp_session_types::{Boxed, IncomingChannel};
 use std::alloc::Global;
 use std::collections::VecDeque;
 
-/// Takes a frame of the peer that is neither Open nor Close.
+/// Takes a frame of the peer that is neither Open nor Close, by the function that is for its performative.
+///
+/// It ends the connection as that function says. Nothing is handed out or told then, and no link changes.
 #[inline(never)]
 pub(crate) fn hear(
     talk: &mut Conversation<Numbered<LinkEnd>>,
@@ -68,7 +70,10 @@ pub(crate) fn hear(
     }
 }
 
-/// Takes the peer's Attach. A link that attaches by it gives no delivery up, as no message is sent here.
+/// Takes the peer's Attach (part 2, 2.6.3). A link that attaches by it gives no delivery up, as no message is sent
+/// here.
+///
+/// It ends the connection as `hear_attach` says. Nothing is handed out or told then, and no link changes.
 fn take_attach(
     talk: &mut Conversation<Numbered<LinkEnd>>,
     links: &mut Links<LinkEnd>,
