@@ -1,0 +1,15 @@
+//! How deliveries that a receiving link took are disposed of in a session of an endpoint (part 2, 2.6.12, 2.7.6): all of
+//! several, or one.
+//!
+//! What each call does says specs/: Disposing and Sending, with what it is refused for in Refusals, and which states a
+//! frame holds in Longest.
+#![tactic(auto)]
+
+mod all;
+mod looking;
+mod measuring;
+mod one;
+mod sending;
+
+pub use all::dispose_all;
+pub use one::dispose;
