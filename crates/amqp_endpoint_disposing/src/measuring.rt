@@ -14,6 +14,7 @@ use serde_amqp_ser::{Serialize, serialized_size};
 const HEAD: usize = 8;
 
 /// A state, and whether the peer takes a frame that tells it.
+#[derive(Drop)]
 pub(crate) struct Measured {
     /// The state.
     pub(crate) state: DeliveryState,
@@ -21,14 +22,8 @@ pub(crate) struct Measured {
     pub(crate) fits: bool,
 }
 
-impl Drop for Measured {
-    fn drop(self) {
-        let Measured { state: _, fits: _ } = self;
-    }
-}
-
 /// Whether the longest Disposition that tells the state fits the limit, whatever its channel (part 2, 2.4.1, 2.7.6).
-pub(crate) fn measured(limit: u32, state: DeliveryState) -> Measured
+pub(crate) fn measure(limit: u32, state: DeliveryState) -> Measured
     ensures state { result.state ≡ state }
     ensures fits { (channel : ℕ) → result.fits ≡ state_fits limit channel state }
 {
