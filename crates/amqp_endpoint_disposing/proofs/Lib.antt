@@ -1,0 +1,5 @@
+pub mod Sizes
+pub mod Longer
+pub mod Sent
+pub mod Telling
+pub mod Ends
