@@ -14,7 +14,6 @@ use Rattle.amqp_session_performatives.specs.declared.disposition.Disposition.{Di
 use Rattle.amqp_session_core.specs.declared.fields.SessionFields.{SessionFields}
 use Rattle.amqp_link_receiving.specs.declared.disposing.Disposable.{Disposable}
 use Rattle.amqp_link_receiving.specs.declared.disposing.DisposeRefusal.{DisposeRefusal}
-use Rattle.amqp_link_receiver.specs.declared.disposing_all.Run.{Run}
 use Rattle.amqp_link_receiver.specs.DisposingAll.{Named, TellsRuns, goes_on, named_all, named_behind, named_beside, named_more, named_next, run_disposition, run_of, runs_from, runs_of}
 use Rattle.amqp_link_receiver.specs.State.{ReceiverState}
 use Rattle.amqp_link_receiver.proofs.Naming.{refused_stays}
@@ -53,7 +52,7 @@ pub are-receivers : (state : DeliveryState) (told : List Disposition) → All (T
 are-receivers state told tells = λ k d lt. ap (λ (x : Disposition). x.role) (tells k d lt)
 
 -- there are no more runs than deliveries
-runs-few : (r : Run) (ds : List Disposable) → length (runs_from r ds) ≤ 1 + length ds
+runs-few : (r : _) (ds : List Disposable) → length (runs_from r ds) ≤ 1 + length ds
 runs-few r [] = omega arith
 runs-few r (d ∷ rest) =
     by (goes_on r d)

@@ -92,6 +92,7 @@ fn look_at_end(link: &LinkEnd, alloc: Global, tags: &[DeliveryTag]) -> Result<()
 }
 
 /// Looks whether the deliveries with these tags can be disposed of: none is named twice.
+#[tactic(auto, using(crate::proofs::Naming::rules))]
 fn look_at_each(
     receiver: &ReceiverLink,
     alloc: Global,

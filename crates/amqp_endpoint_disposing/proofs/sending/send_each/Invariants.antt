@@ -8,7 +8,7 @@ use Rattle.amqp_endpoint_disposing.proofs.sending.send_each.Given as goal
 abbrev pub invariant-loop-disposition : goal.invariant-loop-disposition
 invariant-loop-disposition g l =
     record {
-      sent : (new : State g.R.Denot) → SendsEach g.R.LinkRelay.gives l.session l.rest.rest.items new
+      sent : (new : State g.row.R.Denot) → SendsEach g.R.LinkRelay.gives l.session l.rest.rest.items new
           → SendsEach g.R.LinkRelay.gives l.initial.session l.initial.rest.rest.items new;
       fields : l.session.fields ≡ l.initial.session.fields;
       added : l.out.items ++ frames_of l.initial.session.fields l.rest.rest.items
