@@ -51,7 +51,8 @@ module _ (Disposes : LinksIn → List Disposition → LinksIn → Type 0) (limit
 -- all of several
 module _ (limit : ℕ) (old : Linked) (handle : OutputHandle) (tags : List (List ℕ)) (state : DeliveryState)
     (asked : Option Bool) (told : List Disposition) (mid new : LinksIn)
-    (disposes : DisposesOfAll handle tags state asked old.session told mid) (sends : SendsEach gives mid told new) where
+    (disposes : DisposesOfAll handle tags state asked old.session told mid) (sends : SendsEach gives mid told new)
+  where
   all-links : mid ≡ record old.session { links = mid.links }
   all-links = disposes.changed.1 ∙ ap (λ (s : LinksIn). record old.session { links = s.links }) (sym disposes.changed.1)
 
@@ -72,7 +73,8 @@ module _ (limit : ℕ) (old : Linked) (handle : OutputHandle) (tags : List (List
 -- one
 module _ (limit : ℕ) (old : Linked) (handle : OutputHandle) (tag : List ℕ) (state : DeliveryState)
     (asked : Option Bool) (one : Disposition) (mid new : LinksIn)
-    (disposes : DisposesOfOne handle tag state asked old.session (one ∷ []) mid) (sent : SendsOne gives mid one new) where
+    (disposes : DisposesOfOne handle tag state asked old.session (one ∷ []) mid) (sent : SendsOne gives mid one new)
+  where
   one-links : mid ≡ record old.session { links = mid.links }
   one-links = disposes.changed.1 ∙ ap (λ (s : LinksIn). record old.session { links = s.links }) (sym disposes.changed.1)
 

@@ -1,5 +1,6 @@
 -- No Disposition that tells a state is longer than the longest.
-use Rattle.std.proofs.Common.{◌≡◌, ◌⊎◌, inl, inr, ℕ, ◌+◌, ◌-◌, ◌≤◌, ◌<◌, Bool, true, false, List, [], ◌∷◌, ◌++◌, length, arith}
+use Rattle.std.proofs.Common.{◌≡◌, ◌⊎◌, inl, inr, ℕ, ◌+◌, ◌-◌, ◌≤◌, ◌<◌, Bool, true, false, List, [], ◌∷◌, ◌++◌}
+use Rattle.std.proofs.Common.{length, arith}
 use Rattle.std.proofs.Common.{refl, sym, ap, subst, ◌∙◌}
 use Rattle.std.specs.Prelude.{◌^◌, ◌==◌, Option, Some, None, IfSome, nat_lt, if◌then◌else◌}
 use Rattle.std.specs.Int.{w32, to_be_bytes}
@@ -12,12 +13,12 @@ use Rattle.serde_amqp_de.specs.Takes.{or_null, is_boolean}
 use Rattle.amqp_session_types.specs.declared.modes.Role.TheVariants as role
 use Rattle.amqp_session_states.specs.DeliveryState.{delivery_state_item}
 use Rattle.amqp_session_states.specs.declared.delivery_state.DeliveryState.{DeliveryState}
-use Rattle.amqp_session_states.specs.declared.delivery_state.DeliveryState.TheVariants.{Received, Accepted, Rejected, Released, Modified}
+use Rattle.amqp_session_states.specs.declared.delivery_state.DeliveryState.TheVariants as state_of
 use Rattle.amqp_session_performatives.specs.Disposition.{disposition_fields, disposition_item}
 use Rattle.amqp_session_performatives.specs.declared.disposition.Disposition.{Disposition}
 use Rattle.amqp_link_unsettled.specs.Listing.{FitsText}
 use Rattle.amqp_endpoint_lengths.specs.Plain.{IsUint, MayBeUint}
-use Rattle.amqp_endpoint_lengths.proofs.Texts.{Within, this, either, made, behind, not_below, Short, short, uint-short, boolean-short}
+use Rattle.amqp_endpoint_lengths.proofs.Texts.{Within, this, either, made, not_below, short, uint-short, boolean-short}
 use Rattle.amqp_endpoint_lengths.proofs.Fields.{ShortFields, field, option-short, default-short}
 use Rattle.amqp_endpoint_disposing.specs.Longest.{longest}
 
@@ -141,11 +142,11 @@ longest_fields state =
     ∷ []
 
 not-trimmed : (state : DeliveryState) → trimmed (disposition_fields (longest state)) ≡ longest_fields state
-not-trimmed (Received x) = refl
-not-trimmed (Accepted x) = refl
-not-trimmed (Rejected x) = refl
-not-trimmed (Released x) = refl
-not-trimmed (Modified x) = refl
+not-trimmed (state_of.Received x) = refl
+not-trimmed (state_of.Accepted x) = refl
+not-trimmed (state_of.Rejected x) = refl
+not-trimmed (state_of.Released x) = refl
+not-trimmed (state_of.Modified x) = refl
 
 content-is : (x : Item) (o : Option (List ℕ)) → canon x ≡ o
     → canon_all (items_of (scalar (boolean true) ∷ scalar (uint (2 ^ 32 - 1)) ∷ scalar (uint (2 ^ 32 - 1))

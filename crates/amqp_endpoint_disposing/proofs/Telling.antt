@@ -1,5 +1,6 @@
 -- The Dispositions that tell runs of deliveries.
-use Rattle.std.proofs.Common.{◌≡◌, ℕ, ◌+◌, ◌≤◌, ◌<◌, ◌^◌, Bool, true, false, List, [], ◌∷◌, ◌++◌, map, length, arith, All, refl, sym, ap}
+use Rattle.std.proofs.Common.{◌≡◌, ℕ, ◌+◌, ◌≤◌, ◌<◌, ◌^◌, Bool, true, false, List, [], ◌∷◌, ◌++◌, map, length, arith}
+use Rattle.std.proofs.Common.{All, refl, sym, ap}
 use Rattle.std.proofs.Common.{subst, ◌∙◌}
 use Rattle.std.proofs.lemmas.List.{length-append, length-map}
 use Rattle.std.proofs.lemmas.List.Elements.{All-map}
@@ -14,7 +15,8 @@ use Rattle.amqp_session_performatives.specs.declared.disposition.Disposition.{Di
 use Rattle.amqp_session_core.specs.declared.fields.SessionFields.{SessionFields}
 use Rattle.amqp_link_receiving.specs.declared.disposing.Disposable.{Disposable}
 use Rattle.amqp_link_receiving.specs.declared.disposing.DisposeRefusal.{DisposeRefusal}
-use Rattle.amqp_link_receiver.specs.DisposingAll.{Named, TellsRuns, goes_on, named_all, named_behind, named_beside, named_more, named_next, run_disposition, run_of, runs_from, runs_of}
+use Rattle.amqp_link_receiver.specs.DisposingAll.{Named, TellsRuns, goes_on, named_all, named_behind, named_beside}
+use Rattle.amqp_link_receiver.specs.DisposingAll.{named_more, run_disposition, run_of, runs_from, runs_of}
 use Rattle.amqp_link_receiver.specs.State.{ReceiverState}
 use Rattle.amqp_link_receiver.proofs.Naming.{refused_stays}
 use Rattle.amqp_endpoint_fitting.specs.Fits.{FrameFits}
@@ -55,12 +57,14 @@ are-receivers state told tells = λ k d lt. ap (λ (x : Disposition). x.role) (t
 runs-few : (r : _) (ds : List Disposable) → length (runs_from r ds) ≤ 1 + length ds
 runs-few r [] = omega arith
 runs-few r (d ∷ rest) =
-    by (goes_on r d)
+    by (goes_on r d) (runs-few (record r { last = d.number }) rest) (runs-few (run_of d) rest)
   where
-    by : (b : Bool) → length (if b then runs_from (record r { last = d.number }) rest
-        else r ∷ runs_from (run_of d) rest) ≤ 1 + length (d ∷ rest)
-    by true = omega (arith, runs-few (record r { last = d.number }) rest)
-    by false = omega (arith, runs-few (run_of d) rest)
+    by : (b : Bool) → length (runs_from (record r { last = d.number }) rest) ≤ 1 + length rest
+        → length (runs_from (run_of d) rest) ≤ 1 + length rest
+        → length (if b then runs_from (record r { last = d.number }) rest else r ∷ runs_from (run_of d) rest)
+        ≤ 1 + length (d ∷ rest)
+    by true one other = omega (arith, one)
+    by false one other = omega (arith, other)
 
 all-few : (ds : List Disposable) → length (runs_of ds) ≤ length ds
 all-few [] = omega arith
@@ -75,13 +79,15 @@ module _ (s : ReceiverState) where
       size : Result Named DisposeRefusal → ℕ
       size (Ok n) = length n
       size (Err why) = 0
-  count (tag ∷ rest) before named is = by (named_beside s tag (lookup (bytes_eq tag) before)) is
+  count (tag ∷ rest) before named is =
+      by (λ d e. count rest (before ++ (tag, d) ∷ []) named e) (named_beside s tag (lookup (bytes_eq tag) before)) is
     where
-      by : (r : Result Disposable DisposeRefusal) → named_behind s (named_more before tag r) rest ≡ Ok named
+      by : ((d : Disposable) → named_behind s (Ok (before ++ (tag, d) ∷ [])) rest ≡ Ok named
+          → length named ≡ length (before ++ (tag, d) ∷ []) + length rest)
+          → (r : Result Disposable DisposeRefusal) → named_behind s (named_more before tag r) rest ≡ Ok named
           → length named ≡ length before + length (tag ∷ rest)
-      by (Ok d) e =
-          omega (arith, count rest (before ++ (tag, d) ∷ []) named e, length-append before ((tag, d) ∷ []))
-      by (Err why) e = absurd (let clash = sym (refused_stays s why rest) ∙ e in cc)
+      by later (Ok d) e = omega (arith, later d e, length-append before ((tag, d) ∷ []))
+      by later (Err why) e = absurd (let clash = sym (refused_stays s why rest) ∙ e in cc)
 
 pub few : (s : ReceiverState) (link : ReceiverSettleMode) (tags : List (List ℕ)) (named : Named)
     (state : DeliveryState) (asked : Option Bool) (told : List Disposition) → named_all s tags ≡ Ok named
@@ -91,9 +97,9 @@ few s link tags named state asked told are tells =
     omega (
       arith,
       ap length tells.is,
-      length-map (run_disposition link state asked) (runs_of tells.ordered),
+      length-map (runs_of tells.ordered) (run_disposition link state asked),
       all-few tells.ordered,
       length_permutation deliveries tells.ordered (tells.in_order).same,
-      length-map (λ (e : List ℕ × Disposable). e.1) named,
+      length-map named (λ (e : List ℕ × Disposable). e.1),
       count s tags [] named are,
     )

@@ -17,7 +17,8 @@ use Rattle.amqp_endpoint_attached.specs.Receiving.{receiving}
 
 -- an end of a link disposes of all that are named, and tells it by these Dispositions
 abbrev pub EndDisposes : End → List (List ℕ) → DeliveryState → Option Bool → List Disposition → End → Type 0
-EndDisposes (Receiver r) tags state asked told (Receiver after) = AllDisposed (named_all r tags) r state asked told after
+EndDisposes (Receiver r) tags state asked told (Receiver after) =
+    AllDisposed (named_all r tags) r state asked told after
 EndDisposes old tags state asked told new = ⊥
 
 -- or of one, or refuses it

@@ -14,7 +14,9 @@ use Rattle.amqp_link_receiver.specs.declared.disposing.DisposeError.TheVariants 
 use Rattle.amqp_link_ends.specs.declared.end.End.{End}
 use Rattle.amqp_link_ends.specs.declared.end.End.TheVariants.{Receiver}
 use Rattle.amqp_endpoint_model.specs.declared.error.EndpointError.{EndpointError}
-use Rattle.amqp_endpoint_model.specs.declared.error.EndpointError.TheVariants.{Memory, FrameTooLarge, AlreadyDisposed, NotAssociated, IllegalState}
+use Rattle.amqp_endpoint_model.specs.declared.error.EndpointError.TheVariants.{Memory, FrameTooLarge}
+use Rattle.amqp_endpoint_model.specs.declared.error.EndpointError.TheVariants.{AlreadyDisposed, NotAssociated}
+use Rattle.amqp_endpoint_model.specs.declared.error.EndpointError.TheVariants.{IllegalState}
 use Rattle.amqp_endpoint_attached.specs.Linked.{Linked, end_at}
 use Rattle.amqp_endpoint_attached.specs.Receiving.{is_receiving}
 use Rattle.amqp_endpoint_disposing.specs.Disposing.{DisposesOfAll, DisposesOfOne}

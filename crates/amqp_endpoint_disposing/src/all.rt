@@ -23,8 +23,8 @@ use std::alloc::Global;
 use std::collections::VecDeque;
 
 /// Disposes of the deliveries with these tags of the receiving link with this own handle, all of them or none (part 2,
-/// 2.6.12, 2.7.6): one Disposition is handed out for each run of numbers that follow each other and whose transfers name
-/// the same settle mode, in the order of the numbers. Of no tags there is none. Each delivery is settled as is asked;
+/// 2.6.12, 2.7.6): one Disposition is handed out for each run of numbers that follow each other and whose transfers
+/// name the same settle mode, in the order of the numbers. Of no tags there is none. Each delivery is settled as is asked;
 /// where that says nothing, it is by the mode of its transfer, or else the link's (part 2, 2.8.3). The session forgets
 /// what is settled.
 ///

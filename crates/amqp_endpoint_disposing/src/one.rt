@@ -28,8 +28,8 @@ use std::collections::VecDeque;
 /// mode of its transfer, or else the link's (part 2, 2.8.3). The session forgets what is settled.
 ///
 /// It is refused, in this order, with `IllegalState` exactly where no attached receiving link has the handle; with
-/// `AlreadyDisposed` exactly where nothing is kept of the delivery or its outcome was told; with `NotAssociated` exactly
-/// where it has no number in the present attachment; with `FrameTooLarge` exactly where the longest Disposition that
+/// `AlreadyDisposed` exactly where nothing is kept of the delivery or its outcome was told; with `NotAssociated`
+/// exactly where it has no number in the present attachment; with `FrameTooLarge` exactly where the longest Disposition that
 /// tells the state doesn't fit the limit; and with `Memory`. Nothing changes then.
 pub fn dispose(
     session: &mut LinkSession,
@@ -69,8 +69,8 @@ pub fn dispose(
     Ok(())
 }
 
-/// The attached receiving link with this own handle disposes of the delivery with this tag. It is refused where there is
-/// no memory.
+/// The attached receiving link with this own handle disposes of the delivery with this tag. It is refused where there
+/// is no memory.
 fn dispose_in(
     session: &mut Session<Numbered<LinkEnd>>,
     alloc: Global,

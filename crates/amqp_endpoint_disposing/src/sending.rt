@@ -35,6 +35,7 @@ pub(crate) fn send_one<R: LinkRelay>(
     ensures sent { SendsOne R.gives session.old disposition session.new }
     ensures fields { session.new.fields ≡ session.old.fields }
     ensures added { out.new.items ≡ out.old.items ++ said_by session.old.fields disposition ∷ [] }
+    ensures len { deque_len out.new ≡ deque_len out.old + 1 }
     ensures capacity { deque_capacity out.new ≡ deque_capacity out.old }
 {
     let frame = session.on_outgoing_disposition(disposition);
