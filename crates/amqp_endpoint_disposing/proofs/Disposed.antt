@@ -18,7 +18,7 @@ use Rattle.amqp_endpoint_disposing.proofs.Telling.{Tells, all-fit, are-receivers
 
 -- whatever is disposed of so by links alone
 module _ (Disposes : LinksIn → List Disposition → LinksIn → Type 0) (limit : ℕ) (old : Linked) (state : DeliveryState)
-    (told : List Disposition) (mid new : LinksIn) (disposes : Disposes old.session told mid)
+    (told : List Disposition) (mid new : LinksIn) (did : Disposes old.session told mid)
     (links : mid ≡ record old.session { links = mid.links }) (tells : All (Tells state) told)
     (sends : SendsEach gives mid told new) where
   same-fields : mid.fields ≡ old.session.fields
@@ -31,7 +31,7 @@ module _ (Disposes : LinksIn → List Disposition → LinksIn → Type 0) (limit
       record {
         told = told;
         mid = mid;
-        disposes = disposes;
+        disposes = did;
         sends = sends;
         rest = refl;
         added =
@@ -51,49 +51,50 @@ module _ (Disposes : LinksIn → List Disposition → LinksIn → Type 0) (limit
 -- all of several
 module _ (limit : ℕ) (old : Linked) (handle : OutputHandle) (tags : List (List ℕ)) (state : DeliveryState)
     (asked : Option Bool) (told : List Disposition) (mid new : LinksIn)
-    (disposes : DisposesOfAll handle tags state asked old.session told mid) (sends : SendsEach gives mid told new)
+    (did : DisposesOfAll handle tags state asked old.session told mid) (sends : SendsEach gives mid told new)
   where
-  all-links : mid ≡ record old.session { links = mid.links }
-  all-links = disposes.changed.1 ∙ ap (λ (s : LinksIn). record old.session { links = s.links }) (sym disposes.changed.1)
+    all-links : mid ≡ record old.session { links = mid.links }
+    all-links = did.changed.1 ∙ ap (λ (s : LinksIn). record old.session { links = s.links }) (sym did.changed.1)
 
-  all-tell : All (Tells state) told
-  all-tell =
-      runs-tell (disposes.receiver.base.terms).rcv_settle_mode disposes.named state asked told disposes.tells
+    all-tell : All (Tells state) told
+    all-tell =
+        runs-tell (did.receiver.base.terms).rcv_settle_mode did.named state asked told did.tells
 
-  pub all-disposed : (out room out_new : List SessionFrame) → limit < 2 ^ 32 → fits_in limit old state ≡ true
-      → All IsReadDisposition told → room ≡ out → out_new ≡ room ++ frames_of mid.fields told
-      → IsDisposed (DisposesOfAll handle tags state asked) limit old out (record old { session = new }) out_new
-  all-disposed =
-      disposed-so (DisposesOfAll handle tags state asked) limit old state told mid new disposes all-links all-tell sends
+    pub all-disposed : (out room out_new : List SessionFrame) → limit < 2 ^ 32 → fits_in limit old state ≡ true
+        → All IsReadDisposition told → room ≡ out → out_new ≡ room ++ frames_of mid.fields told
+        → IsDisposed (DisposesOfAll handle tags state asked) limit old out (record old { session = new }) out_new
+    all-disposed =
+        disposed-so (DisposesOfAll handle tags state asked) limit old state told mid new did all-links all-tell sends
 
-  pub all-waits : (new.outgoing ≡ old.session.outgoing) × (new.fields ≡ old.session.fields)
-  all-waits =
-      waits-so (DisposesOfAll handle tags state asked) limit old state told mid new disposes all-links all-tell sends
+    pub all-waits : (new.outgoing ≡ old.session.outgoing) × (new.fields ≡ old.session.fields)
+    all-waits =
+        waits-so (DisposesOfAll handle tags state asked) limit old state told mid new did all-links all-tell sends
 
 -- one
 module _ (limit : ℕ) (old : Linked) (handle : OutputHandle) (tag : List ℕ) (state : DeliveryState)
     (asked : Option Bool) (one : Disposition) (mid new : LinksIn)
-    (disposes : DisposesOfOne handle tag state asked old.session (one ∷ []) mid) (sent : SendsOne gives mid one new)
+    (did : DisposesOfOne handle tag state asked old.session (one ∷ []) mid) (sent : SendsOne gives mid one new)
   where
-  one-links : mid ≡ record old.session { links = mid.links }
-  one-links = disposes.changed.1 ∙ ap (λ (s : LinksIn). record old.session { links = s.links }) (sym disposes.changed.1)
+    one-links : mid ≡ record old.session { links = mid.links }
+    one-links = did.changed.1 ∙ ap (λ (s : LinksIn). record old.session { links = s.links }) (sym did.changed.1)
 
-  one-tells : All (Tells state) (one ∷ [])
-  one-tells =
-      subst (λ (l : List Disposition). All (Tells state) l) (sym disposes.tells)
-      (All-cons (Tells state) _ [] refl (All-nil (Tells state)))
+    one-tells : All (Tells state) (one ∷ [])
+    one-tells =
+        subst (λ (l : List Disposition). All (Tells state) l) (sym did.tells)
+        (All-cons (Tells state) _ [] refl (All-nil (Tells state)))
 
-  sends-one : SendsEach gives mid (one ∷ []) new
-  sends-one = (new, sent, refl)
+    sends-one : SendsEach gives mid (one ∷ []) new
+    sends-one = (new, sent, refl)
 
-  pub one-disposed : (out room out_new : List SessionFrame) → limit < 2 ^ 32 → fits_in limit old state ≡ true
-      → IsReadDisposition one → room ≡ out → out_new ≡ room ++ frames_of mid.fields (one ∷ [])
-      → IsDisposed (DisposesOfOne handle tag state asked) limit old out (record old { session = new }) out_new
-  one-disposed out room out_new least fit read kept added =
-      disposed-so (DisposesOfOne handle tag state asked) limit old state (one ∷ []) mid new disposes one-links one-tells
-      sends-one out room out_new least fit (All-cons IsReadDisposition one [] read (All-nil IsReadDisposition)) kept added
+    pub one-disposed : (out room out_new : List SessionFrame) → limit < 2 ^ 32 → fits_in limit old state ≡ true
+        → IsReadDisposition one → room ≡ out → out_new ≡ room ++ frames_of mid.fields (one ∷ [])
+        → IsDisposed (DisposesOfOne handle tag state asked) limit old out (record old { session = new }) out_new
+    one-disposed out room out_new least fit read kept added =
+        disposed-so (DisposesOfOne handle tag state asked) limit old state (one ∷ []) mid new did one-links one-tells
+        sends-one out room out_new least fit (All-cons IsReadDisposition one [] read (All-nil IsReadDisposition)) kept
+        added
 
-  pub one-waits : (new.outgoing ≡ old.session.outgoing) × (new.fields ≡ old.session.fields)
-  one-waits =
-      waits-so (DisposesOfOne handle tag state asked) limit old state (one ∷ []) mid new disposes one-links one-tells
-      sends-one
+    pub one-waits : (new.outgoing ≡ old.session.outgoing) × (new.fields ≡ old.session.fields)
+    one-waits =
+        waits-so (DisposesOfOne handle tag state asked) limit old state (one ∷ []) mid new did one-links one-tells
+        sends-one

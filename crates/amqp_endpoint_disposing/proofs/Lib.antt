@@ -5,3 +5,4 @@ pub mod Sent
 pub mod Telling
 pub mod Ends
 pub mod Disposed
+pub mod Nothing

@@ -199,8 +199,8 @@ module _ (limit : ℕ) (state : DeliveryState) (first : ℕ) (last : Option ℕ)
       made (1 + (5 + (5 + (1 + (length text + 0))))) (length whole) (canon_all (items_of (trimmed fields)))
       (list_text (item_count (items_of (trimmed fields))))
       (fields-short state text is first last settled h k).within
-      (λ x le. no-more (length whole) (item_count (items_of (trimmed fields))) x (content_of text) whole of (omega arith)
-      (omega (arith, le, long))) in
+      (λ x le. no-more (length whole) (item_count (items_of (trimmed fields))) x (content_of text) whole of
+      (omega arith) (omega (arith, le, long))) in
       within-fits limit (3 + length whole) _ (described-short (length whole) (list (items_of (trimmed fields))) listed)
       (omega (arith, fit))
 

@@ -4,19 +4,14 @@ use Rattle.std.proofs.lemmas.List.Elements.{All-head, All-tail}
 use Rattle.amqp_session_types.specs.declared.modes.Role.{Role}
 use Rattle.amqp_session_types.specs.declared.modes.Role.TheVariants.{Sender, Receiver}
 use Rattle.amqp_session_performatives.specs.declared.disposition.Disposition.{Disposition}
+use Rattle.amqp_session_performatives.specs.declared.session_frame.SessionFrame.{SessionFrame}
 use Rattle.amqp_session_unsettled.specs.Table.{Table}
-use Rattle.amqp_session_outgoing.specs.State as sending
-use Rattle.amqp_session_core.specs.declared.batch.TransferFrame.{TransferFrame}
-use Rattle.amqp_session_core.specs.declared.batch.BehindFrame.{BehindFrame}
 use Rattle.amqp_session_core.specs.declared.fields.SessionFields.{SessionFields}
 use Rattle.amqp_session_core.specs.Echoes.{opposite, without}
 use Rattle.amqp_session_core.specs.Relay.{Relations}
 use Rattle.amqp_session_core.specs.State.{State}
 use Rattle.amqp_session_core.specs.Steps.{Steps, SendsDisposition, SendsDispositionStep, table_of, with_table}
-use Rattle.amqp_endpoint_disposing.specs.Sending.{SendsEach, SendsOne}
-
-abbrev Side : Type 0
-Side = sending.State TransferFrame BehindFrame
+use Rattle.amqp_endpoint_disposing.specs.Sending.{SendsEach, SendsOne, frames_of, said_by}
 
 module _ {R A T D : Type 0} (does : Relations R A T D) where
   fields-with : (role : Role) (table : Table) (s : State R) → (with_table role table s).fields ≡ s.fields
@@ -63,3 +58,14 @@ module _ {R A T D : Type 0} (does : Relations R A T D) where
         later.0 ∙ outgoing-kept old d sent.0 (All-head (λ (e : Disposition). e.role ≡ Receiver) d rest are) sent.1,
         later.1 ∙ fields-kept old d sent.1.settled sent.0 sent.1.stepped,
       )
+
+-- a frame more is handed out, and those that are left come behind it
+pub handed-on : (fields mid_fields : SessionFields) (one : Disposition) (rest left : List Disposition)
+    (mid new all : List SessionFrame) → new ≡ mid ++ said_by mid_fields one ∷ [] → mid_fields ≡ fields
+    → left ≡ one ∷ rest → mid ++ frames_of fields left ≡ all → new ++ frames_of fields rest ≡ all
+handed-on fields mid_fields one rest left mid new all added same is are =
+    ap (λ (l : List SessionFrame). l ++ frames_of fields rest) added
+    ∙ append_assoc mid (said_by mid_fields one ∷ []) (frames_of fields rest)
+    ∙ ap (λ (f : SessionFields). mid ++ said_by f one ∷ frames_of fields rest) same
+    ∙ ap (λ (l : List Disposition). mid ++ frames_of fields l) (sym is)
+    ∙ are

@@ -24,9 +24,9 @@ use std::collections::VecDeque;
 
 /// Disposes of the deliveries with these tags of the receiving link with this own handle, all of them or none (part 2,
 /// 2.6.12, 2.7.6): one Disposition is handed out for each run of numbers that follow each other and whose transfers
-/// name the same settle mode, in the order of the numbers. Of no tags there is none. Each delivery is settled as is asked;
-/// where that says nothing, it is by the mode of its transfer, or else the link's (part 2, 2.8.3). The session forgets
-/// what is settled.
+/// name the same settle mode, in the order of the numbers. Of no tags there is none, and nothing changes. Each delivery
+/// is settled as is asked; where that says nothing, it is by the mode of its transfer, or else the link's (part 2,
+/// 2.8.3). The session forgets what is settled.
 ///
 /// It is refused, in this order, with `IllegalState` exactly where no attached receiving link has the handle; as the
 /// link refuses the first of the tags that it refuses, with `AlreadyDisposed` exactly where nothing is kept of it, its

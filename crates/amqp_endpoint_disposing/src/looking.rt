@@ -1,10 +1,8 @@
 //! What a receiving link of a session says of deliveries before they are disposed of (part 2, 2.6.12, 2.7.6).
-ghost use Rattle.std.specs.Prelude.{◌≡◌, true, IfErr, IfOk, OnOk, IsOk};
-ghost use Rattle.amqp_link_receiver.specs.Disposing.{disposable_now};
-ghost use Rattle.amqp_link_receiver.specs.DisposingAll.{NotNamed, named_all};
+ghost use Rattle.std.specs.Prelude.{◌≡◌, true};
+ghost use Rattle.amqp_link_receiver.specs.DisposingAll.{named_all};
 ghost use Rattle.amqp_endpoint_attached.specs.Linked.{end_in};
 ghost use Rattle.amqp_endpoint_attached.specs.Receiving.{is_receiving};
-ghost use Rattle.amqp_endpoint_model.specs.declared.error.EndpointError.TheVariants.{Memory};
 ghost use Rattle.amqp_endpoint_disposing.specs.Refusals.{IsErrorOf, IsLookedAt, error_of, kept_at, named_at};
 
 use amqp_endpoint_links::Numbered;

@@ -1,8 +1,6 @@
 //! How one delivery is disposed of (part 2, 2.6.12, 2.7.6).
-ghost use Rattle.std.specs.Prelude.{◌≡◌, ◌≤◌, true, IsOk, IfErr, IfOk, OnErr, ◌∷◌, []};
+ghost use Rattle.std.specs.Prelude.{◌≡◌, ◌≤◌, true, IsOk, IfOk, OnErr, ◌∷◌, []};
 ghost use Rattle.std.specs.VecDeque.{deque_capacity};
-ghost use Rattle.amqp_link_receiver.specs.Disposing.{Disposes};
-ghost use Rattle.amqp_link_receiver.specs.declared.disposing.DisposeError.TheVariants.{Memory as NoMemory};
 ghost use Rattle.amqp_endpoint_attached.specs.Linked.{end_in};
 ghost use Rattle.amqp_endpoint_attached.specs.Receiving.{is_receiving};
 ghost use Rattle.amqp_endpoint_disposing.specs.Disposing.{DisposesOfOne, EndDisposesOne};
@@ -29,8 +27,8 @@ use std::collections::VecDeque;
 ///
 /// It is refused, in this order, with `IllegalState` exactly where no attached receiving link has the handle; with
 /// `AlreadyDisposed` exactly where nothing is kept of the delivery or its outcome was told; with `NotAssociated`
-/// exactly where it has no number in the present attachment; with `FrameTooLarge` exactly where the longest Disposition that
-/// tells the state doesn't fit the limit; and with `Memory`. Nothing changes then.
+/// exactly where it has no number in the present attachment; with `FrameTooLarge` exactly where the longest Disposition
+/// that tells the state doesn't fit the limit; and with `Memory`. Nothing changes then.
 pub fn dispose(
     session: &mut LinkSession,
     alloc: Global,

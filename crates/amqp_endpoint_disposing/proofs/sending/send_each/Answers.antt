@@ -1,16 +1,15 @@
-use Rattle.std.proofs.Common.{◌≡◌, ◌++◌, ◌∷◌, [], List, length, arith, sym, ap, subst, append_assoc, ◌∙◌}
+use Rattle.std.proofs.Common.{◌≡◌, ◌∷◌, List, length, arith, sym, ap, subst, ◌∙◌}
 use Rattle.amqp_session_performatives.specs.declared.disposition.Disposition.{Disposition}
-use Rattle.amqp_session_performatives.specs.declared.session_frame.SessionFrame.{SessionFrame}
-use Rattle.amqp_session_core.specs.declared.fields.SessionFields.{SessionFields}
-use Rattle.amqp_endpoint_disposing.specs.Sending.{SendsEach, frames_of, said_by}
+use Rattle.amqp_endpoint_disposing.specs.Sending.{SendsEach}
+use Rattle.amqp_endpoint_disposing.proofs.Sent.{handed-on}
 use Rattle.amqp_endpoint_disposing.proofs.sending.send_each.Goals as goal
 
 pub loop-disposition-preserved : goal.loop-disposition-preserved
 loop-disposition-preserved g c =
     let rest : List Disposition = c.next.new.self.rest.items in
     let one : Disposition = c.in-Some.disposition in
-    let first : SessionFields = c.args.session.now.fields in
-    let items : c.loop-disposition.rest.rest.items ≡ one ∷ rest = c.in-Some.ensures.items in
+    let left : List Disposition = c.loop-disposition.rest.rest.items in
+    let items : left ≡ one ∷ rest = c.in-Some.ensures.items in
     record {
       sent = λ new sends.
           c.loop-disposition.invariant.sent new
@@ -18,13 +17,9 @@ loop-disposition-preserved g c =
           (c.send_one.new.session, c.send_one.ensures.sent, sends));
       fields = c.send_one.ensures.fields ∙ c.loop-disposition.invariant.fields;
       added =
-          ap (λ (l : List SessionFrame). l ++ frames_of first rest) c.send_one.ensures.added
-          ∙ append_assoc c.loop-disposition.out.items (said_by c.loop-disposition.session.fields one ∷ [])
-          (frames_of first rest)
-          ∙ ap (λ (f : SessionFields). c.loop-disposition.out.items ++ said_by f one ∷ frames_of first rest)
-          c.loop-disposition.invariant.fields
-          ∙ ap (λ (l : List Disposition). c.loop-disposition.out.items ++ frames_of first l) (sym items)
-          ∙ c.loop-disposition.invariant.added;
+          handed-on c.args.session.now.fields c.loop-disposition.session.fields one rest left
+          c.loop-disposition.out.items c.send_one.new.out.items _ c.send_one.ensures.added
+          c.loop-disposition.invariant.fields items c.loop-disposition.invariant.added;
       spare = omega (
         arith,
         c.loop-disposition.invariant.spare,
