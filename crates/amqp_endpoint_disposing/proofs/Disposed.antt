@@ -10,7 +10,6 @@ use Rattle.amqp_session_core.specs.declared.fields.SessionFields.{SessionFields}
 use Rattle.amqp_endpoint_attached.specs.Linked.{Linked, LinksIn, gives}
 use Rattle.amqp_endpoint_fitting.specs.Read.{IsReadDisposition}
 use Rattle.amqp_endpoint_disposing.specs.Disposing.{DisposesOfAll, DisposesOfOne}
-use Rattle.amqp_endpoint_disposing.specs.Longest.{state_fits}
 use Rattle.amqp_endpoint_disposing.specs.Refusals.{fits_in}
 use Rattle.amqp_endpoint_disposing.specs.Sending.{IsDisposed, SendsEach, SendsOne, frames_of}
 use Rattle.amqp_endpoint_disposing.proofs.Sent.{all-kept}

@@ -2,14 +2,14 @@
 use Rattle.std.proofs.Common.{◌≡◌, ◌⊎◌, inl, inr, ℕ, ◌+◌, ◌-◌, ◌≤◌, ◌<◌, Bool, true, false, List, [], ◌∷◌, ◌++◌}
 use Rattle.std.proofs.Common.{length, arith}
 use Rattle.std.proofs.Common.{refl, sym, ap, subst, ◌∙◌}
-use Rattle.std.specs.Prelude.{◌^◌, ◌==◌, Option, Some, None, IfSome, nat_lt, if◌then◌else◌}
+use Rattle.std.specs.Prelude.{◌^◌, ◌==◌, Option, Some, None, nat_lt, if◌then◌else◌}
 use Rattle.std.specs.Int.{w32, to_be_bytes}
 use Rattle.std.proofs.lemmas.Bool.Decides.{nat_tests}
 use Rattle.std.proofs.lemmas.List.{length-append}
 use Rattle.serde_amqp_item.specs.Item.{Item, items_of, item_count, scalar, boolean, uint, ulong, described, list}
-use Rattle.serde_amqp_item.specs.Record.{option_item, trimmed}
+use Rattle.serde_amqp_item.specs.Record.{trimmed}
 use Rattle.serde_amqp_item.specs.Canon.{◌>>=◌, canon, canon_all, counted_text, list_text}
-use Rattle.serde_amqp_de.specs.Takes.{or_null, is_boolean}
+use Rattle.serde_amqp_de.specs.Takes.{is_boolean}
 use Rattle.amqp_session_types.specs.declared.modes.Role.TheVariants as role
 use Rattle.amqp_session_states.specs.DeliveryState.{delivery_state_item}
 use Rattle.amqp_session_states.specs.declared.delivery_state.DeliveryState.{DeliveryState}

@@ -22,7 +22,7 @@ empty : {X : Type 0} → (xs : List X) → length xs ≡ 0 → xs ≡ []
 empty [] e = refl
 empty (x ∷ xs) e = absurd (omega (arith, e))
 
-those : Result Named DisposeRefusal → Named
+abbrev those : Result Named DisposeRefusal → Named
 those (Ok named) = named
 those (Err why) = []
 
@@ -45,7 +45,7 @@ module _ (handle : OutputHandle) (state : DeliveryState) (asked : Option Bool) (
       ∙ ap (λ (l : List Disposable).
       map (run_disposition ((d.receiver.base).terms).rcv_settle_mode state asked) (runs_of l)) none-ordered
 
-  with_link : Option (Numbered End) → LinksIn
+  abbrev with_link : Option (Numbered End) → LinksIn
   with_link o = record old { links = slice_set old.links handle.0 o }
 
   none-changed : mid ≡ old

@@ -1,5 +1,5 @@
 -- Whether the peer takes a frame that tells a state: part 2, 2.4.1, 2.7.6.
-use Rattle.std.specs.Prelude.{◌≡◌, ℕ, ◌-◌, ◌^◌, Bool, true, false, Some}
+use Rattle.std.specs.Prelude.{ℕ, ◌-◌, ◌^◌, Bool, true, false, Some}
 use Rattle.amqp_session_types.specs.declared.modes.Role.TheVariants.{Receiver}
 use Rattle.amqp_session_states.specs.declared.delivery_state.DeliveryState.{DeliveryState}
 use Rattle.amqp_session_performatives.specs.declared.disposition.Disposition.{Disposition}

@@ -1,4 +1,4 @@
-use Rattle.std.proofs.Common.{◌≡◌, true, List, All, sym, ap, subst, ◌∙◌}
+use Rattle.std.proofs.Common.{List, All, sym, subst, ◌∙◌}
 use Rattle.amqp_session_states.specs.declared.delivery_state.DeliveryState.{DeliveryState}
 use Rattle.amqp_session_performatives.specs.declared.disposition.Disposition.{Disposition}
 use Rattle.amqp_endpoint_fitting.specs.Read.{IsReadDisposition}

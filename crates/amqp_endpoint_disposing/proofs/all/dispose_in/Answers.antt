@@ -1,4 +1,4 @@
-use Rattle.std.proofs.Common.{◌≤◌, ℕ, length}
+use Rattle.std.proofs.Common.{◌≤◌, length}
 use Rattle.amqp_endpoint_disposing.specs.Disposing.{EndDisposes}
 use Rattle.amqp_endpoint_disposing.proofs.Ends.{end-few, if-ok}
 use Rattle.amqp_endpoint_disposing.proofs.all.dispose_in.Goals as goal

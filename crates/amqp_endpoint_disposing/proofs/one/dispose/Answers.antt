@@ -1,4 +1,4 @@
-use Rattle.std.proofs.Common.{◌≡◌, ◌∷◌, [], true, sym, ap, subst, ◌∙◌}
+use Rattle.std.proofs.Common.{◌∷◌, [], sym, subst, ◌∙◌}
 use Rattle.amqp_session_states.specs.declared.delivery_state.DeliveryState.{DeliveryState}
 use Rattle.amqp_endpoint_disposing.specs.Disposing.{DisposesOfOne}
 use Rattle.amqp_endpoint_disposing.proofs.Disposed.{one-disposed}
