@@ -1,0 +1,4 @@
+pub mod Longest
+pub mod Sending
+pub mod Disposing
+pub mod Refusals
