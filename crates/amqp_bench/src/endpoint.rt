@@ -1,6 +1,8 @@
-//! An endpoint that is fed Empty frames, or opens and closes connections.
+//! An endpoint that is fed Empty frames, or opens and closes connections; two whose sessions begin and end, or whose
+//! links attach and are detached.
 ghost use Rattle.std.specs.Prelude.{◌<◌};
 
+use crate::links::{attach_and_detach, begin_and_end};
 use amqp_endpoint::{Endpoint, EndpointError, Event, Fed, Settings, Text};
 use std::alloc::Global;
 use std::fmt;
@@ -28,6 +30,10 @@ pub enum Work {
     Frames { blocks: u32, piece: usize },
     /// So many connections are opened and closed.
     OpenClose { count: u32 },
+    /// So many sessions begin between two endpoints, and then they end.
+    Sessions { count: u16 },
+    /// So many links attach in a session of two endpoints, and then they are detached.
+    Links { count: u32 },
 }
 
 /// What an endpoint found in the bytes that it was fed.
@@ -36,6 +42,7 @@ pub struct Found {
     opened: u64,
     closed: u64,
     faults: u64,
+    events: u64,
 }
 
 impl fmt::Display for Found {
@@ -43,12 +50,17 @@ impl fmt::Display for Found {
         let opened = self.opened;
         let closed = self.closed;
         let faults = self.faults;
-        write!(f, "opened {opened}, closed {closed}, faults {faults}")
+        let events = self.events;
+        write!(
+            f,
+            "opened {opened}, closed {closed}, faults {faults}, events {events}"
+        )
     }
 }
 
 impl Found {
-    fn note(&mut self, fed: &Fed) {
+    pub(crate) fn note(&mut self, fed: &Fed) {
+        self.events = self.events.saturating_add(fed.events.len() as u64);
         for event in fed.events.iter() {
             match event {
                 Event::Opened(_) => self.opened = self.opened.saturating_add(1),
@@ -77,6 +89,12 @@ impl Work {
             "open_close" => Some(Work::OpenClose {
                 count: numbers.parse().ok()?,
             }),
+            "sessions" => Some(Work::Sessions {
+                count: numbers.parse().ok()?,
+            }),
+            "links" => Some(Work::Links {
+                count: numbers.parse().ok()?,
+            }),
             _ => None,
         }
     }
@@ -87,6 +105,7 @@ impl Work {
             opened: 0,
             closed: 0,
             faults: 0,
+            events: 0,
         };
         match self {
             Work::Frames { blocks, piece } => feed_frames(alloc, blocks, piece, &mut found)?,
@@ -95,6 +114,8 @@ impl Work {
                     open_and_close(alloc, &mut found)?;
                 }
             }
+            Work::Sessions { count } => begin_and_end(alloc, count, &mut found)?,
+            Work::Links { count } => attach_and_detach(alloc, count, &mut found)?,
         }
         Ok(found)
     }
@@ -132,16 +153,17 @@ fn feed_block(endpoint: &mut Endpoint, block: &[u8], piece: usize, found: &mut F
 
 /// An endpoint behind both headers and both Open frames.
 fn opened(alloc: Global, found: &mut Found) -> Result<Endpoint, EndpointError> {
-    let mut endpoint = Endpoint::new(alloc, settings(alloc)?)?;
+    let mut endpoint = Endpoint::new(alloc, settings(alloc, 255)?)?;
     exchange(&mut endpoint, found)?;
     Ok(endpoint)
 }
 
-fn settings(alloc: Global) -> Result<Settings, EndpointError> {
+/// An endpoint that takes channels up to this one.
+pub(crate) fn settings(alloc: Global, channel_max: u16) -> Result<Settings, EndpointError> {
     Ok(Settings {
         container_id: Text::new(String::from_str(alloc, "a")?),
         max_frame_size: 65_536,
-        channel_max: 255,
+        channel_max,
         incoming_window: 2048,
         idle_time_out: None,
         first_transfer_number: 0,

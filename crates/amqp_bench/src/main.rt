@@ -8,13 +8,15 @@
 //! - `frames`: `decode` or `both`, the kind of the frame, the bytes of its payload, the most bytes of a written piece, and
 //!   how many times it is done. The bytes of all the frames together are printed.
 //! - `session`: the work and its numbers. How many frames left and how many dispositions go back is printed.
-//! - `endpoint`: `frames`, how many blocks of 8,192 Empty frames are fed, and the bytes of each piece; or `open_close`, and
-//!   how many connections are opened and closed. What was found is printed.
+//! - `endpoint`: `frames`, how many blocks of 8,192 Empty frames are fed, and the bytes of each piece; `open_close`, and
+//!   how many connections are opened and closed; or `sessions`, and how many begin and end between two endpoints; or
+//!   `links`, and how many attach there and are detached. What was found is printed.
 #![tactic(auto)]
 
 mod codec;
 mod endpoint;
 mod frames;
+mod links;
 mod sessions;
 
 use anyhow::{Context, Result};

@@ -1,0 +1,167 @@
+//! Two endpoints, and the bytes between them: their sessions begin and end, their links attach and are detached.
+use crate::endpoint::{Found, settings};
+use amqp_endpoint::{
+    Endpoint, EndpointError, IncomingChannel, LinkSettings, ReceiverSettleMode, SenderSettleMode,
+    Source, Target, TargetArchetype, TerminusDurability, TerminusExpiryPolicy, Text,
+};
+use serde_amqp_types::Array;
+use std::alloc::Global;
+
+/// All that an end has queued is fed to the other.
+fn move_all(
+    from: &mut Endpoint,
+    to: &mut Endpoint,
+    found: &mut Found,
+) -> Result<(), EndpointError> {
+    for _ in 0..from.queued() {
+        if let Some(bytes) = from.pull()? {
+            found.note(&to.feed(bytes.as_slice()));
+        }
+    }
+    Ok(())
+}
+
+/// Both ends send what they have queued, the first before the second.
+fn exchange(
+    first: &mut Endpoint,
+    second: &mut Endpoint,
+    found: &mut Found,
+) -> Result<(), EndpointError> {
+    move_all(first, second, found)?;
+    move_all(second, first, found)
+}
+
+/// Both headers and both Open frames go.
+fn open(a: &mut Endpoint, b: &mut Endpoint, found: &mut Found) -> Result<(), EndpointError> {
+    a.connect()?;
+    b.connect()?;
+    exchange(a, b, found)?;
+    exchange(a, b, found)
+}
+
+/// So many sessions begin at one end and are accepted at the other, and then they end.
+pub(crate) fn begin_and_end(
+    alloc: Global,
+    count: u16,
+    found: &mut Found,
+) -> Result<(), EndpointError> {
+    let mut a = Endpoint::new(alloc, settings(alloc, u16::MAX)?)?;
+    let mut b = Endpoint::new(alloc, settings(alloc, u16::MAX)?)?;
+    open(&mut a, &mut b, found)?;
+    sessions(&mut a, &mut b, count, found)
+}
+
+fn sessions(
+    a: &mut Endpoint,
+    b: &mut Endpoint,
+    count: u16,
+    found: &mut Found,
+) -> Result<(), EndpointError> {
+    for channel in 0..count {
+        begin(a, b, channel, found)?;
+    }
+    for session in 0..count {
+        a.end(u64::from(session))?;
+        exchange(a, b, found)?;
+    }
+    Ok(())
+}
+
+/// A session begins at one end, whose channel is this, and is accepted at the other.
+fn begin(
+    a: &mut Endpoint,
+    b: &mut Endpoint,
+    channel: u16,
+    found: &mut Found,
+) -> Result<(), EndpointError> {
+    let _session = a.begin()?;
+    move_all(a, b, found)?;
+    let _session = b.accept_begin(IncomingChannel(channel))?;
+    move_all(b, a, found)
+}
+
+/// So many links attach in a session, sending at one end and receiving at the other, and then they are detached.
+pub(crate) fn attach_and_detach(
+    alloc: Global,
+    count: u32,
+    found: &mut Found,
+) -> Result<(), EndpointError> {
+    let mut a = Endpoint::new(alloc, settings(alloc, u16::MAX)?)?;
+    let mut b = Endpoint::new(alloc, settings(alloc, u16::MAX)?)?;
+    open(&mut a, &mut b, found)?;
+    begin(&mut a, &mut b, 0, found)?;
+    links(alloc, &mut a, &mut b, count, found)
+}
+
+fn links(
+    alloc: Global,
+    a: &mut Endpoint,
+    b: &mut Endpoint,
+    count: u32,
+    found: &mut Found,
+) -> Result<(), EndpointError> {
+    for number in 0..count {
+        attach(a, b, &link(alloc, number)?, found)?;
+    }
+    for link in 0..count {
+        a.detach(u64::from(link))?;
+        exchange(a, b, found)?;
+    }
+    Ok(())
+}
+
+/// A link attaches in the first session of both ends.
+fn attach(
+    a: &mut Endpoint,
+    b: &mut Endpoint,
+    link: &LinkSettings,
+    found: &mut Found,
+) -> Result<(), EndpointError> {
+    let _attaching = a.attach_sender(0, link)?;
+    move_all(a, b, found)?;
+    let _attaching = b.attach_receiver(0, link)?;
+    move_all(b, a, found)
+}
+
+/// A link with this number as its name.
+fn link(alloc: Global, number: u32) -> Result<LinkSettings, EndpointError> {
+    Ok(LinkSettings {
+        name: Text::new(format!(in alloc; "{number}")?),
+        source: Some(source(alloc)),
+        target: Some(TargetArchetype::Target(target(alloc))),
+        snd_settle_mode: SenderSettleMode::Mixed,
+        rcv_settle_mode: ReceiverSettleMode::First,
+        initial_delivery_count: 0,
+        max_message_size: 0,
+    })
+}
+
+/// A source of which no field is set (part 3, 3.5.3).
+fn source(alloc: Global) -> Source {
+    Source {
+        address: None,
+        durable: TerminusDurability::None,
+        expiry_policy: TerminusExpiryPolicy::SessionEnd,
+        timeout: 0,
+        dynamic: false,
+        dynamic_node_properties: None,
+        distribution_mode: None,
+        filter: None,
+        default_outcome: None,
+        outcomes: Array::new(alloc),
+        capabilities: Array::new(alloc),
+    }
+}
+
+/// A target of which no field is set (part 3, 3.5.4).
+fn target(alloc: Global) -> Target {
+    Target {
+        address: None,
+        durable: TerminusDurability::None,
+        expiry_policy: TerminusExpiryPolicy::SessionEnd,
+        timeout: 0,
+        dynamic: false,
+        dynamic_node_properties: None,
+        capabilities: Array::new(alloc),
+    }
+}
