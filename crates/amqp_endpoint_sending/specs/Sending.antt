@@ -94,9 +94,7 @@ pub record IsCut (limit : ℕ) (handle : OutputHandle) (ready : PreparedSend) (c
 
 -- no frame of the peer's has room for a byte of the message, or there is no memory
 abbrev pub RefusesCut : Option ℕ → EndpointError → Type 0
-RefusesCut room FrameTooLarge = room ≡ None
-RefusesCut room Memory = IsSome room
-RefusesCut room e = ⊥
+RefusesCut room e = ((e ≡ FrameTooLarge) × (room ≡ None)) ⊎ ((e ≡ Memory) × IsSome room)
 
 -- the transfers of a message of which the first says this, or why there are none
 abbrev pub CutsTo : Option ℕ → Transfer → List ℕ → Result Transfers EndpointError → Type 0
@@ -106,9 +104,8 @@ CutsTo room first payload (Err e) = RefusesCut room e
 
 -- the number of a delivery is in use, or there is no memory
 abbrev pub RefusesNumbers : LinksIn → Transfers → EndpointError → Type 0
-RefusesNumbers s batch NumberInUse = HasFreeNumbers s.outgoing batch → ⊥
-RefusesNumbers s batch Memory = HasFreeNumbers s.outgoing batch
-RefusesNumbers s batch e = ⊥
+RefusesNumbers s batch e =
+    ((e ≡ NumberInUse) × (HasFreeNumbers s.outgoing batch → ⊥)) ⊎ ((e ≡ Memory) × HasFreeNumbers s.outgoing batch)
 
 -- a sender has credit, room for a message, and none that is open with the tag
 pub record IsReady (s : Sending) (entry : Option Open) : Type 0 where

@@ -1,0 +1,76 @@
+-- The transfers of a message: each that begins a delivery has a tag, and why there are none.
+use Rattle.std.proofs.Common.{◌≡◌, ◌⊎◌, inl, inr, ℕ, List, [], ◌∷◌, Bool, true, false, Option, Some, None, IsSome, Result, Ok, Err, refl, sym, ap, subst, ◌∙◌}
+use Rattle.std.specs.Prelude.{IsSomeAnd}
+use Rattle.amqp_session_types.specs.declared.handles.Handle.{Handle}
+use Rattle.amqp_session_types.specs.declared.refusals.SessionError.{SessionError}
+use Rattle.amqp_session_types.specs.declared.refusals.SessionError.TheVariants as session
+use Rattle.amqp_session_performatives.specs.declared.transfer.Transfer.{Transfer}
+use Rattle.amqp_session_outgoing.specs.Frames.{HasTag, HaveTags}
+use Rattle.amqp_session_outgoing.specs.History.{HasFreeNumbers}
+use Rattle.amqp_session_outgoing.specs.declared.frames.Outbound.{Outbound}
+use Rattle.amqp_session_core.specs.declared.batch.BehindFrame.{BehindFrame}
+use Rattle.amqp_session_core.specs.declared.batch.TransferFrame.{TransferFrame}
+use Rattle.amqp_session_core.specs.Batch.{Transfers, leaves_settled, part_of}
+use Rattle.amqp_session_core.specs.Refusals.{RefusesTransfers}
+use Rattle.amqp_session_core.specs.State.{link_at}
+use Rattle.amqp_link_split.specs.Splitting.{AreLater, IsDelivery, Splits, more_behind}
+use Rattle.amqp_link_split.specs.declared.splitting.SplitRefusal.{SplitRefusal}
+use Rattle.amqp_link_split.specs.declared.splitting.SplitRefusal.TheVariants as split
+use Rattle.amqp_endpoint_model.specs.declared.error.EndpointError.{EndpointError}
+use Rattle.amqp_endpoint_model.specs.declared.error.EndpointError.TheVariants.{Memory, FrameTooLarge, NumberInUse}
+use Rattle.amqp_endpoint_attached.specs.Linked.{LinksIn}
+use Rattle.amqp_endpoint_sending.specs.Sending.{CutsTo, RefusesNumbers}
+
+abbrev Unit : Type 0
+Unit = Outbound TransferFrame BehindFrame
+
+part_tagged : (tag : List ℕ) (settled : Bool) → HasTag (part_of (Some tag) settled)
+part_tagged tag true = tt
+part_tagged tag false = tt
+
+later_tagged : (handle : Handle) (us : Transfers) → AreLater handle us → HaveTags us
+later_tagged handle [] are = tt
+later_tagged handle (u ∷ us) are =
+    (subst (λ (v : Unit). HasTag v.part) (sym are.0) tt, later_tagged handle us are.1)
+
+-- a delivery's first transfer with a tag makes all of it tagged
+pub delivery_tagged : (first : Transfer) (tag : List ℕ) (us : Transfers) → first.delivery_tag ≡ Some tag
+    → IsDelivery first us → HaveTags us
+delivery_tagged first tag [] is are = absurd are
+delivery_tagged first tag (u ∷ us) is are =
+    (subst (λ (v : Unit). HasTag v.part) (sym are.0)
+    (subst (λ (t : Option (List ℕ)). HasTag (part_of t (leaves_settled (record first { more = more_behind us })))) (sym is)
+    (part_tagged tag (leaves_settled (record first { more = more_behind us })))),
+    later_tagged first.handle us are.1)
+
+-- there are transfers where a frame has room
+pub are_cut : (o : Option ℕ) (first : Transfer) (payload : List ℕ) (batch : Transfers)
+    → IsSomeAnd o (λ room. Splits first payload room batch) → CutsTo o first payload (Ok batch)
+are_cut None first payload batch splits = absurd splits
+are_cut (Some room) first payload batch splits = splits
+
+-- none where no frame has, or where there is no memory
+pub no_room : (o : Option ℕ) (first : Transfer) (payload : List ℕ) (e : SplitRefusal) → e ≡ split.NoRoom
+    → (e ≡ split.Memory) ⊎ ((e ≡ split.NoRoom) × (o ≡ None)) → CutsTo o first payload (Err FrameTooLarge)
+no_room None first payload e is only = inl (refl, refl)
+no_room (Some room) first payload e is (inl memory) = absurd cc
+no_room (Some room) first payload e is (inr (same, absent)) = absurd cc
+
+pub no_memory : (o : Option ℕ) (first : Transfer) (payload : List ℕ) (e : SplitRefusal) → e ≡ split.Memory
+    → (o ≡ None → ◌≡◌ {A = Result Transfers SplitRefusal} (Err e) (Err split.NoRoom))
+    → CutsTo o first payload (Err Memory)
+no_memory None first payload e is refused =
+    let never : ◌≡◌ {A = Result Transfers SplitRefusal} (Err e) (Err split.NoRoom) = refused refl in absurd cc
+no_memory (Some room) first payload e is refused = inr (refl, refl)
+
+-- the session's refusal of transfers of a link that is there
+module _ (s : LinksIn) (handle : ℕ) (batch : Transfers) where
+  pub number_used : (e : SessionError) → e ≡ session.NumberInUse → RefusesTransfers s handle batch e
+      → RefusesNumbers s batch NumberInUse
+  number_used e is refuses =
+      inl (refl, (subst (λ (x : SessionError). RefusesTransfers s handle batch x) is refuses).1.1)
+
+  pub memory_lacks : (e : SessionError) → e ≡ session.Memory → RefusesTransfers s handle batch e
+      → RefusesNumbers s batch Memory
+  memory_lacks e is refuses =
+      inr (refl, (subst (λ (x : SessionError). RefusesTransfers s handle batch x) is refuses).1.1)
