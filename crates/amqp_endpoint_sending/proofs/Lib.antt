@@ -1,3 +1,5 @@
 pub mod Prepared
 pub mod Links
 pub mod Transfers
+pub mod Sent
+pub mod Handing

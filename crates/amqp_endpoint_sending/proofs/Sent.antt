@@ -1,6 +1,7 @@
 -- A message that is sent, or isn't.
 use Rattle.std.proofs.Common.{◌≡◌, ◌⊎◌, inl, inr, ℕ, zero, suc, ◌<◌, List, [], ◌∷◌, Bool, true, false, Option, Some, None, IsSome, Result, Ok, Err, refl, sym, ap, subst, ◌∙◌, length, arith}
-use Rattle.std.specs.Prelude.{IfErr, IfSome, is_none, max, option_map, ◌==◌}
+use Rattle.std.proofs.lemmas.Option.{same_Some}
+use Rattle.std.specs.Prelude.{IfSome, is_none, option_map}
 use Rattle.amqp_session_types.specs.declared.handles.OutputHandle.{OutputHandle}
 use Rattle.amqp_session_performatives.specs.declared.session_frame.SessionFrame.{SessionFrame}
 use Rattle.amqp_session_performatives.specs.declared.transfer.Transfer.{Transfer}
@@ -9,6 +10,7 @@ use Rattle.amqp_session_outgoing.specs.History.{HasFreeNumbers}
 use Rattle.amqp_session_outgoing.specs.State.{State as Outgoing}
 use Rattle.amqp_session_core.specs.declared.batch.BehindFrame.{BehindFrame}
 use Rattle.amqp_session_core.specs.declared.batch.TransferFrame.{TransferFrame}
+use Rattle.amqp_session_core.specs.Batch.{Transfers}
 use Rattle.amqp_session_core.specs.State.{link_at}
 use Rattle.amqp_session_core.specs.Steps.{Steps, Changes}
 use Rattle.amqp_session_core.specs.Told.{TransfersSent}
@@ -143,3 +145,86 @@ module _ (s : LinksIn) (handle : OutputHandle) (m : Message) (ready : PreparedSe
   untaken limit cut e is (inr why) =
       subst (λ (x : EndpointError). RefusesSend limit s handle m x × KeptBy x s handle mid) (sym why.0)
       (memory_allowed, inr made)
+
+-- whether it went settled is whether it isn't open from then on
+goes_without : (settled : Bool) (tag : List ℕ) (format : ℕ) (payload : List ℕ)
+    → is_none (entry_unless settled tag format payload) ≡ settled
+goes_without true tag format payload = refl
+goes_without false tag format payload = refl
+
+-- the link stands as it did once its session took the transfers
+taken_there : (mid taken : LinksIn) (handle : OutputHandle) (batch : Transfers) (out out_new : List SessionFrame)
+    → TransfersSent gives mid out handle batch taken out_new → link_at taken handle.0 ≡ link_at mid handle.0
+taken_there mid taken handle batch out out_new sent = ap (λ (t : LinksIn). link_at t handle.0) sent.stepped.1.1.0
+
+module _ (old : Linked) (limit : ℕ) (handle : OutputHandle) (m : Message) (ready : PreparedSend) (mid new : LinksIn)
+    (cut : PreparedBatch) (settled : Bool) (out out_new : List SessionFrame)
+    (by : ReadiesIn old.session handle m ready mid) (is : IsCut limit handle ready cut)
+    (over : HandsOver mid handle cut settled out new out_new) where
+  entry_is : cut.entry ≡ entry_unless (goes by.before m) m.tag m.format m.payload
+  entry_is = is.entry ∙ ap (λ (r : PreparedSend). r.entry) by.is
+
+  went : settled ≡ goes by.before m
+  went =
+      over.went ∙ ap (λ (o : Option Open). is_none o) entry_is
+      ∙ goes_without (goes by.before m) m.tag m.format m.payload
+
+  pieces : CutInto limit old.session handle m cut.batch
+  pieces = cut_into old.session handle m ready mid by limit cut is
+
+  behind : link_at mid handle.0 ≡ Some (sending by.number (with_room by.before))
+  behind =
+      ap (λ (t : LinksIn). link_at t handle.0) by.changed.1
+      ∙ replaced old.session handle.0 (sending by.number by.before) (sending by.number (with_room by.before))
+      (sym by.changed.0)
+
+  stands : Some (record { number = over.commits.number; link = over.commits.before })
+      ≡ Some (sending by.number (with_room by.before))
+  stands = sym over.commits.changed.0 ∙ taken_there mid over.taken handle cut.batch out out_new over.sends ∙ behind
+
+  committed : Steps gives over.taken
+      (Changes handle.0 (sending by.number (with_room by.before))
+      (sending by.number (sent (with_room by.before) cut.entry))) new
+  committed =
+      subst (λ (n : Numbered End). Steps gives over.taken
+      (Changes handle.0 n (record { number = n.number; link = sent_by n.link cut.entry })) new)
+      (same_Some _ _ stands) over.commits.changed
+
+  abbrev By : Bool → Type 0
+  By b =
+      (room_of (first_on handle m b) limit ≡ Some is.room)
+      × Splits (first_on handle m b) m.payload is.room cut.batch
+      × Steps gives over.taken
+      (Changes handle.0 (sending by.number (with_room by.before))
+      (sending by.number (sent (with_room by.before) (entry_unless b m.tag m.format m.payload)))) new
+
+  by_goes : By (goes by.before m)
+  by_goes =
+      (pieces.is_room, pieces.splits,
+      subst (λ (o : Option Open). Steps gives over.taken
+      (Changes handle.0 (sending by.number (with_room by.before))
+      (sending by.number (sent (with_room by.before) o))) new)
+      entry_is committed)
+
+  by_settled : By settled
+  by_settled = subst By (sym went) by_goes
+
+  -- a message that its link made ready, that was cut and handed over is sent
+  pub message_sent : MessageSent old limit handle m settled out (record old { session = new }) out_new
+  message_sent =
+      record {
+        number = by.number;
+        before = by.before;
+        room = is.room;
+        transfers = cut.batch;
+        mid = mid;
+        taken = over.taken;
+        allowed = by.allowed;
+        went = went;
+        is_room = by_settled.0;
+        splits = by_settled.1.0;
+        prepares = by.changed;
+        sends = over.sends;
+        commits = by_settled.1.1;
+        rest = refl;
+      }

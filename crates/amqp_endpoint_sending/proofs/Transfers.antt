@@ -19,7 +19,7 @@ use Rattle.amqp_link_split.specs.declared.splitting.SplitRefusal.TheVariants as 
 use Rattle.amqp_endpoint_model.specs.declared.error.EndpointError.{EndpointError}
 use Rattle.amqp_endpoint_model.specs.declared.error.EndpointError.TheVariants.{Memory, FrameTooLarge, NumberInUse}
 use Rattle.amqp_endpoint_attached.specs.Linked.{LinksIn}
-use Rattle.amqp_endpoint_sending.specs.Sending.{CutsTo, RefusesNumbers}
+use Rattle.amqp_endpoint_sending.specs.Sending.{CutsTo, RefusesNumbers, uncut}
 
 abbrev Unit : Type 0
 Unit = Outbound TransferFrame BehindFrame
@@ -50,18 +50,17 @@ are_cut None first payload batch splits = absurd splits
 are_cut (Some room) first payload batch splits = splits
 
 -- none where no frame has, or where there is no memory
-pub no_room : (o : Option ℕ) (first : Transfer) (payload : List ℕ) (e : SplitRefusal) → e ≡ split.NoRoom
-    → (e ≡ split.Memory) ⊎ ((e ≡ split.NoRoom) × (o ≡ None)) → CutsTo o first payload (Err FrameTooLarge)
-no_room None first payload e is only = inl (refl, refl)
-no_room (Some room) first payload e is (inl memory) = absurd cc
-no_room (Some room) first payload e is (inr (same, absent)) = absurd cc
+pub are_not_cut : (o : Option ℕ) (first : Transfer) (payload : List ℕ) (e : SplitRefusal) (why : EndpointError)
+    → why ≡ uncut e → (o ≡ None → ◌≡◌ {A = Result Transfers SplitRefusal} (Err e) (Err split.NoRoom))
+    → (e ≡ split.Memory) ⊎ ((e ≡ split.NoRoom) × (o ≡ None)) → CutsTo o first payload (Err why)
+are_not_cut None first payload split.NoRoom why told refused only = inl (told, refl)
+are_not_cut None first payload split.Memory why told refused only =
+    let never : ◌≡◌ {A = Result Transfers SplitRefusal} (Err split.Memory) (Err split.NoRoom) = refused refl in absurd cc
+are_not_cut (Some room) first payload split.Memory why told refused only = inr (told, refl)
+are_not_cut (Some room) first payload split.NoRoom why told refused (inl e) = absurd cc
+are_not_cut (Some room) first payload split.NoRoom why told refused (inr (e, absent)) = absurd cc
 
-pub no_memory : (o : Option ℕ) (first : Transfer) (payload : List ℕ) (e : SplitRefusal) → e ≡ split.Memory
-    → (o ≡ None → ◌≡◌ {A = Result Transfers SplitRefusal} (Err e) (Err split.NoRoom))
-    → CutsTo o first payload (Err Memory)
-no_memory None first payload e is refused =
-    let never : ◌≡◌ {A = Result Transfers SplitRefusal} (Err e) (Err split.NoRoom) = refused refl in absurd cc
-no_memory (Some room) first payload e is refused = inr (refl, refl)
+pub ruleset cutting = (are_cut, are_not_cut)
 
 -- the session's refusal of transfers of a link that is there
 module _ (s : LinksIn) (handle : ℕ) (batch : Transfers) where

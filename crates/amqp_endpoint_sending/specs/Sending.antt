@@ -11,6 +11,8 @@ use Rattle.amqp_session_core.specs.Steps.{Steps, Changes}
 use Rattle.amqp_session_core.specs.Told.{TransfersSent}
 use Rattle.amqp_link_split.specs.Room.{room_of}
 use Rattle.amqp_link_split.specs.Splitting.{Splits}
+use Rattle.amqp_link_split.specs.declared.splitting.SplitRefusal.{SplitRefusal}
+use Rattle.amqp_link_split.specs.declared.splitting.SplitRefusal.TheVariants as split
 use Rattle.amqp_link_sender.specs.declared.payloads.PreparedBatch.{PreparedBatch}
 use Rattle.amqp_link_sender.specs.declared.sending.PreparedSend.{PreparedSend}
 use Rattle.amqp_link_sender.specs.declared.sending.SendRefusal.{SendRefusal}
@@ -95,6 +97,11 @@ pub record IsCut (limit : ℕ) (handle : OutputHandle) (ready : PreparedSend) (c
 -- no frame of the peer's has room for a byte of the message, or there is no memory
 abbrev pub RefusesCut : Option ℕ → EndpointError → Type 0
 RefusesCut room e = ((e ≡ FrameTooLarge) × (room ≡ None)) ⊎ ((e ≡ Memory) × IsSome room)
+
+-- the endpoint's refusal for that of a message that isn't cut
+abbrev pub uncut : SplitRefusal → EndpointError
+uncut split.NoRoom = FrameTooLarge
+uncut split.Memory = Memory
 
 -- the transfers of a message of which the first says this, or why there are none
 abbrev pub CutsTo : Option ℕ → Transfer → List ℕ → Result Transfers EndpointError → Type 0

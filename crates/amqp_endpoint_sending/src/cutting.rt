@@ -1,7 +1,7 @@
 //! A message that is ready, cut into transfers (part 2, 2.6.14, 2.7.5).
 ghost use Rattle.std.specs.Prelude.{◌≡◌, IfOk, IfErr};
 ghost use Rattle.amqp_link_split.specs.Room.{room_of};
-ghost use Rattle.amqp_endpoint_sending.specs.Sending.{CutsTo, IsCut, RefusesCut, on_handle};
+ghost use Rattle.amqp_endpoint_sending.specs.Sending.{CutsTo, IsCut, RefusesCut, on_handle, uncut};
 
 use amqp_endpoint_model::EndpointError;
 use amqp_link_sender::{PreparedBatch, PreparedSend};
@@ -43,12 +43,22 @@ fn on_handle(handle: OutputHandle, transfer: Transfer) -> Transfer
 }
 
 /// The transfers of a message of which the first says this.
+#[tactic(auto, using(crate::proofs::Transfers::cutting))]
 fn transfers(alloc: Global, limit: u32, first: Transfer, payload: Bytes) -> Result<Batch, EndpointError>
     ensures { CutsTo (room_of first limit) first payload result }
 {
     match split(alloc, first, payload, limit as usize) {
         Ok(batch) => Ok(batch),
-        Err(SplitRefusal::NoRoom) => Err(EndpointError::FrameTooLarge),
-        Err(SplitRefusal::Memory) => Err(EndpointError::Memory),
+        Err(refusal) => Err(uncut(refusal)),
+    }
+}
+
+/// The endpoint's refusal for that of a message that isn't cut.
+fn uncut(refusal: SplitRefusal) -> EndpointError
+    ensures { result ≡ uncut refusal }
+{
+    match refusal {
+        SplitRefusal::NoRoom => EndpointError::FrameTooLarge,
+        SplitRefusal::Memory => EndpointError::Memory,
     }
 }
