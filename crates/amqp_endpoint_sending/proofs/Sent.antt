@@ -155,7 +155,7 @@ goes_without false tag format payload = refl
 -- the link stands as it did once its session took the transfers
 taken_there : (mid taken : LinksIn) (handle : OutputHandle) (batch : Transfers) (out out_new : List SessionFrame)
     → TransfersSent gives mid out handle batch taken out_new → link_at taken handle.0 ≡ link_at mid handle.0
-taken_there mid taken handle batch out out_new sent = ap (λ (t : LinksIn). link_at t handle.0) sent.stepped.1.1.0
+taken_there mid taken handle batch out out_new sent = ap (λ (t : LinksIn). link_at t handle.0) sent.stepped.2
 
 module _ (old : Linked) (limit : ℕ) (handle : OutputHandle) (m : Message) (ready : PreparedSend) (mid new : LinksIn)
     (cut : PreparedBatch) (settled : Bool) (out out_new : List SessionFrame)
@@ -222,9 +222,9 @@ module _ (old : Linked) (limit : ℕ) (handle : OutputHandle) (m : Message) (rea
         allowed = by.allowed;
         went = went;
         is_room = by_settled.0;
-        splits = by_settled.1.0;
+        splits = by_settled.1;
         prepares = by.changed;
         sends = over.sends;
-        commits = by_settled.1.1;
+        commits = by_settled.2;
         rest = refl;
       }

@@ -2,24 +2,20 @@
 use Rattle.std.proofs.Common.{◌≡◌, ◌⊎◌, inl, inr, ℕ, List, [], ◌∷◌, Bool, true, false, Option, Some, None, IsSome, Result, Ok, Err, refl, sym, ap, subst, ◌∙◌}
 use Rattle.std.specs.Prelude.{IsSomeAnd}
 use Rattle.amqp_session_types.specs.declared.handles.Handle.{Handle}
-use Rattle.amqp_session_types.specs.declared.refusals.SessionError.{SessionError}
-use Rattle.amqp_session_types.specs.declared.refusals.SessionError.TheVariants as session
+use Rattle.amqp_session_types.specs.declared.handles.OutputHandle.{OutputHandle}
 use Rattle.amqp_session_performatives.specs.declared.transfer.Transfer.{Transfer}
 use Rattle.amqp_session_outgoing.specs.Frames.{HasTag, HaveTags}
-use Rattle.amqp_session_outgoing.specs.History.{HasFreeNumbers}
 use Rattle.amqp_session_outgoing.specs.declared.frames.Outbound.{Outbound}
 use Rattle.amqp_session_core.specs.declared.batch.BehindFrame.{BehindFrame}
 use Rattle.amqp_session_core.specs.declared.batch.TransferFrame.{TransferFrame}
 use Rattle.amqp_session_core.specs.Batch.{Transfers, leaves_settled, part_of}
-use Rattle.amqp_session_core.specs.Refusals.{RefusesTransfers}
-use Rattle.amqp_session_core.specs.State.{link_at}
+use Rattle.amqp_link_split.specs.Room.{room_of}
+use Rattle.amqp_link_sender.specs.declared.sending.PreparedSend.{PreparedSend}
 use Rattle.amqp_link_split.specs.Splitting.{AreLater, IsDelivery, Splits, more_behind}
 use Rattle.amqp_link_split.specs.declared.splitting.SplitRefusal.{SplitRefusal}
 use Rattle.amqp_link_split.specs.declared.splitting.SplitRefusal.TheVariants as split
 use Rattle.amqp_endpoint_model.specs.declared.error.EndpointError.{EndpointError}
-use Rattle.amqp_endpoint_model.specs.declared.error.EndpointError.TheVariants.{Memory, FrameTooLarge, NumberInUse}
-use Rattle.amqp_endpoint_attached.specs.Linked.{LinksIn}
-use Rattle.amqp_endpoint_sending.specs.Sending.{CutsTo, RefusesNumbers, uncut}
+use Rattle.amqp_endpoint_sending.specs.Sending.{CutsTo, IsCut, RefusesCut, on_handle, uncut}
 
 abbrev Unit : Type 0
 Unit = Outbound TransferFrame BehindFrame
@@ -50,26 +46,26 @@ are_cut None first payload batch splits = absurd splits
 are_cut (Some room) first payload batch splits = splits
 
 -- none where no frame has, or where there is no memory
-pub are_not_cut : (o : Option ℕ) (first : Transfer) (payload : List ℕ) (e : SplitRefusal) (why : EndpointError)
+pub are_not_cut : (o : Option ℕ) (e : SplitRefusal) (why : EndpointError)
     → why ≡ uncut e → (o ≡ None → ◌≡◌ {A = Result Transfers SplitRefusal} (Err e) (Err split.NoRoom))
-    → (e ≡ split.Memory) ⊎ ((e ≡ split.NoRoom) × (o ≡ None)) → CutsTo o first payload (Err why)
-are_not_cut None first payload split.NoRoom why told refused only = inl (told, refl)
-are_not_cut None first payload split.Memory why told refused only =
+    → (e ≡ split.Memory) ⊎ ((e ≡ split.NoRoom) × (o ≡ None)) → RefusesCut o why
+are_not_cut None split.NoRoom why told refused only = inl (told, refl)
+are_not_cut None split.Memory why told refused only =
     let never : ◌≡◌ {A = Result Transfers SplitRefusal} (Err split.Memory) (Err split.NoRoom) = refused refl in absurd cc
-are_not_cut (Some room) first payload split.Memory why told refused only = inr (told, refl)
-are_not_cut (Some room) first payload split.NoRoom why told refused (inl e) = absurd cc
-are_not_cut (Some room) first payload split.NoRoom why told refused (inr (e, absent)) = absurd cc
+are_not_cut (Some room) split.Memory why told refused only = inr (told, refl)
+are_not_cut (Some room) split.NoRoom why told refused (inl e) = absurd cc
+are_not_cut (Some room) split.NoRoom why told refused (inr (e, absent)) = absurd cc
 
-pub ruleset cutting = (are_cut, are_not_cut)
-
--- the session's refusal of transfers of a link that is there
-module _ (s : LinksIn) (handle : ℕ) (batch : Transfers) where
-  pub number_used : (e : SessionError) → e ≡ session.NumberInUse → RefusesTransfers s handle batch e
-      → RefusesNumbers s batch NumberInUse
-  number_used e is refuses =
-      inl (refl, (subst (λ (x : SessionError). RefusesTransfers s handle batch x) is refuses).1.1)
-
-  pub memory_lacks : (e : SessionError) → e ≡ session.Memory → RefusesTransfers s handle batch e
-      → RefusesNumbers s batch Memory
-  memory_lacks e is refuses =
-      inr (refl, (subst (λ (x : SessionError). RefusesTransfers s handle batch x) is refuses).1.1)
+-- a message that is ready is cut
+pub is_cut : (limit : ℕ) (handle : OutputHandle) (ready : PreparedSend) (first : Transfer) (batch : Transfers)
+    → first ≡ on_handle handle ready.transfer → CutsTo (room_of first limit) first ready.payload (Ok batch)
+    → IsCut limit handle ready (record { batch = batch; entry = ready.entry })
+is_cut limit handle ready first batch is cuts =
+    by (room_of (on_handle handle ready.transfer) limit) refl
+    (subst (λ (t : Transfer). CutsTo (room_of t limit) t ready.payload (Ok batch)) is cuts)
+  where
+    by : (o : Option ℕ) → room_of (on_handle handle ready.transfer) limit ≡ o
+        → CutsTo o (on_handle handle ready.transfer) ready.payload (Ok batch)
+        → IsCut limit handle ready (record { batch = batch; entry = ready.entry })
+    by None e cuts = absurd cuts
+    by (Some room) e cuts = record { room = room; is_room = e; splits = cuts; entry = refl }

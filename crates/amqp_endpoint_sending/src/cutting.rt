@@ -43,7 +43,6 @@ fn on_handle(handle: OutputHandle, transfer: Transfer) -> Transfer
 }
 
 /// The transfers of a message of which the first says this.
-#[tactic(auto, using(crate::proofs::Transfers::cutting))]
 fn transfers(alloc: Global, limit: u32, first: Transfer, payload: Bytes) -> Result<Batch, EndpointError>
     ensures { CutsTo (room_of first limit) first payload result }
 {
