@@ -13,7 +13,7 @@ use Rattle.amqp_link_ends.specs.declared.end.End.TheVariants.{Sender, Receiver}
 use Rattle.amqp_endpoint_sending.specs.Sending.{IsReady, Message, Readies, RefusesByLink, goes, link_refusal}
 
 -- the tests of a message, by what each of them says
-tested : Bool → Bool → Bool → Option SendRefusal
+abbrev tested : Bool → Bool → Bool → Option SendRefusal
 tested illegal large missing =
     if illegal then Some link.IllegalState
     else if large then Some link.MessageTooLarge

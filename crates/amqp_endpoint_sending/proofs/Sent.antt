@@ -86,7 +86,7 @@ module _ (s : LinksIn) (handle : OutputHandle) (m : Message) (ready : PreparedSe
       subst (λ (x : EndpointError). RefusesSend limit s handle m x × KeptBy x s handle mid) (sym why.0)
       (memory_allowed, inr made)
 
-  cut_into : (limit : ℕ) (cut : PreparedBatch) → IsCut limit handle ready cut → CutInto limit s handle m cut.batch
+  abbrev cut_into : (limit : ℕ) (cut : PreparedBatch) → IsCut limit handle ready cut → CutInto limit s handle m cut.batch
   cut_into limit cut is =
       record {
         link = by.before;
@@ -169,7 +169,7 @@ module _ (old : Linked) (limit : ℕ) (handle : OutputHandle) (m : Message) (rea
       over.went ∙ ap (λ (o : Option Open). is_none o) entry_is
       ∙ goes_without (goes by.before m) m.tag m.format m.payload
 
-  pieces : CutInto limit old.session handle m cut.batch
+  abbrev pieces : CutInto limit old.session handle m cut.batch
   pieces = cut_into old.session handle m ready mid by limit cut is
 
   behind : link_at mid handle.0 ≡ Some (sending by.number (with_room by.before))

@@ -50,13 +50,18 @@ pub fn send(
     ensures nothing { OnErr result (out.new.items ≡ out.old.items) }
     ensures capacity { deque_capacity out.old ≤ deque_capacity out.new }
 {
-    let links = &mut session.session;
-    let ready = match prepare_in(links, handle, tag, message_format, payload, settled) {
+    let ready = match prepare_in(&mut session.session, handle, tag, message_format, payload, settled) {
         Ok(ready) => ready,
         Err(refusal) => return Err(refusal_of(refusal)),
     };
-    let cut = cut(alloc, limit, handle, ready)?;
-    hand_over(links, alloc, handle, cut, out)
+    let cut = match cut(alloc, limit, handle, ready) {
+        Ok(cut) => cut,
+        Err(refused) => return Err(refused),
+    };
+    match hand_over(&mut session.session, alloc, handle, cut, out) {
+        Ok(went) => Ok(went),
+        Err(untaken) => Err(untaken),
+    }
 }
 
 /// A message that is cut is handed to its session, and its link has sent it; answers whether it went settled.
