@@ -1,5 +1,4 @@
 pub mod Prepared
-pub mod Links
 pub mod Transfers
-pub mod Sent
 pub mod Handing
+pub mod Sent

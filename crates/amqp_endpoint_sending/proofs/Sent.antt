@@ -1,5 +1,6 @@
 -- A message that is sent, or isn't.
-use Rattle.std.proofs.Common.{◌≡◌, ◌⊎◌, inl, inr, ℕ, zero, suc, ◌<◌, List, [], ◌∷◌, Bool, true, false, Option, Some, None, IsSome, Result, Ok, Err, refl, sym, ap, subst, ◌∙◌, length, arith}
+use Rattle.std.proofs.Common.{◌≡◌, inl, inr, ℕ, List, Bool, true, false, Option, Some}
+use Rattle.std.proofs.Common.{None, refl, sym, ap, subst, ◌∙◌, length, arith}
 use Rattle.std.proofs.lemmas.Option.{same_Some}
 use Rattle.std.specs.Prelude.{IfSome, is_none, option_map}
 use Rattle.amqp_session_types.specs.declared.handles.OutputHandle.{OutputHandle}
@@ -20,18 +21,19 @@ use Rattle.amqp_link_sender.specs.declared.payloads.PreparedBatch.{PreparedBatch
 use Rattle.amqp_link_sender.specs.declared.sending.PreparedSend.{PreparedSend}
 use Rattle.amqp_link_sender.specs.declared.sending.SendRefusal.{SendRefusal}
 use Rattle.amqp_link_sender.specs.declared.sending.SendRefusal.TheVariants as link
-use Rattle.amqp_link_sender.specs.Sending.{Sending}
-use Rattle.amqp_link_sender.specs.Sends.{entry_unless, is_absent, prepared, refusal, sent, with_room}
+use Rattle.amqp_link_sender.specs.Sends.{entry_unless, is_absent, sent, with_room}
 use Rattle.amqp_link_sender_messages.specs.declared.open.Open.{Open}
 use Rattle.amqp_link_ends.specs.declared.end.End.{End}
-use Rattle.amqp_link_ends.specs.declared.end.End.TheVariants.{Sender, Receiver}
+use Rattle.amqp_link_ends.specs.declared.end.End.TheVariants.{Sender}
 use Rattle.amqp_endpoint_links.specs.declared.numbered.Numbered.{Numbered}
 use Rattle.amqp_endpoint_model.specs.declared.error.EndpointError.{EndpointError}
-use Rattle.amqp_endpoint_model.specs.declared.error.EndpointError.TheVariants.{Memory, FrameTooLarge, NumberInUse}
 use Rattle.amqp_endpoint_attached.specs.Linked.{Linked, LinksIn, gives, end_in}
-use Rattle.amqp_endpoint_sending.specs.Sending.{Commits, CutInto, FitsNoFrame, HandsOver, HasNoNumber, IsCut, IsReady, KeptBy, MaySend, MayTake, Message, MessageSent, ReadiesIn, RefusesByLink, RefusesCut, RefusesNumbers, RefusesSend, RoomMade, first_on, goes, link_refusal, on_handle, refusal_of, sending, sent_by}
+use Rattle.amqp_endpoint_sending.specs.Sending.{CutInto, FitsNoFrame, HandsOver, IsCut}
+use Rattle.amqp_endpoint_sending.specs.Sending.{KeptBy, MaySend, MayTake, Message, MessageSent, ReadiesIn}
+use Rattle.amqp_endpoint_sending.specs.Sending.{RefusesByLink, RefusesCut, RefusesNumbers, RefusesSend, RoomMade}
+use Rattle.amqp_endpoint_sending.specs.Sending.{first_on, goes, link_refusal, on_handle, refusal_of, sending, sent_by}
 use Rattle.amqp_endpoint_sending.proofs.Prepared.{has_absent, has_credit}
-use Rattle.amqp_endpoint_sending.proofs.Links.{replaced}
+use Rattle.amqp_endpoint_attached.proofs.There.{replaced}
 use Rattle.amqp_endpoint_sending.proofs.Transfers.{delivery_tagged}
 
 -- what the link refused
@@ -135,13 +137,15 @@ module _ (s : LinksIn) (handle : OutputHandle) (m : Message) (ready : PreparedSe
   pub untaken : (limit : ℕ) (cut : PreparedBatch) (e : EndpointError) → IsCut limit handle ready cut
       → RefusesNumbers mid cut.batch e → RefusesSend limit s handle m e × KeptBy e s handle mid
   untaken limit cut e is (inl why) =
-      subst (λ (x : EndpointError). RefusesSend limit s handle m x × KeptBy x s handle mid) (sym why.0)
-      (record {
-        transfers = cut.batch;
-        cut = cut_into limit cut is;
-        used =
-            subst (λ (o : Outgoing TransferFrame BehindFrame). HasFreeNumbers o cut.batch → ⊥) outgoing_same why.1;
-      }, inr made)
+      subst (λ (x : EndpointError). RefusesSend limit s handle m x × KeptBy x s handle mid) (sym why.0) (
+        record {
+          transfers = cut.batch;
+          cut = cut_into limit cut is;
+          used =
+              subst (λ (o : Outgoing TransferFrame BehindFrame). HasFreeNumbers o cut.batch → ⊥) outgoing_same why.1;
+        },
+        inr made,
+      )
   untaken limit cut e is (inr why) =
       subst (λ (x : EndpointError). RefusesSend limit s handle m x × KeptBy x s handle mid) (sym why.0)
       (memory_allowed, inr made)
@@ -199,12 +203,14 @@ module _ (old : Linked) (limit : ℕ) (handle : OutputHandle) (m : Message) (rea
       (sending by.number (sent (with_room by.before) (entry_unless b m.tag m.format m.payload)))) new
 
   by_goes : By (goes by.before m)
-  by_goes =
-      (pieces.is_room, pieces.splits,
-      subst (λ (o : Option Open). Steps gives over.taken
-      (Changes handle.0 (sending by.number (with_room by.before))
-      (sending by.number (sent (with_room by.before) o))) new)
-      entry_is committed)
+  by_goes = (
+    pieces.is_room,
+    pieces.splits,
+    subst (λ (o : Option Open). Steps gives over.taken
+        (Changes handle.0 (sending by.number (with_room by.before))
+        (sending by.number (sent (with_room by.before) o))) new)
+        entry_is committed,
+  )
 
   by_settled : By settled
   by_settled = subst By (sym went) by_goes

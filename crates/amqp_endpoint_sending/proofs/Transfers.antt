@@ -1,5 +1,6 @@
 -- The transfers of a message: each that begins a delivery has a tag, and why there are none.
-use Rattle.std.proofs.Common.{◌≡◌, ◌⊎◌, inl, inr, ℕ, List, [], ◌∷◌, Bool, true, false, Option, Some, None, IsSome, Result, Ok, Err, refl, sym, ap, subst, ◌∙◌}
+use Rattle.std.proofs.Common.{◌≡◌, ◌⊎◌, inl, inr, ℕ, List, [], ◌∷◌, Bool, true, false, Option, Some, None}
+use Rattle.std.proofs.Common.{Result, Ok, Err, refl, sym, subst}
 use Rattle.std.specs.Prelude.{IsSomeAnd}
 use Rattle.amqp_session_types.specs.declared.handles.Handle.{Handle}
 use Rattle.amqp_session_types.specs.declared.handles.OutputHandle.{OutputHandle}
@@ -33,11 +34,12 @@ later_tagged handle (u ∷ us) are =
 pub delivery_tagged : (first : Transfer) (tag : List ℕ) (us : Transfers) → first.delivery_tag ≡ Some tag
     → IsDelivery first us → HaveTags us
 delivery_tagged first tag [] is are = absurd are
-delivery_tagged first tag (u ∷ us) is are =
-    (subst (λ (v : Unit). HasTag v.part) (sym are.0)
-    (subst (λ (t : Option (List ℕ)). HasTag (part_of t (leaves_settled (record first { more = more_behind us })))) (sym is)
-    (part_tagged tag (leaves_settled (record first { more = more_behind us })))),
-    later_tagged first.handle us are.1)
+delivery_tagged first tag (u ∷ us) is are = (
+  subst (λ (v : Unit). HasTag v.part) (sym are.0)
+      (subst (λ (t : Option (List ℕ)). HasTag (part_of t (leaves_settled (record first { more = more_behind us })))) (sym is)
+      (part_tagged tag (leaves_settled (record first { more = more_behind us })))),
+  later_tagged first.handle us are.1,
+)
 
 -- there are transfers where a frame has room
 pub are_cut : (o : Option ℕ) (first : Transfer) (payload : List ℕ) (batch : Transfers)

@@ -1,9 +1,9 @@
 -- How a message is sent by a link of a session: part 2, 2.6.12, 2.7.5.
-use Rattle.std.specs.Prelude.{◌≡◌, ◌⊎◌, ℕ, ◌<◌, List, Bool, true, Option, Some, None, IfSome, IsSome, is_none, length, Result, Ok, Err}
+use Rattle.std.specs.Prelude.{◌≡◌, ◌⊎◌, ℕ, ◌<◌, List, Bool, Option, Some, None, IfSome, IsSome, is_none, length}
+use Rattle.std.specs.Prelude.{Result, Ok, Err}
 use Rattle.amqp_session_types.specs.declared.handles.OutputHandle.{OutputHandle}
 use Rattle.amqp_session_performatives.specs.declared.session_frame.SessionFrame.{SessionFrame}
 use Rattle.amqp_session_performatives.specs.declared.transfer.Transfer.{Transfer}
-use Rattle.amqp_session_outgoing.specs.Frames.{HaveTags}
 use Rattle.amqp_session_outgoing.specs.History.{HasFreeNumbers}
 use Rattle.amqp_session_core.specs.Batch.{Transfers}
 use Rattle.amqp_session_core.specs.State.{link_at}
@@ -18,13 +18,16 @@ use Rattle.amqp_link_sender.specs.declared.sending.PreparedSend.{PreparedSend}
 use Rattle.amqp_link_sender.specs.declared.sending.SendRefusal.{SendRefusal}
 use Rattle.amqp_link_sender.specs.declared.sending.SendRefusal.TheVariants as link
 use Rattle.amqp_link_sender.specs.Sending.{Sending}
-use Rattle.amqp_link_sender.specs.Sends.{entry_unless, first_transfer, goes_settled, is_absent, prepared, refusal, sent, with_room}
+use Rattle.amqp_link_sender.specs.Sends.{entry_unless, first_transfer, goes_settled, is_absent, prepared, refusal}
+use Rattle.amqp_link_sender.specs.Sends.{sent, with_room}
 use Rattle.amqp_link_sender_messages.specs.declared.open.Open.{Open}
 use Rattle.amqp_link_ends.specs.declared.end.End.{End}
 use Rattle.amqp_link_ends.specs.declared.end.End.TheVariants.{Sender, Receiver}
 use Rattle.amqp_endpoint_links.specs.declared.numbered.Numbered.{Numbered}
 use Rattle.amqp_endpoint_model.specs.declared.error.EndpointError.{EndpointError}
-use Rattle.amqp_endpoint_model.specs.declared.error.EndpointError.TheVariants.{Memory, FrameTooLarge, CreditMissing, NumberInUse, MessageTooLarge, IllegalState}
+use Rattle.amqp_endpoint_model.specs.declared.error.EndpointError.TheVariants.{Memory, FrameTooLarge, CreditMissing}
+use Rattle.amqp_endpoint_model.specs.declared.error.EndpointError.TheVariants.{NumberInUse, MessageTooLarge}
+use Rattle.amqp_endpoint_model.specs.declared.error.EndpointError.TheVariants.{IllegalState}
 use Rattle.amqp_endpoint_attached.specs.Linked.{Linked, LinksIn, gives, end_in}
 
 -- a message as it is to be sent, settled or not where the link's mode leaves that open

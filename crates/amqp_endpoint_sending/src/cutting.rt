@@ -43,7 +43,12 @@ fn on_handle(handle: OutputHandle, transfer: Transfer) -> Transfer
 }
 
 /// The transfers of a message of which the first says this.
-fn transfers(alloc: Global, limit: u32, first: Transfer, payload: Bytes) -> Result<Batch, EndpointError>
+fn transfers(
+    alloc: Global,
+    limit: u32,
+    first: Transfer,
+    payload: Bytes,
+) -> Result<Batch, EndpointError>
     ensures { CutsTo (room_of first limit) first payload result }
 {
     match split(alloc, first, payload, limit as usize) {

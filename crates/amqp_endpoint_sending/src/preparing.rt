@@ -72,7 +72,11 @@ pub(crate) fn refusal_of(refusal: SendRefusal) -> EndpointError
 
 /// The sending link with this own handle has sent a message: it takes one credit, and has the message open unless it
 /// went settled. It takes no memory.
-pub(crate) fn commit_in(session: &mut Session<Numbered<LinkEnd>>, handle: OutputHandle, entry: Option<Entry>)
+pub(crate) fn commit_in(
+    session: &mut Session<Numbered<LinkEnd>>,
+    handle: OutputHandle,
+    entry: Option<Entry>,
+)
     requires { MaySend (end_in session.old handle) entry }
     ensures { Commits session.old handle entry session.new }
 {

@@ -50,7 +50,14 @@ pub fn send(
     ensures nothing { OnErr result (out.new.items ≡ out.old.items) }
     ensures capacity { deque_capacity out.old ≤ deque_capacity out.new }
 {
-    let ready = match prepare_in(&mut session.session, handle, tag, message_format, payload, settled) {
+    let ready = match prepare_in(
+        &mut session.session,
+        handle,
+        tag,
+        message_format,
+        payload,
+        settled,
+    ) {
         Ok(ready) => ready,
         Err(refusal) => return Err(refusal_of(refusal)),
     };
