@@ -88,7 +88,8 @@ module _ (s : LinksIn) (handle : OutputHandle) (m : Message) (ready : PreparedSe
       subst (λ (x : EndpointError). RefusesSend limit s handle m x × KeptBy x s handle mid) (sym why.0)
       (memory_allowed, inr made)
 
-  abbrev cut_into : (limit : ℕ) (cut : PreparedBatch) → IsCut limit handle ready cut → CutInto limit s handle m cut.batch
+  abbrev cut_into : (limit : ℕ) (cut : PreparedBatch) → IsCut limit handle ready cut
+      → CutInto limit s handle m cut.batch
   cut_into limit cut is =
       record {
         link = by.before;

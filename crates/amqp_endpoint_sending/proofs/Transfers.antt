@@ -34,12 +34,12 @@ later_tagged handle (u ∷ us) are =
 pub delivery_tagged : (first : Transfer) (tag : List ℕ) (us : Transfers) → first.delivery_tag ≡ Some tag
     → IsDelivery first us → HaveTags us
 delivery_tagged first tag [] is are = absurd are
-delivery_tagged first tag (u ∷ us) is are = (
-  subst (λ (v : Unit). HasTag v.part) (sym are.0)
-      (subst (λ (t : Option (List ℕ)). HasTag (part_of t (leaves_settled (record first { more = more_behind us })))) (sym is)
-      (part_tagged tag (leaves_settled (record first { more = more_behind us })))),
-  later_tagged first.handle us are.1,
-)
+delivery_tagged first tag (u ∷ us) is are =
+    let settled = leaves_settled (record first { more = more_behind us }) in (
+      subst (λ (v : Unit). HasTag v.part) (sym are.0)
+          (subst (λ (t : Option (List ℕ)). HasTag (part_of t settled)) (sym is) (part_tagged tag settled)),
+      later_tagged first.handle us are.1,
+    )
 
 -- there are transfers where a frame has room
 pub are_cut : (o : Option ℕ) (first : Transfer) (payload : List ℕ) (batch : Transfers)
@@ -53,7 +53,8 @@ pub are_not_cut : (o : Option ℕ) (e : SplitRefusal) (why : EndpointError)
     → (e ≡ split.Memory) ⊎ ((e ≡ split.NoRoom) × (o ≡ None)) → RefusesCut o why
 are_not_cut None split.NoRoom why told refused only = inl (told, refl)
 are_not_cut None split.Memory why told refused only =
-    let never : ◌≡◌ {A = Result Transfers SplitRefusal} (Err split.Memory) (Err split.NoRoom) = refused refl in absurd cc
+    let never : ◌≡◌ {A = Result Transfers SplitRefusal} (Err split.Memory) (Err split.NoRoom) = refused refl in
+    absurd cc
 are_not_cut (Some room) split.Memory why told refused only = inr (told, refl)
 are_not_cut (Some room) split.NoRoom why told refused (inl e) = absurd cc
 are_not_cut (Some room) split.NoRoom why told refused (inr (e, absent)) = absurd cc

@@ -187,12 +187,13 @@ pub record FitsNoFrame (limit : ℕ) (s : LinksIn) (handle : OutputHandle) (m : 
   pub none : room_of (first_on handle m (goes link m)) limit ≡ None
 
 -- the message is cut into these transfers
-pub record CutInto (limit : ℕ) (s : LinksIn) (handle : OutputHandle) (m : Message) (transfers : Transfers) : Type 0 where
-  pub link : Sending
-  pub takes : MayTake s handle m link
-  pub room : ℕ
-  pub is_room : room_of (first_on handle m (goes link m)) limit ≡ Some room
-  pub splits : Splits (first_on handle m (goes link m)) m.payload room transfers
+pub record CutInto (limit : ℕ) (s : LinksIn) (handle : OutputHandle) (m : Message) (transfers : Transfers) : Type 0
+  where
+    pub link : Sending
+    pub takes : MayTake s handle m link
+    pub room : ℕ
+    pub is_room : room_of (first_on handle m (goes link m)) limit ≡ Some room
+    pub splits : Splits (first_on handle m (goes link m)) m.payload room transfers
 
 -- the number that its delivery would get is that of an unsettled one, or of one that waits (part 2, 2.8.6)
 pub record HasNoNumber (limit : ℕ) (s : LinksIn) (handle : OutputHandle) (m : Message) : Type 0 where
@@ -200,7 +201,8 @@ pub record HasNoNumber (limit : ℕ) (s : LinksIn) (handle : OutputHandle) (m : 
   pub cut : CutInto limit s handle m transfers
   pub used : HasFreeNumbers s.outgoing transfers → ⊥
 
--- why a message isn't sent: the first of these that holds, or want of memory, which stands in place of the last two alone
+-- why a message isn't sent: the first of these that holds, or want of memory, which stands in place of the last two
+-- alone
 abbrev pub RefusesSend : ℕ → LinksIn → OutputHandle → Message → EndpointError → Type 0
 RefusesSend limit s handle m IllegalState = link_refusal (end_in s handle) m ≡ Some link.IllegalState
 RefusesSend limit s handle m MessageTooLarge = link_refusal (end_in s handle) m ≡ Some link.MessageTooLarge

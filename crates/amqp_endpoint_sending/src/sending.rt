@@ -21,16 +21,17 @@ use bytes::Bytes;
 use std::alloc::Global;
 use std::collections::VecDeque;
 
-/// Sends a message by the sending link with this own handle, for frames of at most `limit` bytes, and answers whether it
-/// went settled (part 2, 2.6.12, 2.7.5). The link takes one credit, and has the message open unless it went settled; its
-/// session takes the transfers as one batch, of which what the peer's window allows is handed out, and the rest waits.
+/// Sends a message by the sending link with this own handle, for frames of at most `limit` bytes, and answers whether
+/// it went settled (part 2, 2.6.12, 2.7.5). The link takes one credit, and has the message open unless it went settled;
+/// its session takes the transfers as one batch, of which what the peer's window allows is handed out, and the rest
+/// waits.
 ///
 /// It is refused, in this order, exactly where: `IllegalState`: no sending link that is attached has the handle, one of
 /// the two Attach lists only a part of the unsettled deliveries, or a message with the tag is open; `MessageTooLarge`;
-/// `CreditMissing`; `FrameTooLarge`: a frame has no room for a byte of the message; `NumberInUse`: its delivery's number
-/// is that of an unsettled delivery, or of one that waits (part 2, 2.8.6). `Memory` stands in place of the last two
-/// alone, or where none of these holds. Nothing changes then but for the room for a message that the link may have made,
-/// and not that for the first three.
+/// `CreditMissing`; `FrameTooLarge`: a frame has no room for a byte of the message; `NumberInUse`: its delivery's
+/// number is that of an unsettled delivery, or of one that waits (part 2, 2.8.6). `Memory` stands in place of the last
+/// two alone, or where none of these holds. Nothing changes then but for the room for a message that the link may have
+/// made, and not that for the first three.
 pub fn send(
     session: &mut LinkSession,
     alloc: Global,
@@ -96,7 +97,8 @@ fn hand_over(
     Ok(settled)
 }
 
-/// The session takes the transfers of a link. It is refused with `NumberInUse`, and with `Memory`; nothing changes then.
+/// The session takes the transfers of a link. It is refused, in this order, with `NumberInUse` and with `Memory`.
+/// Nothing changes then.
 fn transfer(
     session: &mut Session<Numbered<LinkEnd>>,
     alloc: Global,
@@ -106,7 +108,8 @@ fn transfer(
 ) -> Result<(), EndpointError>
     requires there { IsSome (link_at session.old handle.0) }
     requires tags { HaveTags batch.old }
-    ensures ok { OnOk result (TransfersSent gives session.old out.old.items handle batch.old session.new out.new.items) }
+    ensures ok { OnOk result
+        (TransfersSent gives session.old out.old.items handle batch.old session.new out.new.items) }
     ensures err { IfErr result (RefusesNumbers session.old batch.old) }
     ensures kept { OnErr result ((session.new ≡ session.old) × (out.new.items ≡ out.old.items)) }
     ensures capacity { deque_capacity out.old ≤ deque_capacity out.new }
