@@ -13,8 +13,8 @@ ghost use Rattle.amqp_endpoint_laws.specs.Linking.{HaveCome};
 
 use amqp_endpoint_linking::laws::links_given_back_go_on;
 
-/// The links of an endpoint have a history of their own in each of its runs, from none on: each is entered under the
-/// next number, and comes to rest or is closed. So what holds of all histories of links holds in each run.
+/// The links of an endpoint have a history of their own in each of its runs, from none on, by steps of
+/// amqp_endpoint_names. So what holds of all histories of links holds in each run.
 pub fn links_have_a_history()
     ensures { (sessions : LinkedSessions) (settings : Settings) (calls : List Call) (told : List Told)
         (end : State LinkedSessions) → IsNew linked settings sessions →
