@@ -1,8 +1,9 @@
 //! An endpoint that is fed Empty frames, or opens and closes connections; two whose sessions begin and end, or whose
-//! links attach and are detached.
+//! links attach and are detached, or between which messages go.
 ghost use Rattle.std.specs.Prelude.{◌<◌};
 
 use crate::links::{attach_and_detach, begin_and_end};
+use crate::messages::send_and_receive;
 use amqp_endpoint::{Endpoint, EndpointError, Event, Fed, Settings, Text};
 use std::alloc::Global;
 use std::fmt;
@@ -34,6 +35,8 @@ pub enum Work {
     Sessions { count: u16 },
     /// So many links attach in a session of two endpoints, and then they are detached.
     Links { count: u32 },
+    /// So many messages of so many bytes go from one endpoint to another, each settled or each disposed of there.
+    Messages { settled: bool, size: u32, count: u32 },
 }
 
 /// What an endpoint found in the bytes that it was fed.
@@ -95,8 +98,20 @@ impl Work {
             "links" => Some(Work::Links {
                 count: numbers.parse().ok()?,
             }),
+            "settled" => Work::messages(true, numbers),
+            "unsettled" => Work::messages(false, numbers),
             _ => None,
         }
+    }
+
+    /// Messages, by the bytes of each and how many there are.
+    fn messages(settled: bool, numbers: &str) -> Option<Work> {
+        let (size, count) = numbers.split_once(' ')?;
+        Some(Work::Messages {
+            settled,
+            size: size.parse().ok()?,
+            count: count.parse().ok()?,
+        })
     }
 
     /// Does the work.
@@ -116,6 +131,11 @@ impl Work {
             }
             Work::Sessions { count } => begin_and_end(alloc, count, &mut found)?,
             Work::Links { count } => attach_and_detach(alloc, count, &mut found)?,
+            Work::Messages {
+                settled,
+                size,
+                count,
+            } => send_and_receive(alloc, settled, size, count, &mut found)?,
         }
         Ok(found)
     }

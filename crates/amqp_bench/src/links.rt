@@ -8,7 +8,7 @@ use serde_amqp_types::Array;
 use std::alloc::Global;
 
 /// All that an end has queued is fed to the other.
-fn move_all(
+pub(crate) fn move_all(
     from: &mut Endpoint,
     to: &mut Endpoint,
     found: &mut Found,
@@ -22,7 +22,7 @@ fn move_all(
 }
 
 /// Both ends send what they have queued, the first before the second.
-fn exchange(
+pub(crate) fn exchange(
     first: &mut Endpoint,
     second: &mut Endpoint,
     found: &mut Found,
@@ -32,7 +32,7 @@ fn exchange(
 }
 
 /// Both headers and both Open frames go.
-fn open(a: &mut Endpoint, b: &mut Endpoint, found: &mut Found) -> Result<(), EndpointError> {
+pub(crate) fn open(a: &mut Endpoint, b: &mut Endpoint, found: &mut Found) -> Result<(), EndpointError> {
     a.connect()?;
     b.connect()?;
     exchange(a, b, found)?;
@@ -68,7 +68,7 @@ fn sessions(
 }
 
 /// A session begins at one end, whose channel is this, and is accepted at the other.
-fn begin(
+pub(crate) fn begin(
     a: &mut Endpoint,
     b: &mut Endpoint,
     channel: u16,
@@ -111,7 +111,7 @@ fn links(
 }
 
 /// A link attaches in the first session of both ends.
-fn attach(
+pub(crate) fn attach(
     a: &mut Endpoint,
     b: &mut Endpoint,
     link: &LinkSettings,
@@ -124,7 +124,7 @@ fn attach(
 }
 
 /// A link with this number as its name.
-fn link(alloc: Global, number: u32) -> Result<LinkSettings, EndpointError> {
+pub(crate) fn link(alloc: Global, number: u32) -> Result<LinkSettings, EndpointError> {
     Ok(LinkSettings {
         name: Text::new(format!(in alloc; "{number}")?),
         source: Some(source(alloc)),

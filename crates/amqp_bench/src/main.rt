@@ -10,13 +10,15 @@
 //! - `session`: the work and its numbers. How many frames left and how many dispositions go back is printed.
 //! - `endpoint`: `frames`, how many blocks of 8,192 Empty frames are fed, and the bytes of each piece; `open_close`, and
 //!   how many connections are opened and closed; or `sessions`, and how many begin and end between two endpoints; or
-//!   `links`, and how many attach there and are detached. What was found is printed.
+//!   `links`, and how many attach there and are detached; or `settled` or `unsettled`, the bytes of a message, and how
+//!   many go from one end to the other, the latter disposed of there. What was found is printed.
 #![tactic(auto)]
 
 mod codec;
 mod endpoint;
 mod frames;
 mod links;
+mod messages;
 mod sessions;
 
 use anyhow::{Context, Result};

@@ -34,16 +34,17 @@ number_from_parse k word r plain parses = number_from_result (2 ^ k) word r (par
 
 -- so many words say nothing
 pub other_words : (words : List (Bor (List ℕ))) → length words ≢ 1 → length words ≢ 2 → length words ≢ 3
-    → length words ≢ 4 → length words ≢ 5 → length words ≢ 7 → None ≡ words_said (map (λ w. w.now) words)
-other_words [] a b c d e f = refl
-other_words (w ∷ []) a b c d e f = absurd (a refl)
-other_words (w ∷ v ∷ []) a b c d e f = absurd (b refl)
-other_words (w ∷ v ∷ u ∷ []) a b c d e f = absurd (c refl)
-other_words (w ∷ v ∷ u ∷ t ∷ []) a b c d e f = absurd (d refl)
-other_words (w ∷ v ∷ u ∷ t ∷ s ∷ []) a b c d e f = absurd (e refl)
-other_words (w ∷ v ∷ u ∷ t ∷ s ∷ r ∷ []) a b c d e f = refl
-other_words (w ∷ v ∷ u ∷ t ∷ s ∷ r ∷ q ∷ []) a b c d e f = absurd (f refl)
-other_words (w ∷ v ∷ u ∷ t ∷ s ∷ r ∷ q ∷ p ∷ more) a b c d e f = refl
+    → length words ≢ 4 → length words ≢ 5 → length words ≢ 6 → length words ≢ 7
+    → None ≡ words_said (map (λ w. w.now) words)
+other_words [] a b c d e f g = refl
+other_words (w ∷ []) a b c d e f g = absurd (a refl)
+other_words (w ∷ v ∷ []) a b c d e f g = absurd (b refl)
+other_words (w ∷ v ∷ u ∷ []) a b c d e f g = absurd (c refl)
+other_words (w ∷ v ∷ u ∷ t ∷ []) a b c d e f g = absurd (d refl)
+other_words (w ∷ v ∷ u ∷ t ∷ s ∷ []) a b c d e f g = absurd (e refl)
+other_words (w ∷ v ∷ u ∷ t ∷ s ∷ r ∷ []) a b c d e f g = absurd (f refl)
+other_words (w ∷ v ∷ u ∷ t ∷ s ∷ r ∷ q ∷ []) a b c d e f g = absurd (g refl)
+other_words (w ∷ v ∷ u ∷ t ∷ s ∷ r ∷ q ∷ p ∷ more) a b c d e f g = refl
 
 not_utf8 : (line : List ℕ) → (IsUtf8 line → ⊥) → is_utf8 line ≡ false
 not_utf8 line h = go (is_utf8 line) refl

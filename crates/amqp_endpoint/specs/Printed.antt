@@ -1,9 +1,12 @@
 -- What a script prints: a line for each step, and for each of its events.
 use Rattle.std.specs.Prelude.{ℕ, ◌==◌, Bool, true, false, List, [], ◌∷◌, ◌++◌, length, Option, Some, None}
-use Rattle.std.specs.Prelude.{if◌then◌else◌, codes, decimal}
+use Rattle.std.specs.Prelude.{Result, Ok, Err, if◌then◌else◌, codes, decimal}
 use Rattle.hex.specs.Hex.{encode_lower}
 use Rattle.amqp_link_attach.specs.declared.exchange.AttachExchange.{AttachExchange}
 use Rattle.amqp_link_attach.specs.declared.exchange.AttachExchange.TheVariants.{Complete, IncompleteUnsettled, Resume}
+use Rattle.amqp_link_types.specs.declared.refusals.SendError.{SendError}
+use Rattle.amqp_session_states.specs.declared.outcome.Outcome.{Outcome}
+use Rattle.amqp_session_states.specs.declared.outcome.Outcome.TheVariants.{Accepted, Rejected, Released, Modified}
 use Rattle.amqp_session_types.specs.declared.modes.Role.{Role}
 use Rattle.amqp_session_types.specs.declared.modes.Role.TheVariants.{Sender, Receiver}
 use Rattle.amqp_endpoint_model.specs.declared.error.EndpointError.{EndpointError}
@@ -11,7 +14,7 @@ use Rattle.amqp_endpoint_model.specs.declared.event.Event.{Event}
 use Rattle.amqp_endpoint_model.specs.declared.event.Event.TheVariants as event
 use Rattle.amqp_endpoint_model.specs.Numbers.{number}
 use Rattle.amqp_endpoint_model.specs.Said.{Said, done, refused, fed, pulled, count, truth, tried_close, session_begun}
-use Rattle.amqp_endpoint_model.specs.Said.{tried_end, attaching, link_closed, credit_is, waiting, Told}
+use Rattle.amqp_endpoint_model.specs.Said.{tried_end, attaching, link_closed, credit_is, waiting, message_sent, Told}
 use Rattle.amqp_endpoint_world.specs.declared.step.End.{End}
 use Rattle.amqp_endpoint_world.specs.declared.step.End.TheVariants.{A}
 use Rattle.amqp_endpoint_world.specs.declared.step.Step.{Step}
@@ -38,6 +41,10 @@ hex_word bytes = if length bytes == 0 then codes "-" else encode_lower bytes
 abbrev pub bytes_text : ℕ → End → List ℕ → List ℕ
 bytes_text line end bytes = of_line line end (codes "ok bytes " ++ hex_word bytes)
 
+-- a tag in hex digits
+abbrev pub tag_text : ℕ → End → List ℕ → List ℕ
+tag_text line end tag = of_line line end (codes "ok tag " ++ hex_word tag)
+
 -- a word, and two numbers
 abbrev pub two_numbers : List ℕ → ℕ → ℕ → List ℕ
 two_numbers word first second = word ++ (codes " " ++ (decimal first ++ (codes " " ++ decimal second)))
@@ -63,6 +70,19 @@ abbrev pub link_word : Option ℕ → List ℕ
 link_word None = codes "-"
 link_word (Some link) = decimal link
 
+-- whether the sender of a message has settled it
+abbrev pub settled_word : Bool → List ℕ
+settled_word true = codes "settled"
+settled_word false = codes "unsettled"
+
+-- the outcome of a message that was sent, or that it has none (part 3, 3.4)
+abbrev pub outcome_word : Result Outcome SendError → List ℕ
+outcome_word (Ok (Accepted a)) = codes "accepted"
+outcome_word (Ok (Rejected r)) = codes "rejected"
+outcome_word (Ok (Released r)) = codes "released"
+outcome_word (Ok (Modified m)) = codes "modified"
+outcome_word (Err e) = codes "failed"
+
 -- what an event says
 abbrev pub event_words : Event → List ℕ
 event_words (event.Opened o) = two_numbers (codes "opened") o.max_frame_size o.channel_max
@@ -72,6 +92,14 @@ event_words (event.LinkAsked l) =
     codes "link-asked "
     ++ (decimal l.session ++ (codes " " ++ (role_word (l.attach).role ++ (codes " " ++ (l.attach).name))))
 event_words (event.Attached a) = codes "attached " ++ (decimal a.link ++ (codes " " ++ exchange_word a.exchange))
+event_words (event.Message m) =
+    codes "message "
+    ++ (decimal m.link ++ (codes " " ++ (decimal m.message ++ (codes " " ++ (settled_word m.settled
+    ++ (codes " " ++ (hex_word (m.delivery).delivery_tag
+    ++ (codes " " ++ hex_word (((m.delivery).message).body).0))))))))
+event_words (event.Outcome o) =
+    codes "outcome "
+    ++ (decimal o.link ++ (codes " " ++ (hex_word o.tag ++ (codes " " ++ outcome_word o.result))))
 event_words (event.Detached d) = codes "detached " ++ (decimal d.link ++ (codes " " ++ closed_word d.closed))
 event_words (event.Ended s) = codes "ended " ++ decimal s.session
 event_words (event.Refused r) =
@@ -112,6 +140,7 @@ step_text line end (attaching link events) =
 step_text line end (link_closed events) = ok_text line end ++ events_text line end events
 step_text line end (credit_is left) = of_line line end (codes "ok left " ++ decimal left)
 step_text line end (waiting turn) = of_line line end (codes "ok turn" ++ turn_text turn)
+step_text line end (message_sent tag outcome) = tag_text line end tag
 step_text line end done = ok_text line end
 step_text line end (count n) = ok_text line end
 step_text line end (truth b) = ok_text line end

@@ -11,8 +11,9 @@ use Rattle.amqp_endpoint_model.specs.declared.call.Call.{Call}
 use Rattle.amqp_endpoint_model.specs.declared.call.Call.TheVariants.{Connect, Feed, Pull, Heartbeat, BreakOff, Close}
 use Rattle.amqp_endpoint_model.specs.declared.call.Call.TheVariants.{Begin, AcceptBegin, End as EndCall, AttachSender}
 use Rattle.amqp_endpoint_model.specs.declared.call.Call.TheVariants.{AttachReceiver, Detach, CloseLink, Grant, Drain}
-use Rattle.amqp_endpoint_model.specs.declared.call.Call.TheVariants.{Waiting}
+use Rattle.amqp_endpoint_model.specs.declared.call.Call.TheVariants.{Waiting, Send, Dispose}
 use Rattle.amqp_endpoint_settings.specs.declared.link.LinkSettings.{LinkSettings}
+use Rattle.amqp_session_states.specs.declared.delivery_state.DeliveryState.{DeliveryState}
 use Rattle.amqp_endpoint_world.specs.declared.step.End.{End}
 use Rattle.amqp_endpoint_world.specs.declared.step.End.TheVariants.{A, B}
 use Rattle.amqp_endpoint_world.specs.declared.step.Step.{Step}
@@ -20,6 +21,7 @@ use Rattle.amqp_endpoint_world.specs.declared.step.Step.TheVariants as world
 use Rattle.amqp_endpoint_world.specs.WorldState.{other}
 use Rattle.amqp_endpoint_world.specs.WorldStep.{is_the_worlds}
 use Rattle.amqp_endpoint.specs.Digits.{number_under}
+use Rattle.amqp_endpoint.specs.MessageWords.{settled_of, settling_of, state_of}
 use Rattle.amqp_endpoint.specs.Terms.{receiver_settings, sender_settings}
 use Rattle.amqp_endpoint.specs.declared.scenario.statement.Statement.{Statement}
 use Rattle.amqp_endpoint.specs.declared.scenario.statement.Statement.TheVariants.{One, Two, Settings as SettingsAre, Call as CallAt, Move, Break}
@@ -77,6 +79,34 @@ attached_by call session settings = None
 abbrev pub receiver_at : List ℕ → Option ℕ → Option LinkSettings → Option Call
 receiver_at verb session settings =
     if bytes_eq verb (codes "receiver") then attached_by AttachReceiver session settings else None
+
+abbrev pub sent_by : Option ℕ → Option Bool → Option (List ℕ) → Option Call
+sent_by (Some link) (Some settled) (Some payload) =
+    Some (Send link (record { payload = payload; message_format = 0; settled = Some settled }))
+sent_by link settled payload = None
+
+-- a message that a link sends, of the standard's format: whether it goes settled, and its bytes (part 2, 2.7.5, 2.8.11)
+abbrev pub send_of : List ℕ → List ℕ → List ℕ → Option Call
+send_of link settled payload = sent_by (number_under (2 ^ 64) link) (settled_of settled) (bytes_of payload)
+
+-- the calls that a word names with three behind it: a link sends a message, or attaches as a receiver in a session
+abbrev pub call_with_three : List ℕ → List ℕ → List ℕ → List ℕ → Option Call
+call_with_three verb number second third =
+    if bytes_eq verb (codes "send") then send_of number second third else
+    receiver_at verb (number_under (2 ^ 64) number) (receiver_settings second third)
+
+abbrev pub disposed_by : Option ℕ → Option ℕ → Option DeliveryState → Option (Option Bool) → Option Call
+disposed_by (Some link) (Some message) (Some state) (Some settled) =
+    Some (Dispose link message (record { state = state; settled = settled }))
+disposed_by link message state settled = None
+
+-- a message that is disposed of: the link by which it came, its number, its outcome, and whether it is settled (part 2,
+-- 2.7.6)
+abbrev pub disposal_of : List ℕ → List ℕ → List ℕ → List ℕ → List ℕ → Option Call
+disposal_of verb link message state settled =
+    if bytes_eq verb (codes "dispose") then
+    disposed_by (number_under (2 ^ 64) link) (number_under (2 ^ 64) message) (state_of state) (settling_of settled)
+    else None
 
 -- a link that attaches as a sender, in a session
 abbrev pub sender_at : List ℕ → Option ℕ → Option LinkSettings → Option Call
@@ -136,8 +166,10 @@ words_said (word ∷ []) = word_said word
 words_said (end ∷ verb ∷ []) = call_at (end_of end) (call_of verb)
 words_said (first ∷ second ∷ third ∷ []) = three_said first second third
 words_said (end ∷ verb ∷ link ∷ credit ∷ []) = call_at (end_of end) (grant_of verb link credit)
-words_said (end ∷ verb ∷ session ∷ name ∷ mode ∷ []) =
-    call_at (end_of end) (receiver_at verb (number_under (2 ^ 64) session) (receiver_settings name mode))
+words_said (end ∷ verb ∷ number ∷ second ∷ third ∷ []) =
+    call_at (end_of end) (call_with_three verb number second third)
+words_said (end ∷ verb ∷ link ∷ message ∷ state ∷ settled ∷ []) =
+    call_at (end_of end) (disposal_of verb link message state settled)
 words_said (first ∷ second ∷ third ∷ fourth ∷ fifth ∷ sixth ∷ seventh ∷ []) =
     seven_said first second third fourth fifth sixth seventh
 words_said words = None

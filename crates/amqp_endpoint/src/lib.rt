@@ -4,19 +4,29 @@
 pub mod scenario;
 pub mod world;
 
-/// One end of an AMQP connection, with its sessions and their links. No message is sent or handed out yet: a link that
-/// has a whole message of its peer's is closed, and `Refused` is told.
+/// One end of an AMQP connection, with its sessions, their links and the messages of these (part 2, 2.6.12). `send`
+/// takes a message, and `Event::Outcome` tells what became of it. `Event::Message` hands out a message that came whole,
+/// and `dispose` tells its sender the outcome.
 pub type Endpoint = amqp_endpoint_core::Endpoint<LinkedSessions>;
 
 pub use amqp_endpoint_core::play;
 pub use amqp_endpoint_linked::LinkedSessions;
 pub use amqp_endpoint_model::{
-    Answer, Attached, Attaching, Begun, Call, Closed, Detached, Ended, EndpointError, Event, Fed,
-    LinkAsked, Opened, Refused, Reply, SessionAsked, SessionRelay, Settings,
+    Answer, Attached, Attaching, Begun, Call, Closed, Detached, Disposal, Ended, EndpointError,
+    Event, Fed, LinkAsked, Message, Opened, Outcome, Refused, Reply, Sending, Sent, SessionAsked,
+    SessionRelay, Settings,
 };
 pub use amqp_endpoint_settings::LinkSettings;
 pub use amqp_link_attach::AttachExchange;
-pub use amqp_link_types::{LinkError, LinkStateError};
+pub use amqp_link_message::{
+    Body, Builder, Delivery, DeliveryInfo, MESSAGE_FORMAT, Message as MessageSections, NoMessage,
+    OneOrMore, Raw, ReadBody, Sendable, WriteBody,
+};
+pub use amqp_link_sections::{
+    AmqpSequence, AmqpValue, Annotations, ApplicationProperties, Data, DeliveryAnnotations, Footer,
+    Header, MessageAnnotations, MessageId, Properties,
+};
+pub use amqp_link_types::{LinkError, LinkStateError, SendError};
 pub use amqp_session_frames::{
     Error as FrameError, Frame, FrameBody, FrameDecoder, FrameEncoder, Piece, Pieces,
 };
@@ -24,10 +34,11 @@ pub use amqp_session_performatives::{
     Attach, Begin, Close, Detach, Disposition, End, Flow, Open, Transfer,
 };
 pub use amqp_session_states::{
+    Accepted, DeliveryState, Modified, Outcome as DeliveryOutcome, Received, Rejected, Released,
     Source, Target, TargetArchetype, TerminusDurability, TerminusExpiryPolicy,
 };
 pub use amqp_session_types::{
-    Boxed, ConnectionError, Fields, IncomingChannel, ReceiverSettleMode, Role, SenderSettleMode,
-    SessionError, TryCloseError, TryEndError, definitions,
+    Boxed, ConnectionError, DeliveryTag, Fields, IncomingChannel, ReceiverSettleMode, Role,
+    SenderSettleMode, SessionError, TryCloseError, TryEndError, definitions,
 };
-pub use serde_amqp_types::{Symbol, Text};
+pub use serde_amqp_types::{Array, Symbol, Text};

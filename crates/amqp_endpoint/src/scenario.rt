@@ -10,6 +10,7 @@ ghost use Rattle.amqp_endpoint_model.specs.Numbers.{number};
 ghost use Rattle.amqp_endpoint_model.specs.Step.{refusal_of_settings};
 ghost use Rattle.amqp_endpoint_model.specs.declared.error.EndpointError.TheVariants.{Memory as NoMemory};
 
+mod messages;
 mod printing;
 mod script;
 mod statement;
@@ -62,15 +63,25 @@ impl From<AllocError> for ScenarioError {
 /// `all` pulls what that end has queued into its stream, and feeds the next bytes of the stream to the other end, so
 /// many or what there is; `break` breaks both ends off, and what was on its way is lost.
 ///
+/// The steps of links are `sender`, a session, a name, the count of its deliveries, `unsettled`, `settled` or `mixed`,
+/// and `first` or `second`; `receiver`, a session, a name, and `first` or `second`; `grant`, a link and a number of
+/// messages; `detach`, `closelink` and `drain`, each with a link; and `waiting` and a session. Those of messages are
+/// `send`, a link, `settled` or `unsettled`, and the message's bytes in hex digits; and `dispose`, a link, a message,
+/// its outcome, which is `accepted`, `rejected`, `released` or `modified`, and `settled`, `unsettled`, or `mode`, which
+/// leaves that to the settle modes of its transfers and its link.
+///
 /// A step prints its line's number, its end and `ok`, with the bytes that it pulled as `bytes` or `none`, or with the
-/// number of the `session` that it began, or `refused` and the number of its error. Then come its events and its fault,
-/// on lines of their own. A `move` prints what the feed answered, at the end that was fed; a `break` of both ends
-/// prints no end.
+/// number of the `session` or `link` that it began, the credit that was `left`, the links that wait in `turn`, or the
+/// `tag` of the message that it sent; or `refused` and the number of its error. Then come its events and its fault, on
+/// lines of their own. A `move` prints what the feed answered, at the end that was fed; a `break` of both ends prints
+/// no end.
 ///
 /// The events are `opened`, a max-frame-size and a channel-max; `session-asked` and `begun`, each with a session and
-/// the peer's channel; `link-asked`, a session, the asking end's role and the link's name; `ended` and a session;
-/// `refused`, a session, a link or `-`, and the number of an error; and `closed`. A fault is `fault` and the number of
-/// its error.
+/// the peer's channel; `link-asked`, a session, the asking end's role and the link's name; `attached`, a link, and
+/// `complete`, `incomplete` or `resume`; `message`, a link, the message's number, `settled` or `unsettled`, its tag and
+/// its bytes; `outcome`, a link, the message's tag, and its outcome, or `failed` where it has none; `detached`, a link,
+/// and `detached` or `closed`; `ended` and a session; `refused`, a session, a link or `-`, and the number of an error;
+/// and `closed`. A fault is `fault` and the number of its error.
 ///
 /// The first line that can't be read is printed alone, as `unreadable`, and so are the first settings that are refused,
 /// as `refused` and the number of the error: on their own line, or the first one where they have none. Nothing is run

@@ -43,6 +43,11 @@ module _ {S : Type 0} (does : Relations S) (phase : Phase) (limit : Option ℕ) 
     λ un. let wrong : Unconnected ≡ Running = sym un ∙ runs in absurd (cc),
   )
 
+  -- it is within the limit that they were told of, and within each where no session goes on
+  pub wait_sent : (told : ℕ) → told ≡ limit_of limit → does.within told new
+      → (phase ≡ Unconnected → (most : ℕ) → does.within most new) → WaitWithin does phase limit new
+  wait_sent told is within none = (subst (λ (n : ℕ). does.within n new) is within, λ un. none un 512)
+
   -- so they can be told of this limit
   pub waits_at : (told : ℕ) → told ≡ limit_of limit → WaitWithin does phase limit s → does.within told s
   waits_at told is waits = subst (λ (n : ℕ). does.within n s) (sym is) waits.0

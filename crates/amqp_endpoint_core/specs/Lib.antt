@@ -2,3 +2,4 @@ pub mod Connected
 pub mod Queue
 pub mod Reading
 pub mod NoSessions
+pub mod Messages

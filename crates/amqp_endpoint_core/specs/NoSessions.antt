@@ -9,6 +9,7 @@ use Rattle.amqp_endpoint_model.specs.declared.call.Call.{Call}
 use Rattle.amqp_endpoint_model.specs.declared.call.Call.TheVariants.{Begin as BeginCall, AcceptBegin, End, IsEnded}
 use Rattle.amqp_endpoint_model.specs.declared.call.Call.TheVariants.{TryEnd, AttachSender, AttachReceiver, Detach}
 use Rattle.amqp_endpoint_model.specs.declared.call.Call.TheVariants.{CloseLink, Grant, Drain, Credit, HeldBack, Waiting}
+use Rattle.amqp_endpoint_model.specs.declared.call.Call.TheVariants.{Send, Dispose, DisposeAll}
 use Rattle.amqp_endpoint_model.specs.declared.error.EndpointError.{EndpointError}
 use Rattle.amqp_endpoint_model.specs.declared.error.EndpointError.TheVariants.{Connection, UnknownLink, UnknownSession}
 use Rattle.amqp_endpoint_model.specs.Relay.{Relations}
@@ -46,6 +47,9 @@ call_refusal (Drain link) = Some UnknownLink
 call_refusal (Credit link) = Some UnknownLink
 call_refusal (HeldBack session) = Some UnknownSession
 call_refusal (Waiting session) = Some UnknownSession
+call_refusal (Send link message) = Some UnknownLink
+call_refusal (Dispose link message disposal) = Some UnknownLink
+call_refusal (DisposeAll link messages disposal) = Some UnknownLink
 call_refusal call = None
 
 abbrev pub no_sessions : Relations NoSessions

@@ -12,7 +12,7 @@ use crate::coding::MIN_MAX_FRAME_SIZE;
 use crate::connecting::{greet_anew, send_close, unopened};
 use crate::queued::{Queued, drop_first, first_bytes, gather};
 use amqp_endpoint_model::{
-    Answer, Attaching, Call, EndpointError, Event, Phase, SessionRelay, Settings,
+    Answer, Attaching, Call, EndpointError, Event, Phase, Sent, SessionRelay, Settings,
 };
 use amqp_session_connection::ConnectionState;
 use amqp_session_frames::Frame;
@@ -27,6 +27,7 @@ mod answering;
 mod calling;
 mod feeding;
 mod linking;
+mod messaging;
 
 /// The greatest incoming-window, in transfers (part 2, 2.8.10).
 const MAX_WINDOW: u32 = 0x7fff_ffff;
@@ -326,6 +327,11 @@ impl<S: SessionRelay> Endpoint<S> {
             Call::Credit(link) => credit_is(self.credit(*link)),
             Call::HeldBack(session) => count(self.held_back(*session)),
             Call::Waiting(session) => waiting(self.waiting(*session)),
+            Call::Send(link, message) => sent(self.send_raw(*link, message)),
+            Call::Dispose(link, message, disposal) => done(self.dispose(*link, *message, disposal)),
+            Call::DisposeAll(link, messages, disposal) => {
+                done(self.dispose_all(*link, messages, disposal))
+            }
         }
     }
 
@@ -469,6 +475,15 @@ fn waiting(outcome: Result<Vec<(u64, u64)>, EndpointError>) -> Answer
 {
     match outcome {
         Ok(turn) => Answer::Waiting(turn),
+        Err(error) => Answer::Refused(error),
+    }
+}
+
+fn sent(outcome: Result<Sent, EndpointError>) -> Answer
+    ensures { MatchResult outcome (λ s. result ≡ Answer.Sent s) (λ e. result ≡ Answer.Refused e) }
+{
+    match outcome {
+        Ok(sent) => Answer::Sent(sent),
         Err(error) => Answer::Refused(error),
     }
 }

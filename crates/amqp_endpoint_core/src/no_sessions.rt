@@ -2,7 +2,9 @@
 ghost use Rattle.std.specs.Prelude.{◌≡◌};
 ghost use Rattle.amqp_endpoint_core.specs.NoSessions.{session_refusal};
 
-use amqp_endpoint_model::{Attaching, EndpointError, Event, SessionRelay};
+use amqp_endpoint_model::{
+    Attaching, Disposal, EndpointError, Event, Sending, Sent, SessionRelay,
+};
 use amqp_endpoint_settings::LinkSettings;
 use amqp_session_connection::Connection;
 use amqp_session_frames::FrameBody;
@@ -148,6 +150,41 @@ impl SessionRelay for NoSessions {
         _alloc: Global,
         _limit: u32,
         _link: u64,
+        _out: &mut VecDeque<SessionFrame>,
+    ) -> Result<(), EndpointError> {
+        Err(EndpointError::UnknownLink)
+    }
+
+    fn send(
+        &mut self,
+        _alloc: Global,
+        _limit: u32,
+        _link: u64,
+        _message: &Sending,
+        _out: &mut VecDeque<SessionFrame>,
+    ) -> Result<Sent, EndpointError> {
+        Err(EndpointError::UnknownLink)
+    }
+
+    fn dispose(
+        &mut self,
+        _alloc: Global,
+        _limit: u32,
+        _link: u64,
+        _message: u64,
+        _disposal: &Disposal,
+        _out: &mut VecDeque<SessionFrame>,
+    ) -> Result<(), EndpointError> {
+        Err(EndpointError::UnknownLink)
+    }
+
+    fn dispose_all(
+        &mut self,
+        _alloc: Global,
+        _limit: u32,
+        _link: u64,
+        _messages: &[u64],
+        _disposal: &Disposal,
         _out: &mut VecDeque<SessionFrame>,
     ) -> Result<(), EndpointError> {
         Err(EndpointError::UnknownLink)

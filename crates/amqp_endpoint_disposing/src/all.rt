@@ -8,7 +8,7 @@ ghost use Rattle.amqp_endpoint_disposing.specs.Disposing.{DisposesOfAll, EndDisp
 ghost use Rattle.amqp_endpoint_disposing.specs.Refusals.{AllAnswered, RefusesAll, named_at};
 
 use crate::looking::{answer, is_receiving, look_at};
-use crate::measuring::{Measured, measure};
+use crate::measuring::state_fits;
 use crate::sending::{are_read, send_each};
 use amqp_endpoint_attached::LinkSession;
 use amqp_endpoint_links::Numbered;
@@ -53,7 +53,7 @@ pub fn dispose_all(
     if !is_receiving(&session.session, handle) {
         return Err(EndpointError::IllegalState);
     }
-    let Measured { state, fits } = measure(limit, state);
+    let fits = state_fits(limit, &state);
     if !fits {
         return Err(too_large(&session.session, alloc, handle, tags));
     }

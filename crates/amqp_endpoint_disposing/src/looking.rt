@@ -16,7 +16,7 @@ use amqp_session_types::{DeliveryTag, OutputHandle};
 use std::alloc::Global;
 
 /// Whether an attached receiving link has this own handle.
-pub(crate) fn is_receiving(session: &Session<Numbered<LinkEnd>>, handle: OutputHandle) -> bool
+pub fn is_receiving(session: &Session<Numbered<LinkEnd>>, handle: OutputHandle) -> bool
     ensures { result ≡ is_receiving (end_in session.now handle) }
 {
     let Some(link) = session.link(handle) else {

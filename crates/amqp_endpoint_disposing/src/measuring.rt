@@ -1,59 +1,63 @@
 //! Whether the peer takes a frame that tells a state (part 2, 2.4.1, 2.7.6).
 ghost use Rattle.std.specs.Prelude.{◌≡◌, ◌↔◌, ℕ, IsTrue};
 ghost use Rattle.serde_amqp_item.specs.Canon.{canon};
+ghost use Rattle.amqp_session_performatives.specs.Disposition.{disposition_item};
 ghost use Rattle.amqp_link_unsettled.specs.Listing.{FitsText};
-ghost use Rattle.amqp_endpoint_model.specs.State.{fits, frame_of};
-ghost use Rattle.amqp_endpoint_disposing.specs.Longest.{disposition_frame, longest, state_fits};
+ghost use Rattle.amqp_endpoint_disposing.specs.Longest.{longest, state_fits};
 
-use amqp_session_performatives::Disposition;
 use amqp_session_states::DeliveryState;
 use amqp_session_types::Role;
-use serde_amqp_ser::{Serialize, serialized_size};
+use serde_amqp_item::Error;
+use serde_amqp_ser::{Serialize, Serializer, Sink, serialize_record, serialized_size};
+use serde_amqp_types::BoolOr;
 
 /// How many bytes of a frame stand before its performative (part 2, 2.3.1).
 const HEAD: usize = 8;
 
-/// A state, and whether the peer takes a frame that tells it.
+/// The descriptor's code of a Disposition (part 2, 2.7.6).
+const CODE: u64 = 0x15;
+
+/// The longest Disposition by which a receiver tells a state, which is lent: its numbers are the largest (part 1,
+/// 1.6.5).
 #[derive(Drop)]
-pub(crate) struct Measured {
-    /// The state.
-    pub(crate) state: DeliveryState,
-    /// Whether the longest Disposition that tells it fits the peer's limit.
-    pub(crate) fits: bool,
+struct LongestOf<'a> {
+    state: &'a DeliveryState,
 }
 
-/// Whether the longest Disposition that tells the state fits the limit, whatever its channel (part 2, 2.4.1, 2.7.6).
-pub(crate) fn measure(limit: u32, state: DeliveryState) -> Measured
-    ensures state { result.state ≡ state }
-    ensures fits { (channel : ℕ) → result.fits ≡ state_fits limit channel state }
-{
-    let mut longest = longest(state);
-    let fits = fits(limit, &longest);
-    let Some(state) = longest.state.take() else {
-        unreachable!()
-    };
-    Measured { state, fits }
-}
+impl<'a> Serialize for LongestOf<'a> {
+    ghost item = { λ told. disposition_item (longest told.state.now) };
 
-/// The longest Disposition by which a receiver tells a state.
-fn longest(state: DeliveryState) -> Disposition
-    ensures { result ≡ longest state }
-{
-    Disposition {
-        role: Role::Receiver,
-        first: u32::MAX,
-        last: Some(u32::MAX),
-        settled: true,
-        state: Some(state),
-        batchable: false,
+    fn is_null(&self) -> bool {
+        false
+    }
+
+    fn serialize<W: Sink>(&self, s: &mut Serializer<W>) -> Result<(), Error> {
+        serialize_record(
+            s,
+            CODE,
+            &(
+                Role::Receiver,
+                (
+                    u32::MAX,
+                    (
+                        Some(u32::MAX),
+                        (
+                            BoolOr::<false>(true),
+                            (Some(self.state), (BoolOr::<false>(false), ())),
+                        ),
+                    ),
+                ),
+            ),
+        )
     }
 }
 
-/// Whether a Disposition fits the limit, whatever its channel.
-fn fits(limit: u32, disposition: &Disposition) -> bool
-    ensures { (channel : ℕ) → result ≡ fits limit (frame_of (disposition_frame channel disposition.now)) }
+/// Whether the longest Disposition by which a receiver tells the state fits the limit, whatever its channel (part 2,
+/// 2.4.1, 2.7.6). It takes no memory.
+pub fn state_fits(limit: u32, state: &DeliveryState) -> bool
+    ensures { (channel : ℕ) → result ≡ state_fits limit channel state.now }
 {
-    fits_text(disposition, limit)
+    fits_text(&LongestOf { state }, limit)
 }
 
 /// Whether a performative fits a frame of so many bytes.

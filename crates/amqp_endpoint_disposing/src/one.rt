@@ -7,7 +7,7 @@ ghost use Rattle.amqp_endpoint_disposing.specs.Disposing.{DisposesOfOne, EndDisp
 ghost use Rattle.amqp_endpoint_disposing.specs.Refusals.{OneAnswered, kept_at};
 
 use crate::looking::{is_receiving, kept, refusal};
-use crate::measuring::{Measured, measure};
+use crate::measuring::state_fits;
 use crate::sending::{is_read, send_one};
 use amqp_endpoint_attached::LinkSession;
 use amqp_endpoint_links::Numbered;
@@ -52,7 +52,7 @@ pub fn dispose(
     if let Err(why) = kept(&session.session, handle, tag) {
         return Err(refusal(why));
     }
-    let Measured { state, fits } = measure(limit, state);
+    let fits = state_fits(limit, &state);
     if !fits {
         return Err(EndpointError::FrameTooLarge);
     }

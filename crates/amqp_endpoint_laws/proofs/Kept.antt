@@ -14,6 +14,7 @@ use Rattle.amqp_endpoint_model.specs.declared.call.Call.TheVariants.{Begin, Acce
 use Rattle.amqp_endpoint_model.specs.declared.call.Call.TheVariants.{AttachSender, AttachReceiver, Detach, CloseLink}
 use Rattle.amqp_endpoint_model.specs.declared.call.Call.TheVariants.{Grant, Drain, Credit, HeldBack}
 use Rattle.amqp_endpoint_model.specs.declared.call.Call.TheVariants.{Waiting as WaitingCall}
+use Rattle.amqp_endpoint_model.specs.declared.call.Call.TheVariants.{Send, Dispose, DisposeAll}
 use Rattle.amqp_endpoint_model.specs.declared.error.EndpointError.{EndpointError}
 use Rattle.amqp_endpoint_model.specs.declared.error.EndpointError.TheVariants.{PeerLimitUnder512, Memory}
 use Rattle.amqp_endpoint_model.specs.declared.error.EndpointError.TheVariants.{Connection, NumbersUsedUp, Session}
@@ -22,7 +23,7 @@ use Rattle.amqp_endpoint_model.specs.declared.phase.Phase.{Phase}
 use Rattle.amqp_endpoint_model.specs.declared.phase.Phase.TheVariants.{Unconnected, Greeting, Running, Over}
 use Rattle.amqp_endpoint_model.specs.Relay.{Relations}
 use Rattle.amqp_endpoint_model.specs.Said.{Said, done, refused, fed, pulled, count, truth, tried_close, session_begun}
-use Rattle.amqp_endpoint_model.specs.Said.{tried_end, attaching, link_closed, credit_is, waiting, Told}
+use Rattle.amqp_endpoint_model.specs.Said.{tried_end, attaching, link_closed, credit_is, waiting, message_sent, Told}
 use Rattle.amqp_endpoint_model.specs.State.{State, limit_of}
 use Rattle.amqp_endpoint_model.specs.Step.{AfterFault, BreaksGreeting, ClosesBoth, ClosesBy, ClosesOwn, Ends}
 use Rattle.amqp_endpoint_model.specs.Step.{EndsRunning, FeedsIn, FrontBarred, FrontRefused, Greets}
@@ -175,6 +176,12 @@ module _ {S : Type 0} (does : Relations S) (P : S → Type 0) (k : Keeps does P)
   step old (Grant link n) (credit_is left) new s p =
       k.called _ _ _ (Grant link n) (credit_is left) s.frames s.calls p
   step old (Drain link) done new s p = k.called _ _ _ (Drain link) done s.frames s.calls p
+  step old (Send link message) (message_sent tag outcome) new s p =
+      k.called _ _ _ (Send link message) (message_sent tag outcome) s.frames s.calls p
+  step old (Dispose link message disposal) done new s p =
+      k.called _ _ _ (Dispose link message disposal) done s.frames s.calls p
+  step old (DisposeAll link messages disposal) done new s p =
+      k.called _ _ _ (DisposeAll link messages disposal) done s.frames s.calls p
   step old (Credit link) (credit_is left) new s p = subst Holds (sym s.same) p
   step old (HeldBack n) (count m) new s p = subst Holds (sym s.same) p
   step old (WaitingCall n) (waiting turn) new s p = subst Holds (sym s.same) p

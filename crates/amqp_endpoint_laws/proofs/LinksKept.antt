@@ -20,7 +20,7 @@ use Rattle.amqp_endpoint_model.specs.declared.settings.Settings.{Settings}
 use Rattle.amqp_endpoint_model.specs.History.{Run}
 use Rattle.amqp_endpoint_model.specs.Relay.{IsNew}
 use Rattle.amqp_endpoint_model.specs.Said.{Said, Told, attaching, count, credit_is, done, link_closed, session_begun}
-use Rattle.amqp_endpoint_model.specs.Said.{tried_end, truth, waiting}
+use Rattle.amqp_endpoint_model.specs.Said.{message_sent, tried_end, truth, waiting}
 use Rattle.amqp_endpoint_model.specs.State.{State, fresh as fresh_endpoint}
 use Rattle.amqp_endpoint_linking.specs.Linking.{Link, Links, Session, Talk}
 use Rattle.amqp_endpoint_linking.specs.GivingBack.{AllGivenBack, GoOn, SessionGivenBack}
@@ -93,12 +93,13 @@ module _ (back_on : BackGoesOn) (old new : Links) (came : HaveCome old) where
       by (MakesRoom _ ∷ Enters _ _ _ _ ∷ [])
       (with_room old, (a.attaches.entered.0, refl), (new, a.attaches.entered, refl))
 
-  closed-at : (place : Where) (number : ℕ) (old_talk new_talk : Talk) (frames : List SessionFrame)
-      → place_at old number ≡ place → ClosedAt place old_talk old number [] new_talk new frames → HaveCome new
-  closed-at None number old_talk new_talk frames is c = absurd c
-  closed-at (Some (AtRest end)) number old_talk new_talk frames is c =
-      by (Closes number (AtRest end) ∷ []) (new, (is, c.forgotten), refl)
-  closed-at (Some (Held session handle)) number old_talk new_talk frames is c = same c.kept
+  closed-at : (place : Where) (number : ℕ) (events : List Event) (old_talk new_talk : Talk)
+      (frames : List SessionFrame) → place_at old number ≡ place
+      → ClosedAt place old_talk old number [] events new_talk new frames → HaveCome new
+  closed-at None number events old_talk new_talk frames is c = absurd c
+  closed-at (Some (AtRest end)) number events old_talk new_talk frames is c =
+      by (Closes number (AtRest end) ∷ []) (new, (is, c.forgets.forgotten), refl)
+  closed-at (Some (Held session handle)) number events old_talk new_talk frames is c = same c.kept
 
 heard-detach : (back_on : BackGoesOn) (took : Option (ℕ × Detached)) (old mid new : Talk) (links links_new : Links)
     (frames : List SessionFrame) (events : List Event) (it : _)
@@ -107,32 +108,39 @@ heard-detach back_on (Some (session, told)) old mid new links links_new frames e
     left-so back_on links links_new came told.closed b.link.number b.left b.is_left
 heard-detach back_on None old mid new links links_new frames events it b came = same back_on links links_new came b.same
 
-heard : (back_on : BackGoesOn) (said : FrameBody) (old new : Talk) (links links_new : Links) (channel : IncomingChannel)
-    (frames : List SessionFrame) (events : List Event) → Hears old links channel said frames events new links_new
-    → HaveCome links → HaveCome links_new
-heard back_on (body.Begin begin) old new links links_new channel frames events (inl t) came = same back_on links links_new came t.same
-heard back_on (body.Begin begin) old new links links_new channel frames events (inr f) came =
+heard : (back_on : BackGoesOn) (said : FrameBody) (old new : Talk) (links links_new : Links) (given given_new limit : ℕ)
+    (channel : IncomingChannel) (frames : List SessionFrame) (events : List Event)
+    → Hears old links given limit channel said frames events new links_new given_new → HaveCome links
+    → HaveCome links_new
+heard back_on (body.Begin begin) old new links links_new given given_new limit channel frames events (inl t, g) came =
+    same back_on links links_new came t.same
+heard back_on (body.Begin begin) old new links links_new given given_new limit channel frames events (inr f, g) came =
     back back_on links links_new came _ f.fails.back
-heard back_on (body.Attach attach) old new links links_new channel frames events a came =
+heard back_on (body.Attach attach) old new links links_new given given_new limit channel frames events (a, g) came =
     elim a.hears [ inl t ↦ same back_on links links_new came t.same | inr f ↦ back back_on links links_new came _ f.fails.back ]
-heard back_on (body.Flow flow) old new links links_new channel frames events (inl t) came = same back_on links links_new came t.same
-heard back_on (body.Flow flow) old new links links_new channel frames events (inr f) came =
-    back back_on links links_new came _ f.back
-heard back_on (body.Transfer transfer payload) old new links links_new channel frames events (inl t) came =
+heard back_on (body.Flow flow) old new links links_new given given_new limit channel frames events (inl t, g) came =
     same back_on links links_new came t.same
-heard back_on (body.Transfer transfer payload) old new links links_new channel frames events (inr f) came =
+heard back_on (body.Flow flow) old new links links_new given given_new limit channel frames events (inr f, g) came =
     back back_on links links_new came _ f.back
-heard back_on (body.Disposition disposition) old new links links_new channel frames events (inl t) came =
+heard back_on (body.Transfer transfer payload) old new links links_new given given_new limit channel frames events
+  (left, inl t) came =
     same back_on links links_new came t.same
-heard back_on (body.Disposition disposition) old new links links_new channel frames events (inr f) came =
+heard back_on (body.Transfer transfer payload) old new links links_new given given_new limit channel frames events
+  (left, inr f) came =
+    back back_on links links_new came _ f.fails.back
+heard back_on (body.Disposition disposition) old new links links_new given given_new limit channel frames events
+  (inl t, g) came =
+    same back_on links links_new came t.same
+heard back_on (body.Disposition disposition) old new links links_new given given_new limit channel frames events
+  (inr f, g) came =
     back back_on links links_new came _ f.back
-heard back_on (body.Detach detach) old new links links_new channel frames events (inl t) came =
+heard back_on (body.Detach detach) old new links links_new given given_new limit channel frames events (inl t, g) came =
     heard-detach back_on _ old t.mid new links links_new frames events detach t.becomes came
-heard back_on (body.Detach detach) old new links links_new channel frames events (inr f) came =
+heard back_on (body.Detach detach) old new links links_new given given_new limit channel frames events (inr f, g) came =
     back back_on links links_new came _ f.back
-heard back_on (body.End end) old new links links_new channel frames events t came =
+heard back_on (body.End end) old new links links_new given given_new limit channel frames events (t, g) came =
     session-back back_on links links_new came t.heard.ended t.back
-heard back_on said old new links links_new channel frames events h came = absurd h
+heard back_on said old new links links_new given given_new limit channel frames events h came = absurd h
 
 called : (back_on : BackGoesOn) (by_call : Call) (answer : Said) (old new : LinkedSessions) (limit : ℕ) (frames : List SessionFrame)
     → Calls old limit by_call answer frames new → HaveCome old.links → HaveCome new.links
@@ -149,9 +157,15 @@ called back_on (call.AttachReceiver n settings) (attaching link events) old new 
     attached back_on old.links new.links came old.talk new.talk limit n _ link events frames c
 called back_on (call.Detach link) done old new limit frames c came = same back_on old.links new.links came c.same
 called back_on (call.CloseLink link) (link_closed events) old new limit frames c came =
-    closed-at back_on old.links new.links came _ link old.talk new.talk frames refl c.closes
+    closed-at back_on old.links new.links came _ link events old.talk new.talk frames refl c
 called back_on (call.Grant link n) (credit_is left) old new limit frames c came = same back_on old.links new.links came c.same
 called back_on (call.Drain link) done old new limit frames c came = same back_on old.links new.links came c.same
+called back_on (call.Send link message) (message_sent tag outcome) old new limit frames c came =
+    same back_on old.links new.links came c.same
+called back_on (call.Dispose link message disposal) done old new limit frames c came =
+    same back_on old.links new.links came c.same
+called back_on (call.DisposeAll link messages disposal) done old new limit frames c came =
+    same back_on old.links new.links came c.same
 called back_on (call.Credit link) (credit_is left) old new limit frames c came =
     same back_on old.links new.links came (ap (λ (s : LinkedSessions). s.links) c.same)
 called back_on (call.HeldBack n) (count m) old new limit frames c came =
@@ -166,14 +180,15 @@ module _ (back_on : BackGoesOn) (left_on : LeftGoesOn) (finished_on : FinishedGo
       record {
         moved = λ s connection came. came;
         taken = λ old new limit channel said frames events h came.
-            heard back_on said old.talk new.talk old.links new.links (record { 0 = channel }) frames events h came;
-        refused = λ old new limit channel said e r came. same back_on old.links new.links came r.same;
+            heard back_on said old.talk new.talk old.links new.links old.given new.given limit
+            (record { 0 = channel }) frames events h.0 came;
+        refused = λ old new limit channel said e r came. same back_on old.links new.links came r.0.same;
         called = λ old new limit by_call answer frames c came.
-            called back_on by_call answer old new limit frames c came;
+            called back_on by_call answer old new limit frames c.0 came;
         closed = λ old new c came.
-            goes-on back_on old.links new.links came (left_on old.talk new.talk old.links new.links c);
+            goes-on back_on old.links new.links came (left_on old.talk new.talk old.links new.links c.0);
         finished = λ old new f came.
-            goes-on back_on old.links new.links came (finished_on old.talk new.talk old.links new.links f);
+            goes-on back_on old.links new.links came (finished_on old.talk new.talk old.links new.links f.0);
       }
 
   pub have-come : (sessions : LinkedSessions) (settings : Settings) (calls : List Call) (told : List Told)

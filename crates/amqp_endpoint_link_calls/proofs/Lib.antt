@@ -4,3 +4,4 @@ pub mod Done
 pub mod Detached
 pub mod Credited
 pub mod Counting
+pub mod Closed

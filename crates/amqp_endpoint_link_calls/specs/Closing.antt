@@ -1,41 +1,83 @@
 -- How a link is closed: part 2, 2.6.6.
-use Rattle.std.specs.Prelude.{◌≡◌, ℕ, List, true, Some, None}
+use Rattle.std.specs.Prelude.{◌≡◌, ℕ, List, [], ◌++◌, true, Some, None}
 use Rattle.amqp_session_types.specs.declared.handles.OutputHandle.{OutputHandle}
 use Rattle.amqp_session_performatives.specs.declared.session_frame.SessionFrame.{SessionFrame}
+use Rattle.amqp_session_core.specs.State.{link_at}
+use Rattle.amqp_link_sender.specs.Ending.{closed_at_rest}
+use Rattle.amqp_link_ends.specs.declared.end.End.{End}
+use Rattle.amqp_link_ends.specs.declared.end.End.TheVariants.{Sender, Receiver}
 use Rattle.amqp_endpoint_names.specs.State.{without}
 use Rattle.amqp_endpoint_names.specs.declared.place.LinkPlace.TheVariants.{Held, AtRest}
 use Rattle.amqp_endpoint_sessions.specs.State.{live_at}
 use Rattle.amqp_endpoint_model.specs.declared.error.EndpointError.{EndpointError}
-use Rattle.amqp_endpoint_model.specs.declared.error.EndpointError.TheVariants.{UnknownLink}
-use Rattle.amqp_endpoint_attached.specs.Detaching.{RefusesDetach}
-use Rattle.amqp_endpoint_link_calls.specs.Calling.{DoneIn, detaches}
+use Rattle.amqp_endpoint_model.specs.declared.error.EndpointError.TheVariants.{Memory, UnknownLink}
+use Rattle.amqp_endpoint_model.specs.declared.event.Event.{Event}
+use Rattle.amqp_endpoint_attached.specs.Detaching.{DetachGiven, RefusesDetach}
+use Rattle.amqp_endpoint_attached.specs.Linked.{Linked, end_at}
+use Rattle.amqp_endpoint_outcomes.specs.All.{TellsFirst, first_told, open_count, told_by}
+use Rattle.amqp_endpoint_link_calls.specs.Calling.{Does, DoneIn}
 use Rattle.amqp_endpoint_link_calls.specs.Places.{LinksBy, LinkTalk, Where, end_live}
 
--- a link that is at rest is forgotten, and nothing is handed out
-pub record Forgets (old : LinkTalk) (links : LinksBy) (link : ℕ) (out : List SessionFrame) (new : LinkTalk)
-    (links_new : LinksBy) (out_new : List SessionFrame) : Type 0 where
-  pub forgotten : links_new ≡ without links link
+-- the messages of a sending link that is closed while it is at rest end without an outcome
+abbrev pub closed_end : End → End
+closed_end (Sender s) = Sender (closed_at_rest s)
+closed_end (Receiver r) = Receiver r
+
+-- what is told of a link that is closed while it is at rest: the outcomes of as many messages as are open
+abbrev pub rest_told : ℕ → End → List Event
+rest_told link end = told_by link None (open_count (Some end)) (closed_end end)
+
+-- it is forgotten, and this is told
+pub record ForgetsRest (end : End) (links : LinksBy) (link : ℕ) (events : List Event) (links_new : LinksBy) : Type 0
+  where
+    pub forgotten : links_new ≡ without links link
+    pub told : events ≡ rest_told link end
+
+-- and nothing is handed out
+pub record Forgets (end : End) (old : LinkTalk) (links : LinksBy) (link : ℕ) (out : List SessionFrame)
+    (events : List Event) (new : LinkTalk) (links_new : LinksBy) (out_new : List SessionFrame) : Type 0 where
+  pub forgets : ForgetsRest end links link events links_new
   pub same : new ≡ old
   pub silent : out_new ≡ out
 
+-- an attached link of a session is closed: its Detach is sent, without an error, and then the outcomes of as many
+-- messages are told as were open, which end without one
+pub record ClosesTelling (events : List Event) (handle : OutputHandle) (before : Linked) (frames : List SessionFrame)
+    (after : Linked) : Type 0 where
+  pub mid : Linked
+  pub detached : DetachGiven before handle true None [] mid frames
+  pub tells : TellsFirst (open_count (end_at before handle)) handle (link_at mid.session handle.0) mid after
+  pub told : events ≡ first_told (open_count (end_at before handle)) None (link_at mid.session handle.0)
+
+abbrev pub closes : List Event → Does
+closes events handle before frames after = ClosesTelling events handle before frames after
+
+-- in its session, with what was to be sent before
+pub record ClosedBy (events : List Event) (handle : OutputHandle) (old : Linked) (out : List SessionFrame) (new : Linked)
+    (out_new : List SessionFrame) : Type 0 where
+  pub frames : List SessionFrame
+  pub closed : ClosesTelling events handle old frames new
+  pub added : out_new ≡ out ++ frames
+
 -- a link that a session holds is closed there, and stays held
 pub record ClosesHeld (session : ℕ) (handle : OutputHandle) (old : LinkTalk) (links : LinksBy)
-    (out : List SessionFrame) (new : LinkTalk) (links_new : LinksBy) (out_new : List SessionFrame) : Type 0 where
-  pub done : DoneIn (detaches true) session handle old out new out_new
+    (out : List SessionFrame) (events : List Event) (new : LinkTalk) (links_new : LinksBy)
+    (out_new : List SessionFrame) : Type 0 where
+  pub done : DoneIn (closes events) session handle old out new out_new
   pub kept : links_new ≡ links
 
--- the link with this number is closed, by where it is
-abbrev pub ClosedAt : Where → LinkTalk → LinksBy → ℕ → List SessionFrame → LinkTalk → LinksBy → List SessionFrame
-    → Type 0
-ClosedAt None old links link out new links_new out_new = ⊥
-ClosedAt (Some (AtRest end)) old links link out new links_new out_new =
-    Forgets old links link out new links_new out_new
-ClosedAt (Some (Held session handle)) old links link out new links_new out_new =
-    ClosesHeld session handle old links out new links_new out_new
+-- the link with this number is closed, by where it is, and these events are told
+abbrev pub ClosedAt : Where → LinkTalk → LinksBy → ℕ → List SessionFrame → List Event → LinkTalk → LinksBy
+    → List SessionFrame → Type 0
+ClosedAt None old links link out events new links_new out_new = ⊥
+ClosedAt (Some (AtRest end)) old links link out events new links_new out_new =
+    Forgets end old links link out events new links_new out_new
+ClosedAt (Some (Held session handle)) old links link out events new links_new out_new =
+    ClosesHeld session handle old links out events new links_new out_new
 
 -- why it isn't closed: no link has the number, then a session holds it where it isn't attached, and then there is no
--- memory. One that is at rest is never refused
+-- memory. One that is at rest is refused for want of memory alone
 abbrev pub BarsClosing : LinkTalk → Where → EndpointError → Type 0
 BarsClosing talk None e = e ≡ UnknownLink
-BarsClosing talk (Some (AtRest end)) e = ⊥
+BarsClosing talk (Some (AtRest end)) e = e ≡ Memory
 BarsClosing talk (Some (Held session handle)) e = RefusesDetach (end_live (live_at talk.sessions session) handle) e

@@ -17,10 +17,7 @@ pub type LinkTalk = Conversation<Numbered<LinkEnd>>;
 /// The session that holds the link with this number, and the own handle that it has there.
 ///
 /// It is refused with `UnknownLink` where no link has the number, and with `IllegalState` where it is at rest.
-pub(crate) fn holder(
-    links: &Links<LinkEnd>,
-    link: u64,
-) -> Result<(u64, OutputHandle), EndpointError>
+pub fn holder(links: &Links<LinkEnd>, link: u64) -> Result<(u64, OutputHandle), EndpointError>
     ensures ok { IfOk result (λ held. place_at links.now link ≡ Some (Held held.0 held.1)) }
     ensures err { IfErr result (IsNotHeld (place_at links.now link)) }
 {

@@ -6,6 +6,7 @@
 //! Seeing and Waiting what is told.
 #![tactic(auto)]
 
+mod closing;
 mod crediting;
 mod detaching;
 mod holding;
@@ -13,8 +14,9 @@ pub mod laws;
 mod seeing;
 mod turns;
 
+pub use closing::close_link;
 pub use crediting::{drain, grant};
-pub use detaching::{close_link, detach};
-pub use holding::LinkTalk;
+pub use detaching::detach;
+pub use holding::{LinkTalk, holder};
 pub use seeing::credit;
 pub use turns::{held_back, waiting};

@@ -29,13 +29,15 @@ use Rattle.amqp_endpoint_model.specs.State.{fits, frame_of}
 use Rattle.amqp_endpoint_talk.proofs.Alone.{answer-alone}
 use Rattle.amqp_endpoint_attached.specs.Detaching.{own_detach}
 use Rattle.amqp_endpoint_attached.specs.Linked.{Linked, gives}
+use Rattle.amqp_endpoint_outcomes.specs.All.{AreCopies, told_by}
 use Rattle.amqp_endpoint_linking.specs.Linking.{Links, Session, Talk}
 use Rattle.amqp_endpoint_linking.specs.Handed.{Tells}
-use Rattle.amqp_endpoint_link_hearing.specs.Detaching.{Becomes, ByLink, HearsDetach, detached_told}
+use Rattle.amqp_endpoint_link_hearing.specs.Detaching.{Becomes, ByLink, HearsDetach, TellsAndParts}
+use Rattle.amqp_endpoint_link_hearing.specs.Detaching.{detached_told}
 use Rattle.amqp_endpoint_link_hearing.specs.Heard.{detach_of}
-use Rattle.amqp_endpoint_link_hearing.specs.InSession.{GoesOn, Parts}
+use Rattle.amqp_endpoint_link_hearing.specs.InSession.{GoesOn}
 use Rattle.amqp_endpoint_link_hearing.specs.Leaves.{IsReady, LeavesBy, LinkLeaves, Prepares, StandsFor}
-use Rattle.amqp_endpoint_link_hearing.specs.Leaving.{HasPlace, detach_frame}
+use Rattle.amqp_endpoint_link_hearing.specs.Leaving.{HasPlace, detach_frame, repeated}
 use Rattle.amqp_endpoint_link_hearing.specs.Naming.{link_of}
 use Rattle.amqp_endpoint_link_hearing.specs.Saying.{FailsBySaid, LinkHeard, RefusesSaid}
 use Rattle.amqp_endpoint_link_hearing.specs.declared.detaching.Ready.{Ready}
@@ -90,6 +92,7 @@ module _ (old : Talk) (channel : IncomingChannel) (out : List SessionFrame) (it 
     stands : IsSome (link_of mid session ready.handle)
         × ((s : Session) → live_at mid.sessions session ≡ Some s
         → HasPlace s.value ready.handle (ready.answer).closed (ready.answer).error (ready.answer).place)
+        × AreCopies ready.error ready.count ready.copies.items
     stands =
         let after = (taken-there.takes).after in
         let there : link_at (after.value).session (ready.handle).0 ≡ Some link-there.link =
@@ -104,6 +107,7 @@ module _ (old : Talk) (channel : IncomingChannel) (out : List SessionFrame) (it 
               (λ (a : Session).
               HasPlace a.value ready.handle (ready.answer).closed (ready.answer).error (ready.answer).place)
               (same_Some _ _ (sym taken-there.stands ∙ live)) serves,
+          is-ready.copied,
         )
 
     left-by : (links links_new : Links) (frames : List SessionFrame) (events : List Event) (new : Talk)
@@ -121,16 +125,30 @@ module _ (old : Talk) (channel : IncomingChannel) (out : List SessionFrame) (it 
           left = l.left;
           parts =
               subst
+              (λ (n : ℕ).
+              GoesOn
+              (TellsAndParts n ready.handle told.answer it.closed
+              (repeated channel_of ready.handle it.closed it.error) l.left frames) mid session new)
+              is-ready.counts
+              (subst
               (λ (error : Option Error).
-              GoesOn (Parts ready.handle told.answer it.closed error l.left frames) mid session new)
+              GoesOn (TellsAndParts ready.count ready.handle told.answer it.closed error l.left frames) mid session new)
               is-ready.answers
               (subst
               (λ (closed : Bool).
-              GoesOn (Parts ready.handle told.answer closed (ready.answer).error l.left frames) mid session new)
-              is-ready.closes l.parts);
+              GoesOn
+              (TellsAndParts ready.count ready.handle told.answer closed (ready.answer).error l.left frames) mid
+              session new)
+              is-ready.closes l.parts));
           is_left = l.is_left;
           tells =
-              l.tells ∙ ap (λ (error : Option Error). detached_told (l.link).number told.closed error) is-ready.tells;
+              l.tells
+              ∙ ap (λ (error : Option Error).
+              detached_told (l.link).number told.closed error
+              ++ told_by (l.link).number error ready.count (l.link).link) is-ready.tells
+              ∙ ap (λ (n : ℕ).
+              detached_told (l.link).number told.closed it.error
+              ++ told_by (l.link).number it.error n (l.link).link) is-ready.counts;
         }
 
 module _ (old : Talk) (channel : IncomingChannel) (out : List SessionFrame) (it : Detach) where

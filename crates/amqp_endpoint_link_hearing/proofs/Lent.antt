@@ -16,10 +16,10 @@ use Rattle.amqp_endpoint_talk.specs.Going.{Goes, Rests}
 use Rattle.amqp_endpoint_attached.specs.Linked.{Linked, end_at}
 use Rattle.amqp_endpoint_linking.specs.Linking.{Link, Session, Sessions, Talk}
 use Rattle.amqp_endpoint_linking.specs.Handed.{Hands}
-use Rattle.amqp_endpoint_link_hearing.specs.InSession.{Closes, GoesOn, Parts}
+use Rattle.amqp_endpoint_link_hearing.specs.InSession.{Closes, GoesOn}
 use Rattle.amqp_endpoint_link_hearing.specs.Leaving.{HasPlace}
 use Rattle.amqp_endpoint_link_hearing.specs.Naming.{link_in, link_of}
-use Rattle.amqp_endpoint_link_hearing.proofs.Doing.{closes-done, done-goes, done-rests, parts-done}
+use Rattle.amqp_endpoint_link_hearing.proofs.Doing.{closes-done, done-goes, done-rests}
 use Rattle.amqp_endpoint_link_hearing.proofs.Lending.{unlent}
 use Rattle.amqp_endpoint_lengths.proofs.Frames.{larger_fits}
 use Rattle.amqp_endpoint_attached.specs.Detaching.{own_detach}
@@ -116,30 +116,6 @@ module _ (old : Talk) (session : ℕ) (handle : OutputHandle) (why : Option Erro
 
   pub closed-rests : ClosedSo → Rests old new out out_new
   closed-rests h = done-rests (Closes why handle) old session new out out_new h
-
--- a link leaves its session
-module _ (old : Talk) (session : ℕ) (handle : OutputHandle) (answers closed : Bool) (error : Option Error)
-    (left : Option Link) (new : Talk) (out out_new : List SessionFrame) where
-  abbrev PartedSo : Type 0
-  PartedSo =
-      Hands (λ (frames : List SessionFrame).
-      GoesOn (Parts handle answers closed error left frames) old session new) out out_new
-
-  pub parted-goes : (limit from place : ℕ) → (h : PartedSo) → from ≡ length out → All IsRead (drop from out_new)
-      → ((s : Session) → live_at old.sessions session ≡ Some s → HasPlace s.value handle closed error place)
-      → 512 ≤ limit → Goes limit old new out out_new
-  parted-goes limit from place h is reads places least =
-      let g = h.is_so in
-      let before = (g.before).value in
-      let short = (places g.before (g.stepped).0).fit in
-      done-goes (Parts handle answers closed error left) old session new out out_new h limit from is reads
-      (parts-done limit before handle answers closed error left h.frames (g.after).value
-      (larger_fits limit
-      (frame_of (detach_frame before.session.fields.channel (own_detach handle closed error))) least short)
-      g.done)
-
-  pub parted-rests : PartedSo → Rests old new out out_new
-  parted-rests h = done-rests (Parts handle answers closed error left) old session new out out_new h
 
 -- what holds of an answer that is no refusal
 pub on-ok : {E X Y : Type 0} (r : Result ⊤ E) → (X → Y) → OnOk r X → OnOk r Y

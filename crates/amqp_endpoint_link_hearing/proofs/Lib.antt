@@ -10,9 +10,11 @@ mod Sizes
 mod Lent
 mod Closings
 mod Takes
+mod Leavings
 mod Partings
 mod Readies
 mod Becoming
 mod Dispositions
 mod Transfers
 mod Transferred
+mod Messages

@@ -5,6 +5,7 @@ use Rattle.std.specs.Prelude.{IfOk}
 use Rattle.std.proofs.lemmas.Option.{same_Some}
 use Rattle.amqp_session_types.specs.declared.channels.IncomingChannel.{IncomingChannel}
 use Rattle.amqp_session_types.specs.declared.channels.OutgoingChannel.{OutgoingChannel}
+use Rattle.amqp_session_types.specs.declared.error.Error.{Error}
 use Rattle.amqp_session_performatives.specs.declared.detach.Detach.{Detach}
 use Rattle.amqp_session_performatives.specs.declared.session_frame.SessionFrame.{SessionFrame}
 use Rattle.amqp_session_core.specs.State as session_state
@@ -12,10 +13,11 @@ use Rattle.amqp_session_outgoing.specs.Queues.{room_behind}
 use Rattle.amqp_link_base.specs.declared.detached.Detached.{Detached}
 use Rattle.amqp_endpoint_sessions.specs.State.{live_at, reached}
 use Rattle.amqp_endpoint_model.specs.declared.event.Event.{Event}
-use Rattle.amqp_endpoint_attached.specs.Linked.{Linked}
+use Rattle.amqp_endpoint_attached.specs.Linked.{Linked, end_at}
+use Rattle.amqp_endpoint_outcomes.specs.All.{AreCopies}
 use Rattle.amqp_endpoint_linking.specs.Linking.{Links, Session, Talk}
 use Rattle.amqp_endpoint_linking.specs.Handed.{Tells}
-use Rattle.amqp_endpoint_link_hearing.specs.Detaching.{Withdraws}
+use Rattle.amqp_endpoint_link_hearing.specs.Detaching.{Withdraws, ending}
 use Rattle.amqp_endpoint_link_hearing.specs.Leaves.{IsReady, LeavesBy, Prepares, ReadyFor}
 use Rattle.amqp_endpoint_link_hearing.specs.Leaving.{repeated}
 use Rattle.amqp_endpoint_link_hearing.specs.declared.detaching.Ready.{Ready}
@@ -28,13 +30,17 @@ pub made-ready : (s : Linked) (it : Detach) (ready : Ready) (channel : OutgoingC
     → (ready.answer.error ≡ repeated channel ready.handle it.closed it.error)
     × (AnswerFits channel ready.handle it.closed ready.answer.error ≡ true)
     → ready.error ≡ it.error → room_behind ready.handle.0 1 s.session.outgoing.queues ≤ ready.answer.place
+    → ready.count ≡ ending it.closed (end_at s ready.handle) → AreCopies it.error ready.count ready.copies.items
     → IsReady s it ready
-made-ready s it ready channel reaches is closes (repeats, fit) tells room =
+made-ready s it ready channel reaches is closes (repeats, fit) tells room counts copied =
     record {
       reaches = sym reaches;
       closes = closes;
       answers = repeats ∙ ap (λ (k : OutgoingChannel). repeated k ready.handle it.closed it.error) is;
       tells = tells;
+      counts = counts;
+      copied =
+          subst (λ (e : Option Error). AreCopies e ready.count ready.copies.items) (sym tells) copied;
       place =
           record {
             room = room;

@@ -4,23 +4,18 @@ use Rattle.std.proofs.Common.{refl, sym, ap, subst, append-nil}
 use Rattle.amqp_session_types.specs.declared.error.Error.{Error}
 use Rattle.amqp_session_types.specs.declared.handles.OutputHandle.{OutputHandle}
 use Rattle.amqp_session_performatives.specs.declared.session_frame.SessionFrame.{SessionFrame}
-use Rattle.amqp_link_base.specs.declared.detached.Detached.{Detached}
 use Rattle.amqp_link_ends.specs.declared.relay.AttachTold.{AttachTold}
 use Rattle.amqp_link_sender.specs.declared.attaching.Attaching.{Attaching}
 use Rattle.amqp_link_types.specs.declared.link_error.LinkError.{LinkError}
 use Rattle.amqp_endpoint_model.specs.declared.event.Event.{Event}
 use Rattle.amqp_endpoint_model.specs.State.{error_of}
 use Rattle.amqp_endpoint_model.specs.Step.{not_allowed}
-use Rattle.amqp_endpoint_linking.specs.Linking.{Link, Links, Talk}
+use Rattle.amqp_endpoint_linking.specs.Linking.{Link, Talk}
 use Rattle.amqp_endpoint_linking.specs.Handed.{Hands, Tells}
 use Rattle.amqp_endpoint_link_hearing.specs.Attaching.{ByLink, LinkTakes, left_by, outcome_of}
 use Rattle.amqp_endpoint_link_hearing.specs.Attaching.{attached_told, refused_told}
-use Rattle.amqp_endpoint_link_hearing.specs.Detaching.{detached_told}
-use Rattle.amqp_endpoint_link_hearing.specs.InSession.{Closes, GoesOn, Parts}
-use Rattle.amqp_endpoint_link_hearing.specs.Leaves.{LinkLeaves}
-use Rattle.amqp_endpoint_link_hearing.specs.Leaving.{IsLeft}
+use Rattle.amqp_endpoint_link_hearing.specs.InSession.{Closes, GoesOn}
 use Rattle.amqp_endpoint_link_hearing.specs.Naming.{link_of}
-use Rattle.amqp_endpoint_link_hearing.specs.declared.detaching.Ready.{Ready}
 
 -- the link that is there, with its number
 pub record IsNumbered (talk : Talk) (session : ℕ) (handle : OutputHandle) (number : ℕ) : Type 0 where
@@ -102,31 +97,3 @@ module _ (old : Talk) (session : ℕ) (handle : OutputHandle) (number : ℕ) (n 
         queued = h.queued;
         are_told = are;
       }
-
--- a link leaves its session
-pub link-left : (old : Talk) (session : ℕ) (ready : Ready) (number : ℕ) → IsNumbered old session ready.handle number
-    → (told : Detached) (left : Option Link) (new : Talk) (links links_new : Links) (out out_new : List SessionFrame)
-    (events events_new : List Event)
-    → Hands (λ (frames : List SessionFrame).
-    GoesOn (Parts ready.handle told.answer (ready.answer).closed (ready.answer).error left frames) old session new) out
-    out_new
-    → IsLeft told.closed links number left links_new
-    → events_new ≡ events ++ detached_told number told.closed ready.error
-    → Tells (λ (frames : List SessionFrame) (told_now : List Event).
-    LinkLeaves session told ready old links frames told_now new links_new) out events out_new events_new
-link-left old session ready number n told left new links links_new out out_new events events_new h l are =
-    record {
-      frames = h.frames;
-      events = detached_told number told.closed ready.error;
-      is_so =
-          record {
-            link = n.link;
-            there = n.there;
-            left = left;
-            parts = h.is_so;
-            is_left = subst (λ (k : ℕ). IsLeft told.closed links k left links_new) n.is l;
-            tells = ap (λ (k : ℕ). detached_told k told.closed ready.error) n.is;
-          };
-      queued = h.queued;
-      are_told = are;
-    }

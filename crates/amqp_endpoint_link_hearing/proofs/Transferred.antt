@@ -1,7 +1,7 @@
 -- What is done for the link that took a Transfer.
 use Rattle.std.proofs.Common.{◌≡◌, ◌≤◌, ℕ, Bool, true, false, List, [], ◌∷◌, ◌++◌, Option, Some, None, Result, IsSome}
 use Rattle.std.proofs.Common.{OnOk, refl, sym, ap, subst, ◌∙◌, append-nil, append_assoc, length, drop}
-use Rattle.std.specs.Prelude.{⊤, All, IfSome, if◌then◌else◌, is_some, option_to_list, slice_index_or}
+use Rattle.std.specs.Prelude.{⊤, All, IfErr, IfSome, if◌then◌else◌, is_some, option_to_list, slice_index_or}
 use Rattle.std.proofs.lemmas.List.Elements.{All-append, All-cons, All-head, All-nil}
 use Rattle.std.proofs.lemmas.Option.{none-some, same_Some}
 use Rattle.std.specs.FinMap as map
@@ -11,10 +11,13 @@ use Rattle.amqp_session_performatives.specs.declared.session_frame.SessionFrame.
 use Rattle.amqp_session_core.specs.State.{live_in, reached}
 use Rattle.amqp_session_core.specs.declared.incoming.TransferTaken.{TransferTaken}
 use Rattle.amqp_link_receiving.specs.declared.answer.Told.{Told}
+use Rattle.amqp_link_receiving.specs.declared.answer.Told.TheVariants as tells
 use Rattle.amqp_link_types.specs.declared.refusals.ReceiverTransferError.{ReceiverTransferError}
 use Rattle.amqp_endpoint_fitting.specs.Read.{IsRead}
 use Rattle.amqp_endpoint_lengths.proofs.Frames.{larger_fits}
 use Rattle.amqp_endpoint_sessions.specs.State.{live_at}
+use Rattle.amqp_endpoint_model.specs.declared.error.EndpointError.{EndpointError}
+use Rattle.amqp_endpoint_model.specs.declared.error.EndpointError.TheVariants.{Memory}
 use Rattle.amqp_endpoint_model.specs.declared.event.Event.{Event}
 use Rattle.amqp_endpoint_model.specs.State.{error_of, fits, frame_of}
 use Rattle.amqp_endpoint_talk.specs.Going.{Goes, Rests}
@@ -23,11 +26,12 @@ use Rattle.amqp_endpoint_linking.specs.Linking.{Link, Session, Talk}
 use Rattle.amqp_endpoint_linking.specs.Handed.{Hands, Tells}
 use Rattle.amqp_endpoint_link_hearing.specs.InSession.{Closes, GoesOn, name_of}
 use Rattle.amqp_endpoint_link_hearing.specs.Leaving.{HasPlace}
-use Rattle.amqp_endpoint_link_hearing.specs.Naming.{link_in}
-use Rattle.amqp_endpoint_link_hearing.specs.Taking.{ClosesBy, ClosesFor, FlowFits, IsClosedFor, IsClosing, TakenBy}
-use Rattle.amqp_endpoint_link_hearing.specs.Taking.{TakenIn, fault_told, reached_in, reached_of}
-use Rattle.amqp_endpoint_link_hearing.specs.Transferring.{condition_of, fault_of}
+use Rattle.amqp_endpoint_link_hearing.specs.Naming.{link_in, link_of}
+use Rattle.amqp_endpoint_link_hearing.specs.Taking.{ClosesBy, DoneFor, FailsFor, FlowFits, IsClosedFor, IsClosing}
+use Rattle.amqp_endpoint_link_hearing.specs.Taking.{TakenBy, TakenIn, fault_told, reached_in, reached_of}
+use Rattle.amqp_endpoint_link_hearing.specs.Transferring.{ComesToNothing, condition_of}
 use Rattle.amqp_endpoint_link_hearing.specs.declared.leaving.Answer.{Answer}
+use Rattle.amqp_endpoint_link_hearing.proofs.Lent.{on-ok}
 use Rattle.amqp_endpoint_link_hearing.proofs.Takes.{IsNumbered}
 
 -- the session's Flow was read as it was handed out
@@ -64,25 +68,17 @@ module _ (old : Talk) (session input : ℕ) (out out_mid : List SessionFrame) (f
       handed ∙ ap (λ (o : List SessionFrame). o ++ option_to_list flow) queued
       ∙ append_assoc out frames (option_to_list flow)
 
-  pub taken-by : (told : Told) (why : Option ReceiverTransferError) → why ≡ fault_of told
-      → (events events_new : List Event)
+  pub taken-by : (told : Told) (given given_new : ℕ) (events events_new : List Event)
       → Tells (λ (frames : List SessionFrame) (told_now : List Event).
-      ClosesFor why old session input frames told_now new) out events out_mid events_new
+      DoneFor told given old session input frames told_now new given_new) out events out_mid events_new
       → Tells (λ (frames : List SessionFrame) (told_now : List Event).
-      TakenBy old session input (record { told = told; flow = flow }) frames told_now new) out events out_new
-      events_new
-  taken-by told why is events events_new t =
+      TakenBy (record { told = told; flow = flow }) given old session input frames told_now new given_new) out events
+      out_new events_new
+  taken-by told given given_new events events_new t =
       record {
         frames = t.frames ++ option_to_list flow;
         events = t.events;
-        is_so =
-            record {
-              own = t.frames;
-              closes =
-                  subst (λ (o : Option ReceiverTransferError).
-                  ClosesFor o old session input t.frames t.events new) is t.is_so;
-              sent = refl;
-            };
+        is_so = record { own = t.frames; done = t.is_so; sent = refl };
         queued = behind t.frames t.queued;
         are_told = t.are_told;
       }
@@ -128,47 +124,88 @@ closed-by old session handle number n why error new out out_new events events_ne
     }
 
 -- the link that the peer's handle reaches is closed by what was made ready
-pub closes-for : (old : Talk) (session input : ℕ) (why : Option ReceiverTransferError) (error : ReceiverTransferError)
-    → why ≡ Some error → (handle : OutputHandle) (answer : Answer) → IsClosing old session input error handle answer
-    → (new : Talk) (out out_new : List SessionFrame) (events events_new : List Event)
+pub closes-by : (old : Talk) (session input : ℕ) (error : ReceiverTransferError) (handle : OutputHandle)
+    (answer : Answer) → IsClosing old session input error handle answer → (new : Talk)
+    (out out_new : List SessionFrame) (events events_new : List Event)
     → Tells (λ (frames : List SessionFrame) (told : List Event).
     IsClosedFor old session handle answer.error error frames told new) out events out_new events_new
     → Tells (λ (frames : List SessionFrame) (told : List Event).
-    ClosesFor why old session input frames told new) out events out_new events_new
-closes-for old session input why error is handle answer ready new out out_new events events_new t =
-    let so : ClosesBy error old session input t.frames t.events new =
-    record {
-      handle = handle;
-      reaches = ready.reaches;
-      closed =
-          subst (λ (e : Option Error). IsClosedFor old session handle e error t.frames t.events new) ready.says
-          t.is_so;
-    } in
+    ClosesBy error old session input frames told new) out events out_new events_new
+closes-by old session input error handle answer ready new out out_new events events_new t =
     record {
       frames = t.frames;
       events = t.events;
       is_so =
-          subst (λ (o : Option ReceiverTransferError). ClosesFor o old session input t.frames t.events new) (sym is)
-          so;
+          record {
+            handle = handle;
+            reaches = ready.reaches;
+            closed =
+                subst (λ (e : Option Error). IsClosedFor old session handle e error t.frames t.events new) ready.says
+                t.is_so;
+          };
       queued = t.queued;
       are_told = t.are_told;
     }
 
--- or nothing is
-pub closes-none : (old : Talk) (session input : ℕ) (why : Option ReceiverTransferError) → why ≡ None
-    → (out : List SessionFrame) (events : List Event)
-    → Tells (λ (frames : List SessionFrame) (told : List Event).
-    ClosesFor why old session input frames told old) out events out events
-closes-none old session input why is out events =
+-- a link that refuses the transfer is closed, or there is no memory
+pub closed-told : (it : Told) (error : ReceiverTransferError) → it ≡ tells.Refused error → {E : Type 0}
+    (r : Result ⊤ E) (given : ℕ) (old : Talk) (session input : ℕ) (new : Talk) (out out_new : List SessionFrame)
+    (events events_new : List Event)
+    → OnOk r (Tells (λ (frames : List SessionFrame) (told : List Event).
+    ClosesBy error old session input frames told new) out events out_new events_new)
+    → OnOk r (Tells (λ (frames : List SessionFrame) (told : List Event).
+    DoneFor it given old session input frames told new given) out events out_new events_new)
+closed-told it error is r given old session input new out out_new events events_new closes =
+    let so : OnOk r (Tells (λ (frames : List SessionFrame) (told : List Event).
+    DoneFor (tells.Refused error) given old session input frames told new given) out events out_new events_new) =
+    on-ok r
+    (λ (t : Tells (λ (frames : List SessionFrame) (told : List Event).
+    ClosesBy error old session input frames told new) out events out_new events_new).
     record {
-      frames = [];
-      events = [];
-      is_so =
-          subst (λ (o : Option ReceiverTransferError). ClosesFor o old session input [] [] old) (sym is)
-          (refl, refl, refl);
-      queued = sym (append-nil out);
-      are_told = sym (append-nil events);
-    }
+      frames = t.frames;
+      events = t.events;
+      is_so = (t.is_so, refl);
+      queued = t.queued;
+      are_told = t.are_told;
+    })
+    closes in
+    subst
+    (λ (o : Told).
+    OnOk r (Tells (λ (frames : List SessionFrame) (told : List Event).
+    DoneFor o given old session input frames told new given) out events out_new events_new)) (sym is) so
+
+pub unclosed-told : (it : Told) (error : ReceiverTransferError) → it ≡ tells.Refused error
+    → (r : Result ⊤ EndpointError) (old new : Talk) → IfErr r (λ (e : EndpointError). (e ≡ Memory) × (new ≡ old))
+    → IfErr r (λ (e : EndpointError). FailsFor it e × (new ≡ old))
+unclosed-told it error is r old new fails =
+    subst (λ (o : Told). IfErr r (λ (e : EndpointError). FailsFor o e × (new ≡ old))) (sym is) fails
+
+-- of what else it tells nothing comes
+module _ (given : ℕ) (old : Talk) (session input : ℕ) (out : List SessionFrame) (events : List Event) where
+  abbrev DoneSo : Told → Type 0
+  DoneSo it =
+      Tells (λ (frames : List SessionFrame) (told : List Event).
+      DoneFor it given old session input frames told old given) out events out events
+
+  nothing-comes : Tells (λ (frames : List SessionFrame) (told : List Event).
+      ComesToNothing given old frames told old given) out events out events
+  nothing-comes =
+      record {
+        frames = [];
+        events = [];
+        is_so = record { silent = refl; untold = refl; stays = refl; uncounted = refl };
+        queued = sym (append-nil out);
+        are_told = sym (append-nil events);
+      }
+
+  pub done-nothing : (it : Told) → it ≡ tells.Nothing → DoneSo it
+  done-nothing it is = subst DoneSo (sym is) nothing-comes
+
+  pub done-joined : (it : Told) (number : ℕ) (tag : List ℕ) → it ≡ tells.Joined number tag → DoneSo it
+  done-joined it number tag is = subst DoneSo (sym is) nothing-comes
+
+  pub done-dropped : (it : Told) → it ≡ tells.Dropped → DoneSo it
+  done-dropped it is = subst DoneSo (sym is) nothing-comes
 
 -- a handle that leads somewhere leads to a link
 there-live : (links : List (Option Link)) (r : Option ℕ) (handle : ℕ) → live_in links r ≡ Some handle
@@ -191,6 +228,12 @@ module _ (talk : Talk) (session input : ℕ) (lent : Session) (is : Some lent �
       let P : Option ℕ → Type 0 = λ r. IsSome r in
       let clash : IsSome {T = ℕ} None = subst P (here ∙ sym reaches) there in absurd cc
 
+  pub own-there : (handle : OutputHandle) → Some handle.0 ≡ reached lent.value.session input
+      → IsSome (link_of talk session handle)
+  own-there handle reaches =
+      subst (λ (o : Option Session). IsSome (link_in o handle)) is
+      (there-live lent.value.session.links (map.get lent.value.session.routes input) handle.0 (sym reaches))
+
   pub made-ready : (error : ReceiverTransferError) (handle : OutputHandle) (answer : Answer)
       → Some handle.0 ≡ reached lent.value.session input
       → answer.error ≡ Some (error_of (name_of (condition_of error)))
@@ -199,9 +242,7 @@ module _ (talk : Talk) (session input : ℕ) (lent : Session) (is : Some lent �
   made-ready error handle answer reaches says place =
       record {
         reaches = here ∙ sym reaches;
-        there =
-            subst (λ (o : Option Session). IsSome (link_in o handle)) is
-            (there-live lent.value.session.links (map.get lent.value.session.routes input) handle.0 (sym reaches));
+        there = own-there handle reaches;
         says = says;
         place = λ s live.
             subst (λ (a : Session). HasPlace a.value handle true answer.error answer.place)
@@ -210,33 +251,33 @@ module _ (talk : Talk) (session input : ℕ) (lent : Session) (is : Some lent �
 
 -- what becomes of it, with the session in which a link took it
 pub taken-in-session : (took : Option (ℕ × TransferTaken Told)) (it : ℕ × TransferTaken Told) → took ≡ Some it
-    → {E : Type 0} (r : Result ⊤ E) (old : Talk) (input : ℕ) (new : Talk) (out out_new : List SessionFrame)
-    (events events_new : List Event)
+    → {E : Type 0} (r : Result ⊤ E) (given : ℕ) (old : Talk) (input : ℕ) (new : Talk) (given_new : ℕ)
+    (out out_new : List SessionFrame) (events events_new : List Event)
     → OnOk r (Tells (λ (frames : List SessionFrame) (told : List Event).
-    TakenBy old it.0 input it.1 frames told new) out events out_new events_new)
+    TakenBy it.1 given old it.0 input frames told new given_new) out events out_new events_new)
     → OnOk r (Tells (λ (frames : List SessionFrame) (told : List Event).
-    TakenIn took old input frames told new) out events out_new events_new)
-taken-in-session took it is r old input new out out_new events events_new so =
+    TakenIn took given old input frames told new given_new) out events out_new events_new)
+taken-in-session took it is r given old input new given_new out out_new events events_new so =
     subst
     (λ (o : Option (ℕ × TransferTaken Told)).
     OnOk r (Tells (λ (frames : List SessionFrame) (told : List Event).
-    TakenIn o old input frames told new) out events out_new events_new)) (sym is) so
+    TakenIn o given old input frames told new given_new) out events out_new events_new)) (sym is) so
 
-pub taken-in-none : (took : Option (ℕ × TransferTaken Told)) → took ≡ None → (old : Talk) (input : ℕ)
+pub taken-in-none : (took : Option (ℕ × TransferTaken Told)) → took ≡ None → (given : ℕ) (old : Talk) (input : ℕ)
     (out : List SessionFrame) (events : List Event)
     → Tells (λ (frames : List SessionFrame) (told : List Event).
-    TakenIn took old input frames told old) out events out events
-taken-in-none took is old input out events =
+    TakenIn took given old input frames told old given) out events out events
+taken-in-none took is given old input out events =
     let none : Tells (λ (frames : List SessionFrame) (told : List Event).
-    TakenIn None old input frames told old) out events out events =
+    TakenIn None given old input frames told old given) out events out events =
     record {
       frames = [];
       events = [];
-      is_so = (refl, refl, refl);
+      is_so = record { silent = refl; untold = refl; stays = refl; uncounted = refl };
       queued = sym (append-nil out);
       are_told = sym (append-nil events);
     } in
     subst
     (λ (o : Option (ℕ × TransferTaken Told)).
     Tells (λ (frames : List SessionFrame) (told : List Event).
-    TakenIn o old input frames told old) out events out events) (sym is) none
+    TakenIn o given old input frames told old given) out events out events) (sym is) none

@@ -1,7 +1,7 @@
 -- The peer's Transfer, once it is heard.
-use Rattle.std.proofs.Common.{◌≡◌, inl, inr, ℕ, Bool, true, false, List, [], ◌++◌, Option, Some, None, Ok}
-use Rattle.std.proofs.Common.{IsSome, refl, sym, ap, subst, ◌∙◌, append-nil, arith}
-use Rattle.std.specs.Prelude.{is_some, if◌then◌else◌, slice_index_or}
+use Rattle.std.proofs.Common.{◌≡◌, inl, inr, ℕ, ◌+◌, ◌-◌, ◌<◌, ◌^◌, Bool, true, false, List, [], ◌++◌, Option, Some}
+use Rattle.std.proofs.Common.{None, Ok, IsSome, refl, sym, ap, subst, ◌∙◌, append-nil, arith}
+use Rattle.std.specs.Prelude.{IfErr, IsErrAnd, Result, Err, ⊤, is_some, if◌then◌else◌, slice_index_or}
 use Rattle.std.proofs.lemmas.Option.{none-some, same_Some}
 use Rattle.amqp_session_types.specs.declared.channels.IncomingChannel.{IncomingChannel}
 use Rattle.amqp_session_performatives.specs.declared.session_frame.SessionFrame.{SessionFrame}
@@ -10,7 +10,9 @@ use Rattle.amqp_session_core.specs.State.{link_at, live_in, reached}
 use Rattle.amqp_session_core.specs.Told.{TransferAt}
 use Rattle.amqp_session_core.specs.declared.incoming.TransferTaken.{TransferTaken}
 use Rattle.std.specs.FinMap as map
+use Rattle.amqp_link_receiving.specs.declared.answer.Message.{Message}
 use Rattle.amqp_link_receiving.specs.declared.answer.Told.{Told}
+use Rattle.amqp_link_receiving.specs.declared.answer.Told.TheVariants as tells
 use Rattle.amqp_link_types.specs.declared.refusals.ReceiverTransferError.{ReceiverTransferError}
 use Rattle.amqp_endpoint_links.specs.declared.hearing.LinkPerformative.TheVariants as said
 use Rattle.amqp_endpoint_links.specs.declared.hearing.PerformativeTaken.TheVariants as taken
@@ -19,7 +21,6 @@ use Rattle.amqp_endpoint_conversation.specs.Hearing.{Answered}
 use Rattle.amqp_endpoint_fitting.specs.Read.{IsRead}
 use Rattle.amqp_endpoint_fitting.proofs.Due.{due}
 use Rattle.amqp_endpoint_model.specs.declared.error.EndpointError.{EndpointError}
-use Rattle.amqp_endpoint_model.specs.declared.error.EndpointError.TheVariants as fault
 use Rattle.amqp_endpoint_model.specs.declared.event.Event.{Event}
 use Rattle.amqp_endpoint_model.specs.Relay.{IsSessionFault}
 use Rattle.amqp_endpoint_model.specs.State.{fits, frame_of}
@@ -29,10 +30,10 @@ use Rattle.amqp_endpoint_attached.proofs.There.{replaced}
 use Rattle.amqp_endpoint_linking.specs.Linking.{Link, Links, Session, Talk}
 use Rattle.amqp_endpoint_linking.specs.Handed.{Tells}
 use Rattle.amqp_endpoint_link_hearing.specs.Saying.{Answers, FailsBySaid, LinkHeard}
-use Rattle.amqp_endpoint_link_hearing.specs.Taking.{ClosesBy, ClosesFor, FailsFor, FailsIn, FlowFits, StandsIn, TakenIn}
-use Rattle.amqp_endpoint_link_hearing.specs.Taking.{reached_in, reached_of}
-use Rattle.amqp_endpoint_link_hearing.specs.Transferring.{Becomes, ClosedBy, ClosedIf, HearsTransfer, IsUnclosed}
-use Rattle.amqp_endpoint_link_hearing.specs.Transferring.{RefusesTransfer, fault_of, transfer_of}
+use Rattle.amqp_endpoint_link_hearing.specs.Taking.{ClosesBy, DoneFor, FailsFor, FailsIn, FlowFits, HandsBy, IsUnready}
+use Rattle.amqp_endpoint_link_hearing.specs.Taking.{StandsIn, TakenIn, reached_in, reached_of}
+use Rattle.amqp_endpoint_link_hearing.specs.Transferring.{Becomes, ClosedBy, Comes, HandsOver, HearsTransfer}
+use Rattle.amqp_endpoint_link_hearing.specs.Transferring.{IsUnclosed, RefusesTransfer, transfer_of}
 use Rattle.amqp_endpoint_link_hearing.proofs.Heard.{IsTaken, taken-in}
 
 -- a handle that reached a link reaches it while the link is there
@@ -107,6 +108,26 @@ module _ (old : Talk) (channel : IncomingChannel) (out : List SessionFrame) (it 
         (said.Transfer it payload) told flow (omega arith) ((taken-there.takes).hears).heard is reads),
   )
 
+  -- its message is handed out
+  handed-by : (message : Message) (given : ℕ) (frames : List SessionFrame) (events : List Event) (new : Talk)
+      (given_new : ℕ) → HandsBy message given mid session it.handle.0 events new → frames ≡ []
+      → given_new ≡ given + 1 → HandsOver old given it session message mid frames events new given_new
+  handed-by message given frames events new given_new h none counted =
+      let same : link-there.handle ≡ (h.handle).0 = same_Some _ _ (sym reaches-on ∙ h.reaches) in
+      record {
+        stood = taken-there.before;
+        live = taken-there.live;
+        handle = h.handle;
+        reaches = link-there.reaches ∙ ap (λ (n : ℕ). Some n) same;
+        link = h.link;
+        there = h.there;
+        remembers = h.remembers;
+        silent = none;
+        tells = h.tells;
+        counted = counted;
+      }
+
+  -- it is closed for its fault
   closed-by : (error : ReceiverTransferError) (frames : List SessionFrame) (events : List Event) (new : Talk)
       → ClosesBy error mid session it.handle.0 frames events new
       → ClosedBy old it session error mid frames events new
@@ -123,15 +144,20 @@ module _ (old : Talk) (channel : IncomingChannel) (out : List SessionFrame) (it 
         tells = (c.closed).tells;
       }
 
-  closed-if : (why : Option ReceiverTransferError) (frames : List SessionFrame) (events : List Event) (new : Talk)
-      → ClosesFor why mid session it.handle.0 frames events new → ClosedIf why old it session mid frames events new
-  closed-if (Some error) frames events new c = closed-by error frames events new c
-  closed-if None frames events new c = c
+  comes : (tell : Told) (given : ℕ) (frames : List SessionFrame) (events : List Event) (new : Talk) (given_new : ℕ)
+      → DoneFor tell given mid session it.handle.0 frames events new given_new
+      → Comes tell old given it session mid frames events new given_new
+  comes (tells.Message message) given frames events new given_new d =
+      handed-by message given frames events new given_new d.0 d.1 d.2
+  comes (tells.Refused error) given frames events new given_new d = (closed-by error frames events new d.0, d.1)
+  comes tells.Nothing given frames events new given_new d = d
+  comes (tells.Joined number tag) given frames events new given_new d = d
+  comes tells.Dropped given frames events new given_new d = d
 
-  unclosed-for : (why : Option ReceiverTransferError) → fault_of told.told ≡ why → (e : EndpointError)
-      → FailsFor why e → Answers old channel (said.Transfer it payload) (Ok (Live session (taken.Transfer told))) [] mid
+  unclosed-for : (tell : Told) → told.told ≡ tell → (e : EndpointError) → FailsFor tell e
+      → Answers old channel (said.Transfer it payload) (Ok (Live session (taken.Transfer told))) [] mid
       → IsSessionFault e × IsUnclosed old channel it payload e mid
-  unclosed-for (Some error) is e fails answered =
+  unclosed-for (tells.Refused error) is e fails answered =
       let why : IsSessionFault e = subst IsSessionFault (sym fails) tt in (
         why,
         record {
@@ -145,7 +171,10 @@ module _ (old : Talk) (channel : IncomingChannel) (out : List SessionFrame) (it 
           is = fails;
         },
       )
-  unclosed-for None is e fails answered = absurd fails
+  unclosed-for (tells.Message message) is e fails answered = absurd fails
+  unclosed-for tells.Nothing is e fails answered = absurd fails
+  unclosed-for (tells.Joined number tag) is e fails answered = absurd fails
+  unclosed-for tells.Dropped is e fails answered = absurd fails
 
 module _ (old : Talk) (channel : IncomingChannel) (out : List SessionFrame) (it : Transfer) (payload : List ℕ) where
   stands-so : (heard : LinkHeard) (mid : Talk) (out_mid : List SessionFrame)
@@ -163,19 +192,19 @@ module _ (old : Talk) (channel : IncomingChannel) (out : List SessionFrame) (it 
       subst (λ (o : Option (ℕ × TransferTaken Told)). StandsIn mid it.handle.0 o) (sym is)
       (stands-so heard mid out_mid t)
 
-  becomes : (heard : LinkHeard) (mid : Talk) (out_mid frames : List SessionFrame) (events : List Event) (new : Talk)
-      → Answered gives old out channel (said.Transfer it payload) (Ok heard) mid out_mid
-      → TakenIn (transfer_of heard) mid it.handle.0 frames events new
-      → Becomes (transfer_of heard) old it mid frames events new
-  becomes (Live session (taken.Transfer told)) mid out_mid frames events new t l =
+  becomes : (heard : LinkHeard) (given : ℕ) (mid : Talk) (out_mid frames : List SessionFrame) (events : List Event)
+      (new : Talk) (given_new : ℕ) → Answered gives old out channel (said.Transfer it payload) (Ok heard) mid out_mid
+      → TakenIn (transfer_of heard) given mid it.handle.0 frames events new given_new
+      → Becomes (transfer_of heard) old given it mid frames events new given_new
+  becomes (Live session (taken.Transfer told)) given mid out_mid frames events new given_new t l =
       record {
         own = l.own;
-        closed =
-            closed-if old channel out it payload session told mid out_mid t (fault_of told.told) l.own events new
-            l.closes;
+        comes =
+            comes old channel out it payload session told mid out_mid t told.told given l.own events new given_new
+            l.done;
         sent = l.sent;
       }
-  becomes heard mid out_mid frames events new t l = l
+  becomes heard given mid out_mid frames events new given_new t l = l
 
   heard-alone : (heard : LinkHeard) (mid : Talk) (out_mid : List SessionFrame) → out_mid ≡ out
       → Answered gives old out channel (said.Transfer it payload) (Ok heard) mid out_mid
@@ -185,43 +214,47 @@ module _ (old : Talk) (channel : IncomingChannel) (out : List SessionFrame) (it 
       (same ∙ sym (append-nil out)) t
 
   pub transfer-taken : (heard : LinkHeard) (took : Option (ℕ × TransferTaken Told)) → took ≡ transfer_of heard
-      → (mid : Talk) (out_mid : List SessionFrame) (links links_new : Links) (new : Talk) (told told_new : List Event)
-      (out_new : List SessionFrame) → out_mid ≡ out → links_new ≡ links
+      → (given given_new : ℕ) → given < 2 ^ 64 - 1 → (mid : Talk) (out_mid : List SessionFrame)
+      (links links_new : Links) (new : Talk) (told told_new : List Event) (out_new : List SessionFrame)
+      → out_mid ≡ out → links_new ≡ links
       → Answered gives old out channel (said.Transfer it payload) (Ok heard) mid out_mid
       → Tells (λ (frames : List SessionFrame) (events : List Event).
-      TakenIn took mid it.handle.0 frames events new) out_mid told out_new told_new
+      TakenIn took given mid it.handle.0 frames events new given_new) out_mid told out_new told_new
       → Tells (λ (frames : List SessionFrame) (events : List Event).
-      HearsTransfer old links channel it payload frames events new links_new) out told out_new told_new
-  transfer-taken heard took is mid out_mid links links_new new told told_new out_new same rest t l =
+      HearsTransfer old links given channel it payload frames events new links_new given_new) out told out_new told_new
+  transfer-taken heard took is given given_new left mid out_mid links links_new new told told_new out_new same rest t l
+      =
       record {
         frames = l.frames;
         events = l.events;
-        is_so =
-            inl (record {
-              heard = heard;
-              mid = mid;
-              answered = heard-alone heard mid out_mid same t;
-              becomes =
-                  becomes heard mid out_mid l.frames l.events new t
-                  (subst (λ (o : Option (ℕ × TransferTaken Told)).
-                  TakenIn o mid it.handle.0 l.frames l.events new) is l.is_so);
-              same = rest;
-            });
+        is_so = (
+          left,
+          inl (record {
+            heard = heard;
+            mid = mid;
+            answered = heard-alone heard mid out_mid same t;
+            becomes =
+                becomes heard given mid out_mid l.frames l.events new given_new t
+                (subst (λ (o : Option (ℕ × TransferTaken Told)).
+                TakenIn o given mid it.handle.0 l.frames l.events new given_new) is l.is_so);
+            same = rest;
+          }),
+        );
         queued = l.queued ∙ ap (λ (o : List SessionFrame). o ++ l.frames) same;
         are_told = l.are_told;
       }
 
-  pub transfer-fails : (links links_new : Links) (new : Talk) (told told_new : List Event)
-      (out_new : List SessionFrame)
+  pub transfer-fails : (given : ℕ) → given < 2 ^ 64 - 1 → (links links_new : Links) (new : Talk)
+      (told told_new : List Event) (out_new : List SessionFrame)
       → Tells (λ (frames : List SessionFrame) (events : List Event).
       FailsBySaid old links channel (said.Transfer it payload) frames events new links_new) out told out_new told_new
       → Tells (λ (frames : List SessionFrame) (events : List Event).
-      HearsTransfer old links channel it payload frames events new links_new) out told out_new told_new
-  transfer-fails links links_new new told told_new out_new t =
+      HearsTransfer old links given channel it payload frames events new links_new given) out told out_new told_new
+  transfer-fails given left links links_new new told told_new out_new t =
       record {
         frames = t.frames;
         events = t.events;
-        is_so = inr t.is_so;
+        is_so = (left, inr (record { fails = t.is_so; uncounted = refl }));
         queued = t.queued;
         are_told = t.are_told;
       }
@@ -231,24 +264,36 @@ module _ (old : Talk) (channel : IncomingChannel) (out : List SessionFrame) (it 
       → Answered gives old out channel (said.Transfer it payload) (Ok heard) mid out_mid
       → FailsIn (transfer_of heard) e → IsSessionFault e × IsUnclosed old channel it payload e mid
   unclosed-so (Live session (taken.Transfer told)) mid out_mid e same t fails =
-      unclosed-for old channel out it payload session told mid out_mid t (fault_of told.told) refl e fails
+      unclosed-for old channel out it payload session told mid out_mid t told.told refl e fails
       (heard-alone (Live session (taken.Transfer told)) mid out_mid same t)
   unclosed-so heard mid out_mid e same t fails = absurd fails
 
   pub transfer-unclosed : (heard : LinkHeard) (took : Option (ℕ × TransferTaken Told)) → took ≡ transfer_of heard
-      → (mid : Talk) (out_mid : List SessionFrame) (e : EndpointError) (new : Talk) → out_mid ≡ out
-      → Answered gives old out channel (said.Transfer it payload) (Ok heard) mid out_mid → FailsIn took e
-      → new ≡ mid → IsSessionFault e × RefusesTransfer old channel it payload e new
-  transfer-unclosed heard took is mid out_mid e new same t fails stays =
+      → (given : ℕ) → given < 2 ^ 64 - 1 → (mid : Talk) (out_mid : List SessionFrame) (e : EndpointError) (new : Talk)
+      → out_mid ≡ out → Answered gives old out channel (said.Transfer it payload) (Ok heard) mid out_mid
+      → FailsIn took e → new ≡ mid → IsSessionFault e × RefusesTransfer old given channel it payload e new
+  transfer-unclosed heard took is given left mid out_mid e new same t fails stays =
       let (why, unclosed) =
       unclosed-so heard mid out_mid e same t
       (subst (λ (o : Option (ℕ × TransferTaken Told)). FailsIn o e) is fails) in (
         why,
-        inr (subst (λ (n : Talk). IsUnclosed old channel it payload e n) (sym stays) unclosed),
+        inr (left, inr (subst (λ (n : Talk). IsUnclosed old channel it payload e n) (sym stays) unclosed)),
       )
 
--- there is no memory even for what is told
-pub transfer-untold : (old : Talk) (channel : IncomingChannel) (it : Transfer) (payload : List ℕ) (e : EndpointError)
-    → e ≡ fault.Memory → IsSessionFault e × RefusesTransfer old channel it payload e old
-transfer-untold old channel it payload e is =
-    let why : IsSessionFault e = subst IsSessionFault (sym is) tt in (why, inl (inr (is, refl)))
+-- no number is left for a message, or there is no memory even for what is told
+transfer-unready : (old : Talk) (given : ℕ) (channel : IncomingChannel) (it : Transfer) (payload : List ℕ)
+    (e : EndpointError) → IsUnready given e → IsSessionFault e × RefusesTransfer old given channel it payload e old
+transfer-unready old given channel it payload e (inl (used_up, is)) =
+    let why : IsSessionFault e = subst IsSessionFault (sym is) tt in
+    (why, inl (record { used_up = used_up; is = is; stays = refl }))
+transfer-unready old given channel it payload e (inr (left, is)) =
+    let why : IsSessionFault e = subst IsSessionFault (sym is) tt in (why, inr (left, inl (inr (is, refl))))
+
+-- that is what is answered
+pub unready-carried : (r : Result ⊤ EndpointError) (why : EndpointError) → IsErrAnd r (λ (e : EndpointError). e ≡ why)
+    → (old : Talk) (given : ℕ) (channel : IncomingChannel) (it : Transfer) (payload : List ℕ) → IsUnready given why
+    → IfErr r (λ (e : EndpointError). IsSessionFault e × RefusesTransfer old given channel it payload e old)
+unready-carried (Ok done) why is old given channel it payload unready = tt
+unready-carried (Err e) why is old given channel it payload unready =
+    transfer-unready old given channel it payload e
+    (subst (λ (x : EndpointError). IsUnready given x) (sym is) unready)

@@ -1,17 +1,20 @@
 -- The peer's Detach (part 2, 2.6.4 to 2.6.6, 2.7.7).
-use Rattle.std.specs.Prelude.{◌≡◌, ◌⊎◌, ℕ, List, [], ◌∷◌, Bool, Option, Some, None, Ok}
+use Rattle.std.specs.Prelude.{◌≡◌, ◌⊎◌, ℕ, List, [], ◌∷◌, ◌++◌, Bool, true, false, Option, Some, None, Ok}
 use Rattle.amqp_session_types.specs.declared.channels.IncomingChannel.{IncomingChannel}
 use Rattle.amqp_session_types.specs.declared.error.Error.{Error}
 use Rattle.amqp_session_types.specs.declared.handles.OutputHandle.{OutputHandle}
 use Rattle.amqp_session_performatives.specs.declared.detach.Detach.{Detach}
 use Rattle.amqp_session_performatives.specs.declared.session_frame.SessionFrame.{SessionFrame}
-use Rattle.amqp_session_core.specs.State.{reached}
+use Rattle.amqp_session_core.specs.State.{link_at, reached}
 use Rattle.amqp_link_base.specs.declared.detached.Detached.{Detached}
+use Rattle.amqp_link_ends.specs.declared.end.End.{End}
 use Rattle.amqp_endpoint_links.specs.declared.hearing.LinkPerformative.TheVariants as said
 use Rattle.amqp_endpoint_sessions.specs.State.{live_at}
 use Rattle.amqp_endpoint_model.specs.declared.event.Event.{Event}
 use Rattle.amqp_endpoint_model.specs.declared.event.Event.TheVariants as event
+use Rattle.amqp_endpoint_attached.specs.Linked.{Linked, end_at}
 use Rattle.amqp_endpoint_linking.specs.Linking.{Link, Links, Session, Talk}
+use Rattle.amqp_endpoint_outcomes.specs.All.{TellsFirst, open_count, told_by}
 use Rattle.amqp_endpoint_link_hearing.specs.Heard.{detach_of}
 use Rattle.amqp_endpoint_link_hearing.specs.InSession.{GoesOn, Parts}
 use Rattle.amqp_endpoint_link_hearing.specs.Leaving.{IsLeft, repeated}
@@ -23,8 +26,22 @@ abbrev pub detached_told : ℕ → Bool → Option Error → List Event
 detached_told link closed error =
     event.Detached (record { link = link; closed = closed; error = error }) ∷ []
 
+-- how many messages of a link end as the peer detaches it: where it closes it, those that are open
+abbrev pub ending : Bool → Option End → ℕ
+ending true link = open_count link
+ending false link = 0
+
+-- a link tells of so many messages that ended; the peer's Detach is answered, where the own one hadn't gone, and the
+-- link leaves its session, where nothing of it waits there
+pub record TellsAndParts (count : ℕ) (handle : OutputHandle) (answers closed : Bool) (error : Option Error)
+    (left : Option Link) (frames : List SessionFrame) (old new : Linked) : Type 0 where
+  pub mid : Linked
+  pub tells : TellsFirst count handle (link_at old.session handle.0) old mid
+  pub parts : Parts handle answers closed error left frames mid new
+
 -- the link that the peer's handle reached took it: it is answered, where the own Detach hadn't gone, by one that closes
--- the link as the peer's does, with its error where that fits; the link leaves its session, and this is told
+-- the link as the peer's does, with its error where that fits; the link leaves its session. It is told that it is
+-- detached, and behind that the outcomes of the messages that end by it, by the peer's error
 pub record ByLink (old : Talk) (links : Links) (it : Detach) (session : ℕ) (told : Detached) (mid : Talk)
     (frames : List SessionFrame) (events : List Event) (new : Talk) (links_new : Links) : Type 0 where
   pub stood : Session
@@ -36,11 +53,12 @@ pub record ByLink (old : Talk) (links : Links) (it : Detach) (session : ℕ) (to
   pub left : Option Link
   pub parts :
       GoesOn
-      (Parts handle told.answer it.closed
+      (TellsAndParts (ending it.closed (end_at stood.value handle)) handle told.answer it.closed
       (repeated stood.value.session.fields.channel handle it.closed it.error) left frames)
       mid session new
   pub is_left : IsLeft told.closed links link.number left links_new
   pub tells : events ≡ detached_told link.number told.closed it.error
+      ++ told_by link.number it.error (ending it.closed (end_at stood.value handle)) link.link
 
 -- nothing more comes of it
 pub record Withdraws (links : Links) (mid : Talk) (frames : List SessionFrame) (events : List Event) (new : Talk)

@@ -1,5 +1,6 @@
 -- What is done for the link that took a Transfer, in its session (part 2, 2.5.6, 2.7.5).
-use Rattle.std.specs.Prelude.{◌≡◌, ℕ, List, [], ◌++◌, true, Option, Some, None, IsSome, option_to_list}
+use Rattle.std.specs.Prelude.{◌≡◌, ◌⊎◌, ℕ, ◌+◌, ◌-◌, ◌<◌, ◌^◌, List, [], ◌++◌, true, Option, Some, None, IsSome}
+use Rattle.std.specs.Prelude.{option_to_list}
 use Rattle.amqp_session_types.specs.declared.error.Error.{Error}
 use Rattle.amqp_session_types.specs.declared.handles.OutputHandle.{OutputHandle}
 use Rattle.amqp_session_performatives.specs.declared.session_frame.SessionFrame.{SessionFrame}
@@ -7,11 +8,13 @@ use Rattle.amqp_session_core.specs.State.{reached}
 use Rattle.amqp_session_core.specs.declared.incoming.TransferTaken.{TransferTaken}
 use Rattle.amqp_link_types.specs.declared.link_error.LinkError.TheVariants.{ReceiverTransfer}
 use Rattle.amqp_link_types.specs.declared.refusals.ReceiverTransferError.{ReceiverTransferError}
+use Rattle.amqp_link_receiving.specs.declared.answer.Message.{Message}
 use Rattle.amqp_link_receiving.specs.declared.answer.Told.{Told}
+use Rattle.amqp_link_receiving.specs.declared.answer.Told.TheVariants as told
 use Rattle.amqp_endpoint_fitting.specs.Read.{IsRead}
 use Rattle.amqp_endpoint_sessions.specs.State.{live_at}
 use Rattle.amqp_endpoint_model.specs.declared.error.EndpointError.{EndpointError}
-use Rattle.amqp_endpoint_model.specs.declared.error.EndpointError.TheVariants.{Memory}
+use Rattle.amqp_endpoint_model.specs.declared.error.EndpointError.TheVariants.{Memory, NumbersUsedUp}
 use Rattle.amqp_endpoint_model.specs.declared.event.Event.{Event}
 use Rattle.amqp_endpoint_model.specs.State.{error_of, fits, frame_of}
 use Rattle.amqp_endpoint_linking.specs.Linking.{Link, Session, Talk}
@@ -19,7 +22,7 @@ use Rattle.amqp_endpoint_link_hearing.specs.Attaching.{refused_told}
 use Rattle.amqp_endpoint_link_hearing.specs.InSession.{Closes, GoesOn, name_of}
 use Rattle.amqp_endpoint_link_hearing.specs.Leaving.{HasPlace}
 use Rattle.amqp_endpoint_link_hearing.specs.Naming.{link_of}
-use Rattle.amqp_endpoint_link_hearing.specs.Transferring.{condition_of, fault_of}
+use Rattle.amqp_endpoint_link_hearing.specs.Transferring.{ComesToNothing, RemembersUnless, condition_of, message_told}
 use Rattle.amqp_endpoint_link_hearing.specs.declared.leaving.Answer.{Answer}
 
 -- the own handle of the link that a handle of the peer's reaches in a session that has begun (part 2, 2.6.2)
@@ -29,6 +32,16 @@ reached_in (Some session) input = reached session.value.session input
 
 abbrev pub reached_of : Talk → ℕ → ℕ → Option ℕ
 reached_of talk session input = reached_in (live_at talk.sessions session) input
+
+-- the link that the peer's handle reaches has a message, which is handed out under the next number
+pub record HandsBy (message : Message) (given : ℕ) (old : Talk) (session input : ℕ) (events : List Event) (new : Talk)
+    : Type 0 where
+  pub handle : OutputHandle
+  pub reaches : reached_of old session input ≡ Some handle.0
+  pub link : Link
+  pub there : link_of old session handle ≡ Some link
+  pub remembers : RemembersUnless message.settled handle message.delivery_tag given old session new
+  pub tells : events ≡ message_told link.number given handle message
 
 -- this is told of a link that is closed for a fault
 abbrev pub fault_told : ℕ → ℕ → ReceiverTransferError → List Event
@@ -59,29 +72,40 @@ pub record ClosesBy (error : ReceiverTransferError) (old : Talk) (session input 
   pub closed :
       IsClosedFor old session handle (Some (error_of (name_of (condition_of error)))) error frames events new
 
-abbrev pub ClosesFor : Option ReceiverTransferError → Talk → ℕ → ℕ → List SessionFrame → List Event → Talk → Type 0
-ClosesFor (Some error) old session input frames events new = ClosesBy error old session input frames events new
-ClosesFor None old session input frames events new = (frames ≡ []) × (events ≡ []) × (new ≡ old)
+-- what is done for what the link tells
+abbrev pub DoneFor : Told → ℕ → Talk → ℕ → ℕ → List SessionFrame → List Event → Talk → ℕ → Type 0
+DoneFor (told.Message message) given old session input frames events new given_new =
+    HandsBy message given old session input events new × (frames ≡ []) × (given_new ≡ given + 1)
+DoneFor (told.Refused error) given old session input frames events new given_new =
+    ClosesBy error old session input frames events new × (given_new ≡ given)
+DoneFor other given old session input frames events new given_new =
+    ComesToNothing given old frames events new given_new
 
 -- behind that goes the Flow of the session
-pub record TakenBy (old : Talk) (session input : ℕ) (took : TransferTaken Told) (frames : List SessionFrame)
-    (events : List Event) (new : Talk) : Type 0 where
+pub record TakenBy (took : TransferTaken Told) (given : ℕ) (old : Talk) (session input : ℕ)
+    (frames : List SessionFrame) (events : List Event) (new : Talk) (given_new : ℕ) : Type 0 where
   pub own : List SessionFrame
-  pub closes : ClosesFor (fault_of took.told) old session input own events new
+  pub done : DoneFor took.told given old session input own events new given_new
   pub sent : frames ≡ own ++ option_to_list took.flow
 
-abbrev pub TakenIn : Option (ℕ × TransferTaken Told) → Talk → ℕ → List SessionFrame → List Event → Talk → Type 0
-TakenIn (Some (session, took)) old input frames events new = TakenBy old session input took frames events new
-TakenIn None old input frames events new = (frames ≡ []) × (events ≡ []) × (new ≡ old)
+abbrev pub TakenIn : Option (ℕ × TransferTaken Told) → ℕ → Talk → ℕ → List SessionFrame → List Event → Talk → ℕ
+    → Type 0
+TakenIn (Some (session, took)) given old input frames events new given_new =
+    TakenBy took given old session input frames events new given_new
+TakenIn None given old input frames events new given_new = ComesToNothing given old frames events new given_new
 
 -- a link is to be closed, and there is no memory for its Detach
-abbrev pub FailsFor : Option ReceiverTransferError → EndpointError → Type 0
-FailsFor (Some error) e = e ≡ Memory
-FailsFor None e = ⊥
+abbrev pub FailsFor : Told → EndpointError → Type 0
+FailsFor (told.Refused error) e = e ≡ Memory
+FailsFor other e = ⊥
 
 abbrev pub FailsIn : Option (ℕ × TransferTaken Told) → EndpointError → Type 0
-FailsIn (Some (session, took)) e = FailsFor (fault_of took.told) e
+FailsIn (Some (session, took)) e = FailsFor took.told e
 FailsIn None e = ⊥
+
+-- no number is left for a message, or there is no memory for what is told and handed out
+abbrev pub IsUnready : ℕ → EndpointError → Type 0
+IsUnready given e = ((given ≡ 2 ^ 64 - 1) × (e ≡ NumbersUsedUp)) ⊎ ((given < 2 ^ 64 - 1) × (e ≡ Memory))
 
 -- the Flow of the session fits every peer's limit, once its numbers are read
 abbrev pub FlowFits : Option SessionFrame → Type 0

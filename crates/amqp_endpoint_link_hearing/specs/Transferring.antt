@@ -1,24 +1,35 @@
 -- The peer's Transfer (part 2, 2.5.6, 2.6.12, 2.7.5).
-use Rattle.std.specs.Prelude.{◌≡◌, ◌⊎◌, ℕ, List, [], ◌++◌, Option, Some, None, Ok, option_to_list}
+use Rattle.std.specs.Prelude.{◌≡◌, ◌⊎◌, ℕ, ◌+◌, ◌-◌, ◌<◌, ◌^◌, Bool, true, false, List, [], ◌∷◌, ◌++◌}
+use Rattle.std.specs.Prelude.{Option, Some, None, Ok, option_to_list}
 use Rattle.amqp_session_types.specs.declared.channels.IncomingChannel.{IncomingChannel}
 use Rattle.amqp_session_types.specs.declared.handles.OutputHandle.{OutputHandle}
 use Rattle.amqp_session_performatives.specs.declared.session_frame.SessionFrame.{SessionFrame}
 use Rattle.amqp_session_performatives.specs.declared.transfer.Transfer.{Transfer}
 use Rattle.amqp_session_core.specs.State.{reached}
+use Rattle.amqp_session_core.specs.Steps.{Changes, Steps}
 use Rattle.amqp_session_core.specs.declared.incoming.TransferTaken.{TransferTaken}
 use Rattle.amqp_link_types.specs.declared.link_error.LinkError.TheVariants.{ReceiverTransfer}
 use Rattle.amqp_link_types.specs.declared.refusals.ReceiverTransferError.{ReceiverTransferError}
 use Rattle.amqp_link_types.specs.declared.refusals.ReceiverTransferError.TheVariants as fault
+use Rattle.amqp_link_message.specs.Making.{bare}
+use Rattle.amqp_link_message.specs.declared.delivery.Delivery.{Delivery}
+use Rattle.amqp_link_message.specs.declared.raw.Raw.{Raw}
+use Rattle.amqp_link_receiving.specs.declared.answer.Message.{Message}
 use Rattle.amqp_link_receiving.specs.declared.answer.Told.{Told}
 use Rattle.amqp_link_receiving.specs.declared.answer.Told.TheVariants as told
+use Rattle.amqp_link_receiver.specs.Disposing.{message_numbered}
+use Rattle.amqp_link_ends.specs.declared.end.End.{End}
+use Rattle.amqp_link_ends.specs.declared.end.End.TheVariants.{Receiver, Sender}
 use Rattle.amqp_endpoint_links.specs.declared.hearing.LinkPerformative.TheVariants as said
 use Rattle.amqp_endpoint_links.specs.declared.hearing.PerformativeTaken.TheVariants as taken
 use Rattle.amqp_endpoint_conversation.specs.declared.hearing.Heard.TheVariants.{Live}
 use Rattle.amqp_endpoint_sessions.specs.State.{live_at}
 use Rattle.amqp_endpoint_model.specs.declared.error.EndpointError.{EndpointError}
-use Rattle.amqp_endpoint_model.specs.declared.error.EndpointError.TheVariants.{Memory}
+use Rattle.amqp_endpoint_model.specs.declared.error.EndpointError.TheVariants.{Memory, NumbersUsedUp}
 use Rattle.amqp_endpoint_model.specs.declared.event.Event.{Event}
+use Rattle.amqp_endpoint_model.specs.declared.event.Event.TheVariants as event
 use Rattle.amqp_endpoint_model.specs.State.{error_of}
+use Rattle.amqp_endpoint_attached.specs.Linked.{Linked, gives}
 use Rattle.amqp_endpoint_linking.specs.Linking.{Link, Links, Session, Talk}
 use Rattle.amqp_endpoint_link_hearing.specs.Attaching.{refused_told}
 use Rattle.amqp_endpoint_link_hearing.specs.InSession.{Closes, GoesOn, name_of}
@@ -32,19 +43,71 @@ abbrev pub transfer_of : LinkHeard → Option (ℕ × TransferTaken Told)
 transfer_of (Live session (taken.Transfer it)) = Some (session, it)
 transfer_of heard = None
 
--- why the link is closed by it: it refuses it; or it has a whole message, and no message is handed out here
-abbrev pub fault_of : Told → Option ReceiverTransferError
-fault_of (told.Refused error) = Some error
-fault_of (told.Message message) = Some fault.IllegalState
-fault_of other = None
+-- a message as it is handed out (part 2, 2.6.12, 2.7.5): on the own handle of its link, with what its transfers said of
+-- it, and with its bytes as they came
+abbrev pub delivery_of : OutputHandle → Message → Delivery Raw
+delivery_of handle message =
+    record {
+      handle = record { 0 = handle.0 };
+      delivery_id = message.delivery_id;
+      delivery_tag = message.delivery_tag;
+      message_format = message.message_format;
+      rcv_settle_mode = message.rcv_settle_mode;
+      message = bare (record { 0 = message.payload });
+    }
 
--- what its Detach says of that (part 2, 2.8.15, 2.8.18)
+-- a message that came whole by the link with this number is told under a number of its own, settled as its sender
+-- settled it
+abbrev pub message_told : ℕ → ℕ → OutputHandle → Message → List Event
+message_told link number handle message =
+    event.Message (record {
+      link = link;
+      message = number;
+      delivery = delivery_of handle message;
+      settled = message.settled;
+    })
+    ∷ []
+
+-- a receiving link remembers the number of its message with this tag; by a sending one no message comes
+abbrev pub remembering : End → List ℕ → ℕ → End
+remembering (Receiver link) tag number = Receiver (message_numbered link tag number)
+remembering (Sender link) tag number = Sender link
+
+-- the link with this own handle remembers it
+pub record Remembers (handle : OutputHandle) (tag : List ℕ) (number : ℕ) (old new : Linked) : Type 0 where
+  pub link : Link
+  pub changed :
+      Steps gives old.session
+      (Changes handle.0 link (record link { link = remembering link.link tag number })) new.session
+  pub rest : new ≡ record old { session = new.session }
+
+-- of a message that its sender settled it remembers nothing, since that isn't to be disposed of (part 2, 2.6.12)
+abbrev pub RemembersUnless : Bool → OutputHandle → List ℕ → ℕ → Talk → ℕ → Talk → Type 0
+RemembersUnless true handle tag number old session new = new ≡ old
+RemembersUnless false handle tag number old session new = GoesOn (Remembers handle tag number) old session new
+
+-- a message came whole by the link that the peer's handle reached: it is told under the next number, which the link
+-- remembers unless the message is settled
+pub record HandsOver (old : Talk) (given : ℕ) (it : Transfer) (session : ℕ) (message : Message) (mid : Talk)
+    (frames : List SessionFrame) (events : List Event) (new : Talk) (given_new : ℕ) : Type 0 where
+  pub stood : Session
+  pub live : live_at old.sessions session ≡ Some stood
+  pub handle : OutputHandle
+  pub reaches : reached stood.value.session it.handle.0 ≡ Some handle.0
+  pub link : Link
+  pub there : link_of mid session handle ≡ Some link
+  pub remembers : RemembersUnless message.settled handle message.delivery_tag given mid session new
+  pub silent : frames ≡ []
+  pub tells : events ≡ message_told link.number given handle message
+  pub counted : given_new ≡ given + 1
+
+-- what the Detach of a link says that is closed for this fault (part 2, 2.8.15, 2.8.18)
 abbrev pub condition_of : ReceiverTransferError → Condition
 condition_of fault.TransferLimitExceeded = condition.TransferLimitExceeded
 condition_of fault.MessageSizeExceeded = condition.MessageSizeExceeded
 condition_of error = condition.NotAllowed
 
--- the link that the peer's handle reaches is closed for this fault, and this is told
+-- the link that the peer's handle reached refused the transfer: it is closed for this fault, and this is told
 pub record ClosedBy (old : Talk) (it : Transfer) (session : ℕ) (error : ReceiverTransferError) (mid : Talk)
     (frames : List SessionFrame) (events : List Event) (new : Talk) : Type 0 where
   pub stood : Session
@@ -56,39 +119,62 @@ pub record ClosedBy (old : Talk) (it : Transfer) (session : ℕ) (error : Receiv
   pub closes : GoesOn (Closes (Some (error_of (name_of (condition_of error)))) handle frames) mid session new
   pub tells : events ≡ refused_told session link.number (ReceiverTransfer error)
 
-abbrev pub ClosedIf : Option ReceiverTransferError → Talk → Transfer → ℕ → Talk → List SessionFrame → List Event → Talk
-    → Type 0
-ClosedIf (Some error) old it session mid frames events new = ClosedBy old it session error mid frames events new
-ClosedIf None old it session mid frames events new = (frames ≡ []) × (events ≡ []) × (new ≡ mid)
+-- nothing more comes of it
+pub record ComesToNothing (given : ℕ) (mid : Talk) (frames : List SessionFrame) (events : List Event) (new : Talk)
+    (given_new : ℕ) : Type 0 where
+  pub silent : frames ≡ []
+  pub untold : events ≡ []
+  pub stays : new ≡ mid
+  pub uncounted : given_new ≡ given
 
--- a link took it: what that makes of the link stands before the Flow of the session
-pub record ByLink (old : Talk) (it : Transfer) (session : ℕ) (took : TransferTaken Told) (mid : Talk)
-    (frames : List SessionFrame) (events : List Event) (new : Talk) : Type 0 where
+-- what comes of what the link tells: its message is handed out, or it is closed for its fault. Else nothing does: more
+-- transfers of the delivery are to come, or its message was handed out in an earlier attachment, or the peer gave it up
+abbrev pub Comes : Told → Talk → ℕ → Transfer → ℕ → Talk → List SessionFrame → List Event → Talk → ℕ → Type 0
+Comes (told.Message message) old given it session mid frames events new given_new =
+    HandsOver old given it session message mid frames events new given_new
+Comes (told.Refused error) old given it session mid frames events new given_new =
+    ClosedBy old it session error mid frames events new × (given_new ≡ given)
+Comes other old given it session mid frames events new given_new =
+    ComesToNothing given mid frames events new given_new
+
+-- a link took it: what comes of what the link tells stands before the Flow of the session
+pub record ByLink (old : Talk) (given : ℕ) (it : Transfer) (session : ℕ) (took : TransferTaken Told) (mid : Talk)
+    (frames : List SessionFrame) (events : List Event) (new : Talk) (given_new : ℕ) : Type 0 where
   pub own : List SessionFrame
-  pub closed : ClosedIf (fault_of took.told) old it session mid own events new
+  pub comes : Comes took.told old given it session mid own events new given_new
   pub sent : frames ≡ own ++ option_to_list took.flow
 
 -- in a session that is ending nothing comes of it
-abbrev pub Becomes : Option (ℕ × TransferTaken Told) → Talk → Transfer → Talk → List SessionFrame → List Event → Talk
-    → Type 0
-Becomes (Some (session, took)) old it mid frames events new = ByLink old it session took mid frames events new
-Becomes None old it mid frames events new = (frames ≡ []) × (events ≡ []) × (new ≡ mid)
+abbrev pub Becomes : Option (ℕ × TransferTaken Told) → Talk → ℕ → Transfer → Talk → List SessionFrame → List Event
+    → Talk → ℕ → Type 0
+Becomes (Some (session, took)) old given it mid frames events new given_new =
+    ByLink old given it session took mid frames events new given_new
+Becomes None old given it mid frames events new given_new = ComesToNothing given mid frames events new given_new
 
 -- its session takes it
-pub record TakesTransfer (old : Talk) (links : Links) (channel : IncomingChannel) (it : Transfer) (payload : List ℕ)
-    (frames : List SessionFrame) (events : List Event) (new : Talk) (links_new : Links) : Type 0 where
+pub record TakesTransfer (old : Talk) (links : Links) (given : ℕ) (channel : IncomingChannel) (it : Transfer)
+    (payload : List ℕ) (frames : List SessionFrame) (events : List Event) (new : Talk) (links_new : Links)
+    (given_new : ℕ) : Type 0 where
   pub heard : LinkHeard
   pub mid : Talk
   pub answered : Answers old channel (said.Transfer it payload) (Ok heard) [] mid
-  pub becomes : Becomes (transfer_of heard) old it mid frames events new
+  pub becomes : Becomes (transfer_of heard) old given it mid frames events new given_new
   pub same : links_new ≡ links
 
 -- or it ends by its fault
-abbrev pub HearsTransfer : Talk → Links → IncomingChannel → Transfer → List ℕ → List SessionFrame → List Event → Talk
-    → Links → Type 0
-HearsTransfer old links channel it payload frames events new links_new =
-    TakesTransfer old links channel it payload frames events new links_new
-    ⊎ FailsBySaid old links channel (said.Transfer it payload) frames events new links_new
+pub record FailsByTransfer (old : Talk) (links : Links) (given : ℕ) (channel : IncomingChannel) (it : Transfer)
+    (payload : List ℕ) (frames : List SessionFrame) (events : List Event) (new : Talk) (links_new : Links)
+    (given_new : ℕ) : Type 0 where
+  pub fails : FailsBySaid old links channel (said.Transfer it payload) frames events new links_new
+  pub uncounted : given_new ≡ given
+
+-- it is heard where a number is left for a message
+abbrev pub HearsTransfer : Talk → Links → ℕ → IncomingChannel → Transfer → List ℕ → List SessionFrame → List Event
+    → Talk → Links → ℕ → Type 0
+HearsTransfer old links given channel it payload frames events new links_new given_new =
+    (given < 2 ^ 64 - 1)
+    × (TakesTransfer old links given channel it payload frames events new links_new given_new
+    ⊎ FailsByTransfer old links given channel it payload frames events new links_new given_new)
 
 -- a link refuses it, and there is no memory for its Detach
 pub record IsUnclosed (old : Talk) (channel : IncomingChannel) (it : Transfer) (payload : List ℕ) (e : EndpointError)
@@ -99,10 +185,21 @@ pub record IsUnclosed (old : Talk) (channel : IncomingChannel) (it : Transfer) (
   pub took : TransferTaken Told
   pub error : ReceiverTransferError
   pub by_link : transfer_of heard ≡ Some (session, took)
-  pub refused : fault_of took.told ≡ Some error
+  pub refused : took.told ≡ told.Refused error
   pub is : e ≡ Memory
 
--- it ends the connection by this
-abbrev pub RefusesTransfer : Talk → IncomingChannel → Transfer → List ℕ → EndpointError → Talk → Type 0
-RefusesTransfer old channel it payload e new =
+-- what is heard ends the connection by this
+abbrev pub BarsTransfer : Talk → IncomingChannel → Transfer → List ℕ → EndpointError → Talk → Type 0
+BarsTransfer old channel it payload e new =
     RefusesSaid old channel (said.Transfer it payload) e new ⊎ IsUnclosed old channel it payload e new
+
+-- no number is left for a message: it isn't heard, and nothing changes
+pub record IsUnnumbered (old : Talk) (given : ℕ) (e : EndpointError) (new : Talk) : Type 0 where
+  pub used_up : given ≡ 2 ^ 64 - 1
+  pub is : e ≡ NumbersUsedUp
+  pub stays : new ≡ old
+
+-- it ends the connection by this
+abbrev pub RefusesTransfer : Talk → ℕ → IncomingChannel → Transfer → List ℕ → EndpointError → Talk → Type 0
+RefusesTransfer old given channel it payload e new =
+    IsUnnumbered old given e new ⊎ ((given < 2 ^ 64 - 1) × BarsTransfer old channel it payload e new)

@@ -1,15 +1,17 @@
 //! The peer's Detach (part 2, 2.6.4 to 2.6.6, 2.7.7).
-ghost use Rattle.std.specs.Prelude.{◌≡◌, ◌<◌, ◌≤◌, ◌++◌, ℕ, IfErr, IfOk, IsSome, OnErr, OnOk, Some};
+ghost use Rattle.std.specs.Prelude.{◌≡◌, ◌+◌, ◌<◌, ◌≤◌, ◌++◌, ℕ, IfErr, IfOk, IsSome, OnErr, OnOk, Some};
 ghost use Rattle.std.specs.Vec.{vec_capacity, vec_len};
 ghost use Rattle.std.specs.VecDeque.{deque_capacity, deque_len};
 ghost use Rattle.amqp_endpoint_links.specs.declared.hearing.LinkPerformative.TheVariants as said;
 ghost use Rattle.amqp_endpoint_model.specs.Relay.{IsSessionFault};
 ghost use Rattle.amqp_endpoint_talk.specs.Going.{Goes, Rests};
+ghost use Rattle.amqp_endpoint_attached.specs.Linked.{end_at};
+ghost use Rattle.amqp_endpoint_outcomes.specs.All.{AreCopies};
 ghost use Rattle.amqp_endpoint_linking.specs.Handed.{Tells};
 ghost use Rattle.amqp_endpoint_sessions.specs.State.{live_at};
 ghost use Rattle.amqp_endpoint_linking.specs.Linking.{Session};
-ghost use Rattle.amqp_endpoint_link_hearing.specs.Detaching.{HearsDetach, detached_told};
-ghost use Rattle.amqp_endpoint_link_hearing.specs.Leaves.{LeavesBy, LinkLeaves, Prepares, ReadyFor, StandsFor};
+ghost use Rattle.amqp_endpoint_link_hearing.specs.Detaching.{HearsDetach, detached_told, ending};
+ghost use Rattle.amqp_endpoint_link_hearing.specs.Leaves.{LeavesBy, LinkLeaves, Prepares, ReadyFor, StandsFor, told_most};
 ghost use Rattle.amqp_endpoint_link_hearing.specs.Leaving.{HasPlace};
 ghost use Rattle.amqp_endpoint_link_hearing.specs.Naming.{link_of};
 ghost use Rattle.amqp_endpoint_link_hearing.specs.Saying.{RefusesSaid};
@@ -23,6 +25,7 @@ use amqp_endpoint_conversation::Conversation;
 use amqp_endpoint_links::{LinkPerformative, Numbered};
 use amqp_endpoint_model::{Detached as DetachedEvent, EndpointError, Event};
 use amqp_endpoint_names::Links;
+use amqp_endpoint_outcomes::open_count;
 use amqp_link_base::Detached;
 use amqp_link_ends::LinkEnd;
 use amqp_session_performatives::{Detach, SessionFrame};
@@ -39,13 +42,19 @@ struct Ready {
     answer: Answer,
     /// The error of that, for what is told.
     error: Option<definitions::Error>,
+    /// How many messages of it end.
+    count: usize,
+    /// The error once more for each of them, where there is one.
+    copies: Vec<definitions::Error>,
 }
 
 /// Takes the peer's Detach in the session that its channel reaches (part 2, 2.6.4 to 2.6.6, 2.7.7). The link that the
 /// peer's handle reaches is answered, where its own Detach hadn't gone, by one that closes it as the peer's does: it
 /// is handed out, or waits behind what the link has waiting, and repeats the peer's error where a frame of 512 bytes
 /// holds it. The link leaves its session, where nothing of it waits there, and is at rest; where either end closed
-/// it, it is unknown from then on. `Detached` is told. A link that the peer asks for is asked for no longer, and
+/// it, it is unknown from then on. `Detached` is told, and behind it, where the peer closes a sending link, the `Outcome`
+/// of each of its open messages, in the order in which they were sent: that the peer closed the link, with a copy of the
+/// error or without one. A link that the peer asks for is asked for no longer, and
 /// nothing is told; nor is it in a session that is ending. A session that refuses it ends by its fault: its End is
 /// handed out, its links are given back, and `Refused` is told.
 ///
@@ -71,11 +80,36 @@ pub fn hear_detach(
     ensures goes { (limit : ℕ) → 512 ≤ limit → Goes limit talk.old talk.new out.old.items out.new.items }
     ensures rests { Rests talk.old talk.new out.old.items out.new.items }
 {
-    events.reserve(1)?;
-    out.reserve(1)?;
     let ready = make_ready(talk, alloc, channel, &detach)?;
+    make_room(&ready, events)?;
+    out.reserve(1)?;
     take_detach(talk, links, alloc, channel, detach, ready, out, events)?;
     Ok(())
+}
+
+/// Makes room for what is told at most. It is refused where there is no memory.
+fn make_room(ready: &Option<Ready>, events: &mut Vec<Event>) -> Result<(), AllocError>
+    ensures items { events.new.items ≡ events.old.items }
+    ensures room { OnOk result (vec_len events.new + told_most ready.now ≤ vec_capacity events.new) }
+{
+    let count = count_of(ready);
+    let Some(most) = count.checked_add(1) else {
+        return Err(AllocError);
+    };
+    match events.reserve(most) {
+        Ok(()) => Ok(()),
+        Err(_) => Err(AllocError),
+    }
+}
+
+/// How many messages end.
+fn count_of(ready: &Option<Ready>) -> usize
+    ensures { result + 1 ≡ told_most ready.now }
+{
+    match ready {
+        Some(ready) => ready.count,
+        None => 0,
+    }
 }
 
 /// Takes it. There is room for what it tells, and for its answer.
@@ -92,7 +126,7 @@ fn take_detach(
 ) -> Result<(), EndpointError>
     requires ready { Prepares talk.old channel detach ready }
     requires spare { deque_len out.old < deque_capacity out.old }
-    requires room { vec_len events.old < vec_capacity events.old }
+    requires room { vec_len events.old + told_most ready ≤ vec_capacity events.old }
     ensures ok { OnOk result
         (Tells (λ frames told. HearsDetach talk.old links.old channel detach frames told talk.new links.new)
         out.old.items events.old.items out.new.items events.new.items) }
@@ -128,7 +162,7 @@ fn detach_heard(
 )
     requires stands { StandsFor talk.old took ready }
     requires spare { deque_len out.old < deque_capacity out.old }
-    requires room { vec_len events.old < vec_capacity events.old }
+    requires room { vec_len events.old + told_most ready ≤ vec_capacity events.old }
     ensures leaves { Tells (λ frames told. LeavesBy took ready talk.old links.old frames told talk.new links.new)
         out.old.items events.old.items out.new.items events.new.items }
     ensures goes { (limit : ℕ) → 512 ≤ limit → Goes limit talk.old talk.new out.old.items out.new.items }
@@ -156,8 +190,9 @@ fn leave_by_link(
     requires there { IsSome (link_of talk.old session ready.handle) }
     requires place { (s : Session) → live_at talk.old.sessions session ≡ Some s →
         HasPlace s.value ready.handle ready.answer.closed ready.answer.error ready.answer.place }
+    requires copied { AreCopies ready.error ready.count ready.copies.items }
     requires spare { deque_len out.old < deque_capacity out.old }
-    requires room { vec_len events.old < vec_capacity events.old }
+    requires room { vec_len events.old + (ready.count + 1) ≤ vec_capacity events.old }
     ensures leaves { Tells (λ frames events. LinkLeaves session told ready talk.old links.old frames events
         talk.new links.new) out.old.items events.old.items out.new.items events.new.items }
     ensures goes { (limit : ℕ) → 512 ≤ limit → Goes limit talk.old talk.new out.old.items out.new.items }
@@ -167,11 +202,23 @@ fn leave_by_link(
         handle,
         answer,
         error,
+        count,
+        copies,
     } = ready;
     let link = number_of(talk, session, handle);
-    let left = part(talk, session, handle, told.answer, answer, out);
-    leave(links, link, told.closed, left);
     tell_detached(link, told.closed, error, events);
+    let left = part(
+        talk,
+        session,
+        handle,
+        told.answer,
+        answer,
+        count,
+        copies,
+        out,
+        events,
+    );
+    leave(links, link, told.closed, left);
 }
 
 /// Tells that the peer detached a link. There is room for it.
@@ -182,7 +229,9 @@ fn tell_detached(
     events: &mut Vec<Event>,
 )
     requires { vec_len events.old < vec_capacity events.old }
-    ensures { events.new.items ≡ events.old.items ++ detached_told link closed error }
+    ensures told { events.new.items ≡ events.old.items ++ detached_told link closed error }
+    ensures len { vec_len events.new ≡ vec_len events.old + 1 }
+    ensures capacity { vec_capacity events.new ≡ vec_capacity events.old }
 {
     events.push_reserved(Event::Detached(DetachedEvent {
         link,
@@ -227,6 +276,8 @@ fn make_ready_in(
     };
     let channel = session.session.outgoing_channel();
     let error = repeated(channel, handle, detach.closed, &detach.error)?;
+    let count = ending(session, handle, detach.closed);
+    let copies = copies_of(alloc, &detach.error, count)?;
     let answer = Answer {
         closed: detach.closed,
         error,
@@ -236,5 +287,52 @@ fn make_ready_in(
         handle,
         answer,
         error: detach.error.clone()?,
+        count,
+        copies,
     }))
+}
+
+/// How many messages of the link with this own handle end as the peer detaches it: where it closes it, those that are
+/// open.
+fn ending(session: &LinkSession, handle: OutputHandle, closed: bool) -> usize
+    ensures { result ≡ ending closed (end_at session.now handle) }
+{
+    if !closed {
+        return 0;
+    }
+    match session.session.link(handle) {
+        Some(link) => open_count(&link.link),
+        None => 0,
+    }
+}
+
+/// The error, if there is one, copied so many times. It is refused where there is no memory.
+fn copies_of(
+    alloc: Global,
+    error: &Option<definitions::Error>,
+    count: usize,
+) -> Result<Vec<definitions::Error>, AllocError>
+    ensures { IfOk result (λ copies. AreCopies error.now count copies.items) }
+{
+    let Some(error) = error else {
+        return Ok(Vec::new(alloc));
+    };
+    copies_for(alloc, error, count)
+}
+
+/// The error, copied so many times.
+fn copies_for(
+    alloc: Global,
+    error: &definitions::Error,
+    count: usize,
+) -> Result<Vec<definitions::Error>, AllocError>
+    ensures { IfOk result (λ copies. AreCopies (Some error.now) count copies.items) }
+{
+    let mut copies = Vec::with_capacity(alloc, count)?;
+    let mut left = count;
+    while left > 0 {
+        copies.push_reserved(error.clone()?);
+        left -= 1;
+    }
+    Ok(copies)
 }

@@ -1,7 +1,10 @@
 //! A link whose attachment the peer ended leaves its session (part 2, 2.6.4 to 2.6.6).
-ghost use Rattle.std.specs.Prelude.{◌≡◌, ◌≤◌, ◌<◌, ◌^◌, ℕ, IsSome, IsTrue, ◌↔◌, IfOk, true};
+ghost use Rattle.std.specs.Prelude.{◌≡◌, ◌+◌, ◌≤◌, ◌<◌, ◌^◌, ◌++◌, ℕ, IsSome, IsTrue, ◌↔◌, IfOk, Option, Some, true};
+ghost use Rattle.std.specs.Vec.{vec_capacity, vec_len};
 ghost use Rattle.std.specs.VecDeque.{deque_capacity, deque_len};
 ghost use Rattle.serde_amqp_item.specs.Canon.{canon};
+ghost use Rattle.amqp_session_types.specs.declared.error.Error.{Error};
+ghost use Rattle.amqp_session_core.specs.State.{link_at};
 ghost use Rattle.amqp_session_outgoing.specs.Queues.{room_behind};
 ghost use Rattle.amqp_link_unsettled.specs.Listing.{FitsText};
 ghost use Rattle.amqp_endpoint_model.specs.State.{fits, frame_of};
@@ -9,9 +12,11 @@ ghost use Rattle.amqp_endpoint_talk.specs.Going.{Goes, Rests};
 ghost use Rattle.amqp_endpoint_sessions.specs.State.{live_at};
 ghost use Rattle.amqp_endpoint_attached.specs.Detaching.{own_detach};
 ghost use Rattle.amqp_endpoint_attached.specs.Linked.{end_at};
+ghost use Rattle.amqp_endpoint_outcomes.specs.All.{AreCopies, first_told};
 ghost use Rattle.amqp_endpoint_linking.specs.GivingBack.{IsAtRest, IsClosed};
 ghost use Rattle.amqp_endpoint_linking.specs.Handed.{Hands};
 ghost use Rattle.amqp_endpoint_linking.specs.Linking.{Session};
+ghost use Rattle.amqp_endpoint_link_hearing.specs.Detaching.{TellsAndParts};
 ghost use Rattle.amqp_endpoint_link_hearing.specs.InSession.{GoesOn, Parts};
 ghost use Rattle.amqp_endpoint_link_hearing.specs.Leaving.{HasPlace, IsLeft, detach_frame, repeated};
 ghost use Rattle.amqp_endpoint_link_hearing.specs.Naming.{link_of};
@@ -20,7 +25,9 @@ use amqp_endpoint_attached::{LinkSession, answer_detach, take_out};
 use amqp_endpoint_conversation::Conversation;
 use amqp_endpoint_fitting::frames_are_read;
 use amqp_endpoint_links::Numbered;
+use amqp_endpoint_model::Event;
 use amqp_endpoint_names::Links;
+use amqp_endpoint_outcomes::tell_first;
 use amqp_link_ends::LinkEnd;
 use amqp_session_core::BehindFrame;
 use amqp_session_outgoing::Place;
@@ -47,23 +54,29 @@ pub(crate) struct Answer {
     pub(crate) place: Place<BehindFrame>,
 }
 
-/// The link with this own handle leaves its session, where nothing of it waits: the peer's Detach is answered before,
-/// where that is to be. It takes no memory.
+/// The link with this own handle tells of so many messages that ended, and leaves its session, where nothing of it
+/// waits: the peer's Detach is answered before, where that is to be. It takes no memory.
 pub(crate) fn part(
     talk: &mut Conversation<Numbered<LinkEnd>>,
     session: u64,
     handle: OutputHandle,
     answers: bool,
     answer: Answer,
+    count: usize,
+    copies: Vec<definitions::Error>,
     out: &mut VecDeque<SessionFrame>,
+    events: &mut Vec<Event>,
 ) -> Option<Numbered<LinkEnd>>
     requires there { IsSome (link_of talk.old session handle) }
     requires place { (s : Session) → live_at talk.old.sessions session ≡ Some s →
         HasPlace s.value handle answer.closed answer.error answer.place }
     requires spare { deque_len out.old < deque_capacity out.old }
-    ensures parted { Hands (λ frames.
-        GoesOn (Parts handle answers answer.closed answer.error result frames) talk.old session talk.new)
+    requires room { vec_len events.old + count ≤ vec_capacity events.old }
+    ensures parted { Hands (λ frames. GoesOn
+        (TellsAndParts count handle answers answer.closed answer.error result frames) talk.old session talk.new)
         out.old.items out.new.items }
+    ensures told { (error : Option Error) → AreCopies error count copies.items →
+        events.new.items ≡ events.old.items ++ first_told count error (link_of talk.old session handle) }
     ensures goes { (limit : ℕ) → 512 ≤ limit → Goes limit talk.old talk.new out.old.items out.new.items }
     ensures rests { Rests talk.old talk.new out.old.items out.new.items }
 {
@@ -71,12 +84,37 @@ pub(crate) fn part(
     let Some(session) = talk.sessions.live_mut(session) else {
         unreachable!()
     };
-    let left = part_in(session, handle, answers, answer, out);
+    let left = tell_and_part(session, handle, answers, answer, count, copies, out, events);
     frames_are_read(out, from);
     left
 }
 
 /// The same in its session.
+fn tell_and_part(
+    session: &mut LinkSession,
+    handle: OutputHandle,
+    answers: bool,
+    answer: Answer,
+    count: usize,
+    copies: Vec<definitions::Error>,
+    out: &mut VecDeque<SessionFrame>,
+    events: &mut Vec<Event>,
+) -> Option<Numbered<LinkEnd>>
+    requires there { IsSome (end_at session.old handle) }
+    requires place { room_behind handle.0 1 session.old.session.outgoing.queues ≤ answer.place }
+    requires spare { deque_len out.old < deque_capacity out.old }
+    requires room { vec_len events.old + count ≤ vec_capacity events.old }
+    ensures parted { Hands (λ frames.
+        TellsAndParts count handle answers answer.closed answer.error result frames session.old session.new)
+        out.old.items out.new.items }
+    ensures told { (error : Option Error) → AreCopies error count copies.items →
+        events.new.items ≡ events.old.items ++ first_told count error (link_at session.old.session handle.0) }
+{
+    tell_first(session, handle, count, copies, events);
+    part_in(session, handle, answers, answer, out)
+}
+
+/// The peer's Detach is answered, where that is to be, and the link leaves its session.
 fn part_in(
     session: &mut LinkSession,
     handle: OutputHandle,

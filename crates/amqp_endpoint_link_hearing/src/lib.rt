@@ -10,6 +10,7 @@ mod closing;
 mod detaching;
 mod disposing;
 mod flowing;
+mod handing;
 mod hearing;
 mod leaving;
 mod naming;

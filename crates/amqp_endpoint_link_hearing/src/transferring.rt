@@ -1,23 +1,25 @@
 //! The peer's Transfer (part 2, 2.5.6, 2.6.12, 2.7.5).
-ghost use Rattle.std.specs.Prelude.{◌≡◌, ◌≤◌, ◌<◌, ◌+◌, ◌++◌, ℕ, IfErr, IfOk, IfSome, IsSome, OnErr, OnOk};
+ghost use Rattle.std.specs.Prelude.{◌≡◌, ◌≤◌, ◌<◌, ◌+◌, ◌-◌, ◌^◌, ◌++◌, ℕ, IfErr, IfOk, IfSome, IsSome, OnErr, OnOk};
 ghost use Rattle.std.specs.Prelude.{option_to_list, true};
 ghost use Rattle.std.specs.Vec.{vec_capacity, vec_len};
 ghost use Rattle.std.specs.VecDeque.{deque_capacity, deque_len};
 ghost use Rattle.amqp_endpoint_fitting.specs.Read.{IsRead};
 ghost use Rattle.amqp_endpoint_model.specs.Relay.{IsSessionFault};
+ghost use Rattle.amqp_endpoint_model.specs.declared.error.EndpointError.TheVariants.{Memory};
 ghost use Rattle.amqp_endpoint_sessions.specs.State.{live_at};
 ghost use Rattle.amqp_endpoint_talk.specs.Going.{Goes, Rests};
 ghost use Rattle.amqp_endpoint_linking.specs.Handed.{Tells};
 ghost use Rattle.amqp_endpoint_linking.specs.Linking.{Session};
 ghost use Rattle.amqp_endpoint_link_hearing.specs.Leaving.{HasPlace};
 ghost use Rattle.amqp_endpoint_link_hearing.specs.Naming.{link_of};
-ghost use Rattle.amqp_endpoint_link_hearing.specs.Taking.{ClosesFor, FailsFor, FailsIn, FlowFits, IsClosing};
-ghost use Rattle.amqp_endpoint_link_hearing.specs.Taking.{IsClosedFor, StandsIn, TakenBy, TakenIn, fault_told};
-ghost use Rattle.amqp_endpoint_link_hearing.specs.Taking.{reached_of};
-ghost use Rattle.amqp_endpoint_link_hearing.specs.Transferring.{HearsTransfer, RefusesTransfer, condition_of, fault_of};
+ghost use Rattle.amqp_endpoint_link_hearing.specs.Taking.{ClosesBy, DoneFor, FailsFor, FailsIn, FlowFits, IsClosing};
+ghost use Rattle.amqp_endpoint_link_hearing.specs.Taking.{IsClosedFor, IsUnready, StandsIn, TakenBy, TakenIn};
+ghost use Rattle.amqp_endpoint_link_hearing.specs.Taking.{fault_told, reached_of};
+ghost use Rattle.amqp_endpoint_link_hearing.specs.Transferring.{HearsTransfer, RefusesTransfer, condition_of};
 ghost use Rattle.amqp_endpoint_link_hearing.specs.Transferring.{transfer_of};
 
 use crate::closing::{Condition, close, make_closing};
+use crate::handing::{hand_over, own_handle};
 use crate::leaving::Answer;
 use crate::naming::number_of;
 use crate::refusing::refuse;
@@ -38,20 +40,27 @@ use std::alloc::{AllocError, Global};
 use std::collections::VecDeque;
 
 /// Takes the peer's Transfer, with its payload, in the session that its channel reaches (part 2, 2.5.6, 2.6.12, 2.7.5):
-/// the link that the peer's handle reaches takes it. No message is handed out yet: a link that has a whole message is
-/// closed with amqp:not-allowed, and `Refused` is told. So is a link that refuses the transfer, with
+/// the link that the peer's handle reaches takes it. A message that it completes is handed out: `Message` is told, with
+/// the number that `given` is, which is one more from then on; with the link's number; with the message's delivery, as
+/// its transfers said it, and its bytes as they came; and settled as its sender settled it. Where it isn't settled the
+/// link remembers the number. A link that refuses the transfer is closed, and `Refused` is told, with
 /// amqp:link:transfer-limit-exceeded, amqp:link:message-size-exceeded or amqp:not-allowed (part 2, 2.8.15, 2.8.18): its
-/// own closing Detach is handed out, or waits behind what the link has waiting. Behind that the Flow of the session is
-/// handed out that the transfer makes due. In a session that is ending nothing comes of it. A session that refuses it
-/// ends by its fault: its End is handed out, its links are given back, and `Refused` is told.
+/// own closing Detach is handed out, or waits behind what the link has waiting. Nothing is told of a transfer behind
+/// which more are to come, of a delivery whose message was handed out in an earlier attachment, and of one that the
+/// peer gives up. Behind all that the Flow of the session is handed out that the transfer makes due. In a session that
+/// is ending nothing comes of it. A session that refuses it ends by its fault: its End is handed out, its links are
+/// given back, and `Refused` is told.
 ///
-/// It ends the connection with `Connection` of `NotFound` where the channel reaches no session, with `Session` where
-/// one refuses it that the peer asks for, and with `Memory`. Nothing is handed out or told then, and no link is given
-/// back; nor does a session change, but that where there is no memory one that has begun may have refused it, or taken
-/// it for a link that is to be closed for it.
+/// It ends the connection with `NumbersUsedUp` exactly where `given` is 2^64 - 1, which is no message's number,
+/// whatever the Transfer says: it isn't heard then, and nothing changes. It ends it with `Connection` of `NotFound`
+/// where the channel reaches no session, with `Session` where one refuses it that the peer asks for, and with `Memory`.
+/// Nothing is handed out or told then, no message gets a number, and no link is given back; nor does a session change,
+/// but that where there is no memory one that has begun may have refused it, or taken it for a link that is to be
+/// closed for it.
 pub fn hear_transfer(
     talk: &mut Conversation<Numbered<LinkEnd>>,
     links: &mut Links<LinkEnd>,
+    given: &mut u64,
     alloc: Global,
     channel: IncomingChannel,
     transfer: Transfer,
@@ -60,25 +69,50 @@ pub fn hear_transfer(
     events: &mut Vec<Event>,
 ) -> Result<(), EndpointError>
     ensures ok { OnOk result
-        (Tells (λ frames told. HearsTransfer talk.old links.old channel transfer payload frames told talk.new links.new)
+        (Tells (λ frames told. HearsTransfer talk.old links.old given.old channel transfer payload frames told
+        talk.new links.new given.new)
         out.old.items events.old.items out.new.items events.new.items) }
-    ensures err { IfErr result (λ e. IsSessionFault e × RefusesTransfer talk.old channel transfer payload e talk.new) }
-    ensures kept { OnErr result ((links.new ≡ links.old) × (out.new.items ≡ out.old.items)
-        × (events.new.items ≡ events.old.items)) }
+    ensures err { IfErr result (λ e.
+        IsSessionFault e × RefusesTransfer talk.old given.old channel transfer payload e talk.new) }
+    ensures kept { OnErr result ((links.new ≡ links.old) × (given.new ≡ given.old)
+        × (out.new.items ≡ out.old.items) × (events.new.items ≡ events.old.items)) }
     ensures goes { (limit : ℕ) → 512 ≤ limit → Goes limit talk.old talk.new out.old.items out.new.items }
     ensures rests { Rests talk.old talk.new out.old.items out.new.items }
 {
-    events.reserve(1)?;
-    out.reserve(2)?;
-    take_transfer(talk, links, alloc, channel, transfer, payload, out, events)?;
+    make_room(*given, out, events)?;
+    take_transfer(
+        talk, links, given, alloc, channel, transfer, payload, out, events,
+    )?;
     Ok(())
 }
 
-/// Takes it. There is room for what it tells, for a Detach and for the session's Flow.
+/// A number is left for a message, and there is room for what is told, for a Detach and for the session's Flow.
+fn make_room(
+    given: u64,
+    out: &mut VecDeque<SessionFrame>,
+    events: &mut Vec<Event>,
+) -> Result<(), EndpointError>
+    ensures ok { OnOk result ((given < 2 ^ 64 - 1) × (deque_len out.new + 1 < deque_capacity out.new)
+        × (vec_len events.new < vec_capacity events.new)) }
+    ensures err { IfErr result (IsUnready given) }
+    ensures out { out.new.items ≡ out.old.items }
+    ensures events { events.new.items ≡ events.old.items }
+{
+    if given == u64::MAX {
+        return Err(EndpointError::NumbersUsedUp);
+    }
+    events.reserve(1)?;
+    out.reserve(2)?;
+    Ok(())
+}
+
+/// Takes it. A number is left for a message, and there is room for what it tells, for a Detach and for the session's
+/// Flow.
 #[inline(never)]
 fn take_transfer(
     talk: &mut Conversation<Numbered<LinkEnd>>,
     links: &mut Links<LinkEnd>,
+    given: &mut u64,
     alloc: Global,
     channel: IncomingChannel,
     transfer: Transfer,
@@ -86,14 +120,17 @@ fn take_transfer(
     out: &mut VecDeque<SessionFrame>,
     events: &mut Vec<Event>,
 ) -> Result<(), EndpointError>
+    requires left { given.old < 2 ^ 64 - 1 }
     requires spare { deque_len out.old + 1 < deque_capacity out.old }
     requires room { vec_len events.old < vec_capacity events.old }
     ensures ok { OnOk result
-        (Tells (λ frames told. HearsTransfer talk.old links.old channel transfer payload frames told talk.new links.new)
+        (Tells (λ frames told. HearsTransfer talk.old links.old given.old channel transfer payload frames told
+        talk.new links.new given.new)
         out.old.items events.old.items out.new.items events.new.items) }
-    ensures err { IfErr result (λ e. IsSessionFault e × RefusesTransfer talk.old channel transfer payload e talk.new) }
-    ensures kept { OnErr result ((links.new ≡ links.old) × (out.new.items ≡ out.old.items)
-        × (events.new.items ≡ events.old.items)) }
+    ensures err { IfErr result (λ e.
+        IsSessionFault e × RefusesTransfer talk.old given.old channel transfer payload e talk.new) }
+    ensures kept { OnErr result ((links.new ≡ links.old) × (given.new ≡ given.old)
+        × (out.new.items ≡ out.old.items) × (events.new.items ≡ events.old.items)) }
     ensures goes { (limit : ℕ) → 512 ≤ limit → Goes limit talk.old talk.new out.old.items out.new.items }
     ensures rests { Rests talk.old talk.new out.old.items out.new.items }
 {
@@ -102,7 +139,7 @@ fn take_transfer(
     match amqp_endpoint_talk::hear(talk, alloc, out, channel, said) {
         Ok(heard) => {
             let took = transfer_of(heard);
-            match transfer_heard(talk, alloc, handle, took, out, events) {
+            match transfer_heard(talk, given, alloc, handle, took, out, events) {
                 Ok(()) => Ok(()),
                 Err(error) => Err(error),
             }
@@ -128,10 +165,11 @@ fn transfer_of(heard: Heard<AttachTold, Told, Detached>) -> Option<(u64, Transfe
     }
 }
 
-/// The Transfer was heard, and the link that the peer's handle reaches took it, if one did. There is room for what is
-/// told, for a Detach and for the session's Flow.
+/// The Transfer was heard, and the link that the peer's handle reaches took it, if one did. A number is left for a
+/// message, and there is room for what is told, for a Detach and for the session's Flow.
 fn transfer_heard(
     talk: &mut Conversation<Numbered<LinkEnd>>,
+    given: &mut u64,
     alloc: Global,
     handle: Handle,
     took: Option<(u64, TransferTaken<Told>)>,
@@ -139,12 +177,15 @@ fn transfer_heard(
     events: &mut Vec<Event>,
 ) -> Result<(), EndpointError>
     requires stands { StandsIn talk.old handle.0 took }
+    requires left { given.old < 2 ^ 64 - 1 }
     requires spare { deque_len out.old + 1 < deque_capacity out.old }
     requires room { vec_len events.old < vec_capacity events.old }
-    ensures ok { OnOk result (Tells (λ frames told. TakenIn took talk.old handle.0 frames told talk.new)
+    ensures ok { OnOk result
+        (Tells (λ frames told. TakenIn took given.old talk.old handle.0 frames told talk.new given.new)
         out.old.items events.old.items out.new.items events.new.items) }
     ensures err { IfErr result (λ e. FailsIn took e × (talk.new ≡ talk.old)) }
-    ensures kept { OnErr result ((out.new.items ≡ out.old.items) × (events.new.items ≡ events.old.items)) }
+    ensures kept { OnErr result ((given.new ≡ given.old) × (out.new.items ≡ out.old.items)
+        × (events.new.items ≡ events.old.items)) }
     ensures goes { (limit : ℕ) → 512 ≤ limit → Goes limit talk.old talk.new out.old.items out.new.items }
     ensures rests { Rests talk.old talk.new out.old.items out.new.items }
 {
@@ -152,13 +193,14 @@ fn transfer_heard(
         return Ok(());
     };
     let (session, taken) = it;
-    taken_by_link(talk, alloc, session, handle, taken, out, events)
+    taken_by_link(talk, given, alloc, session, handle, taken, out, events)
 }
 
-/// The link that the peer's handle reaches took it: where it is to be closed for it, it is, and the session's Flow goes
-/// behind. There is room for all that.
+/// The link that the peer's handle reaches took it: what is to be done for what it tells is done, and the session's
+/// Flow goes behind. A number is left for a message, and there is room for all that.
 fn taken_by_link(
     talk: &mut Conversation<Numbered<LinkEnd>>,
+    given: &mut u64,
     alloc: Global,
     session: u64,
     handle: Handle,
@@ -168,18 +210,20 @@ fn taken_by_link(
 ) -> Result<(), EndpointError>
     requires there { IsSome (reached_of talk.old session handle.0) }
     requires flow { FlowFits taken.flow }
+    requires left { given.old < 2 ^ 64 - 1 }
     requires spare { deque_len out.old + 1 < deque_capacity out.old }
     requires room { vec_len events.old < vec_capacity events.old }
-    ensures ok { OnOk result (Tells (λ frames told. TakenBy talk.old session handle.0 taken frames told talk.new)
+    ensures ok { OnOk result
+        (Tells (λ frames told. TakenBy taken given.old talk.old session handle.0 frames told talk.new given.new)
         out.old.items events.old.items out.new.items events.new.items) }
-    ensures err { IfErr result (λ e. FailsFor (fault_of taken.told) e × (talk.new ≡ talk.old)) }
-    ensures kept { OnErr result ((out.new.items ≡ out.old.items) × (events.new.items ≡ events.old.items)) }
+    ensures err { IfErr result (λ e. FailsFor taken.told e × (talk.new ≡ talk.old)) }
+    ensures kept { OnErr result ((given.new ≡ given.old) × (out.new.items ≡ out.old.items)
+        × (events.new.items ≡ events.old.items)) }
     ensures goes { (limit : ℕ) → 512 ≤ limit → Goes limit talk.old talk.new out.old.items out.new.items }
     ensures rests { Rests talk.old talk.new out.old.items out.new.items }
 {
     let TransferTaken { told, flow } = taken;
-    let fault = fault_of(told);
-    match close_for(talk, alloc, session, handle, fault, out, events) {
+    match do_for(talk, given, alloc, session, handle, told, out, events) {
         Ok(()) => {
             hand_out(flow, out);
             Ok(())
@@ -191,18 +235,46 @@ fn taken_by_link(
     }
 }
 
-/// Why the link is closed by what it tells of a Transfer, if it is.
-fn fault_of(told: Told) -> Option<ReceiverTransferError>
-    ensures { result ≡ fault_of told }
+/// What is to be done for what the link tells that the peer's handle reaches: its message is handed out, or it is
+/// closed for its fault. A number is left for a message, and there is room for all that.
+fn do_for(
+    talk: &mut Conversation<Numbered<LinkEnd>>,
+    given: &mut u64,
+    alloc: Global,
+    session: u64,
+    handle: Handle,
+    told: Told,
+    out: &mut VecDeque<SessionFrame>,
+    events: &mut Vec<Event>,
+) -> Result<(), EndpointError>
+    requires there { IsSome (reached_of talk.old session handle.0) }
+    requires left { given.old < 2 ^ 64 - 1 }
+    requires spare { deque_len out.old + 1 < deque_capacity out.old }
+    requires room { vec_len events.old < vec_capacity events.old }
+    ensures ok { OnOk result
+        (Tells (λ frames said. DoneFor told given.old talk.old session handle.0 frames said talk.new given.new)
+        out.old.items events.old.items out.new.items events.new.items) }
+    ensures err { IfErr result (λ e. FailsFor told e × (talk.new ≡ talk.old)) }
+    ensures kept { OnErr result ((given.new ≡ given.old) × (out.new.items ≡ out.old.items)
+        × (events.new.items ≡ events.old.items)) }
+    ensures spare { deque_len out.new < deque_capacity out.new }
+    ensures goes { (limit : ℕ) → 512 ≤ limit → Goes limit talk.old talk.new out.old.items out.new.items }
+    ensures rests { Rests talk.old talk.new out.old.items out.new.items }
 {
     match told {
-        Told::Refused(error) => Some(error),
-        Told::Message(_) => Some(ReceiverTransferError::IllegalState),
-        _ => None,
+        Told::Message(message) => {
+            let handle = own_handle(talk, session, handle);
+            hand_over(talk, given, alloc, session, handle, message, events);
+            Ok(())
+        }
+        Told::Refused(error) => close_for(talk, alloc, session, handle, error, out, events),
+        Told::Nothing => Ok(()),
+        Told::Joined { number: _, tag: _ } => Ok(()),
+        Told::Dropped => Ok(()),
     }
 }
 
-/// What the Detach of the link says of that (part 2, 2.8.15, 2.8.18).
+/// What the Detach of a link says that is closed for this fault (part 2, 2.8.15, 2.8.18).
 fn condition_of(error: ReceiverTransferError) -> Condition
     ensures { result ≡ condition_of error }
 {
@@ -227,30 +299,27 @@ fn hand_out(flow: Option<SessionFrame>, out: &mut VecDeque<SessionFrame>)
     frames_are_read(out, from);
 }
 
-/// The link that the peer's handle reaches is closed for this fault, if there is one. There is room for it.
+/// The link that the peer's handle reaches is closed for this fault. There is room for it.
 fn close_for(
     talk: &mut Conversation<Numbered<LinkEnd>>,
     alloc: Global,
     session: u64,
     handle: Handle,
-    fault: Option<ReceiverTransferError>,
+    error: ReceiverTransferError,
     out: &mut VecDeque<SessionFrame>,
     events: &mut Vec<Event>,
 ) -> Result<(), EndpointError>
     requires there { IsSome (reached_of talk.old session handle.0) }
     requires spare { deque_len out.old + 1 < deque_capacity out.old }
     requires room { vec_len events.old < vec_capacity events.old }
-    ensures ok { OnOk result (Tells (λ frames told. ClosesFor fault talk.old session handle.0 frames told talk.new)
+    ensures ok { OnOk result (Tells (λ frames told. ClosesBy error talk.old session handle.0 frames told talk.new)
         out.old.items events.old.items out.new.items events.new.items) }
-    ensures err { IfErr result (λ e. FailsFor fault e × (talk.new ≡ talk.old)) }
+    ensures err { IfErr result (λ e. (e ≡ Memory) × (talk.new ≡ talk.old)) }
     ensures kept { OnErr result ((out.new.items ≡ out.old.items) × (events.new.items ≡ events.old.items)) }
     ensures spare { deque_len out.new < deque_capacity out.new }
     ensures goes { (limit : ℕ) → 512 ≤ limit → Goes limit talk.old talk.new out.old.items out.new.items }
     ensures rests { Rests talk.old talk.new out.old.items out.new.items }
 {
-    let Some(error) = fault else {
-        return Ok(());
-    };
     let (handle, answer) = closing_of(talk, alloc, session, handle, error)?;
     close_by_link(talk, session, handle, answer, error, out, events);
     Ok(())

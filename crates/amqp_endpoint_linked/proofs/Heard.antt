@@ -34,40 +34,46 @@ attach-heard old new links links_new channel attach left out out_new told told_n
       are_told = h.are_told;
     }
 
-module _ (old new : Talk) (links links_new : Links) (channel : IncomingChannel) where
+module _ (old new : Talk) (links links_new : Links) (given given_new limit : ℕ) (channel : IncomingChannel) where
   -- a frame that is this performative
-  pub hears-if : (said it : FrameBody) (out out_new : List SessionFrame) (told told_new : List Event) → said ≡ it
-      → (r : Result ⊤ EndpointError)
+  pub hears-if : (said it : FrameBody) (out out_new : List SessionFrame) (told told_new : List Event)
+      → (IsSo : List SessionFrame → List Event → Type 0)
+      → ((frames : List SessionFrame) (events : List Event) → IsSo frames events
+      → Hears old links given limit channel it frames events new links_new given_new)
+      → said ≡ it → (r : Result ⊤ EndpointError) → OnOk r (Tells IsSo out told out_new told_new)
       → OnOk r
       (Tells (λ (frames : List SessionFrame) (events : List Event).
-      Hears old links channel it frames events new links_new) out told out_new told_new)
-      → OnOk r
-      (Tells (λ (frames : List SessionFrame) (events : List Event).
-      Hears old links channel said frames events new links_new) out told out_new told_new)
-  hears-if said it out out_new told told_new is r h =
+      Hears old links given limit channel said frames events new links_new given_new) out told out_new told_new)
+  hears-if said it out out_new told told_new IsSo by is (Ok u) h =
       let P : FrameBody → Type 0 = λ body.
-      OnOk r
-      (Tells (λ (frames : List SessionFrame) (events : List Event).
-      Hears old links channel body frames events new links_new) out told out_new told_new) in
-      subst P (sym is) h
+      Hears old links given limit channel body h.frames h.events new links_new given_new in
+      record {
+        frames = h.frames;
+        events = h.events;
+        is_so = subst P (sym is) (by h.frames h.events h.is_so);
+        queued = h.queued;
+        are_told = h.are_told;
+      }
+  hears-if said it out out_new told told_new IsSo by is (Err e) h = tt
 
   pub refuses-if : (said it : FrameBody) (P : Type 0) → (P → links_new ≡ links) → said ≡ it
       → (r : Result ⊤ EndpointError)
-      → IfErr r (λ e. IsSessionFault e × RefusesBody old links channel it e new) → OnErr r P
-      → IfErr r (λ e. IsSessionFault e × Refuses old links channel said e new links_new)
+      → IfErr r (λ e. IsSessionFault e × RefusesBody old links given limit channel it e new) → OnErr r P
+      → IfErr r (λ e. IsSessionFault e × Refuses old links given limit channel said e new links_new)
   refuses-if said it P same is (Ok u) refuses kept = tt
   refuses-if said it P same is (Err e) (fault, refuses) kept =
-      let Q : FrameBody → Type 0 = λ body. RefusesBody old links channel body e new in
+      let Q : FrameBody → Type 0 = λ body. RefusesBody old links given limit channel body e new in
       (fault, record { refuses = subst Q (sym is) refuses; same = same kept })
 
 -- a frame that is taken
 module _ (old new : LinkedSessions) (limit : ℕ) (channel : IncomingChannel) (body : FrameBody)
-    (out out_new : List SessionFrame) (told told_new : List Event) where
+    (out out_new : List SessionFrame) (told told_new : List Event) (sent : new.sent ≡ old.sent) where
   pub taken : 512 ≤ limit → Within limit old.talk → Goes limit old.talk new.talk out out_new
       → (r : Result ⊤ EndpointError)
       → OnOk r
       (Tells (λ (frames : List SessionFrame) (events : List Event).
-      Hears old.talk old.links channel body frames events new.talk new.links) out told out_new told_new)
+      Hears old.talk old.links old.given limit channel body frames events new.talk new.links new.given) out told
+      out_new told_new)
       → OnOk r (Taken linked old limit channel.0 body out told new out_new told_new)
   taken least within goes (Ok u) h =
       let same : goes.frames ≡ h.frames =
@@ -75,7 +81,7 @@ module _ (old new : LinkedSessions) (limit : ℕ) (channel : IncomingChannel) (b
       record {
         frames = h.frames;
         events = h.events;
-        takes = h.is_so;
+        takes = (h.is_so, sent);
         fit = subst (AllFit limit) same (goes.fit least within);
         queued = h.queued;
         are_told = h.are_told;
@@ -83,10 +89,13 @@ module _ (old new : LinkedSessions) (limit : ℕ) (channel : IncomingChannel) (b
   taken least within goes (Err e) h = tt
 
   pub refused : (r : Result ⊤ EndpointError)
-      → IfErr r (λ e. IsSessionFault e × Refuses old.talk old.links channel body e new.talk new.links)
+      → IfErr r (λ e. IsSessionFault e
+      × Refuses old.talk old.links old.given limit channel body e new.talk new.links)
+      → OnErr r
+      ((new.links ≡ old.links) × (new.given ≡ old.given) × (out_new ≡ out) × (told_new ≡ told))
       → IfErr r (λ e. Refused linked old limit channel.0 body e new)
-  refused (Ok u) h = tt
-  refused (Err e) h = record { ends = h.0; refuses = h.1 }
+  refused (Ok u) h kept = tt
+  refused (Err e) h kept = record { ends = h.0; refuses = (h.1, record { sent = sent; given = kept.1 }) }
 
 -- what is kept where it is refused
 pub kept-so : (P Q : Type 0) → (P → Q) → (r : Result ⊤ EndpointError) → OnErr r P → OnErr r Q

@@ -1,3 +1,4 @@
 mod Related
 mod Heard
 mod Attached
+pub mod Messages

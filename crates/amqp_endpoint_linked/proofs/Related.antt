@@ -1,5 +1,6 @@
 -- What the calls of the sessions do is what they are related by, and what they hand out fits the limit.
 use Rattle.std.proofs.Common.{◌≡◌, ◌≤◌, ℕ, List, [], Result, Ok, Err, Some, None, refl, sym, subst, ◌∙◌, append-nil}
+use Rattle.std.specs.Global.{Vec}
 use Rattle.std.specs.Prelude.{⊤, IfOk, OnOk}
 use Rattle.std.proofs.lemmas.List.{append_cancel_left}
 use Rattle.amqp_session_types.specs.declared.refusals.TryEndError.{TryEndError}
@@ -8,6 +9,7 @@ use Rattle.amqp_endpoint_names.specs.declared.place.LinkPlace.TheVariants.{AtRes
 use Rattle.amqp_endpoint_sessions.specs.Steps.{EndTold}
 use Rattle.amqp_endpoint_model.specs.declared.call.Call.{Call}
 use Rattle.amqp_endpoint_model.specs.declared.error.EndpointError.{EndpointError}
+use Rattle.amqp_endpoint_model.specs.declared.event.Event.{Event}
 use Rattle.amqp_endpoint_model.specs.Relay.{Called}
 use Rattle.amqp_endpoint_model.specs.Said.{Said, refusal_in}
 use Rattle.amqp_endpoint_talk.specs.Going.{AllFit, Goes, Within}
@@ -18,38 +20,40 @@ use Rattle.amqp_endpoint_link_calls.specs.Closing.{ClosedAt}
 use Rattle.amqp_endpoint_link_calls.specs.Places.{Where}
 use Rattle.amqp_endpoint_linked.specs.declared.linked.LinkedSessions.{LinkedSessions}
 use Rattle.amqp_endpoint_linked.specs.Calling.{Calls, EndIsTold, answer_of}
+use Rattle.amqp_endpoint_linked.specs.Counting.{Counted, CountsStay}
 use Rattle.amqp_endpoint_linked.specs.Does.{linked}
 
 -- a call that hands these frames out is done so
 module _ (old new : LinkedSessions) (limit : ℕ) (call : Call) (out out_new : List SessionFrame) (least : 512 ≤ limit)
-    (within : Within limit old.talk) (goes : Goes limit old.talk new.talk out out_new) where
-  pub called : (answer : Said) (IsSo : List SessionFrame → Type 0)
-      → ((frames : List SessionFrame) → IsSo frames → Calls old limit call answer frames new)
-      → Hands IsSo out out_new → Called linked old limit call answer out new out_new
-  called answer IsSo by h =
-      let same : goes.frames ≡ h.frames =
-      append_cancel_left out goes.frames h.frames (sym goes.queued ∙ h.queued) in
-      record {
-        frames = h.frames;
-        calls = by h.frames h.is_so;
-        fit = subst (AllFit limit) same (goes.fit least within);
-        queued = h.queued;
-      }
+    (within : Within limit old.talk) (goes : Goes limit old.talk new.talk out out_new) (counted : Counted call old new)
+  where
+    pub called : (answer : Said) (IsSo : List SessionFrame → Type 0)
+        → ((frames : List SessionFrame) → IsSo frames → Calls old limit call answer frames new)
+        → Hands IsSo out out_new → Called linked old limit call answer out new out_new
+    called answer IsSo by h =
+        let same : goes.frames ≡ h.frames =
+        append_cancel_left out goes.frames h.frames (sym goes.queued ∙ h.queued) in
+        record {
+          frames = h.frames;
+          calls = (by h.frames h.is_so, counted);
+          fit = subst (AllFit limit) same (goes.fit least within);
+          queued = h.queued;
+        }
 
-  -- whichever it answers
-  pub called-if : {A : Type 0} (answer : A → Said) (IsSo : A → List SessionFrame → Type 0)
-      → ((a : A) (frames : List SessionFrame) → IsSo a frames → Calls old limit call (answer a) frames new)
-      → (r : Result A EndpointError) → IfOk r (λ a. Hands (IsSo a) out out_new)
-      → IfOk r (λ a. Called linked old limit call (answer a) out new out_new)
-  called-if answer IsSo by (Ok a) h = called (answer a) (IsSo a) (by a) h
-  called-if answer IsSo by (Err e) h = tt
+    -- whichever it answers
+    pub called-if : {A : Type 0} (answer : A → Said) (IsSo : A → List SessionFrame → Type 0)
+        → ((a : A) (frames : List SessionFrame) → IsSo a frames → Calls old limit call (answer a) frames new)
+        → (r : Result A EndpointError) → IfOk r (λ a. Hands (IsSo a) out out_new)
+        → IfOk r (λ a. Called linked old limit call (answer a) out new out_new)
+    called-if answer IsSo by (Ok a) h = called (answer a) (IsSo a) (by a) h
+    called-if answer IsSo by (Err e) h = tt
 
-  pub called-on : (answer : Said) (IsSo : List SessionFrame → Type 0)
-      → ((frames : List SessionFrame) → IsSo frames → Calls old limit call answer frames new)
-      → (r : Result ⊤ EndpointError) → OnOk r (Hands IsSo out out_new)
-      → OnOk r (Called linked old limit call answer out new out_new)
-  called-on answer IsSo by (Ok u) h = called answer IsSo by h
-  called-on answer IsSo by (Err e) h = tt
+    pub called-on : (answer : Said) (IsSo : List SessionFrame → Type 0)
+        → ((frames : List SessionFrame) → IsSo frames → Calls old limit call answer frames new)
+        → (r : Result ⊤ EndpointError) → OnOk r (Hands IsSo out out_new)
+        → OnOk r (Called linked old limit call answer out new out_new)
+    called-on answer IsSo by (Ok u) h = called answer IsSo by h
+    called-on answer IsSo by (Err e) h = tt
 
 -- what is done to a link, with its own frames
 module _ (does : Does) (old new : Talk) (out out_new : List SessionFrame) where
@@ -87,16 +91,16 @@ left-hands does old new out out_new place (Err e) d = tt
 
 -- a link that is closed, with its own frames
 module _ (old new : Talk) (links links_new : Links) (link : ℕ) (out out_new : List SessionFrame) where
-  pub closed-hands : (place : Where) → ClosedAt place old links link out new links_new out_new
-      → Hands (λ (frames : List SessionFrame). ClosedAt place old links link [] new links_new frames) out out_new
-  closed-hands None c = absurd c
-  closed-hands (Some (AtRest end)) c =
+  pub closed-hands : (place : Where) (events : List Event) → ClosedAt place old links link out events new links_new out_new
+      → Hands (λ (frames : List SessionFrame). ClosedAt place old links link [] events new links_new frames) out out_new
+  closed-hands None events c = absurd c
+  closed-hands (Some (AtRest end)) events c =
       record {
         frames = [];
-        is_so = record { forgotten = c.forgotten; same = c.same; silent = refl };
+        is_so = record { forgets = c.forgets; same = c.same; silent = refl };
         queued = c.silent ∙ sym (append-nil out);
       }
-  closed-hands (Some (Held session handle)) c =
+  closed-hands (Some (Held session handle)) events c =
       record {
         frames = c.done.frames;
         is_so =
@@ -115,6 +119,17 @@ module _ (old new : Talk) (links links_new : Links) (link : ℕ) (out out_new : 
             };
         queued = c.done.queued;
       }
+
+  pub closed-hands-if : (place : Where) (r : Result (Vec Event) EndpointError)
+      → IfOk r (λ events. ClosedAt place old links link out events.items new links_new out_new)
+      → IfOk r (λ events. Hands (λ (frames : List SessionFrame).
+      ClosedAt place old links link [] events.items new links_new frames) out out_new)
+  closed-hands-if place (Ok events) c = closed-hands place events.items c
+  closed-hands-if place (Err e) c = tt
+
+-- no message more was counted
+pub counts-stay : (old new : LinkedSessions) → new.sent ≡ old.sent → new.given ≡ old.given → CountsStay old new
+counts-stay old new sent given = record { sent = sent; given = given }
 
 -- that the peer's End came is told
 pub end-told : (old : LinkedSessions) (number : ℕ) (sessions : Sessions) (r : Result ⊤ TryEndError)

@@ -1,5 +1,5 @@
 -- What the calls do that concern sessions and links (part 2, 2.5, 2.6).
-use Rattle.std.specs.Prelude.{◌≡◌, ℕ, false, List, [], Option, Some, None, Result, Ok, Err, ⊤}
+use Rattle.std.specs.Prelude.{◌≡◌, ℕ, false, List, [], ◌∷◌, Option, Some, None, Result, Ok, Err, ⊤}
 use Rattle.amqp_session_types.specs.declared.channels.IncomingChannel.{IncomingChannel}
 use Rattle.amqp_session_types.specs.declared.refusals.TryEndError.{TryEndError}
 use Rattle.amqp_session_performatives.specs.declared.session_frame.SessionFrame.{SessionFrame}
@@ -7,12 +7,15 @@ use Rattle.amqp_link_ends.specs.declared.end.End.{End}
 use Rattle.amqp_endpoint_names.specs.State.{place_at as link_place}
 use Rattle.amqp_endpoint_sessions.specs.State.{is_complete, place_at}
 use Rattle.amqp_endpoint_sessions.specs.Steps.{EndTold}
+use Rattle.amqp_session_states.specs.declared.outcome.Outcome.{Outcome}
+use Rattle.amqp_endpoint_model.specs.declared.call.Disposal.{Disposal}
+use Rattle.amqp_endpoint_model.specs.declared.call.Sending.{Sending}
 use Rattle.amqp_endpoint_model.specs.declared.call.Call.{Call}
 use Rattle.amqp_endpoint_model.specs.declared.call.Call.TheVariants as call
 use Rattle.amqp_endpoint_model.specs.declared.error.EndpointError.{EndpointError}
 use Rattle.amqp_endpoint_model.specs.declared.event.Event.{Event}
 use Rattle.amqp_endpoint_model.specs.Said.{Said, attaching, count, credit_is, done, link_closed, session_begun}
-use Rattle.amqp_endpoint_model.specs.Said.{tried_end, truth, waiting}
+use Rattle.amqp_endpoint_model.specs.Said.{message_sent, tried_end, truth, waiting}
 use Rattle.amqp_endpoint_attached.specs.Links.{receiver_by, sender_by}
 use Rattle.amqp_endpoint_linking.specs.Calling.{Accepts, BarsAccepting, BarsBeginning, BarsEnding, Begins, EndsOwn}
 use Rattle.amqp_endpoint_link_attaching.specs.Refusals.{BarsAttaching}
@@ -23,7 +26,10 @@ use Rattle.amqp_endpoint_link_calls.specs.Places.{end_of}
 use Rattle.amqp_endpoint_link_calls.specs.Seeing.{credit_told}
 use Rattle.amqp_endpoint_link_calls.specs.Waiting.{BarsWaiting, TurnTold, held_told}
 use Rattle.amqp_endpoint_linked.specs.declared.linked.LinkedSessions.{LinkedSessions}
+use Rattle.amqp_endpoint_link_messages.specs.Disposing.{DisposedAt, DisposedOneAt}
+use Rattle.amqp_endpoint_link_messages.specs.Refusing.{BarsDisposing, refusal_of}
 use Rattle.amqp_endpoint_linked.specs.Attaching.{LinkAttached}
+use Rattle.amqp_endpoint_linked.specs.Sending.{BarsSending, SendsMessage}
 
 -- a session begins here, and no link changes
 pub record BeginsOwn (old : LinkedSessions) (number : ℕ) (frames : List SessionFrame) (new : LinkedSessions)
@@ -60,11 +66,25 @@ pub record DoneTo (does : Does) (old : LinkedSessions) (link : ℕ) (frames : Li
   pub is_done : DoneAt does (link_place old.links link) old.talk [] new.talk frames
   pub same : new.links ≡ old.links
 
--- a link is closed. No message that was sent ends by it, as none is sent
-pub record ClosesLink (old : LinkedSessions) (link : ℕ) (events : List Event) (frames : List SessionFrame)
-    (new : LinkedSessions) : Type 0 where
-  pub closes : ClosedAt (link_place old.links link) old.talk old.links link [] new.talk new.links frames
-  pub told : events ≡ []
+-- a message is sent by a link, and where each link is stays
+pub record Sends (limit : ℕ) (old : LinkedSessions) (link : ℕ) (message : Sending) (tag : List ℕ)
+    (outcome : Option Outcome) (frames : List SessionFrame) (new : LinkedSessions) : Type 0 where
+  pub sends : SendsMessage limit old.sent old.talk old.links link message tag outcome frames new.talk
+  pub same : new.links ≡ old.links
+
+-- messages are disposed of, against which nothing speaks, and where each link is stays
+pub record Disposes (limit : ℕ) (old : LinkedSessions) (link : ℕ) (messages : List ℕ) (disposal : Disposal)
+    (frames : List SessionFrame) (new : LinkedSessions) : Type 0 where
+  pub allowed : refusal_of limit old.talk old.links old.given link messages disposal ≡ None
+  pub disposes : DisposedAt limit (link_place old.links link) messages disposal old.talk [] new.talk frames
+  pub same : new.links ≡ old.links
+
+-- or one is
+pub record DisposesOfOne (limit : ℕ) (old : LinkedSessions) (link message : ℕ) (disposal : Disposal)
+    (frames : List SessionFrame) (new : LinkedSessions) : Type 0 where
+  pub allowed : refusal_of limit old.talk old.links old.given link (message ∷ []) disposal ≡ None
+  pub disposes : DisposedOneAt limit (link_place old.links link) message disposal old.talk [] new.talk frames
+  pub same : new.links ≡ old.links
 
 -- something is told, without a frame, and nothing changes
 pub record IsTold (Told : Type 0) (old : LinkedSessions) (frames : List SessionFrame) (new : LinkedSessions)
@@ -89,7 +109,8 @@ Calls old limit (call.AttachSender session settings) (attaching link events) fra
 Calls old limit (call.AttachReceiver session settings) (attaching link events) frames new =
     Attaches old limit session (receiver_by settings) link events frames new
 Calls old limit (call.Detach link) done frames new = DoneTo (detaches false) old link frames new
-Calls old limit (call.CloseLink link) (link_closed events) frames new = ClosesLink old link events frames new
+Calls old limit (call.CloseLink link) (link_closed events) frames new =
+    ClosedAt (link_place old.links link) old.talk old.links link [] events new.talk new.links frames
 Calls old limit (call.Grant link credit) (credit_is left) frames new =
     DoneTo (gives_credit credit left) old link frames new
 Calls old limit (call.Drain link) done frames new = DoneTo wants_drain old link frames new
@@ -99,6 +120,12 @@ Calls old limit (call.HeldBack session) (count n) frames new =
     IsTold (held_told (place_at old.talk.sessions session) ≡ Ok n) old frames new
 Calls old limit (call.Waiting session) (waiting turn) frames new =
     IsTold (TurnTold (place_at old.talk.sessions session) turn) old frames new
+Calls old limit (call.Send link message) (message_sent tag outcome) frames new =
+    Sends limit old link message tag outcome frames new
+Calls old limit (call.Dispose link message disposal) done frames new =
+    DisposesOfOne limit old link message disposal frames new
+Calls old limit (call.DisposeAll link messages disposal) done frames new =
+    Disposes limit old link messages disposal frames new
 Calls old limit call answer frames new = ⊥
 
 -- a call is refused so
@@ -117,4 +144,9 @@ BarsCall old limit (call.Drain link) e = BarsDrain old.talk (link_place old.link
 BarsCall old limit (call.Credit link) e = credit_told (end_of old.talk (link_place old.links link)) ≡ Err e
 BarsCall old limit (call.HeldBack session) e = held_told (place_at old.talk.sessions session) ≡ Err e
 BarsCall old limit (call.Waiting session) e = BarsWaiting (place_at old.talk.sessions session) e
+BarsCall old limit (call.Send link message) e = BarsSending limit old.sent old.talk old.links link message e
+BarsCall old limit (call.Dispose link message disposal) e =
+    BarsDisposing limit old.talk old.links old.given link (message ∷ []) disposal e
+BarsCall old limit (call.DisposeAll link messages disposal) e =
+    BarsDisposing limit old.talk old.links old.given link messages disposal e
 BarsCall old limit call e = ⊥

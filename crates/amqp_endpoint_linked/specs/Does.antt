@@ -1,4 +1,5 @@
 -- What the sessions of an endpoint do, with their links.
+use Rattle.std.specs.Prelude.{◌≡◌}
 use Rattle.amqp_endpoint_names.specs.State as names
 use Rattle.amqp_endpoint_sessions.specs.State.{fresh}
 use Rattle.amqp_endpoint_model.specs.Relay.{Relations}
@@ -6,6 +7,7 @@ use Rattle.amqp_endpoint_talk.specs.Going.{NoneLive, Within}
 use Rattle.amqp_endpoint_linking.specs.Ending.{Finishes, Leaves}
 use Rattle.amqp_endpoint_linked.specs.declared.linked.LinkedSessions.{LinkedSessions}
 use Rattle.amqp_endpoint_linked.specs.Calling.{BarsCall, Calls}
+use Rattle.amqp_endpoint_linked.specs.Counting.{Counted, CountsStay}
 use Rattle.amqp_endpoint_linked.specs.Hearing.{Hears, Refuses}
 
 abbrev pub linked : Relations LinkedSessions
@@ -18,19 +20,22 @@ linked =
           incoming_window = window;
         };
         links = names.fresh;
+        sent = 0;
+        given = 0;
       };
       connection = λ s. s.talk.sessions.connection;
       moved = λ s connection. record s {
         talk = record s.talk { sessions = record s.talk.sessions { connection = connection } };
       };
       takes = λ s limit channel it frames events new.
-          Hears s.talk s.links (record { 0 = channel }) it frames events new.talk new.links;
+          Hears s.talk s.links s.given limit (record { 0 = channel }) it frames events new.talk new.links new.given
+          × (new.sent ≡ s.sent);
       refuses = λ s limit channel it e new.
-          Refuses s.talk s.links (record { 0 = channel }) it e new.talk new.links;
-      calls = λ s limit call answer frames new. Calls s limit call answer frames new;
+          Refuses s.talk s.links s.given limit (record { 0 = channel }) it e new.talk new.links × CountsStay s new;
+      calls = λ s limit call answer frames new. Calls s limit call answer frames new × Counted call s new;
       bars = λ s limit call e. BarsCall s limit call e;
       within = λ limit s. Within limit s.talk;
       idle = λ s. NoneLive s.talk;
-      closes = λ s new. Leaves s.talk s.links new.talk new.links;
-      finishes = λ s new. Finishes s.talk s.links new.talk new.links;
+      closes = λ s new. Leaves s.talk s.links new.talk new.links × CountsStay s new;
+      finishes = λ s new. Finishes s.talk s.links new.talk new.links × CountsStay s new;
     }

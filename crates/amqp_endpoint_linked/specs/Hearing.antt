@@ -1,5 +1,5 @@
 -- What the peer's frames do to an endpoint's sessions and links, and what is told of them (part 2, 2.5, 2.6).
-use Rattle.std.specs.Prelude.{◌≡◌, List, Option}
+use Rattle.std.specs.Prelude.{◌≡◌, ℕ, List, Option}
 use Rattle.amqp_session_types.specs.declared.channels.IncomingChannel.{IncomingChannel}
 use Rattle.amqp_session_performatives.specs.declared.attach.Attach.{Attach}
 use Rattle.amqp_session_performatives.specs.declared.session_frame.SessionFrame.{SessionFrame}
@@ -24,38 +24,40 @@ pub record AttachHeard (old : Talk) (links : Links) (channel : IncomingChannel) 
   pub left : Option LinkAttached
   pub hears : HearsAttach old links channel attach left frames events new links_new
 
--- a frame of a session is heard: these frames are to be sent then, and this is told
-abbrev pub Hears : Talk → Links → IncomingChannel → FrameBody → List SessionFrame → List Event → Talk → Links → Type 0
-Hears old links channel (body.Begin begin) frames events new links_new =
-    HearsBegin old links channel begin frames events new links_new
-Hears old links channel (body.Attach attach) frames events new links_new =
-    AttachHeard old links channel attach frames events new links_new
-Hears old links channel (body.Flow flow) frames events new links_new =
-    HearsFlow old links channel flow frames events new links_new
-Hears old links channel (body.Transfer transfer payload) frames events new links_new =
-    HearsTransfer old links channel transfer payload frames events new links_new
-Hears old links channel (body.Disposition disposition) frames events new links_new =
-    HearsDisposition old links channel disposition frames events new links_new
-Hears old links channel (body.Detach detach) frames events new links_new =
-    HearsDetach old links channel detach frames events new links_new
-Hears old links channel (body.End end) frames events new links_new =
-    TakesEnd old links channel end frames events new links_new
-Hears old links channel other frames events new links_new = ⊥
+-- a frame of a session is heard, where so many messages were handed out before: these frames are to be sent then, and
+-- this is told
+abbrev pub Hears : Talk → Links → ℕ → ℕ → IncomingChannel → FrameBody → List SessionFrame → List Event → Talk → Links
+    → ℕ → Type 0
+Hears old links given limit channel (body.Begin begin) frames events new links_new given_new =
+    HearsBegin old links channel begin frames events new links_new × (given_new ≡ given)
+Hears old links given limit channel (body.Attach attach) frames events new links_new given_new =
+    AttachHeard old links channel attach frames events new links_new × (given_new ≡ given)
+Hears old links given limit channel (body.Flow flow) frames events new links_new given_new =
+    HearsFlow old links channel flow frames events new links_new × (given_new ≡ given)
+Hears old links given limit channel (body.Transfer transfer payload) frames events new links_new given_new =
+    HearsTransfer old links given channel transfer payload frames events new links_new given_new
+Hears old links given limit channel (body.Disposition disposition) frames events new links_new given_new =
+    HearsDisposition old links limit channel disposition frames events new links_new × (given_new ≡ given)
+Hears old links given limit channel (body.Detach detach) frames events new links_new given_new =
+    HearsDetach old links channel detach frames events new links_new × (given_new ≡ given)
+Hears old links given limit channel (body.End end) frames events new links_new given_new =
+    TakesEnd old links channel end frames events new links_new × (given_new ≡ given)
+Hears old links given limit channel other frames events new links_new given_new = ⊥
 
 -- it ends the connection by this, and no link changes beside the sessions
-abbrev pub RefusesBody : Talk → Links → IncomingChannel → FrameBody → EndpointError → Talk → Type 0
-RefusesBody old links channel (body.Begin begin) e new = RefusesBegin old channel begin e new
-RefusesBody old links channel (body.Attach attach) e new = RefusesAttach old links channel attach e new
-RefusesBody old links channel (body.Flow flow) e new = RefusesSaid old channel (said.Flow flow) e new
-RefusesBody old links channel (body.Transfer transfer payload) e new =
-    RefusesTransfer old channel transfer payload e new
-RefusesBody old links channel (body.Disposition disposition) e new =
+abbrev pub RefusesBody : Talk → Links → ℕ → ℕ → IncomingChannel → FrameBody → EndpointError → Talk → Type 0
+RefusesBody old links given limit channel (body.Begin begin) e new = RefusesBegin old channel begin e new
+RefusesBody old links given limit channel (body.Attach attach) e new = RefusesAttach old links channel attach e new
+RefusesBody old links given limit channel (body.Flow flow) e new = RefusesSaid old channel (said.Flow flow) e new
+RefusesBody old links given limit channel (body.Transfer transfer payload) e new =
+    RefusesTransfer old given channel transfer payload e new
+RefusesBody old links given limit channel (body.Disposition disposition) e new =
     RefusesSaid old channel (said.Disposition disposition) e new
-RefusesBody old links channel (body.Detach detach) e new = RefusesSaid old channel (said.Detach detach) e new
-RefusesBody old links channel (body.End end) e new = RefusesEnd old channel end e new
-RefusesBody old links channel other e new = ⊥
+RefusesBody old links given limit channel (body.Detach detach) e new = RefusesSaid old channel (said.Detach detach) e new
+RefusesBody old links given limit channel (body.End end) e new = RefusesEnd old channel end e new
+RefusesBody old links given limit channel other e new = ⊥
 
-pub record Refuses (old : Talk) (links : Links) (channel : IncomingChannel) (said : FrameBody) (e : EndpointError)
-    (new : Talk) (links_new : Links) : Type 0 where
-  pub refuses : RefusesBody old links channel said e new
+pub record Refuses (old : Talk) (links : Links) (given limit : ℕ) (channel : IncomingChannel) (said : FrameBody)
+    (e : EndpointError) (new : Talk) (links_new : Links) : Type 0 where
+  pub refuses : RefusesBody old links given limit channel said e new
   pub same : links_new ≡ links

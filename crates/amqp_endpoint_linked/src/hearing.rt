@@ -21,14 +21,17 @@ use amqp_session_types::{Boxed, IncomingChannel};
 use std::alloc::Global;
 use std::collections::VecDeque;
 
-/// Takes a frame of the peer that is neither Open nor Close, by the function that is for its performative.
+/// Takes a frame of the peer that is neither Open nor Close, by the function that is for its performative. `given` counts
+/// the messages that are handed out; no frame that is handed out is longer than `limit` bytes.
 ///
 /// It ends the connection as that function says. Nothing is handed out or told then, and no link changes.
 #[inline(never)]
 pub(crate) fn hear(
     talk: &mut Conversation<Numbered<LinkEnd>>,
     links: &mut Links<LinkEnd>,
+    given: &mut u64,
     alloc: Global,
+    limit: u32,
     channel: IncomingChannel,
     body: FrameBody,
     out: &mut VecDeque<SessionFrame>,
@@ -36,12 +39,14 @@ pub(crate) fn hear(
 ) -> Result<(), EndpointError>
     requires theirs { IsOfSession body }
     ensures ok { OnOk result
-        (Tells (λ frames told. Hears talk.old links.old channel body frames told talk.new links.new)
+        (Tells (λ frames told. Hears talk.old links.old given.old limit channel body frames told
+        talk.new links.new given.new)
         out.old.items events.old.items out.new.items events.new.items) }
-    ensures err { IfErr result (λ e. IsSessionFault e × Refuses talk.old links.old channel body e talk.new links.new) }
-    ensures kept { OnErr result ((links.new ≡ links.old) × (out.new.items ≡ out.old.items)
+    ensures err { IfErr result (λ e. IsSessionFault e × Refuses talk.old links.old given.old limit channel body e
+        talk.new links.new) }
+    ensures kept { OnErr result ((links.new ≡ links.old) × (given.new ≡ given.old) × (out.new.items ≡ out.old.items)
         × (events.new.items ≡ events.old.items)) }
-    ensures goes { (limit : ℕ) → 512 ≤ limit → Goes limit talk.old talk.new out.old.items out.new.items }
+    ensures goes { 512 ≤ limit → Goes limit talk.old talk.new out.old.items out.new.items }
     ensures rests { Rests talk.old talk.new out.old.items out.new.items }
 {
     match body {
@@ -54,6 +59,7 @@ pub(crate) fn hear(
         } => hear_transfer(
             talk,
             links,
+            given,
             alloc,
             channel,
             performative,
@@ -62,7 +68,16 @@ pub(crate) fn hear(
             events,
         ),
         FrameBody::Disposition(disposition) => {
-            hear_disposition(talk, links, alloc, channel, disposition, out, events)
+            hear_disposition(
+                talk,
+                links,
+                alloc,
+                limit,
+                channel,
+                disposition,
+                out,
+                events,
+            )
         }
         FrameBody::Detach(detach) => hear_detach(talk, links, alloc, channel, detach, out, events),
         FrameBody::End(end) => hear_end(talk, links, channel, end, out, events),

@@ -1,11 +1,15 @@
 //! What the sessions do for their connection.
 use crate::attaching::{attach_receiver, attach_sender};
 use crate::hearing::hear;
+use crate::sending::send;
 use amqp_endpoint_conversation::Conversation;
 use amqp_endpoint_link_calls as calls;
+use amqp_endpoint_link_messages as messages;
 use amqp_endpoint_linking as linking;
 use amqp_endpoint_links::Numbered;
-use amqp_endpoint_model::{Attaching, EndpointError, Event, SessionRelay};
+use amqp_endpoint_model::{
+    Attaching, Disposal, EndpointError, Event, Sending, Sent, SessionRelay,
+};
 use amqp_endpoint_names::Links;
 use amqp_endpoint_sessions::Sessions;
 use amqp_endpoint_settings::LinkSettings;
@@ -20,18 +24,26 @@ use std::collections::VecDeque;
 /// The sessions of an endpoint, and its links (part 2, 2.5, 2.6). A link is in a session under its own handle, or it is
 /// at rest beside them; there it bears its number and its name all along.
 ///
-/// No message is sent or handed out here: a link that has a whole message of its peer's is closed, and `Refused` is
-/// told.
+/// Each message that is sent has a number of its own, which its tag says, and so has each that is handed out.
 pub struct LinkedSessions {
     /// The sessions, by their numbers, and what is said in them.
     pub talk: Conversation<Numbered<LinkEnd>>,
     /// The links that aren't closed, by their numbers and their names.
     pub links: Links<LinkEnd>,
+    /// How many messages were accepted to be sent.
+    pub sent: u64,
+    /// How many messages were handed out.
+    pub given: u64,
 }
 
 impl Drop for LinkedSessions {
     fn drop(self) {
-        let LinkedSessions { talk: _, links: _ } = self;
+        let LinkedSessions {
+            talk: _,
+            links: _,
+            sent: _,
+            given: _,
+        } = self;
     }
 }
 
@@ -53,6 +65,8 @@ impl SessionRelay for LinkedSessions {
                 incoming_window,
             },
             links: Links::new(alloc),
+            sent: 0,
+            given: 0,
         })
     }
 
@@ -69,7 +83,7 @@ impl SessionRelay for LinkedSessions {
     fn on_incoming(
         &mut self,
         alloc: Global,
-        _limit: u32,
+        limit: u32,
         channel: IncomingChannel,
         body: FrameBody,
         out: &mut VecDeque<SessionFrame>,
@@ -78,7 +92,9 @@ impl SessionRelay for LinkedSessions {
         hear(
             &mut self.talk,
             &mut self.links,
+            &mut self.given,
             alloc,
+            limit,
             channel,
             body,
             out,
@@ -177,8 +193,7 @@ impl SessionRelay for LinkedSessions {
         link: u64,
         out: &mut VecDeque<SessionFrame>,
     ) -> Result<Vec<Event>, EndpointError> {
-        calls::close_link(&mut self.talk, alloc, &mut self.links, link, out)?;
-        Ok(Vec::new(alloc))
+        calls::close_link(&mut self.talk, alloc, &mut self.links, link, out)
     }
 
     fn grant(
@@ -200,6 +215,70 @@ impl SessionRelay for LinkedSessions {
         out: &mut VecDeque<SessionFrame>,
     ) -> Result<(), EndpointError> {
         calls::drain(&mut self.talk, alloc, &self.links, link, out)
+    }
+
+    fn send(
+        &mut self,
+        alloc: Global,
+        limit: u32,
+        link: u64,
+        message: &Sending,
+        out: &mut VecDeque<SessionFrame>,
+    ) -> Result<Sent, EndpointError> {
+        send(
+            &mut self.talk,
+            &self.links,
+            &mut self.sent,
+            alloc,
+            limit,
+            link,
+            message,
+            out,
+        )
+    }
+
+    fn dispose(
+        &mut self,
+        alloc: Global,
+        limit: u32,
+        link: u64,
+        message: u64,
+        disposal: &Disposal,
+        out: &mut VecDeque<SessionFrame>,
+    ) -> Result<(), EndpointError> {
+        messages::dispose(
+            &mut self.talk,
+            alloc,
+            &self.links,
+            self.given,
+            limit,
+            link,
+            message,
+            disposal,
+            out,
+        )
+    }
+
+    fn dispose_all(
+        &mut self,
+        alloc: Global,
+        limit: u32,
+        link: u64,
+        messages: &[u64],
+        disposal: &Disposal,
+        out: &mut VecDeque<SessionFrame>,
+    ) -> Result<(), EndpointError> {
+        messages::dispose_all(
+            &mut self.talk,
+            alloc,
+            &self.links,
+            self.given,
+            limit,
+            link,
+            messages,
+            disposal,
+            out,
+        )
     }
 
     fn credit(&self, link: u64) -> Result<u32, EndpointError> {

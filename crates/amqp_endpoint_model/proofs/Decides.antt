@@ -15,8 +15,9 @@ use Rattle.amqp_endpoint_model.specs.declared.call.Call.TheVariants.{Begin, Acce
 use Rattle.amqp_endpoint_model.specs.declared.call.Call.TheVariants.{AttachSender, AttachReceiver, Detach, CloseLink}
 use Rattle.amqp_endpoint_model.specs.declared.call.Call.TheVariants.{Grant, Drain, Credit, HeldBack}
 use Rattle.amqp_endpoint_model.specs.declared.call.Call.TheVariants.{Waiting as WaitingCall}
+use Rattle.amqp_endpoint_model.specs.declared.call.Call.TheVariants.{Send, Dispose, DisposeAll}
 use Rattle.amqp_endpoint_model.specs.Said.{Said, done, refused, fed, pulled, count, truth, tried_close, session_begun}
-use Rattle.amqp_endpoint_model.specs.Said.{tried_end, attaching, link_closed, credit_is, waiting, Told}
+use Rattle.amqp_endpoint_model.specs.Said.{tried_end, attaching, link_closed, credit_is, waiting, message_sent, Told}
 use Rattle.amqp_endpoint_model.specs.Relay.{Relations, Decides}
 use Rattle.amqp_endpoint_model.specs.State.{State, Waiting, the_frame, text_of, heartbeat, own_close_with, limit_of}
 use Rattle.amqp_endpoint_model.specs.Step.{refusal, MayRefuse, Breaks, ClosesOwn, connected, opened, close_refusal}
@@ -64,6 +65,9 @@ IsPlain (Detach link) = ⊥
 IsPlain (CloseLink link) = ⊥
 IsPlain (Grant link credit) = ⊥
 IsPlain (Drain link) = ⊥
+IsPlain (Send link message) = ⊥
+IsPlain (Dispose link message disposal) = ⊥
+IsPlain (DisposeAll link messages disposal) = ⊥
 IsPlain (Credit link) = ⊥
 IsPlain (HeldBack session) = ⊥
 IsPlain (WaitingCall session) = ⊥
@@ -151,6 +155,9 @@ module _ {S : Type 0} (does : Relations S) where
   decided s (CloseLink link) a m plain step h = absurd plain
   decided s (Grant link credit) a m plain step h = absurd plain
   decided s (Drain link) a m plain step h = absurd plain
+  decided s (Send link message) a m plain step h = absurd plain
+  decided s (Dispose link message disposal) a m plain step h = absurd plain
+  decided s (DisposeAll link messages disposal) a m plain step h = absurd plain
   decided s (Credit link) a m plain step h = absurd plain
   decided s (HeldBack session) a m plain step h = absurd plain
   decided s (WaitingCall session) a m plain step h = absurd plain
@@ -209,6 +216,9 @@ module _ {S : Type 0} (does : Relations S) where
   TheirStep s (CloseLink link) a m = Step does s (CloseLink link) a m
   TheirStep s (Grant link credit) a m = Step does s (Grant link credit) a m
   TheirStep s (Drain link) a m = Step does s (Drain link) a m
+  TheirStep s (Send link message) a m = Step does s (Send link message) a m
+  TheirStep s (Dispose link message disposal) a m = Step does s (Dispose link message disposal) a m
+  TheirStep s (DisposeAll link messages disposal) a m = Step does s (DisposeAll link messages disposal) a m
   TheirStep s (Credit link) a m = Step does s (Credit link) a m
   TheirStep s (HeldBack session) a m = Step does s (HeldBack session) a m
   TheirStep s (WaitingCall session) a m = Step does s (WaitingCall session) a m
@@ -276,6 +286,15 @@ module _ {S : Type 0} (does : Relations S) where
   sessions_said s (Drain link) (refused e) m (refuses, same) h =
       refused_said s (Drain link) e m refuses same h
   sessions_said s (Drain link) done m step h = called step
+  sessions_said s (Send link message) (refused e) m (refuses, same) h =
+      refused_said s (Send link message) e m refuses same h
+  sessions_said s (Send link message) (message_sent tag outcome) m step h = called step
+  sessions_said s (Dispose link message disposal) (refused e) m (refuses, same) h =
+      refused_said s (Dispose link message disposal) e m refuses same h
+  sessions_said s (Dispose link message disposal) done m step h = called step
+  sessions_said s (DisposeAll link messages disposal) (refused e) m (refuses, same) h =
+      refused_said s (DisposeAll link messages disposal) e m refuses same h
+  sessions_said s (DisposeAll link messages disposal) done m step h = called step
   sessions_said s (Credit link) (refused e) m (refuses, same) h =
       refused_said s (Credit link) e m refuses same h
   sessions_said s (Credit link) (credit_is left) m step h =
@@ -418,6 +437,12 @@ module _ {S : Type 0} (does : Relations S) (law : Decides does) where
       theirs-decide s (Grant link credit) a b m n r t h k
   step-decides s (Drain link) a b m n r t h k =
       theirs-decide s (Drain link) a b m n r t h k
+  step-decides s (Send link message) a b m n r t h k =
+      theirs-decide s (Send link message) a b m n r t h k
+  step-decides s (Dispose link message disposal) a b m n r t h k =
+      theirs-decide s (Dispose link message disposal) a b m n r t h k
+  step-decides s (DisposeAll link messages disposal) a b m n r t h k =
+      theirs-decide s (DisposeAll link messages disposal) a b m n r t h k
   step-decides s (Credit link) a b m n r t h k =
       theirs-decide s (Credit link) a b m n r t h k
   step-decides s (HeldBack session) a b m n r t h k =

@@ -12,9 +12,10 @@ use Rattle.amqp_endpoint_model.specs.declared.call.Call.TheVariants.{Begin, Acce
 use Rattle.amqp_endpoint_model.specs.declared.call.Call.TheVariants.{AttachSender, AttachReceiver, Detach, CloseLink}
 use Rattle.amqp_endpoint_model.specs.declared.call.Call.TheVariants.{Grant, Drain, Credit, HeldBack}
 use Rattle.amqp_endpoint_model.specs.declared.call.Call.TheVariants.{Waiting as WaitingCall}
+use Rattle.amqp_endpoint_model.specs.declared.call.Call.TheVariants.{Send, Dispose, DisposeAll}
 use Rattle.amqp_endpoint_model.specs.Relay.{Relations}
 use Rattle.amqp_endpoint_model.specs.Said.{Said, done, refused, fed, pulled, count, truth, tried_close, session_begun}
-use Rattle.amqp_endpoint_model.specs.Said.{tried_end, attaching, link_closed, credit_is, waiting, Told}
+use Rattle.amqp_endpoint_model.specs.Said.{tried_end, attaching, link_closed, credit_is, waiting, message_sent, Told}
 use Rattle.amqp_endpoint_model.specs.State.{State, fresh}
 use Rattle.amqp_endpoint_model.specs.Step.{AfterFault, EndsRunning, Ends, ReadsOn, FeedsIn, condition_of, opened, Step}
 use Rattle.amqp_endpoint_model.specs.History.{Run, Summary, nothing, note, summary, Pieces}
@@ -85,6 +86,9 @@ module _ {S : Type 0} (does : Relations S) where
   step-settings old (CloseLink link) (link_closed events) new step = ap (λ s. s.settings) step.queued
   step-settings old (Grant link credit) (credit_is left) new step = ap (λ s. s.settings) step.queued
   step-settings old (Drain link) done new step = ap (λ s. s.settings) step.queued
+  step-settings old (Send link message) (message_sent tag outcome) new step = ap (λ s. s.settings) step.queued
+  step-settings old (Dispose link message disposal) done new step = ap (λ s. s.settings) step.queued
+  step-settings old (DisposeAll link messages disposal) done new step = ap (λ s. s.settings) step.queued
   step-settings old (Credit link) (credit_is left) new step = ap (λ s. s.settings) step.same
   step-settings old (HeldBack session) (count n) new step = ap (λ s. s.settings) step.same
   step-settings old (WaitingCall session) (waiting turn) new step = ap (λ s. s.settings) step.same

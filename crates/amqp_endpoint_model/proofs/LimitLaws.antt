@@ -25,9 +25,10 @@ use Rattle.amqp_endpoint_model.specs.declared.call.Call.TheVariants.{Begin, Acce
 use Rattle.amqp_endpoint_model.specs.declared.call.Call.TheVariants.{AttachSender, AttachReceiver, Detach, CloseLink}
 use Rattle.amqp_endpoint_model.specs.declared.call.Call.TheVariants.{Grant, Drain, Credit, HeldBack}
 use Rattle.amqp_endpoint_model.specs.declared.call.Call.TheVariants.{Waiting as WaitingCall}
+use Rattle.amqp_endpoint_model.specs.declared.call.Call.TheVariants.{Send, Dispose, DisposeAll}
 use Rattle.amqp_endpoint_model.specs.Relay.{Relations}
 use Rattle.amqp_endpoint_model.specs.Said.{Said, done, refused, fed, pulled, count, truth, tried_close, session_begun}
-use Rattle.amqp_endpoint_model.specs.Said.{tried_end, attaching, link_closed, credit_is, waiting, Told}
+use Rattle.amqp_endpoint_model.specs.Said.{tried_end, attaching, link_closed, credit_is, waiting, message_sent, Told}
 use Rattle.amqp_endpoint_model.specs.State.{State, Waiting, the_frame, text_of, fresh, written, text_or_nothing, text_fits, fits, frame_of, waiting_of, own_open, own_close_with, heartbeat, error_of, limit_of}
 use Rattle.amqp_endpoint_model.specs.Step.{TakesBody, TakesAll, AfterFault, EndsRunning, Ends, ReadsOn, Greets, FeedsIn, opened, cut_off, faulted, condition_of, condition_of_frame, condition_of_connection, framing_error, decode_error, not_allowed, not_found, refusal_of_settings, Step}
 use Rattle.amqp_endpoint_model.specs.History.{Run, Summary, nothing, note, IsWithin, KeepsLimit}
@@ -302,6 +303,12 @@ module _ {S : Type 0} (does : Relations S) where
   step-fits old (Grant link credit) (credit_is left) new o h step =
       sent-fits old new step.frames h step.fit step.queued
   step-fits old (Drain link) done new o h step =
+      sent-fits old new step.frames h step.fit step.queued
+  step-fits old (Send link message) (message_sent tag outcome) new o h step =
+      sent-fits old new step.frames h step.fit step.queued
+  step-fits old (Dispose link message disposal) done new o h step =
+      sent-fits old new step.frames h step.fit step.queued
+  step-fits old (DisposeAll link messages disposal) done new o h step =
       sent-fits old new step.frames h step.fit step.queued
   step-fits old (Credit link) (credit_is left) new o h step = to old new step.same h
   step-fits old (HeldBack session) (count n) new o h step = to old new step.same h

@@ -23,9 +23,10 @@ use Rattle.amqp_endpoint_model.specs.declared.call.Call.TheVariants.{Begin, Acce
 use Rattle.amqp_endpoint_model.specs.declared.call.Call.TheVariants.{AttachSender, AttachReceiver, Detach, CloseLink}
 use Rattle.amqp_endpoint_model.specs.declared.call.Call.TheVariants.{Grant, Drain, Credit, HeldBack}
 use Rattle.amqp_endpoint_model.specs.declared.call.Call.TheVariants.{Waiting as WaitingCall}
+use Rattle.amqp_endpoint_model.specs.declared.call.Call.TheVariants.{Send, Dispose, DisposeAll}
 use Rattle.amqp_endpoint_model.specs.Relay.{Relations}
 use Rattle.amqp_endpoint_model.specs.Said.{Said, done, refused, pulled, count, truth, tried_close, session_begun}
-use Rattle.amqp_endpoint_model.specs.Said.{tried_end, attaching, link_closed, credit_is, waiting}
+use Rattle.amqp_endpoint_model.specs.Said.{tried_end, attaching, link_closed, credit_is, waiting, message_sent}
 use Rattle.amqp_endpoint_model.specs.State.{State, protocol_header, limit_of}
 use Rattle.amqp_endpoint_model.specs.Step.{Admits, Waits, Front, FrontUnread, FrontRefused, SessionsRefuse, RefusesBody, AfterFault, TakesAll, EndsRunning, Ends, ReadsOn, Greets, BreaksGreeting, FeedsIn, SessionsDo, condition_of, cut_off, opened, Step}
 use Rattle.amqp_endpoint_model.specs.History.{Summary, nothing, first_fault, note_fed, note, FramesTell, has_open, has_close, CloseIsLast, OpenIsOnce, Next, NextOpen, NextRefused, Stops, Framed, Pieces, judge_limit}
@@ -676,6 +677,15 @@ module _ {S : Type 0} (does : Relations S) where
   quiet σ old (Drain link) (refused e) new q (bars, same) = quiet-same σ old new same
   quiet σ old (Drain link) done new q step =
       quiet-sessions σ old (Drain link) done new step
+  quiet σ old (Send link message) (refused e) new q (bars, same) = quiet-same σ old new same
+  quiet σ old (Send link message) (message_sent tag outcome) new q step =
+      quiet-sessions σ old (Send link message) (message_sent tag outcome) new step
+  quiet σ old (Dispose link message disposal) (refused e) new q (bars, same) = quiet-same σ old new same
+  quiet σ old (Dispose link message disposal) done new q step =
+      quiet-sessions σ old (Dispose link message disposal) done new step
+  quiet σ old (DisposeAll link messages disposal) (refused e) new q (bars, same) = quiet-same σ old new same
+  quiet σ old (DisposeAll link messages disposal) done new q step =
+      quiet-sessions σ old (DisposeAll link messages disposal) done new step
   quiet σ old (Credit link) (refused e) new q (bars, same) = quiet-same σ old new same
   quiet σ old (Credit link) (credit_is left) new q step = quiet-same σ old new step.same
   quiet σ old (HeldBack session) (refused e) new q (bars, same) = quiet-same σ old new same

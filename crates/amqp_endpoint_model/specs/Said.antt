@@ -1,5 +1,6 @@
 -- What calls answer, as plain data.
 use Rattle.std.specs.Prelude.{ℕ, Bool, List, Option, Some, None, Result, Ok, Err, ⊤}
+use Rattle.amqp_session_states.specs.declared.outcome.Outcome.{Outcome}
 use Rattle.amqp_session_types.specs.declared.refusals.TryCloseError.{TryCloseError}
 use Rattle.amqp_session_types.specs.declared.refusals.TryEndError.{TryEndError}
 use Rattle.amqp_endpoint_model.specs.declared.error.EndpointError.{EndpointError}
@@ -7,7 +8,7 @@ use Rattle.amqp_endpoint_model.specs.declared.event.Event.{Event}
 use Rattle.amqp_endpoint_model.specs.declared.answer.Answer.{Answer}
 use Rattle.amqp_endpoint_model.specs.declared.answer.Answer.TheVariants.{Done, Refused, Fed, Pulled, Count, Truth}
 use Rattle.amqp_endpoint_model.specs.declared.answer.Answer.TheVariants.{TriedClose, Session, TriedEnd, Attaching}
-use Rattle.amqp_endpoint_model.specs.declared.answer.Answer.TheVariants.{LinkClosed, Credit, Waiting}
+use Rattle.amqp_endpoint_model.specs.declared.answer.Answer.TheVariants.{LinkClosed, Credit, Waiting, Sent}
 use Rattle.amqp_endpoint_model.specs.declared.answer.Reply.{Reply}
 
 pub data Said : Type 0 where
@@ -33,6 +34,8 @@ pub data Said : Type 0 where
   credit_is : ℕ → Said
   -- the links of which transfers wait, in turn, each with how many
   waiting : List (ℕ × ℕ) → Said
+  -- the tag of a message that is sent, and its outcome where it went settled
+  message_sent : List ℕ → Option Outcome → Said
 
 -- why it is refused, if it is
 abbrev pub refusal_in : {E : Type 0} → Result ⊤ E → Option E
@@ -56,6 +59,7 @@ said (Attaching a) = attaching a.link (a.events.items)
 said (LinkClosed events) = link_closed (events.items)
 said (Credit n) = credit_is n
 said (Waiting turn) = waiting (turn.items)
+said (Sent s) = message_sent s.tag s.outcome
 
 -- an answer, and how many answers of bytes pull still gives behind it
 pub record Told : Type 0 where

@@ -25,6 +25,7 @@ use Rattle.amqp_endpoint_model.specs.declared.call.Call.TheVariants.{Begin, Acce
 use Rattle.amqp_endpoint_model.specs.declared.call.Call.TheVariants.{AttachSender, AttachReceiver, Detach, CloseLink}
 use Rattle.amqp_endpoint_model.specs.declared.call.Call.TheVariants.{Grant, Drain, Credit, HeldBack}
 use Rattle.amqp_endpoint_model.specs.declared.call.Call.TheVariants.{Waiting as WaitingCall}
+use Rattle.amqp_endpoint_model.specs.declared.call.Call.TheVariants.{Send, Dispose, DisposeAll}
 use Rattle.amqp_session_performatives.specs.declared.open.Open.{Open as OpenFields}
 use Rattle.amqp_session_performatives.specs.declared.session_frame.SessionFrame.{SessionFrame}
 use Rattle.amqp_session_connection.specs.declared.state.ConnectionState.{ConnectionState}
@@ -33,7 +34,7 @@ use Rattle.amqp_session_connection.specs.State as channels
 use Rattle.amqp_session_connection.specs.Table.{after_incoming_close, after_incoming_open, after_send_close}
 use Rattle.amqp_endpoint_model.specs.Relay.{Relations, IsOfSession, IsSessionFault}
 use Rattle.amqp_endpoint_model.specs.Said.{Said, done, refused, fed, pulled, count, truth, tried_close, session_begun}
-use Rattle.amqp_endpoint_model.specs.Said.{tried_end, attaching, link_closed, credit_is, waiting}
+use Rattle.amqp_endpoint_model.specs.Said.{tried_end, attaching, link_closed, credit_is, waiting, message_sent}
 use Rattle.amqp_endpoint_model.specs.State.{State, is_unconnected, is_running, has_opened, protocol_header, own_open, own_close_with, error_of, heartbeat, fits, frame_of, limit_of, Waiting, the_header, the_frame, text_of, waiting_of}
 
 -- the first refusal that applies to settings (part 2, 2.7.1; 2.5.6)
@@ -402,6 +403,9 @@ module _ {S : Type 0} (does : Relations S) where
   IsRefused s (Credit link) e = SessionsRefuseCall s (Credit link) e
   IsRefused s (HeldBack session) e = SessionsRefuseCall s (HeldBack session) e
   IsRefused s (WaitingCall session) e = SessionsRefuseCall s (WaitingCall session) e
+  IsRefused s (Send link message) e = SessionsRefuseCall s (Send link message) e
+  IsRefused s (Dispose link message disposal) e = SessionsRefuseCall s (Dispose link message disposal) e
+  IsRefused s (DisposeAll link messages disposal) e = SessionsRefuseCall s (DisposeAll link messages disposal) e
   IsRefused s call e = MayRefuse s call e
 
   -- the sessions do what they are called for: what they send then fits the limit of written frames
@@ -459,4 +463,8 @@ module _ {S : Type 0} (does : Relations S) where
   Step old (Credit link) (credit_is left) new = SessionsAnswer old (Credit link) (credit_is left) new
   Step old (HeldBack session) (count n) new = SessionsAnswer old (HeldBack session) (count n) new
   Step old (WaitingCall session) (waiting turn) new = SessionsAnswer old (WaitingCall session) (waiting turn) new
+  Step old (Send link message) (message_sent tag outcome) new =
+      SessionsDo old (Send link message) (message_sent tag outcome) new
+  Step old (Dispose link message disposal) done new = SessionsDo old (Dispose link message disposal) done new
+  Step old (DisposeAll link messages disposal) done new = SessionsDo old (DisposeAll link messages disposal) done new
   Step old call said new = ⊥

@@ -3,7 +3,8 @@ ghost use Rattle.std.specs.Prelude.{◌≡◌};
 
 use crate::error::EndpointError;
 use crate::event::Event;
-use amqp_session_types::{TryCloseError, TryEndError};
+use amqp_session_states::Outcome;
+use amqp_session_types::{DeliveryTag, TryCloseError, TryEndError};
 
 /// What `feed` answers.
 #[derive(Debug, Drop)]
@@ -22,6 +23,15 @@ pub struct Attaching {
     /// What comes of it at once: Attached where the peer asked for the link before (part 2, 2.6.3). Empty where its
     /// answer is awaited.
     pub events: Vec<Event>,
+}
+
+/// What `send` answers.
+#[derive(Debug, Drop)]
+pub struct Sent {
+    /// The tag of the message's delivery, by which its outcome is told (part 2, 2.8.7).
+    pub tag: DeliveryTag,
+    /// Accepted where the message went settled; None where its outcome is awaited.
+    pub outcome: Option<Outcome>,
 }
 
 /// What a call answers.
@@ -53,6 +63,8 @@ pub enum Answer {
     Credit(u32),
     /// What `waiting` answers: the links of which transfers wait, in turn, each with how many.
     Waiting(Vec<(u64, u64)>),
+    /// What `send` answers.
+    Sent(Sent),
 }
 
 /// What a call answered, and how many answers of bytes `pull` still gives after it.

@@ -1,7 +1,30 @@
 //! The calls of an endpoint.
 use amqp_endpoint_settings::LinkSettings;
+use amqp_session_states::DeliveryState;
 use amqp_session_types::{Boxed, IncomingChannel};
 use bytes::Bytes;
+use serde_amqp_types::Array;
+
+/// A message as it is sent: the bytes of its sections, which a link cuts into transfers (part 2, 2.6.14).
+#[derive(Debug, Drop)]
+pub struct Sending {
+    /// Its bytes. They are shared with the transfers, not copied.
+    pub payload: Bytes,
+    /// How it is encoded (part 2, 2.8.11).
+    pub message_format: u32,
+    /// Whether it is sent settled, where its link leaves that open (part 2, 2.8.2). Unsettled where this is absent.
+    pub settled: Option<bool>,
+}
+
+/// What messages are disposed of by (part 2, 2.7.6).
+#[derive(Debug, Drop)]
+pub struct Disposal {
+    /// The state that their sender is told.
+    pub state: DeliveryState,
+    /// Whether they are settled with that; where this is absent as their transfers say, or else their link (part 2,
+    /// 2.8.3).
+    pub settled: Option<bool>,
+}
 
 /// A call of an endpoint.
 #[derive(Debug)]
@@ -54,6 +77,12 @@ pub enum Call {
     HeldBack(u64),
     /// `waiting` of the session with this number
     Waiting(u64),
+    /// `send` by the link with this number
+    Send(u64, Sending),
+    /// `dispose` of the message with the second number, of the link with the first
+    Dispose(u64, u64, Disposal),
+    /// `dispose_all` of the messages with these numbers, of the link with the first
+    DisposeAll(u64, Array<u64>, Disposal),
 }
 
 impl Drop for Call {
@@ -83,6 +112,9 @@ impl Drop for Call {
             Call::Credit(_) => {}
             Call::HeldBack(_) => {}
             Call::Waiting(_) => {}
+            Call::Send(_, _) => {}
+            Call::Dispose(_, _, _) => {}
+            Call::DisposeAll(_, _, _) => {}
         }
     }
 }

@@ -1,8 +1,11 @@
 //! What an endpoint tells of its peer.
 use crate::error::EndpointError;
 use amqp_link_attach::AttachExchange;
+use amqp_link_message::{Delivery, Raw};
+use amqp_link_types::SendError;
 use amqp_session_performatives::Attach;
-use amqp_session_types::{Boxed, IncomingChannel, definitions};
+use amqp_session_states::Outcome as DeliveryOutcome;
+use amqp_session_types::{Boxed, DeliveryTag, IncomingChannel, definitions};
 use serde_amqp_types::Text;
 
 /// What the peer's Open says (part 2, 2.7.1).
@@ -61,6 +64,30 @@ pub struct Attached {
     pub exchange: AttachExchange,
 }
 
+/// A message that came whole (part 2, 2.6.12, 2.6.14).
+#[derive(Debug, Drop)]
+pub struct Message {
+    /// The number of the link by which it came.
+    pub link: u64,
+    /// The number that the message has from now on, by which it is disposed of.
+    pub message: u64,
+    /// The message with its delivery. Its bytes are shared with the input where it came in one transfer.
+    pub delivery: Delivery<Raw>,
+    /// Whether its sender has settled it: it isn't to be disposed of then (part 2, 2.6.12).
+    pub settled: bool,
+}
+
+/// What became of a message that was sent (part 2, 2.6.12; part 3, 3.4).
+#[derive(Debug, Drop)]
+pub struct Outcome {
+    /// The number of the link by which it was sent.
+    pub link: u64,
+    /// The tag of its delivery, as `send` answered it.
+    pub tag: DeliveryTag,
+    /// Its outcome, or why it has none.
+    pub result: Result<DeliveryOutcome, SendError>,
+}
+
 /// A link that the peer detached (part 2, 2.6.5, 2.6.6, 2.7.7). It is answered by the own Detach, where that hadn't
 /// gone.
 #[derive(Debug, Drop)]
@@ -107,6 +134,10 @@ pub enum Event {
     LinkAsked(LinkAsked),
     /// A link is attached at both ends.
     Attached(Attached),
+    /// A message came whole.
+    Message(Message),
+    /// A message that was sent came to its end.
+    Outcome(Outcome),
     /// The peer detached a link.
     Detached(Detached),
     /// The peer ended a session.

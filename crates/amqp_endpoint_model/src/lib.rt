@@ -10,11 +10,12 @@ mod phase;
 mod relay;
 mod settings;
 
-pub use answer::{Answer, Attaching, Fed, Reply};
-pub use call::Call;
+pub use answer::{Answer, Attaching, Fed, Reply, Sent};
+pub use call::{Call, Disposal, Sending};
 pub use error::EndpointError;
 pub use event::{
-    Attached, Begun, Closed, Detached, Ended, Event, LinkAsked, Opened, Refused, SessionAsked,
+    Attached, Begun, Closed, Detached, Ended, Event, LinkAsked, Message, Opened, Outcome, Refused,
+    SessionAsked,
 };
 pub use laws::{
     bytes_decide, judge_says_one_limit, limit_kept, pieces_of_all_bytes, recut, step_decides, uncut,

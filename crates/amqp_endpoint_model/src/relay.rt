@@ -5,14 +5,16 @@ ghost use types.Logic.{sem};
 ghost use Rattle.amqp_session_connection.specs.State as channels;
 ghost use Rattle.amqp_session_connection.specs.contracts.connection.Connection.{the_row as connection_row};
 ghost use Rattle.amqp_endpoint_model.specs.Relay.{Called, IsOfSession, Refused, StandsStill, Taken};
-ghost use Rattle.amqp_endpoint_model.specs.Said.{attaching, count, credit_is, done, link_closed, session_begun};
+ghost use Rattle.amqp_endpoint_model.specs.Said.{attaching, count, credit_is, done, link_closed, message_sent};
+ghost use Rattle.amqp_endpoint_model.specs.Said.{session_begun};
 ghost use Rattle.amqp_endpoint_model.specs.Said.{tried_end, truth, refusal_in, waiting};
 ghost use Rattle.amqp_endpoint_model.specs.declared.call.Call.TheVariants.{AcceptBegin, AttachReceiver, AttachSender};
 ghost use Rattle.amqp_endpoint_model.specs.declared.call.Call.TheVariants.{Begin, CloseLink, Credit, Detach, Drain};
 ghost use Rattle.amqp_endpoint_model.specs.declared.call.Call.TheVariants.{End, Grant, HeldBack, IsEnded, TryEnd};
-ghost use Rattle.amqp_endpoint_model.specs.declared.call.Call.TheVariants.{Waiting};
+ghost use Rattle.amqp_endpoint_model.specs.declared.call.Call.TheVariants.{Dispose, DisposeAll, Send, Waiting};
 
-use crate::answer::Attaching;
+use crate::answer::{Attaching, Sent};
+use crate::call::{Disposal, Sending};
 use crate::error::EndpointError;
 use crate::event::Event;
 use amqp_endpoint_settings::LinkSettings;
@@ -274,6 +276,72 @@ pub trait SessionRelay: Drop {
         ensures ok { OnOk result
             (Called does self.old limit (Drain link) done out.old.items self.new out.new.items) }
         ensures err { IfErr result (does.bars self.old limit (Drain link)) }
+        ensures kept { OnErr result ((self.new ≡ self.old) × (out.new.items ≡ out.old.items)) }
+        ensures within { (most : ℕ) → 512 ≤ most → does.within most self.old → does.within most self.new }
+        ensures quiet { does.idle self.old → out.new.items ≡ out.old.items }
+        ensures idle { does.idle self.old → does.idle self.new }
+        ensures still { StandsStill (does.connection self.old) (does.connection self.new) };
+
+    /// Sends a message by the link with this number: all of its transfers are taken or none. What the peer's window lets
+    /// leave of them is handed out, and the rest waits. Answers the tag of its delivery (part 2, 2.6.12, 2.6.14).
+    fn send(
+        &mut self,
+        alloc: Global,
+        limit: u32,
+        link: u64,
+        message: &Sending,
+        out: &mut VecDeque<SessionFrame>,
+    ) -> Result<Sent, EndpointError>
+        requires least { 512 ≤ limit }
+        requires waiting { does.within limit self.old }
+        ensures ok { IfOk result (λ s. Called does self.old limit (Send link message.now) (message_sent s.tag s.outcome)
+            out.old.items self.new out.new.items) }
+        ensures err { IfErr result (does.bars self.old limit (Send link message.now)) }
+        ensures kept { OnErr result ((self.new ≡ self.old) × (out.new.items ≡ out.old.items)) }
+        ensures within { does.within limit self.new }
+        ensures none { does.idle self.old → (most : ℕ) → does.within most self.new }
+        ensures quiet { does.idle self.old → out.new.items ≡ out.old.items }
+        ensures idle { does.idle self.old → does.idle self.new }
+        ensures still { StandsStill (does.connection self.old) (does.connection self.new) };
+
+    /// Disposes of the message with this number that came by the link with this number. Its Disposition is handed out
+    /// (part 2, 2.6.12, 2.7.6).
+    fn dispose(
+        &mut self,
+        alloc: Global,
+        limit: u32,
+        link: u64,
+        message: u64,
+        disposal: &Disposal,
+        out: &mut VecDeque<SessionFrame>,
+    ) -> Result<(), EndpointError>
+        requires least { 512 ≤ limit }
+        requires waiting { does.within limit self.old }
+        ensures ok { OnOk result
+            (Called does self.old limit (Dispose link message disposal.now) done out.old.items self.new out.new.items) }
+        ensures err { IfErr result (does.bars self.old limit (Dispose link message disposal.now)) }
+        ensures kept { OnErr result ((self.new ≡ self.old) × (out.new.items ≡ out.old.items)) }
+        ensures within { (most : ℕ) → 512 ≤ most → does.within most self.old → does.within most self.new }
+        ensures quiet { does.idle self.old → out.new.items ≡ out.old.items }
+        ensures idle { does.idle self.old → does.idle self.new }
+        ensures still { StandsStill (does.connection self.old) (does.connection self.new) };
+
+    /// Disposes of the messages with these numbers that came by the link with this number, all of them or none. A
+    /// Disposition is handed out for each run of consecutive deliveries that are settled alike (part 2, 2.6.12, 2.7.6).
+    fn dispose_all(
+        &mut self,
+        alloc: Global,
+        limit: u32,
+        link: u64,
+        messages: &[u64],
+        disposal: &Disposal,
+        out: &mut VecDeque<SessionFrame>,
+    ) -> Result<(), EndpointError>
+        requires least { 512 ≤ limit }
+        requires waiting { does.within limit self.old }
+        ensures ok { OnOk result (Called does self.old limit (DisposeAll link messages.now disposal.now) done
+            out.old.items self.new out.new.items) }
+        ensures err { IfErr result (does.bars self.old limit (DisposeAll link messages.now disposal.now)) }
         ensures kept { OnErr result ((self.new ≡ self.old) × (out.new.items ≡ out.old.items)) }
         ensures within { (most : ℕ) → 512 ≤ most → does.within most self.old → does.within most self.new }
         ensures quiet { does.idle self.old → out.new.items ≡ out.old.items }

@@ -9,6 +9,7 @@ use Rattle.amqp_endpoint_model.specs.declared.call.Call.TheVariants.{AcceptBegin
 use Rattle.amqp_endpoint_model.specs.declared.call.Call.TheVariants.{AttachSender, AttachReceiver, Detach as DetachCall}
 use Rattle.amqp_endpoint_model.specs.declared.call.Call.TheVariants.{CloseLink, Grant, Drain, Credit, HeldBack}
 use Rattle.amqp_endpoint_model.specs.declared.call.Call.TheVariants.{Waiting as WaitingCall}
+use Rattle.amqp_endpoint_model.specs.declared.call.Call.TheVariants.{Send, Dispose, DisposeAll}
 use Rattle.amqp_endpoint_model.specs.declared.error.EndpointError.{EndpointError}
 use Rattle.amqp_endpoint_model.specs.declared.error.EndpointError.TheVariants.{Memory, AlreadyConnected, NotConnected, IllegalState, NumbersUsedUp, ProtocolHeaderMismatch, SizeUnder8, SizeOverLimit, PeerLimitUnder512, Frame as FrameFault, Connection, Session}
 use Rattle.amqp_endpoint_model.specs.declared.event.Event.{Event}
@@ -17,7 +18,7 @@ use Rattle.amqp_endpoint_model.specs.declared.phase.Phase.TheVariants.{Unconnect
 use Rattle.amqp_endpoint_model.specs.declared.settings.Settings.{Settings}
 use Rattle.amqp_endpoint_model.specs.Relay.{Relations}
 use Rattle.amqp_endpoint_model.specs.Said.{Said, done, refused, fed, count, truth, tried_close, session_begun}
-use Rattle.amqp_endpoint_model.specs.Said.{tried_end, attaching, link_closed, credit_is, waiting, Told}
+use Rattle.amqp_endpoint_model.specs.Said.{tried_end, attaching, link_closed, credit_is, waiting, message_sent, Told}
 use Rattle.amqp_endpoint_model.specs.State.{State, is_unconnected, is_running, has_opened, waiting_of}
 use Rattle.amqp_endpoint_model.specs.Step.{Breaks, Ends, EndsByFault, FeedsIn, Greets, Pulls, ReadsOn, SessionsDo, Step as EndpointStep, opened}
 use Rattle.amqp_endpoint_model.specs.History.{Summary, note, note_fed, nothing, summary}
@@ -334,6 +335,15 @@ module _ {S : Type 0} (does : Relations S) where
   own-stands (Drain link) done old new p f σ own step s =
       sessions-stand (Drain link) done old new p f σ.fed step s
   own-stands (Drain link) said old new p f σ own step s = absurd step
+  own-stands (Send link message) (message_sent tag outcome) old new p f σ own step s =
+      sessions-stand (Send link message) (message_sent tag outcome) old new p f σ.fed step s
+  own-stands (Send link message) said old new p f σ own step s = absurd step
+  own-stands (Dispose link message disposal) done old new p f σ own step s =
+      sessions-stand (Dispose link message disposal) done old new p f σ.fed step s
+  own-stands (Dispose link message disposal) said old new p f σ own step s = absurd step
+  own-stands (DisposeAll link messages disposal) done old new p f σ own step s =
+      sessions-stand (DisposeAll link messages disposal) done old new p f σ.fed step s
+  own-stands (DisposeAll link messages disposal) said old new p f σ own step s = absurd step
   own-stands (Credit link) (credit_is left) old new p f σ own step s = answer-stands old new p f σ.fed step.same s
   own-stands (Credit link) said old new p f σ own step s = absurd step
   own-stands (HeldBack session) (count n) old new p f σ own step s = answer-stands old new p f σ.fed step.same s

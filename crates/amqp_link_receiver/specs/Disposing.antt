@@ -7,6 +7,7 @@ use Rattle.amqp_session_states.specs.declared.delivery_state.DeliveryState.{Deli
 use Rattle.amqp_session_performatives.specs.declared.disposition.Disposition.{Disposition}
 use Rattle.amqp_link_receiving.specs.Deliveries.{found}
 use Rattle.amqp_link_receiving.specs.Disposing.{disposable, disposed_with}
+use Rattle.amqp_link_receiving.specs.Numbering.{message_named}
 use Rattle.amqp_link_receiving.specs.declared.disposing.Disposable.{Disposable}
 use Rattle.amqp_link_receiving.specs.declared.disposing.DisposeRefusal.{DisposeRefusal}
 use Rattle.amqp_link_receiver.specs.declared.disposing.DisposeError.{DisposeError}
@@ -26,6 +27,11 @@ settles_at_once Second = false
 -- link's
 abbrev pub is_settled : ReceiverSettleMode → Option ReceiverSettleMode → Option Bool → Bool
 is_settled link told asked = unwrap_or asked (settles_at_once (unwrap_or told link))
+
+-- the message with a tag bears this number of its owner's from now on, where it is kept whole
+abbrev pub message_numbered : ReceiverState → List ℕ → ℕ → ReceiverState
+message_numbered s tag message =
+    record s { end = record s.end { unsettled = message_named s.end.unsettled tag message } }
 
 -- the disposition of one delivery
 abbrev pub disposition_of : ℕ → Bool → DeliveryState → Disposition

@@ -1,6 +1,7 @@
 //! How a receiving link disposes of deliveries (part 2, 2.6.12, 2.7.6 and 2.8.3).
-ghost use Rattle.std.specs.Prelude.{◌≡◌};
-ghost use Rattle.amqp_link_receiver.specs.Disposing.{Disposes, disposable_now, disposition_of, is_settled, settles_at_once};
+ghost use Rattle.std.specs.Prelude.{◌≡◌, option_copied};
+ghost use Rattle.amqp_link_receiving.specs.Numbering.{tag_of};
+ghost use Rattle.amqp_link_receiver.specs.Disposing.{Disposes, disposable_now, disposition_of, is_settled, message_numbered, settles_at_once};
 
 use crate::link::ReceiverLink;
 use amqp_link_receiving::{Disposable, DisposeRefusal};
@@ -78,6 +79,24 @@ impl ReceiverLink {
         let noted = state.clone()?;
         self.end.dispose_reserved(alloc, tag, false, noted);
         Ok(disposition(delivery.number, false, state))
+    }
+}
+
+impl ReceiverLink {
+    /// The message with a tag bears this number of its owner's from now on, where it has come whole and is unsettled. It
+    /// takes no memory.
+    pub fn number_message(&mut self, alloc: Global, tag: &DeliveryTag, message: u64)
+        ensures { self.new ≡ message_numbered self.old tag.now message }
+    {
+        self.end.number_message(alloc, tag, message);
+    }
+
+    /// The tag of the unsettled message that bears this number of its owner's, of the first of them if more than one
+    /// does. It takes time by the unsettled deliveries before it.
+    pub fn tag_of(&self, message: u64) -> Option<&DeliveryTag>
+        ensures { option_copied result ≡ tag_of self.now.end.unsettled message }
+    {
+        self.end.tag_of(message)
     }
 }
 

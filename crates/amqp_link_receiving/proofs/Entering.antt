@@ -10,6 +10,7 @@ use Rattle.amqp_link_receiving.specs.declared.entry.Entry.TheVariants.{Half, Who
 use Rattle.amqp_link_receiving.specs.declared.entry.WholeMessage.{WholeMessage}
 use Rattle.amqp_link_receiving.specs.Deliveries.{Delivery, Entries, found}
 use Rattle.amqp_session_states.specs.declared.delivery_state.DeliveryState.{DeliveryState}
+use Rattle.amqp_link_receiving.specs.Numbering.{message_named, named, named_at}
 use Rattle.amqp_link_receiving.specs.Disposing.{told_of, with_state, with_state_at}
 use Rattle.amqp_link_receiving.specs.Steps.{numbered, renumbered_as, renumbered_from}
 
@@ -68,3 +69,15 @@ tells es one two tag state (Half kept) v w e a is b =
 -- a value that was taken out is put back
 pub set_value_back : (test : List ℕ → Bool) (es one two : Entries) (v w : Entry) → lookup test es ≡ Some w → one ≡ set_value test es v → two ≡ set_value test one w → two ≡ es
 set_value_back test es one two v w e a b = put-over test es one two v w a b ∙ set_value_same test es w e
+
+-- a message bears its number, once its entry was taken out and put back so
+pub names : (es one two : Entries) (tag : List ℕ) (message : ℕ) (earlier v w : Entry)
+    → lookup (bytes_eq tag) es ≡ Some earlier → one ≡ set_value (bytes_eq tag) es v → w ≡ named earlier message
+    → two ≡ set_value (bytes_eq tag) one w → two ≡ message_named es tag message
+names es one two tag message (Whole m) v w e a is b =
+    put-over (bytes_eq tag) es one two v w a b ∙ ap (λ (x : Entry). set_value (bytes_eq tag) es x) is
+    ∙ sym (ap (λ (o : Option Entry). named_at es tag message o) e)
+names es one two tag message (Half kept) v w e a is b =
+    put-over (bytes_eq tag) es one two v w a b ∙ ap (λ (x : Entry). set_value (bytes_eq tag) es x) is
+    ∙ set_value_same (bytes_eq tag) es (Half kept) e
+    ∙ sym (ap (λ (o : Option Entry). named_at es tag message o) e)

@@ -3,3 +3,4 @@ pub mod Entering
 pub mod Handing
 pub mod Resumptions
 pub mod Rows
+pub mod Naming

@@ -4,4 +4,5 @@ pub mod Receiving
 pub mod Steps
 pub mod Readings
 pub mod Disposing
+pub mod Numbering
 pub mod Listed

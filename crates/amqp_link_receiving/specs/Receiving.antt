@@ -98,6 +98,7 @@ whole_of attachment d =
       number = d.delivery_id;
       attachment = attachment.count;
       rcv_settle_mode = d.rcv_settle_mode;
+      message = None;
     }
 
 -- the delivery is complete

@@ -225,6 +225,7 @@ fn whole_of(attachment: Attachment, delivery: &Incoming<Bytes>) -> Result<WholeM
         number: delivery.delivery_id,
         attachment: attachment.count,
         rcv_settle_mode: delivery.rcv_settle_mode,
+        message: None,
     })
 }
 

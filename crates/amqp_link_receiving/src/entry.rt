@@ -31,6 +31,8 @@ pub struct WholeMessage {
     pub attachment: u64,
     /// How it is to be settled, where its transfer said it (part 2, 2.8.3).
     pub rcv_settle_mode: Option<ReceiverSettleMode>,
+    /// The number that the link's owner gave the message, once it did.
+    pub message: Option<u64>,
 }
 
 /// What has come of a delivery is listed with the place to which it reaches, and a whole message with the state that

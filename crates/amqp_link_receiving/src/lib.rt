@@ -13,6 +13,7 @@ mod incoming;
 pub mod laws;
 mod message_bytes;
 mod noting;
+mod numbering;
 mod resuming;
 mod state;
 

@@ -1,5 +1,5 @@
 //! What a receiving end does with transfers, Flows and dispositions (part 2, 2.6.7 and 2.6.12 to 2.6.14).
-ghost use Rattle.std.specs.Prelude.{◌≡◌, ◌==◌, [], None, if◌then◌else◌};
+ghost use Rattle.std.specs.Prelude.{◌≡◌, ◌==◌, [], None, option_copied, if◌then◌else◌};
 ghost use Rattle.amqp_link_types.specs.declared.refusals.ReceiverTransferError.TheVariants.{TransferLimitExceeded};
 ghost use Rattle.amqp_link_receiving.specs.Receiving.{Answers, Receives, aborted, completed, disposed, ended, half_kept, kept_on, number_of, parted, refusal as refused_as, spent};
 ghost use Rattle.amqp_link_receiving.specs.Steps.{Completes, part_answer};
@@ -7,6 +7,7 @@ ghost use Rattle.amqp_link_receiving.specs.declared.answer.Registering.TheVarian
 ghost use Rattle.amqp_link_receiving.specs.declared.answer.Told.TheVariants.{Dropped, Refused};
 ghost use Rattle.amqp_link_receiving.specs.Deliveries.{delivery_of, found, with_last, with_part};
 ghost use Rattle.amqp_link_receiving.specs.Disposing.{disposable, disposed_with};
+ghost use Rattle.amqp_link_receiving.specs.Numbering.{message_named, tag_of};
 ghost use Rattle.amqp_link_flow.specs.Flows.{draining, granted, receiver_answer, attached, receiver_flowed};
 
 use crate::answer::{Answer, Registering, Told};
@@ -17,6 +18,7 @@ use crate::disposing::{Disposable, DisposeRefusal, disposable_in, tell};
 use crate::entry::Entry;
 use crate::head::{Head, head_of, start_of};
 use crate::incoming::Incoming;
+use crate::numbering::{name, tag_of};
 use crate::resuming::put_half;
 use amqp_link_flow::{LinkFlowState, LinkFlowStateInner, ReceiverMarker};
 use amqp_link_place::Gathered;
@@ -244,6 +246,22 @@ impl ReceivingEnd {
             return;
         }
         tell(alloc, &mut self.unsettled, tag, state);
+    }
+
+    /// The message with a tag bears this number of its owner's from now on, where it has come whole and is unsettled. It
+    /// takes no memory.
+    pub fn number_message(&mut self, alloc: Global, tag: &DeliveryTag, message: u64)
+        ensures { self.new ≡ record self.old { unsettled = message_named self.old.unsettled tag.now message } }
+    {
+        name(alloc, &mut self.unsettled, tag, message);
+    }
+
+    /// The tag of the unsettled message that bears this number of its owner's, of the first of them if more than one
+    /// does. It takes time by the unsettled deliveries before it.
+    pub fn tag_of(&self, message: u64) -> Option<&DeliveryTag>
+        ensures { option_copied result ≡ tag_of self.now.unsettled message }
+    {
+        tag_of(self.unsettled.iter(), message)
     }
 
     /// Ends an attachment, by a Detach or by a loss (part 2, 2.6.5). What has come of a delivery is kept where that isn't

@@ -57,6 +57,10 @@ broken s =
       messages = ended s.messages (is_closed (after_break s.base.local_state)) failure.Closed;
     }
 
+-- the link is closed while it is at rest
+abbrev pub closed_at_rest : Sending → Sending
+closed_at_rest s = record s { messages = failed s.messages failure.Closed }
+
 -- the peer's Detach is allowed and taken, or there is no memory for its error, or it isn't allowed; in these two cases the
 -- link stays
 abbrev pub TakesDetach : Option Sending → Sending → Result Detached DetachRefusal → Sending → Type 0

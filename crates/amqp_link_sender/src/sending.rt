@@ -1,5 +1,5 @@
 //! How messages are sent (part 2, 2.6.7 and 2.6.12).
-ghost use Rattle.std.specs.Prelude.{◌≡◌, ◌<◌, length, max, None, IfSome, IfOk, OnOk, OnErr};
+ghost use Rattle.std.specs.Prelude.{◌≡◌, ◌<◌, length, max, min, None, IfSome, IfOk, OnOk, OnErr};
 ghost use Rattle.amqp_link_sender.specs.Sends.{Prepares, refusal, prepared, first_transfer, entry_unless, is_too_large, goes_settled, takes_messages, is_absent, sent};
 
 use crate::link::SenderLink;
@@ -84,8 +84,25 @@ impl SenderLink {
         }
     }
 
+    /// For how many more messages there is room.
+    pub fn room(&self) -> usize
+        ensures { result ≡ self.now.messages.room }
+    {
+        self.messages.room()
+    }
+
+    /// Gives up room that was made for messages: so many more at most are sure to find room then. With the room of before
+    /// it takes a message back that was made ready and isn't sent. It takes no memory.
+    pub fn lower_room(&mut self, room: usize)
+        ensures { self.new ≡ record self.old { messages = record self.old.messages { room = min self.old.messages.room room } } }
+    {
+        self.messages.lower_room(room);
+    }
+
     /// Why a message with this tag and so many bytes isn't sent, if it isn't.
-    pub(crate) fn refusal(&self, tag: &DeliveryTag, size: usize) -> Option<SendRefusal>
+    ///
+    /// `IllegalState`, then `MessageTooLarge`, then `CreditMissing`, as `prepare_send` refuses it; never `Memory`.
+    pub fn refusal(&self, tag: &DeliveryTag, size: usize) -> Option<SendRefusal>
         ensures { result ≡ refusal self.now tag.now size }
     {
         if !takes_messages(self.base.local_state) {

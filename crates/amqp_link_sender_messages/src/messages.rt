@@ -1,5 +1,5 @@
 //! The messages of a sending link (part 2, 2.6.12 and 2.6.13).
-ghost use Rattle.std.specs.Prelude.{◌≡◌, ℕ, List, ◌+◌, ◌-◌, ◌<◌, ◌≤◌, [], ◌∷◌, ◌++◌, length, drop, map, max, not, filter, is_some, None, Some, IsSome, IfNone, IfOk, OnOk, OnErr, option_copied};
+ghost use Rattle.std.specs.Prelude.{◌≡◌, ℕ, List, ◌+◌, ◌-◌, ◌<◌, ◌≤◌, [], ◌∷◌, ◌++◌, length, drop, map, max, min, not, filter, is_some, None, Some, IsSome, IfNone, IfOk, OnOk, OnErr, option_copied};
 ghost use Rattle.std.specs.List.{IsDistinct};
 ghost use Rattle.std.specs.Map.{keys_of, lookup, remove_entry, set_value};
 ghost use Rattle.std.specs.Option.{option_to_list};
@@ -116,6 +116,20 @@ impl Messages {
         ensures err { OnErr result (self.new ≡ self.old) }
     {
         reserve_both(&mut self.unsettled, &mut self.resolved, count)
+    }
+
+    /// For how many more messages there is room.
+    pub fn room(&self) -> usize
+        ensures { result ≡ self.now.room }
+    {
+        self.unsettled.room()
+    }
+
+    /// Gives up room that was made: so many more messages at most are sure to find room then. It takes no memory.
+    pub fn lower_room(&mut self, room: usize)
+        ensures { self.new ≡ record self.old { room = min self.old.room room } }
+    {
+        self.unsettled.lower_room(room);
     }
 
     /// Enters a message that is open from now on, behind the others. There must be room for it, and no other open

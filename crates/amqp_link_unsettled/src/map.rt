@@ -1,5 +1,5 @@
 //! The unsettled deliveries of a link, in the order in which they were registered (part 2, 2.6.12).
-ghost use Rattle.std.specs.Prelude.{◌≡◌, ℕ, ◌==◌, ◌+◌, ◌-◌, ◌<◌, ◌≤◌, ◌^◌, List, [], ◌∷◌, ◌++◌, length, max, is_some, None, Some, IsSome, IfSome, IfNone, IsOk, OnOk, OnErr, option_copied, filter, reverse};
+ghost use Rattle.std.specs.Prelude.{◌≡◌, ℕ, ◌==◌, ◌+◌, ◌-◌, ◌<◌, ◌≤◌, ◌^◌, List, [], ◌∷◌, ◌++◌, length, max, min, is_some, None, Some, IsSome, IfSome, IfNone, IsOk, OnOk, OnErr, option_copied, filter, reverse};
 ghost use Rattle.std.specs.List.{IsDistinct};
 ghost use Rattle.std.specs.Map.{keys_of, lookup, remove_entry, set_value};
 ghost use Rattle.std.specs.Map.Iter.{ShowsInOrder, deref_pair};
@@ -141,6 +141,13 @@ impl<M: Drop> UnsettledMap<M> {
         self.slots.reserve(room)?;
         self.room = room;
         Ok(())
+    }
+
+    /// Gives up room that was made: so many more deliveries at most are sure to find room then. It takes no memory.
+    pub fn lower_room(&mut self, room: usize)
+        ensures { self.new ≡ record self.old { room = min self.old.room room } }
+    {
+        self.room = self.room.min(room);
     }
 
     /// Registers a delivery behind the others. There must be room for it, and no other delivery with its tag.

@@ -6,14 +6,19 @@ ghost use Rattle.amqp_endpoint_model.specs.declared.event.Event.TheVariants as e
 ghost use Rattle.amqp_endpoint_world.specs.WorldSaid.{did_said, feed_said, world_told};
 ghost use Rattle.amqp_endpoint_world.specs.WorldState.{other};
 ghost use Rattle.amqp_endpoint.specs.Printed.{bytes_text, closed_word, event_text, events_text, exchange_word};
-ghost use Rattle.amqp_endpoint.specs.Printed.{fault_text, hex_word, of_line, ok_text, printed, role_word, step_text};
-ghost use Rattle.amqp_endpoint.specs.Printed.{turn_text, two_numbers, world_printed, world_text};
+ghost use Rattle.amqp_endpoint.specs.Printed.{fault_text, hex_word, of_line, ok_text, outcome_word, printed, role_word};
+ghost use Rattle.amqp_endpoint.specs.Printed.{settled_word, step_text, tag_text, turn_text, two_numbers, world_printed};
+ghost use Rattle.amqp_endpoint.specs.Printed.{world_text};
 
 use crate::scenario::script::letter;
-use amqp_endpoint_model::{Answer, Attaching, EndpointError, Event, Fed, Refused, Reply};
+use amqp_endpoint_model::{
+    Answer, Attaching, EndpointError, Event, Fed, Message, Outcome, Refused, Reply,
+};
 use amqp_endpoint_world::{Did, End, Step, WorldReply};
 use amqp_link_attach::AttachExchange;
+use amqp_link_types::SendError;
 use amqp_session_performatives::Attach;
+use amqp_session_states::Outcome as DeliveryOutcome;
 use amqp_session_types::Role;
 use std::alloc::{AllocError, Global};
 
@@ -87,6 +92,7 @@ fn print_answer(text: &mut String, line: usize, end: End, answer: &Answer) -> Re
         Answer::LinkClosed(events) => print_closed_link(text, line, end, events.as_slice()),
         Answer::Credit(left) => print_left(text, line, end, *left),
         Answer::Waiting(turn) => print_turn(text, line, end, turn.as_slice()),
+        Answer::Sent(sent) => print_tag(text, line, end, sent.tag.as_slice()),
         _ => print_words(text, line, end, "ok"),
     }
 }
@@ -210,6 +216,15 @@ fn print_bytes(text: &mut String, line: usize, end: End, bytes: &[u8]) -> Result
     writeln!(text, "{line} {letter} ok bytes {word}")
 }
 
+/// A message that a link sends: the tag of its delivery.
+fn print_tag(text: &mut String, line: usize, end: End, tag: &[u8]) -> Result<(), AllocError>
+    ensures { OnOk result (string_bytes text.new ≡ string_bytes text.old ++ tag_text line end tag.now) }
+{
+    let letter = letter(end);
+    let word = hex_word(*text.allocator(), tag)?;
+    writeln!(text, "{line} {letter} ok tag {word}")
+}
+
 /// Hex digits in lower case, two for each byte. No bytes at all are written `-`.
 #[tactic(auto, unfolding(crate::specs::Printed::hex_word))]
 fn hex_word(alloc: Global, bytes: &[u8]) -> Result<String, AllocError>
@@ -271,6 +286,8 @@ fn print_event(text: &mut String, line: usize, end: End, event: &Event) -> Resul
             let word = exchange_word(attached.exchange);
             print_word_of_link(text, line, end, "attached", attached.link, word)
         }
+        Event::Message(message) => print_message(text, line, end, message),
+        Event::Outcome(outcome) => print_outcome(text, line, end, outcome),
         Event::Detached(detached) => {
             let word = closed_word(detached.closed);
             print_word_of_link(text, line, end, "detached", detached.link, word)
@@ -333,6 +350,66 @@ fn exchange_word(exchange: AttachExchange) -> &'static str
         AttachExchange::Complete => "complete",
         AttachExchange::IncompleteUnsettled => "incomplete",
         AttachExchange::Resume => "resume",
+    }
+}
+
+/// A message that came: its link, its number, whether its sender has settled it, its tag and its bytes.
+fn print_message(
+    text: &mut String,
+    line: usize,
+    end: End,
+    message: &Message,
+) -> Result<(), AllocError>
+    ensures { OnOk result (string_bytes text.new
+        ≡ string_bytes text.old ++ event_text line end (event.Message message.now)) }
+{
+    let alloc = *text.allocator();
+    let tag = hex_word(alloc, message.delivery.delivery_tag.as_slice())?;
+    let payload = hex_word(alloc, message.delivery.message.body.0.as_slice())?;
+    let letter = letter(end);
+    let link = message.link;
+    let number = message.message;
+    let settled = settled_word(message.settled);
+    writeln!(
+        text,
+        "{line} {letter} message {link} {number} {settled} {tag} {payload}"
+    )
+}
+
+/// Whether the sender of a message has settled it.
+fn settled_word(settled: bool) -> &'static str
+    ensures { result.now ≡ settled_word settled }
+{
+    if settled { "settled" } else { "unsettled" }
+}
+
+/// What became of a message that was sent: its link, its tag and its outcome.
+fn print_outcome(
+    text: &mut String,
+    line: usize,
+    end: End,
+    outcome: &Outcome,
+) -> Result<(), AllocError>
+    ensures { OnOk result (string_bytes text.new
+        ≡ string_bytes text.old ++ event_text line end (event.Outcome outcome.now)) }
+{
+    let tag = hex_word(*text.allocator(), outcome.tag.as_slice())?;
+    let letter = letter(end);
+    let link = outcome.link;
+    let word = outcome_word(&outcome.result);
+    writeln!(text, "{line} {letter} outcome {link} {tag} {word}")
+}
+
+/// The outcome of a message that was sent, `failed` where it has none (part 3, 3.4).
+fn outcome_word(outcome: &Result<DeliveryOutcome, SendError>) -> &'static str
+    ensures { result.now ≡ outcome_word outcome.now }
+{
+    match outcome {
+        Ok(DeliveryOutcome::Accepted(_)) => "accepted",
+        Ok(DeliveryOutcome::Rejected(_)) => "rejected",
+        Ok(DeliveryOutcome::Released(_)) => "released",
+        Ok(DeliveryOutcome::Modified(_)) => "modified",
+        Err(_) => "failed",
     }
 }
 

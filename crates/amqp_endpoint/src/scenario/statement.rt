@@ -2,14 +2,17 @@
 ghost use Rattle.std.specs.Prelude.{◌≡◌, ◌==◌, ◌^◌, length, map, IfOk};
 ghost use Rattle.std.specs.List.{list_any};
 ghost use Rattle.amqp_endpoint.specs.Digits.{number_under};
-ghost use Rattle.amqp_endpoint.specs.Script.{bytes_of, call_at, call_of, call_with, count_of, end_of, grant_of};
-ghost use Rattle.amqp_endpoint.specs.Script.{move_from, parts_at, receiver_at, sender_at, settings_at, settings_of};
-ghost use Rattle.amqp_endpoint.specs.Script.{statement, three_said, word_said, words_said};
+ghost use Rattle.amqp_endpoint.specs.Script.{bytes_of, call_at, call_of, call_with, call_with_three, count_of};
+ghost use Rattle.amqp_endpoint.specs.Script.{disposal_of, end_of, grant_of, move_from, parts_at, receiver_at};
+ghost use Rattle.amqp_endpoint.specs.Script.{send_of, sender_at, settings_at, settings_of, statement, three_said};
+ghost use Rattle.amqp_endpoint.specs.Script.{word_said, words_said};
 
+use crate::scenario::messages::{read_settled, read_settling, read_state};
 use crate::scenario::terms::{read_receiver_settings, read_sender_settings};
-use amqp_endpoint_model::{Call, Settings};
+use amqp_endpoint_model::{Call, Disposal, Sending, Settings};
 use amqp_endpoint_settings::LinkSettings;
 use amqp_endpoint_world::End;
+use amqp_link_message::MESSAGE_FORMAT;
 use amqp_session_types::{Boxed, IncomingChannel};
 use bytes::Bytes;
 use hex::FromHexError;
@@ -67,9 +70,12 @@ fn read_words(alloc: Global, words: &[&str]) -> Result<Option<Statement>, AllocE
         [end, verb] => Ok(call_at(read_end(end), call_named(verb))),
         [first, second, third] => read_three(alloc, first, second, third),
         [end, verb, link, credit] => Ok(call_at(read_end(end), read_grant(verb, link, credit))),
-        [end, verb, session, name, mode] => {
-            let settings = read_receiver_settings(alloc, name, mode)?;
-            let call = receiver_at(verb, read_u64(session), settings);
+        [end, verb, number, second, third] => {
+            let call = read_with_three(alloc, verb, number, second, third)?;
+            Ok(call_at(read_end(end), call))
+        }
+        [end, verb, link, message, state, settled] => {
+            let call = read_disposal(verb, link, message, state, settled);
             Ok(call_at(read_end(end), call))
         }
         [verb, end, container, limit, channels, window, first] if *verb == "settings" => {
@@ -192,6 +198,65 @@ fn read_grant(verb: &str, link: &str, credit: &str) -> Option<Call>
     let link = read_u64(link)?;
     let credit = read_u32(credit)?;
     Some(Call::Grant(link, credit))
+}
+
+/// The call that a word names with three behind it: a link sends a message, or attaches as a receiver in a session.
+fn read_with_three(
+    alloc: Global,
+    verb: &str,
+    number: &str,
+    second: &str,
+    third: &str,
+) -> Result<Option<Call>, AllocError>
+    ensures { IfOk result (λ c. c ≡ call_with_three verb.now number.now second.now third.now) }
+{
+    if verb == "send" {
+        return read_sending(alloc, number, second, third);
+    }
+    let settings = read_receiver_settings(alloc, second, third)?;
+    Ok(receiver_at(verb, read_u64(number), settings))
+}
+
+/// A link sends a message of the standard's format: whether it goes settled, and its bytes.
+fn read_sending(
+    alloc: Global,
+    link: &str,
+    settled: &str,
+    payload: &str,
+) -> Result<Option<Call>, AllocError>
+    ensures { IfOk result (λ c. c ≡ send_of link.now settled.now payload.now) }
+{
+    let Some(link) = read_u64(link) else {
+        return Ok(None);
+    };
+    let Some(settled) = read_settled(settled) else {
+        return Ok(None);
+    };
+    let Some(payload) = read_bytes(alloc, payload)? else {
+        return Ok(None);
+    };
+    Ok(Some(Call::Send(
+        link,
+        Sending {
+            payload,
+            message_format: MESSAGE_FORMAT,
+            settled: Some(settled),
+        },
+    )))
+}
+
+/// A message is disposed of: the link by which it came, its number, its outcome, and whether it is settled.
+fn read_disposal(verb: &str, link: &str, message: &str, state: &str, settled: &str) -> Option<Call>
+    ensures { result ≡ disposal_of verb.now link.now message.now state.now settled.now }
+{
+    if verb != "dispose" {
+        return None;
+    }
+    let link = read_u64(link)?;
+    let message = read_u64(message)?;
+    let settled = read_settling(settled)?;
+    let state = read_state(state)?;
+    Some(Call::Dispose(link, message, Disposal { state, settled }))
 }
 
 /// A link that attaches as a receiver, in this session and with these settings.

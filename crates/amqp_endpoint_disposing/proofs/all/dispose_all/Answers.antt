@@ -1,8 +1,6 @@
 use Rattle.std.proofs.Common.{List, All, sym, subst, ◌∙◌}
-use Rattle.amqp_session_states.specs.declared.delivery_state.DeliveryState.{DeliveryState}
 use Rattle.amqp_session_performatives.specs.declared.disposition.Disposition.{Disposition}
 use Rattle.amqp_endpoint_fitting.specs.Read.{IsReadDisposition}
-use Rattle.amqp_endpoint_disposing.specs.Disposing.{DisposesOfAll}
 use Rattle.amqp_endpoint_disposing.proofs.Disposed.{all-disposed, all-waits}
 use Rattle.amqp_endpoint_disposing.proofs.all.dispose_all.Goals as goal
 
@@ -10,23 +8,21 @@ pub returns-clause-answer : goal.returns-clause-answer
 returns-clause-answer c =
     all-disposed c.args.limit c.args.session.now c.args.handle c.args.tags.now c.args.state c.args.settled
     c.in-Ok.told.items c.dispose_in.new.session c.send_each.new.session
-    (subst (λ (st : DeliveryState). DisposesOfAll c.args.handle c.args.tags.now st c.args.settled
-    c.args.session.now.session c.in-Ok.told.items c.dispose_in.new.session)
-    c.measure-state.ensures.state c.in-Ok.ensures.disposes)
+    c.in-Ok.ensures.disposes
     c.send_each.ensures.sent c.args.out.now.items c.reserve.new.self.items c.send_each.new.out.items
     c.ranges.limit.fits
-    (sym (c.measure-state.ensures.fits c.args.session.now.session.fields.channel.0) ∙ c.if-not-fits.false)
+    (sym (c.state_fits-fits.ensures c.args.session.now.session.fields.channel.0) ∙ c.if-not-fits.false)
     (subst (λ (l : List Disposition). All IsReadDisposition l) c.deref.ensures.value c.are_read.ensures)
     c.reserve.ensures.items c.send_each.ensures.added
 
 pub returns-clause-waiting : goal.returns-clause-waiting
 returns-clause-waiting c =
-    (all-waits c.args.limit c.args.session.now c.args.handle c.args.tags.now c.measure-state.result.state c.args.settled
+    (all-waits c.args.limit c.args.session.now c.args.handle c.args.tags.now c.args.state c.args.settled
     c.in-Ok.told.items c.dispose_in.new.session c.send_each.new.session c.in-Ok.ensures.disposes
     c.send_each.ensures.sent).0
 
 pub returns-clause-fields : goal.returns-clause-fields
 returns-clause-fields c =
-    (all-waits c.args.limit c.args.session.now c.args.handle c.args.tags.now c.measure-state.result.state c.args.settled
+    (all-waits c.args.limit c.args.session.now c.args.handle c.args.tags.now c.args.state c.args.settled
     c.in-Ok.told.items c.dispose_in.new.session c.send_each.new.session c.in-Ok.ensures.disposes
     c.send_each.ensures.sent).1

@@ -12,9 +12,11 @@ returns c =
       answer =
           record { closed = c.args.detach.now.closed; error = c.in_ok-error.error; place = c.in-Ok.place };
       error = c.in_ok-clone.field-0;
+      count = c.ending-count.result;
+      copies = c.in_ok-copies.copies;
     })
     c.outgoing_channel-channel.result c.in-Some.ensures c.outgoing_channel-channel.ensures refl
     c.in_ok-error.ensures
     (option_cloned (λ (x y : Error). y ≡ x) (λ x y e. e) c.args.detach.now.error c.in_ok-clone.field-0
     c.in_ok-clone.ensures.cases)
-    c.in-Ok.ensures.ok
+    c.in-Ok.ensures.ok c.ending-count.ensures c.in_ok-copies.ensures

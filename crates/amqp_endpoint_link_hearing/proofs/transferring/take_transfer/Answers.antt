@@ -1,4 +1,4 @@
-use Rattle.std.proofs.Common.{inl, refl, ◌∙◌}
+use Rattle.std.proofs.Common.{inl, inr, refl, ◌∙◌}
 use Rattle.amqp_endpoint_links.specs.declared.hearing.LinkPerformative.TheVariants as said
 use Rattle.amqp_endpoint_talk.proofs.Goings.{goes-on, rests-on}
 use Rattle.amqp_endpoint_link_hearing.proofs.Plain.{answers-plain}
@@ -15,7 +15,8 @@ transfer_heard-requires-clause-stands c =
 pub returns-in-Ok-transfer_heard-clause-ok : goal.returns-in-Ok-transfer_heard-clause-ok
 returns-in-Ok-transfer_heard-clause-ok c =
     transfer-taken c.args.talk.now c.args.channel c.args.out.now.items c.args.transfer c.args.payload
-    c.in-Ok.heard c.transfer_of-took.result c.transfer_of-took.ensures c.hear.new.talk c.hear.new.out.items
+    c.in-Ok.heard c.transfer_of-took.result c.transfer_of-took.ensures c.args.given.now c.transfer_heard.new.given
+    c.requires.left c.hear.new.talk c.hear.new.out.items
     c.args.links.now c.args.links.now c.transfer_heard.new.talk c.args.events.now.items
     c.transfer_heard.new.events.items c.transfer_heard.new.out.items
     (heard-kept c.args.talk.now (said.Transfer c.args.transfer c.args.payload) c.args.out.now.items c.hear.new.talk
@@ -36,8 +37,8 @@ returns-in-Ok-transfer_heard-clause-rests c =
 pub returns-in-Err-transfer_heard-clause-err : goal.returns-in-Err-transfer_heard-clause-err
 returns-in-Err-transfer_heard-clause-err c =
     transfer-unclosed c.args.talk.now c.args.channel c.args.out.now.items c.args.transfer c.args.payload
-    c.in-Ok.heard c.transfer_of-took.result c.transfer_of-took.ensures c.hear.new.talk c.hear.new.out.items
-    c.in-Err-transfer_heard.error c.transfer_heard.new.talk
+    c.in-Ok.heard c.transfer_of-took.result c.transfer_of-took.ensures c.args.given.now c.requires.left
+    c.hear.new.talk c.hear.new.out.items c.in-Err-transfer_heard.error c.transfer_heard.new.talk
     (heard-kept c.args.talk.now (said.Transfer c.args.transfer c.args.payload) c.args.out.now.items c.hear.new.talk
     c.hear.new.out.items refl c.args.channel c.in-Ok.heard c.in-Ok.ensures.step)
     c.in-Ok.ensures.step c.in-Err-transfer_heard.ensures.err.0 c.in-Err-transfer_heard.ensures.err.1
@@ -45,10 +46,11 @@ returns-in-Err-transfer_heard-clause-err c =
 pub returns-in-Err-transfer_heard-clause-kept : goal.returns-in-Err-transfer_heard-clause-kept
 returns-in-Err-transfer_heard-clause-kept c = (
   refl,
-  c.in-Err-transfer_heard.ensures.kept.0
+  c.in-Err-transfer_heard.ensures.kept.0,
+  c.in-Err-transfer_heard.ensures.kept.1
       ∙ (heard-kept c.args.talk.now (said.Transfer c.args.transfer c.args.payload) c.args.out.now.items c.hear.new.talk
       c.hear.new.out.items refl c.args.channel c.in-Ok.heard c.in-Ok.ensures.step),
-  c.in-Err-transfer_heard.ensures.kept.1,
+  c.in-Err-transfer_heard.ensures.kept.2,
 )
 
 pub returns-in-Err-transfer_heard-clause-goes : goal.returns-in-Err-transfer_heard-clause-goes
@@ -65,8 +67,8 @@ returns-in-Err-transfer_heard-clause-rests c =
 pub returns-in-Ok-refuse-clause-ok : goal.returns-in-Ok-refuse-clause-ok
 returns-in-Ok-refuse-clause-ok c =
     transfer-fails c.args.talk.now c.args.channel c.args.out.now.items c.args.transfer c.args.payload
-    c.args.links.now c.refuse.new.links c.hear.new.talk c.args.events.now.items c.refuse.new.events.items
-    c.hear.new.out.items
+    c.args.given.now c.requires.left c.args.links.now c.refuse.new.links c.hear.new.talk c.args.events.now.items
+    c.refuse.new.events.items c.hear.new.out.items
     (fails c.args.talk.now c.args.channel (said.Transfer c.args.transfer c.args.payload) c.args.out.now.items
     c.hear.new.talk c.hear.new.out.items (c.hear.ensures.goes 0 answers-plain) c.args.links.now
     c.refuse.new.links c.args.events.now.items c.refuse.new.events.items c.in-Err.refusal c.in-Err.ensures.step
@@ -81,14 +83,15 @@ returns-in-Err-refuse-clause-err c =
     bars c.args.talk.now c.args.channel (said.Transfer c.args.transfer c.args.payload) c.args.out.now.items
     c.hear.new.talk c.hear.new.out.items (c.hear.ensures.goes 0 answers-plain) c.args.links.now
     c.refuse.new.links c.args.events.now.items c.refuse.new.events.items c.in-Err.refusal
-    c.in-Err-refuse.error c.in-Err.ensures.step c.in-Err-refuse.ensures in (why, inl (inl is))
+    c.in-Err-refuse.error c.in-Err.ensures.step c.in-Err-refuse.ensures in (why, inr (c.requires.left, inl (inl is)))
 
 pub returns-in-Err-refuse-clause-kept : goal.returns-in-Err-refuse-clause-kept
 returns-in-Err-refuse-clause-kept c =
+    let (same, unsent, untold) =
     kept c.args.talk.now c.args.channel (said.Transfer c.args.transfer c.args.payload) c.args.out.now.items
     c.hear.new.talk c.hear.new.out.items (c.hear.ensures.goes 0 answers-plain) c.args.links.now
     c.refuse.new.links c.args.events.now.items c.refuse.new.events.items c.in-Err.refusal
-    c.in-Err-refuse.error refl c.in-Err.ensures.step c.in-Err-refuse.ensures
+    c.in-Err-refuse.error refl c.in-Err.ensures.step c.in-Err-refuse.ensures in (same, refl, unsent, untold)
 
 pub returns-in-Err-refuse-clause-goes : goal.returns-in-Err-refuse-clause-goes
 returns-in-Err-refuse-clause-goes c limit least = c.hear.ensures.goes limit answers-plain

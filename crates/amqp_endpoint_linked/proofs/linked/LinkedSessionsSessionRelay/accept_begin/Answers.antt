@@ -10,9 +10,10 @@ pub returns-clause-ok : goal.returns-clause-ok
 returns-clause-ok c =
     let old = c.args.self.now in
     let call = c.accept_begin in
-    let new : LinkedSessions = record { talk = call.new.talk; links = old.links } in
+    let new : LinkedSessions = record old { talk = call.new.talk } in
     called-if old new c.args._limit (AcceptBegin c.args.channel) c.args.out.now.items call.new.out.items
-    c.requires.least c.requires.waiting (call.ensures.goes c.args._limit) (λ number. session_begun number)
+    c.requires.least c.requires.waiting (call.ensures.goes c.args._limit) (record { sent = refl; given = refl })
+    (λ number. session_begun number)
     (λ number frames. Accepts old.talk c.args.channel number frames new.talk)
     (λ number frames accepts. record { accepts = accepts; same = refl }) call.result call.ensures.ok
 

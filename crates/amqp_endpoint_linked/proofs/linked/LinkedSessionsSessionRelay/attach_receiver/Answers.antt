@@ -1,3 +1,4 @@
+use Rattle.std.proofs.Common.{refl}
 use Rattle.amqp_endpoint_model.specs.declared.call.Call.TheVariants.{AttachReceiver}
 use Rattle.amqp_endpoint_model.specs.Said.{attaching}
 use Rattle.amqp_endpoint_attached.specs.Links.{receiver_by}
@@ -10,9 +11,9 @@ pub returns-clause-ok : goal.returns-clause-ok
 returns-clause-ok c =
     let old = c.args.self.now in
     let call = c.attach_receiver in
-    let new : LinkedSessions = record { talk = call.new.talk; links = call.new.links } in
+    let new : LinkedSessions = record old { talk = call.new.talk; links = call.new.links } in
     called-if old new c.args.limit (AttachReceiver c.args.session c.args.settings.now) c.args.out.now.items
-    call.new.out.items c.requires.least c.requires.waiting call.ensures.goes (λ a. attaching a.link a.events.items)
+    call.new.out.items c.requires.least c.requires.waiting call.ensures.goes (record { sent = refl; given = refl }) (λ a. attaching a.link a.events.items)
     (λ a frames. LinkAttached old.talk old.links c.args.limit c.args.session (receiver_by c.args.settings.now) a.link
     a.events.items frames new.talk new.links)
     (λ a frames attached. attached) call.result call.ensures.ok

@@ -1,27 +1,25 @@
-use Rattle.std.proofs.Common.{[]}
+use Rattle.std.proofs.Common.{[], refl}
 use Rattle.amqp_endpoint_model.specs.declared.call.Call.TheVariants.{CloseLink}
 use Rattle.amqp_endpoint_names.specs.State.{place_at}
 use Rattle.amqp_endpoint_model.specs.Said.{link_closed}
 use Rattle.amqp_endpoint_link_calls.specs.Closing.{ClosedAt}
 use Rattle.amqp_endpoint_linked.specs.declared.linked.LinkedSessions.{LinkedSessions}
-use Rattle.amqp_endpoint_linked.proofs.Related.{called, closed-hands}
+use Rattle.amqp_endpoint_linked.proofs.Related.{called-if, closed-hands-if}
 use Rattle.amqp_endpoint_linked.proofs.linked.LinkedSessionsSessionRelay.close_link.Goals as goal
 
 pub returns-clause-ok : goal.returns-clause-ok
 returns-clause-ok c =
     let old = c.args.self.now in
     let call = c.close_link in
-    let new : LinkedSessions = record { talk = call.new.talk; links = call.new.links } in
+    let new : LinkedSessions = record old { talk = call.new.talk; links = call.new.links } in
     let place = place_at old.links c.args.link in
-    called old new c.args._limit (CloseLink c.args.link) c.args.out.now.items call.new.out.items c.requires.least
-    c.requires.waiting (call.ensures.goes c.args._limit c.requires.least) (link_closed c.new.result.items)
-    (λ frames. ClosedAt place old.talk old.links c.args.link [] new.talk new.links frames)
-    (λ frames is. record { closes = is; told = c.new.ensures.items })
-    (closed-hands old.talk new.talk old.links new.links c.args.link c.args.out.now.items call.new.out.items place
-    c.in_ok-close_link.ensures.ok)
-
-pub returns-in_err-close_link-clause-within : goal.returns-in_err-close_link-clause-within
-returns-in_err-close_link-clause-within c most least = (c.close_link.ensures.goes most least).waits
+    called-if old new c.args._limit (CloseLink c.args.link) c.args.out.now.items call.new.out.items c.requires.least
+    c.requires.waiting (call.ensures.goes c.args._limit c.requires.least) (record { sent = refl; given = refl })
+    (λ events. link_closed events.items)
+    (λ events frames. ClosedAt place old.talk old.links c.args.link [] events.items new.talk new.links frames)
+    (λ events frames is. is) call.result
+    (closed-hands-if old.talk new.talk old.links new.links c.args.link c.args.out.now.items call.new.out.items place
+    call.result call.ensures.ok)
 
 pub returns-clause-within : goal.returns-clause-within
 returns-clause-within c most least = (c.close_link.ensures.goes most least).waits

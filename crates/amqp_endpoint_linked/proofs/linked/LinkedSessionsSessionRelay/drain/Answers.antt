@@ -11,10 +11,10 @@ pub returns-clause-ok : goal.returns-clause-ok
 returns-clause-ok c =
     let old = c.args.self.now in
     let call = c.drain in
-    let new : LinkedSessions = record { talk = call.new.talk; links = old.links } in
+    let new : LinkedSessions = record old { talk = call.new.talk } in
     let place = place_at old.links c.args.link in
     called-on old new c.args._limit (Drain c.args.link) c.args.out.now.items call.new.out.items c.requires.least
-    c.requires.waiting (call.ensures.goes c.args._limit) done
+    c.requires.waiting (call.ensures.goes c.args._limit) (record { sent = refl; given = refl }) done
     (λ frames. DoneAt wants_drain place old.talk [] new.talk frames)
     (λ frames is. record { is_done = is; same = refl }) call.result
     (done-hands-on wants_drain old.talk new.talk c.args.out.now.items call.new.out.items place call.result

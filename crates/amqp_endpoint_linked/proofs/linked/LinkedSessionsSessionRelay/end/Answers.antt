@@ -1,3 +1,4 @@
+use Rattle.std.proofs.Common.{refl}
 use Rattle.amqp_endpoint_model.specs.declared.call.Call.TheVariants.{End}
 use Rattle.amqp_endpoint_model.specs.Said.{done}
 use Rattle.amqp_endpoint_linking.specs.Calling.{EndsOwn}
@@ -8,9 +9,9 @@ use Rattle.amqp_endpoint_linked.proofs.linked.LinkedSessionsSessionRelay.end.Goa
 pub returns-clause-ok : goal.returns-clause-ok
 returns-clause-ok c =
     let old = c.args.self.now in
-    let new : LinkedSessions = record { talk = c.end.new.talk; links = c.end.new.links } in
+    let new : LinkedSessions = record old { talk = c.end.new.talk; links = c.end.new.links } in
     called-on old new c.args._limit (End c.args.number) c.args.out.now.items c.end.new.out.items c.requires.least
-    c.requires.waiting (c.end.ensures.goes c.args._limit) done
+    c.requires.waiting (c.end.ensures.goes c.args._limit) (record { sent = refl; given = refl }) done
     (λ frames. EndsOwn old.talk old.links c.args.number frames new.talk new.links) (λ frames ends. ends) c.end.result
     c.end.ensures.ok
 

@@ -11,10 +11,10 @@ pub returns-clause-ok : goal.returns-clause-ok
 returns-clause-ok c =
     let old = c.args.self.now in
     let call = c.grant in
-    let new : LinkedSessions = record { talk = call.new.talk; links = old.links } in
+    let new : LinkedSessions = record old { talk = call.new.talk } in
     let place = place_at old.links c.args.link in
     called-if old new c.args._limit (Grant c.args.link c.args.credit) c.args.out.now.items call.new.out.items
-    c.requires.least c.requires.waiting (call.ensures.goes c.args._limit) (λ left. credit_is left)
+    c.requires.least c.requires.waiting (call.ensures.goes c.args._limit) (record { sent = refl; given = refl }) (λ left. credit_is left)
     (λ left frames. DoneAt (gives_credit c.args.credit left) place old.talk [] new.talk frames)
     (λ left frames is. record { is_done = is; same = refl }) call.result
     (left-hands (gives_credit c.args.credit) old.talk new.talk c.args.out.now.items call.new.out.items place

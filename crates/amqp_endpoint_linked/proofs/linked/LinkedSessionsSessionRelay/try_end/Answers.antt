@@ -1,4 +1,4 @@
-use Rattle.std.proofs.Common.{[]}
+use Rattle.std.proofs.Common.{[], refl}
 use Rattle.amqp_endpoint_talk.proofs.Calls.{told-goes, told-rests}
 use Rattle.amqp_endpoint_linking.specs.Linking.{Talk}
 use Rattle.amqp_endpoint_linked.proofs.Related.{end-told}
@@ -6,7 +6,10 @@ use Rattle.amqp_endpoint_linked.proofs.linked.LinkedSessionsSessionRelay.try_end
 
 pub returns-clause-called : goal.returns-clause-called
 returns-clause-called c limit =
-    end-told c.args.self.now c.args.number c.try_end.new.self c.try_end.result c.try_end.ensures
+    (
+      end-told c.args.self.now c.args.number c.try_end.new.self c.try_end.result c.try_end.ensures,
+      record { sent = refl; given = refl },
+    )
 
 pub returns-clause-within : goal.returns-clause-within
 returns-clause-within c limit =

@@ -1,0 +1,4 @@
+pub mod Sent
+pub mod Kept
+pub mod Refusals
+pub mod Disposed

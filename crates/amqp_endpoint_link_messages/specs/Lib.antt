@@ -1,0 +1,4 @@
+pub mod Sending
+pub mod Keeping
+pub mod Refusing
+pub mod Disposing

@@ -1,0 +1,4 @@
+pub mod Telling
+pub mod Numbers
+pub mod Lengths
+pub mod Goings

@@ -1,0 +1,4 @@
+pub mod Told
+pub mod Reached
+pub mod All
+pub mod Echoing

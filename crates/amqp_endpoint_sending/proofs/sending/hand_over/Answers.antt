@@ -1,0 +1,8 @@
+use Rattle.amqp_endpoint_sending.proofs.Handing.{handed}
+use Rattle.amqp_endpoint_sending.proofs.sending.hand_over.Goals as goal
+
+pub returns-clause-ok : goal.returns-clause-ok
+returns-clause-ok c =
+    handed c.args.session.now c.transfer.new.session c.commit_in.new.session c.args.handle c.args.out.now.items
+    c.transfer.new.out.items c.args.cut c.is_none-settled.result c.in_ok-transfer.ensures.ok c.commit_in.ensures
+    c.is_none-settled.ensures
