@@ -28,15 +28,28 @@ const BLOCK_FRAMES: usize = 8192;
 #[derive(Debug, Clone, Copy)]
 pub enum Work {
     /// So many blocks of Empty frames are fed in pieces of so many bytes.
-    Frames { blocks: u32, piece: usize },
+    Frames {
+        blocks: u32,
+        piece: usize,
+    },
     /// So many connections are opened and closed.
-    OpenClose { count: u32 },
+    OpenClose {
+        count: u32,
+    },
     /// So many sessions begin between two endpoints, and then they end.
-    Sessions { count: u16 },
+    Sessions {
+        count: u16,
+    },
     /// So many links attach in a session of two endpoints, and then they are detached.
-    Links { count: u32 },
+    Links {
+        count: u32,
+    },
     /// So many messages of so many bytes go from one endpoint to another, each settled or each disposed of there.
-    Messages { settled: bool, size: u32, count: u32 },
+    Messages {
+        settled: bool,
+        size: u32,
+        count: u32,
+    },
 }
 
 /// What an endpoint found in the bytes that it was fed.

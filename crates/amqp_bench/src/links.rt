@@ -32,7 +32,11 @@ pub(crate) fn exchange(
 }
 
 /// Both headers and both Open frames go.
-pub(crate) fn open(a: &mut Endpoint, b: &mut Endpoint, found: &mut Found) -> Result<(), EndpointError> {
+pub(crate) fn open(
+    a: &mut Endpoint,
+    b: &mut Endpoint,
+    found: &mut Found,
+) -> Result<(), EndpointError> {
     a.connect()?;
     b.connect()?;
     exchange(a, b, found)?;

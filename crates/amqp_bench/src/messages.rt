@@ -1,9 +1,7 @@
 //! Two endpoints, and the messages that one sends to the other.
 use crate::endpoint::{Found, settings};
 use crate::links::{attach, begin, exchange, link, move_all, open};
-use amqp_endpoint::{
-    Accepted, DeliveryState, Disposal, Endpoint, EndpointError, Sending,
-};
+use amqp_endpoint::{Accepted, DeliveryState, Disposal, Endpoint, EndpointError, Sending};
 use bytes::Bytes;
 use std::alloc::Global;
 

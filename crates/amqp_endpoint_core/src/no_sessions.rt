@@ -2,9 +2,7 @@
 ghost use Rattle.std.specs.Prelude.{◌≡◌};
 ghost use Rattle.amqp_endpoint_core.specs.NoSessions.{session_refusal};
 
-use amqp_endpoint_model::{
-    Attaching, Disposal, EndpointError, Event, Sending, Sent, SessionRelay,
-};
+use amqp_endpoint_model::{Attaching, Disposal, EndpointError, Event, Sending, Sent, SessionRelay};
 use amqp_endpoint_settings::LinkSettings;
 use amqp_session_connection::Connection;
 use amqp_session_frames::FrameBody;

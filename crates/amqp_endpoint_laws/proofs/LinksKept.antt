@@ -123,16 +123,16 @@ heard back_on (body.Flow flow) old new links links_new given given_new limit cha
 heard back_on (body.Flow flow) old new links links_new given given_new limit channel frames events (inr f, g) came =
     back back_on links links_new came _ f.back
 heard back_on (body.Transfer transfer payload) old new links links_new given given_new limit channel frames events
-  (left, inl t) came =
+    (left, inl t) came =
     same back_on links links_new came t.same
 heard back_on (body.Transfer transfer payload) old new links links_new given given_new limit channel frames events
-  (left, inr f) came =
+    (left, inr f) came =
     back back_on links links_new came _ f.fails.back
 heard back_on (body.Disposition disposition) old new links links_new given given_new limit channel frames events
-  (inl t, g) came =
+    (inl t, g) came =
     same back_on links links_new came t.same
 heard back_on (body.Disposition disposition) old new links links_new given given_new limit channel frames events
-  (inr f, g) came =
+    (inr f, g) came =
     back back_on links links_new came _ f.back
 heard back_on (body.Detach detach) old new links links_new given given_new limit channel frames events (inl t, g) came =
     heard-detach back_on _ old t.mid new links links_new frames events detach t.becomes came

@@ -68,16 +68,7 @@ pub(crate) fn hear(
             events,
         ),
         FrameBody::Disposition(disposition) => {
-            hear_disposition(
-                talk,
-                links,
-                alloc,
-                limit,
-                channel,
-                disposition,
-                out,
-                events,
-            )
+            hear_disposition(talk, links, alloc, limit, channel, disposition, out, events)
         }
         FrameBody::Detach(detach) => hear_detach(talk, links, alloc, channel, detach, out, events),
         FrameBody::End(end) => hear_end(talk, links, channel, end, out, events),

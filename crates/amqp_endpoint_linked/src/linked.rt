@@ -7,9 +7,7 @@ use amqp_endpoint_link_calls as calls;
 use amqp_endpoint_link_messages as messages;
 use amqp_endpoint_linking as linking;
 use amqp_endpoint_links::Numbered;
-use amqp_endpoint_model::{
-    Attaching, Disposal, EndpointError, Event, Sending, Sent, SessionRelay,
-};
+use amqp_endpoint_model::{Attaching, Disposal, EndpointError, Event, Sending, Sent, SessionRelay};
 use amqp_endpoint_names::Links;
 use amqp_endpoint_sessions::Sessions;
 use amqp_endpoint_settings::LinkSettings;

@@ -5,11 +5,10 @@ use Rattle.amqp_endpoint_linked.proofs.Related.{end-told}
 use Rattle.amqp_endpoint_linked.proofs.linked.LinkedSessionsSessionRelay.try_end.Goals as goal
 
 pub returns-clause-called : goal.returns-clause-called
-returns-clause-called c limit =
-    (
-      end-told c.args.self.now c.args.number c.try_end.new.self c.try_end.result c.try_end.ensures,
-      record { sent = refl; given = refl },
-    )
+returns-clause-called c limit = (
+  end-told c.args.self.now c.args.number c.try_end.new.self c.try_end.result c.try_end.ensures,
+  record { sent = refl; given = refl },
+)
 
 pub returns-clause-within : goal.returns-clause-within
 returns-clause-within c limit =
