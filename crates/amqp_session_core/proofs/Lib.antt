@@ -1,4 +1,5 @@
 pub mod Tables
+pub mod Leading
 pub mod Taking
 pub mod Handing
 pub mod Owning

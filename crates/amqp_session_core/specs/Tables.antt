@@ -1,5 +1,5 @@
 -- The own handles of links by the handles that the peer gave them (part 2, 2.6.2).
-use Rattle.std.specs.Prelude.{ℕ, ◌==◌, Option, Some, None, if◌then◌else◌}
+use Rattle.std.specs.Prelude.{ℕ, Bool, false, ◌≡◌, ◌≢◌, ◌==◌, Option, Some, None, if◌then◌else◌}
 use Rattle.std.specs.Coded.{Coded, coded_ℕ}
 use Rattle.std.specs.Ordering.{nat_cmp}
 use Rattle.std.specs.FinMap as map
@@ -14,3 +14,11 @@ route_code = map.code coded_ℕ coded_ℕ
 abbrev pub unless_to : ℕ → Option ℕ → Option ℕ
 unless_to link None = None
 unless_to link (Some to) = if to == link then None else Some to
+
+-- each handle of the peer that leads to a link is the one that is noted for the link, unless several led to one once
+abbrev pub IsSole : RouteTable → RouteTable → Bool → Type 0
+IsSole handles leads several = several ≡ false → (handle link : ℕ) → map.get handles handle ≡ Some link → map.get leads link ≡ Some handle
+
+-- the handle that is noted for a link doesn't lead to it
+abbrev pub LeadsNowhere : RouteTable → RouteTable → ℕ → Type 0
+LeadsNowhere handles leads link = (handle : ℕ) → map.get leads link ≡ Some handle → map.get handles handle ≢ Some link

@@ -1,11 +1,9 @@
-use Rattle.std.proofs.Common.{rules, ap, ◌∙◌}
-use Rattle.std.specs.FinMap as map
-use Rattle.indexmap.proofs.CallerLemmas.{filter-RetainsPairs}
-use Rattle.amqp_session_core.specs.Tables.{RouteTable, unless_to}
-use Rattle.amqp_session_core.proofs.Tables.{others_kept}
+use Rattle.std.proofs.Common.{sym, subst}
+use Rattle.amqp_session_core.specs.Tables.{RouteTable, IsSole}
+use Rattle.amqp_session_core.proofs.Leading.{sole-forgotten}
 use Rattle.amqp_session_core.proofs.routes.Routes.forget.Goals as goal
 
-pub returns : goal.returns
-returns c = λ handle.
-    others_kept c.self.inside.handles.entries c.retain.new.self.entries (c.args.link).0 handle c.len.ensures.unique (filter-RetainsPairs _ _ _ (λ k v b w g call. search rules) _ _ c.retain.ensures.filtered)
-    ∙ ap (λ (t : RouteTable). unless_to (c.args.link).0 (map.get t handle)) c.self.view_is
+pub invariant_of-self-else-self : goal.invariant_of-self-else-self
+invariant_of-self-else-self c =
+    subst (λ (t : RouteTable). IsSole c.forget_lead.new.handles t c.self.inside.has_several) (sym c.remove-lead.ensures.rest)
+    (sole-forgotten c.self.inside.handles c.self.inside.leads c.self.inside.has_several c.self.invariant (c.args.link).0 c.forget_lead.new.handles c.forget_lead.ensures)
