@@ -1,6 +1,7 @@
 pub mod ConnectedLaws
 pub mod CodingLaws
 pub mod QueueLaws
+pub mod BatchLaws
 pub mod ReadingLaws
 pub mod FeedLaws
 pub mod IdleLaws

@@ -1,10 +1,11 @@
 -- What waits to be pulled.
-use Rattle.std.specs.Prelude.{◌≡◌, ◌≢◌, ◌⊎◌, ℕ, List, ◌∷◌, map, true, All}
+use Rattle.std.specs.Prelude.{◌≡◌, ◌≢◌, ◌⊎◌, ℕ, ◌+◌, ◌≤◌, ◌<◌, List, ◌∷◌, ◌++◌, length, map, take, drop, true, Option, Some, None, All}
 use Rattle.amqp_session_performatives.specs.declared.session_frame.SessionFrame.{SessionFrame}
 use Rattle.amqp_session_performatives.specs.declared.transfer.Transfer.{Transfer}
 use Rattle.amqp_session_frames.specs.declared.frame.Frame.{Frame as FrameFields}
 use Rattle.amqp_session_frames.specs.declared.frame.FrameBody.TheVariants as body
-use Rattle.amqp_endpoint_model.specs.State.{fits, Waiting, the_header, the_frame, waiting_of}
+use Rattle.amqp_session_frames.specs.Cutting.{joined}
+use Rattle.amqp_endpoint_model.specs.State.{State, fits, Waiting, the_header, the_frame, text_of, waiting_of}
 use Rattle.amqp_endpoint_core.specs.declared.queued.Content.{Content}
 use Rattle.amqp_endpoint_core.specs.declared.queued.Content.TheVariants.{Header, Frame}
 
@@ -38,3 +39,25 @@ pub record AllWithin (limit : ℕ) (waiting : List Waiting) : Type 0 where
 pub record IsFirst (queue : List Waiting) (first : Waiting) : Type 0 where
   pub others : List Waiting
   pub is : queue ≡ first ∷ others
+
+-- the bytes of these, one behind the other
+abbrev pub texts_of : List Waiting → List ℕ
+texts_of waiting = joined (map text_of waiting)
+
+-- this text is appended where it is within so many bytes: so many more are left then
+abbrev pub AppendedIn : ℕ → List ℕ → Option ℕ → List ℕ → List ℕ → Type 0
+AppendedIn room text (Some left) bytes bytes_new = (length text + left ≡ room) × (bytes_new ≡ bytes ++ text)
+AppendedIn room text None bytes bytes_new = (room < length text) × (bytes_new ≡ bytes)
+
+-- so many that were queued first are no more than `most` bytes together, and with one more, if there is one, they are
+pub record Fills (most : ℕ) (queue : List Waiting) (count : ℕ) : Type 0 where
+  pub there : count ≤ length queue
+  pub short : length (texts_of (take count queue)) ≤ most
+  pub longest : count < length queue → most < length (texts_of (take (count + 1) queue))
+
+-- so many that were queued first are taken out, and their bytes are appended to these
+pub record PullsInto {S : Type 0} (most : ℕ) (old : State S) (bytes : List ℕ) (count : ℕ) (new : State S)
+    (bytes_new : List ℕ) : Type 0 where
+  pub fills : Fills most old.queue count
+  pub appended : bytes_new ≡ bytes ++ texts_of (take count old.queue)
+  pub after : new ≡ record old { queue = drop count old.queue }

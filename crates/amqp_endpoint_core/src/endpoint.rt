@@ -2,12 +2,13 @@ ghost use Rattle.std.specs.Prelude.{◌≡◌, ◌==◌, ◌&&◌, ◌⊎◌, �
 ghost use Rattle.amqp_session_connection.specs.Table.{after_send_close};
 ghost use Rattle.amqp_endpoint_model.specs.Relay.{IsNew};
 ghost use Rattle.amqp_endpoint_model.specs.State.{Waiting, fresh, has_opened, is_running, limit_of, text_of, the_frame, the_header, heartbeat, fits, own_close_with};
-ghost use Rattle.amqp_endpoint_core.specs.Queue.{IsFirst};
+ghost use Rattle.amqp_endpoint_core.specs.Queue.{IsFirst, PullsInto};
 ghost use Rattle.amqp_endpoint_model.specs.Said.{said};
 ghost use Rattle.amqp_endpoint_model.specs.Step.{refusal_of_settings, refusal, Breaks, ClosesOwn, MayRefuse, MovesBy, Pulls, Step, close_refusal, connected, goes_on};
 ghost use Rattle.amqp_endpoint_model.specs.declared.error.EndpointError.TheVariants.{Memory};
 ghost use Rattle.amqp_endpoint_model.specs.declared.settings.Settings.{Settings};
 
+use crate::batch::pull_batch;
 use crate::coding::MIN_MAX_FRAME_SIZE;
 use crate::connecting::{greet_anew, send_close, unopened};
 use crate::queued::{Queued, drop_first, first_bytes, gather};
@@ -192,6 +193,24 @@ impl<S: SessionRelay> Endpoint<S> {
         ensures { self.new ≡ record self.old { queue = drop 1 self.old.queue } }
     {
         drop_first(&mut self.queue, &mut self.out);
+    }
+
+    /// Appends what is queued first to `out`, behind what it holds: as many whole answers of `pull` as are at most `most`
+    /// bytes together. It answers how many they are, and takes them out.
+    ///
+    /// They are none where nothing is queued, and where the first alone is longer than `most`, which stays queued. No
+    /// frame is longer than the peer's max-frame-size, nor than 512 bytes before its Open (part 2, 2.4.1, 2.7.1): where
+    /// `most` is that, something is taken whenever something is queued.
+    ///
+    /// `Memory` where there is no memory. A refusal changes nothing: `out` holds what it held.
+    pub fn pull_into(&mut self, out: &mut Vec<u8>, most: usize) -> Result<usize, EndpointError>
+        ensures ok { IfOk result (λ count.
+            PullsInto most self.old (out.old.items) count self.new (out.new.items)) }
+        ensures err { IfErr result (λ e. (e ≡ Memory) × (self.new ≡ self.old)
+            × (out.new.items ≡ out.old.items)) }
+    {
+        let limit = self.limit();
+        pull_batch(self.alloc, limit, most, &mut self.queue, &mut self.out, out)
     }
 
     /// How many answers of bytes `pull` still gives.

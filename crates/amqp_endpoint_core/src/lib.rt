@@ -1,6 +1,7 @@
 //! One end of an AMQP 1.0 connection without a network: bytes in by `feed`, bytes out by `pull`, and calls between.
 #![tactic(auto)]
 
+mod batch;
 mod coding;
 mod condition;
 mod connecting;

@@ -1,8 +1,8 @@
 ghost use Rattle.std.specs.Prelude.{◌≡◌, ◌+◌, ◌<◌, ◌≤◌, ◌^◌, ◌++◌, [], true, drop, length, IfErr, IfOk, MatchOption, OnErr, OnOk};
 ghost use Rattle.amqp_session_frames.specs.Cutting.{with_size};
-ghost use Rattle.amqp_endpoint_model.specs.State.{Waiting, body_of, fits, text_of, the_frame, the_header, waiting_of, written};
+ghost use Rattle.amqp_endpoint_model.specs.State.{Waiting, body_of, fits, protocol_header, text_of, the_frame, the_header, waiting_of, written};
 ghost use Rattle.amqp_endpoint_model.specs.declared.error.EndpointError.TheVariants.{Memory};
-ghost use Rattle.amqp_endpoint_core.specs.Queue.{AllWithin, IsFirst, IsWithin, frames_waiting};
+ghost use Rattle.amqp_endpoint_core.specs.Queue.{AllWithin, AppendedIn, IsFirst, IsWithin, frames_waiting};
 ghost use Rattle.std.specs.VecDeque.{deque_capacity, deque_len};
 
 use crate::coding::{PROTOCOL_HEADER, SIZE_FIELD, encoded};
@@ -74,6 +74,27 @@ impl Queued {
         match &self.content {
             Content::Header => Ok(Vec::from_slice(alloc, PROTOCOL_HEADER)?),
             Content::Frame(frame) => frame_bytes(alloc, limit, frame),
+        }
+    }
+
+    /// Appends the bytes to `bytes`, where they are at most `room`, and answers the room that is left then. None where
+    /// they are more. Where it answers no room, `bytes` is as before, as it is where there is no memory for them.
+    pub(crate) fn append_to(
+        &self,
+        alloc: Global,
+        limit: u32,
+        room: usize,
+        bytes: &mut Vec<u8>,
+    ) -> Result<Option<usize>, EndpointError>
+        requires least { 512 ≤ limit }
+        requires within { IsWithin limit self.now }
+        ensures ok { IfOk result (λ left.
+            AppendedIn room (text_of self.now) left (bytes.old.items) (bytes.new.items)) }
+        ensures err { IfErr result (λ e. (e ≡ Memory) × (bytes.new.items ≡ bytes.old.items)) }
+    {
+        match &self.content {
+            Content::Header => append_header(room, bytes),
+            Content::Frame(frame) => append_frame(alloc, limit, room, frame, bytes),
         }
     }
 }
@@ -211,9 +232,59 @@ fn sized(alloc: Global, piece: &Piece) -> Result<Vec<u8>, AllocError>
     requires { 4 + length piece.now < 2 ^ 32 }
     ensures { IfOk result (λ v. v.items ≡ with_size piece.now) }
 {
-    let size = SIZE_FIELD + piece.len();
-    let mut out = Vec::with_capacity(alloc, size)?;
-    out.extend_from_slice(&(size as u32).to_be_bytes())?;
-    piece.write_to(&mut out)?;
+    let mut out = Vec::with_capacity(alloc, SIZE_FIELD + piece.len())?;
+    append_sized(piece, &mut out)?;
     Ok(out)
+}
+
+/// Appends a piece with its size in front. Nothing changes where there is no memory.
+#[tactic(auto, using(crate::proofs::QueueLaws::cut_back))]
+fn append_sized(piece: &Piece, out: &mut Vec<u8>) -> Result<(), AllocError>
+    requires { 4 + length piece.now < 2 ^ 32 }
+    ensures ok { OnOk result (out.new.items ≡ out.old.items ++ with_size piece.now) }
+    ensures err { OnErr result (out.new.items ≡ out.old.items) }
+{
+    let start = out.len();
+    let size = SIZE_FIELD + piece.len();
+    out.extend_from_slice(&(size as u32).to_be_bytes())?;
+    let written = piece.write_to(out);
+    if written.is_err() {
+        out.truncate(start);
+    }
+    written
+}
+
+/// Appends the protocol header, where it is at most `room` bytes: the room that is left then.
+fn append_header(room: usize, bytes: &mut Vec<u8>) -> Result<Option<usize>, EndpointError>
+    ensures ok { IfOk result (λ left.
+        AppendedIn room protocol_header left (bytes.old.items) (bytes.new.items)) }
+    ensures err { IfErr result (λ e. (e ≡ Memory) × (bytes.new.items ≡ bytes.old.items)) }
+{
+    let Some(left) = room.checked_sub(PROTOCOL_HEADER.len()) else {
+        return Ok(None);
+    };
+    bytes.extend_from_slice(PROTOCOL_HEADER)?;
+    Ok(Some(left))
+}
+
+/// Appends what a frame that fits the limit is written as, where it is at most `room` bytes: the room that is left then.
+fn append_frame(
+    alloc: Global,
+    limit: u32,
+    room: usize,
+    frame: &Frame,
+    bytes: &mut Vec<u8>,
+) -> Result<Option<usize>, EndpointError>
+    requires least { 512 ≤ limit }
+    requires short { fits limit frame.now ≡ true }
+    ensures ok { IfOk result (λ left.
+        AppendedIn room (written frame.now) left (bytes.old.items) (bytes.new.items)) }
+    ensures err { IfErr result (λ e. (e ≡ Memory) × (bytes.new.items ≡ bytes.old.items)) }
+{
+    let piece = piece_of(alloc, limit, frame)?;
+    let Some(left) = room.checked_sub(SIZE_FIELD + piece.len()) else {
+        return Ok(None);
+    };
+    append_sized(&piece, bytes)?;
+    Ok(Some(left))
 }
