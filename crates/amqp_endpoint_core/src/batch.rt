@@ -1,4 +1,4 @@
-ghost use Rattle.std.specs.Prelude.{◌≡◌, ◌≤◌, ◌++◌, drop, length, take, IfErr, IfOk};
+ghost use Rattle.std.specs.Prelude.{◌≡◌, ◌≤◌, ◌<◌, ◌++◌, drop, length, take, IfErr, IfOk};
 ghost use Rattle.amqp_endpoint_model.specs.declared.error.EndpointError.TheVariants.{Memory};
 ghost use Rattle.amqp_endpoint_core.specs.Queue.{AllWithin, Fills, frames_waiting, texts_of};
 
@@ -8,8 +8,8 @@ use amqp_session_performatives::SessionFrame;
 use std::alloc::Global;
 use std::collections::VecDeque;
 
-/// Takes out what waits first, as much as is at most `most` bytes, and appends it to `bytes`: how many that are. Nothing
-/// changes where there is no memory.
+/// Takes out what waits first, as much as is at most `most` bytes, and appends it to `bytes`: how many that are.
+/// Nothing changes where there is no memory.
 pub(crate) fn pull_batch(
     alloc: Global,
     limit: u32,
@@ -21,6 +21,8 @@ pub(crate) fn pull_batch(
     requires least { 512 ≤ limit }
     requires within { AllWithin limit (queue.old.items ++ frames_waiting out.old.items) }
     ensures fills { IfOk result (λ count. Fills most (queue.old.items ++ frames_waiting out.old.items) count) }
+    ensures some { IfOk result (λ count. limit ≤ most
+        → 0 < length (queue.old.items ++ frames_waiting out.old.items) → 0 < count) }
     ensures bytes { IfOk result (λ count. bytes.new.items
         ≡ bytes.old.items ++ texts_of (take count (queue.old.items ++ frames_waiting out.old.items))) }
     ensures rest { IfOk result (λ count. queue.new.items ++ frames_waiting out.new.items

@@ -254,7 +254,7 @@ fn append_sized(piece: &Piece, out: &mut Vec<u8>) -> Result<(), AllocError>
     written
 }
 
-/// Appends the protocol header, where it is at most `room` bytes: the room that is left then.
+/// Appends the protocol header, where it is at most `room` bytes: the room that is left.
 fn append_header(room: usize, bytes: &mut Vec<u8>) -> Result<Option<usize>, EndpointError>
     ensures ok { IfOk result (λ left.
         AppendedIn room protocol_header left (bytes.old.items) (bytes.new.items)) }
@@ -267,7 +267,7 @@ fn append_header(room: usize, bytes: &mut Vec<u8>) -> Result<Option<usize>, Endp
     Ok(Some(left))
 }
 
-/// Appends what a frame that fits the limit is written as, where it is at most `room` bytes: the room that is left then.
+/// Appends what a frame that fits the limit is written as, where it is at most `room` bytes: the room that is left.
 fn append_frame(
     alloc: Global,
     limit: u32,
