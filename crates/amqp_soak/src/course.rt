@@ -95,19 +95,23 @@ impl Course {
     }
 
     fn turn(&mut self) -> Result<(), AllocError> {
-        let is_linked = self.links.iter().any(|link| link.phase == Phase::Live);
-        if !is_linked && !self.dice.one_in(4) {
+        let live = self
+            .links
+            .iter()
+            .filter(|link| link.phase == Phase::Live)
+            .count();
+        if live < 2 && self.dice.one_in(2) {
             return self.attach();
         }
-        match self.dice.below(100) {
-            0..50 => self.talk(),
-            50..74 => self.carry(),
-            74..84 => self.attach(),
-            84..92 => self.leave(),
-            92..95 => self.begin(),
-            95..97 => self.end(),
-            97 => self.begin_anew(),
-            98 => self.stray(),
+        match self.dice.below(200) {
+            0..120 => self.talk(),
+            120..170 => self.carry(),
+            170..178 => self.attach(),
+            178..186 => self.leave(),
+            186..190 => self.begin(),
+            190..192 => self.end(),
+            192 => self.begin_anew(),
+            193..198 => self.stray(),
             _ => self.beat(),
         }
     }

@@ -50,10 +50,12 @@ pub struct LinkPair {
     pub at_a: u64,
     /// Its number at `b`.
     pub at_b: u64,
-    /// How many messages its sender may still send.
+    /// How many messages its sender may still send, as it was told.
     pub credit: u32,
     /// At most this credit is left at its receiver.
     pub granted: u32,
+    /// Whether its sender isn't told yet of the credit that was granted last.
+    pub is_untold: bool,
     /// How far it is.
     pub phase: Phase,
 }
@@ -64,6 +66,14 @@ impl LinkPair {
         match side {
             Side::A => self.at_a,
             Side::B => self.at_b,
+        }
+    }
+
+    /// Its sender is told of its credit.
+    pub fn tell(&mut self) {
+        if self.is_untold {
+            self.credit = self.granted;
+            self.is_untold = false;
         }
     }
 

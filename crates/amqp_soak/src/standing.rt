@@ -25,10 +25,10 @@ pub struct Standing {
     pub channels: u32,
     /// The channels that it gave back, the latest last.
     pub free_channels: Vec<u32>,
-    /// The messages that are sent to it, by their numbers.
+    /// The messages that have come, by their numbers.
+    pub came: Vec<Coming>,
+    /// The messages that are on their way.
     pub coming: Vec<Coming>,
-    /// How many of them have come.
-    pub come: usize,
     /// At most this many of the transfers that are sent to it haven't come.
     pub pending: u32,
 }
@@ -43,8 +43,8 @@ impl Standing {
             links: 0,
             channels: 0,
             free_channels: Vec::new(alloc),
+            came: Vec::new(alloc),
             coming: Vec::new(alloc),
-            come: 0,
             pending: 0,
         }
     }
@@ -87,8 +87,13 @@ impl Standing {
     }
 
     /// All that is on its way comes, but what waits for the window.
-    pub fn receive(&mut self) {
-        self.come = self.coming.len();
+    pub fn receive(&mut self) -> Result<(), AllocError> {
+        self.came.append(&mut self.coming)
+    }
+
+    /// It leaves a link: what is on its way there is dropped.
+    pub fn drop_link(&mut self, link: u64) {
+        self.coming.retain(|message| message.link != link);
     }
 
     /// How often both streams are read out until nothing waits for its window any more.
@@ -100,7 +105,7 @@ impl Standing {
     pub fn lose(&mut self) {
         self.channels = 0;
         self.free_channels.clear();
-        self.coming.truncate(self.come);
+        self.coming.clear();
         self.pending = 0;
     }
 }

@@ -9,8 +9,12 @@ impl Course {
         let letter = side.letter();
         writeln!(&mut self.text, "move {letter} all")?;
         self.steps = self.steps.saturating_add(1);
-        self.standing(side.other()).receive();
-        Ok(())
+        for link in self.links.iter_mut() {
+            if link.sender != side {
+                link.tell();
+            }
+        }
+        self.standing(side.other()).receive()
     }
 
     /// Some bytes of an end are moved.

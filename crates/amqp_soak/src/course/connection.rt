@@ -59,16 +59,23 @@ impl Course {
             return Ok(());
         };
         let side = self.dice.side();
-        self.say_end(side, &session)?;
+        self.rest_links(place);
+        self.say_end(side, place, &session)?;
         if self.dice.one_in(3) {
-            self.say_end(side.other(), &session)?;
+            self.say_end(side.other(), place, &session)?;
         }
         self.talk()?;
         self.move_both(2)?;
         self.close_session(place)
     }
 
-    fn say_end(&mut self, side: Side, session: &SessionPair) -> Result<(), AllocError> {
+    fn say_end(
+        &mut self,
+        side: Side,
+        place: usize,
+        session: &SessionPair,
+    ) -> Result<(), AllocError> {
+        self.drop_links(side, place);
         let number = session.at(side);
         let call = format!(in self.alloc; "end {number}")?;
         self.say(side, call)
@@ -80,9 +87,17 @@ impl Course {
         };
         session.is_open = false;
         self.a.give_channel(session.channel_a)?;
-        self.b.give_channel(session.channel_b)?;
-        self.rest_links(place);
-        Ok(())
+        self.b.give_channel(session.channel_b)
+    }
+
+    /// What is on its way to an end by links of a session is dropped.
+    fn drop_links(&mut self, side: Side, place: usize) {
+        for link in self.links.iter().filter(|link| link.session == place) {
+            match side {
+                Side::A => self.a.drop_link(link.at_a),
+                Side::B => self.b.drop_link(link.at_b),
+            }
+        }
     }
 
     /// The links of a session are at rest.

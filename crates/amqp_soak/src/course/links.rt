@@ -67,6 +67,7 @@ impl Course {
             at_b: self.b.add_link(),
             credit: 0,
             granted: 0,
+            is_untold: false,
             phase: Phase::Live,
         }
     }
@@ -105,6 +106,7 @@ impl Course {
             self.settle()?;
         }
         let side = self.dice.side();
+        self.set_left(place, false);
         let mut is_closed = self.say_leave(side, &link)?;
         self.talk()?;
         if self.dice.one_in(3) {
@@ -119,6 +121,7 @@ impl Course {
     fn say_leave(&mut self, side: Side, link: &LinkPair) -> Result<bool, AllocError> {
         let word = self.dice.word(LEAVING);
         let number = link.at(side);
+        self.standing(side).drop_link(number);
         let call = format!(in self.alloc; "{word} {number}")?;
         self.say(side, call)?;
         Ok(word == "closelink")
@@ -154,16 +157,12 @@ impl Course {
         self.say(side, call)
     }
 
-    /// A call that is refused: of a link that there isn't, or with a name that a link has.
-    pub fn stray(&mut self) -> Result<(), AllocError> {
-        let side = self.dice.side();
-        let Some(place) = self.any_link(Phase::Live)? else {
-            let call = String::from_str(self.alloc, "detach 4000")?;
-            return self.say(side, call);
-        };
+    /// A link attaches whose name another has.
+    pub fn attach_again(&mut self, place: usize) -> Result<(), AllocError> {
         let Some(link) = self.links.get(place).copied() else {
             return Ok(());
         };
+        let side = self.dice.side();
         match self.sessions.get(link.session).copied() {
             Some(session) => self.say_attach(side, &session, &link),
             None => Ok(()),

@@ -12,7 +12,7 @@ const OUTCOMES: &[&str] = &["accepted", "rejected", "released", "modified"];
 const SETTLINGS: &[&str] = &["settled", "unsettled", "mode"];
 
 impl Course {
-    /// Something is done with the messages of a link.
+    /// Something is done with the messages of a link, if there is one.
     pub fn talk(&mut self) -> Result<(), AllocError> {
         let Some(place) = self.any_link(Phase::Live)? else {
             return self.carry();
@@ -26,6 +26,40 @@ impl Course {
         }
     }
 
+    /// A call that is mostly refused: of a link whatever its state, by an end whatever its role.
+    pub fn stray(&mut self) -> Result<(), AllocError> {
+        let phase = self.dice.of(&[Phase::Live, Phase::Resting, Phase::Closed]);
+        let Some(place) = self.any_link(phase.unwrap_or(Phase::Closed))? else {
+            return Ok(());
+        };
+        match self.dice.below(3) {
+            0 => self.attach_again(place),
+            1 => self.send_astray(place),
+            _ => self.dispose_astray(place),
+        }
+    }
+
+    fn send_astray(&mut self, place: usize) -> Result<(), AllocError> {
+        let Some(link) = self.links.get(place).copied() else {
+            return Ok(());
+        };
+        if link.phase == Phase::Live {
+            return self.say_drain(link.sender, link.at(link.sender));
+        }
+        self.say_send(&link, false, 5)
+    }
+
+    fn dispose_astray(&mut self, place: usize) -> Result<(), AllocError> {
+        let Some(link) = self.links.get(place).copied() else {
+            return Ok(());
+        };
+        let side = self.dice.side();
+        let number = link.at(side);
+        let message = self.dice.below(20);
+        let call = format!(in self.alloc; "dispose {number} {message} accepted mode")?;
+        self.say(side, call)
+    }
+
     fn ask_waiting(&mut self, place: usize) -> Result<(), AllocError> {
         let Some(link) = self.links.get(place).copied() else {
             return Ok(());
@@ -36,21 +70,28 @@ impl Course {
         }
     }
 
+    /// Gives credit, or has the sender be told of what was given.
+    fn give_credit(&mut self, place: usize, link: &LinkPair) -> Result<(), AllocError> {
+        if link.is_untold {
+            return self.move_all(link.receiver());
+        }
+        self.grant(place)
+    }
+
     /// Gives credit, mostly no less than was left.
     fn grant(&mut self, place: usize) -> Result<(), AllocError> {
-        let is_less = self.dice.one_in(20);
-        let more = self.dice.below(6);
+        let is_less = self.dice.one_in(30);
+        let more = self.dice.below(8);
         let Some(link) = self.links.get_mut(place) else {
             return Ok(());
         };
-        let credit = if is_less {
+        link.granted = if is_less {
             more
         } else {
             link.granted.saturating_add(more).min(1000)
         };
-        link.granted = credit;
-        link.credit = credit;
-        let (side, number) = (link.receiver(), link.at(link.receiver()));
+        link.is_untold = true;
+        let (side, number, credit) = (link.receiver(), link.at(link.receiver()), link.granted);
         let call = format!(in self.alloc; "grant {number} {credit}")?;
         self.say(side, call)
     }
@@ -60,8 +101,13 @@ impl Course {
         let Some(link) = self.links.get_mut(place) else {
             return Ok(());
         };
+        link.tell();
         link.credit = 0;
         let (side, number) = (link.receiver(), link.at(link.receiver()));
+        self.say_drain(side, number)
+    }
+
+    fn say_drain(&mut self, side: Side, number: u64) -> Result<(), AllocError> {
         let call = format!(in self.alloc; "drain {number}")?;
         self.say(side, call)
     }
@@ -72,7 +118,7 @@ impl Course {
             return Ok(());
         };
         if link.credit == 0 && !self.dice.one_in(6) {
-            return self.grant(place);
+            return self.give_credit(place, &link);
         }
         let is_settled = self.dice.one_in(3);
         let size = self.size_to(link.receiver());
@@ -145,19 +191,18 @@ impl Course {
     /// One of the messages that came by a link and are open, or any other at times.
     fn open_message(&mut self, side: Side, link: u64) -> Result<Option<usize>, AllocError> {
         let mut open = Vec::new(self.alloc);
-        let is_any = self.dice.one_in(8);
-        let standing = self.standing(side);
-        for (message, coming) in standing.coming.iter().take(standing.come).enumerate() {
-            if is_any || (coming.is_open && coming.link == link) {
-                open.push(message)?;
+        let is_any = self.dice.one_in(20);
+        for (number, message) in self.standing(side).came.iter().enumerate() {
+            if is_any || (message.is_open && message.link == link) {
+                open.push(number)?;
             }
         }
         Ok(self.dice.of(open.as_slice()))
     }
 
-    fn set_disposed(&mut self, side: Side, message: usize) {
-        if let Some(coming) = self.standing(side).coming.get_mut(message) {
-            coming.is_open = false;
+    fn set_disposed(&mut self, side: Side, number: usize) {
+        if let Some(message) = self.standing(side).came.get_mut(number) {
+            message.is_open = false;
         }
     }
 }
