@@ -60,6 +60,7 @@ impl Course {
     /// The end of a script: all is moved, which transfers wait is asked, and all is moved again.
     pub fn read_out(&mut self) -> Result<(), AllocError> {
         self.settle()?;
+        self.move_both(2)?;
         self.ask_all()?;
         self.move_both(2)
     }
