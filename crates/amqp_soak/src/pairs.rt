@@ -46,6 +46,8 @@ pub struct LinkPair {
     pub session: usize,
     /// The end that sends.
     pub sender: Side,
+    /// How it settles its messages.
+    pub mode: &'static str,
     /// Its number at `a`.
     pub at_a: u64,
     /// Its number at `b`.
@@ -74,6 +76,15 @@ impl LinkPair {
         if self.is_untold {
             self.credit = self.granted;
             self.is_untold = false;
+        }
+    }
+
+    /// Whether a message goes settled that is sent so.
+    pub fn settles(&self, is_settled: bool) -> bool {
+        match self.mode {
+            "settled" => true,
+            "unsettled" => false,
+            _ => is_settled,
         }
     }
 

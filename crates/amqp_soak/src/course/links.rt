@@ -63,6 +63,7 @@ impl Course {
             name,
             session,
             sender: self.dice.side(),
+            mode: self.dice.word(SENDER_MODES),
             at_a: self.a.add_link(),
             at_b: self.b.add_link(),
             credit: 0,
@@ -86,7 +87,7 @@ impl Course {
             return self.say(side, call);
         }
         let count = self.dice.of(FIRST_COUNTS).unwrap_or(0);
-        let mode = self.dice.word(SENDER_MODES);
+        let mode = link.mode;
         let call = format!(in self.alloc; "sender {number} link{name} {count} {mode} {second}")?;
         self.say(side, call)
     }
@@ -102,7 +103,7 @@ impl Course {
         let Some(link) = self.links.get(place).copied() else {
             return Ok(());
         };
-        if !self.dice.one_in(4) {
+        if self.dice.one_in(2) {
             self.settle()?;
         }
         let side = self.dice.side();

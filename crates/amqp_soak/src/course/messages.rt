@@ -129,7 +129,7 @@ impl Course {
         self.set_credit(place, link.credit.saturating_sub(1));
         let coming = Coming {
             link: link.at(link.receiver()),
-            is_open: !is_settled,
+            is_open: !link.settles(is_settled),
         };
         self.standing(link.receiver()).expect(coming, size)
     }
