@@ -33,8 +33,8 @@ pub struct Course {
     names: u32,
 }
 
-/// The script of this seed: the connection opens, a session begins, so many random steps are made or some more, and both
-/// streams are read out.
+/// The script of this seed: the connection opens, a session begins, so many random steps are made or some more, and
+/// both streams are read out.
 pub fn script(alloc: Global, seed: u64, count: u32) -> Result<String, AllocError> {
     let mut course = Course::new(alloc, seed);
     course.write_head(seed, count)?;
