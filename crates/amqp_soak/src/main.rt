@@ -1,5 +1,6 @@
 //! Writes random scripts for two endpoints, as `amqp-scenario` reads them. Each line of standard input is a seed and
-//! how many steps the script has, and the same line always gives the same script. `docs/SCENARIOS.md` says what is in them.
+//! how many steps the script has, and the same line always gives the same script. `docs/SCENARIOS.md` says what is in
+//! them.
 #![tactic(auto)]
 
 mod course;
