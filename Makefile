@@ -4,7 +4,11 @@ SCENARIO ?= examples/open_close.scenario
 # The lines that `trace` and `try-trace` answer.
 TRACE ?= examples/connection.trace
 
-.PHONY: run try trace try-trace test time edits bench memory
+# How many random scripts `soak` runs, or which, as 21-40, and how many steps each has.
+SEEDS ?= 20
+STEPS ?= 200
+
+.PHONY: run try trace try-trace test time edits bench memory soak
 
 # Proves and builds the program, runs the script with it and prints each step and what the endpoint answers.
 run:
@@ -44,3 +48,7 @@ bench:
 # Proves and builds the program, and runs the script once for each of its requests for memory, with that request refused.
 memory:
 	@tools/refuse_memory "$(SCENARIO)"
+
+# Runs random scripts of two endpoints, and judges what they print. Both programs are built once, and nothing is proved.
+soak:
+	@tools/soak "$(SEEDS)" "$(STEPS)"
