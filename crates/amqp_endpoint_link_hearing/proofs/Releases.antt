@@ -1,7 +1,7 @@
 -- Links leave their session with the frames that a Flow lets go.
 use Rattle.std.proofs.Common.{◌≡◌, ◌+◌, ◌<◌, ◌≤◌, ℕ, Bool, List, [], ◌∷◌, Option, Some, None, Ok, IsSome}
 use Rattle.std.proofs.Common.{refl, sym, ap, subst, ◌∙◌, append-nil, drop, length}
-use Rattle.std.specs.Prelude.{All, is_some, slice_index_or}
+use Rattle.std.specs.Prelude.{is_some, slice_index_or}
 use Rattle.std.specs.Box.{with_value}
 use Rattle.std.proofs.lemmas.List.{drop_all, drop_more}
 use Rattle.std.proofs.lemmas.List.Elements.{All-nil}
@@ -25,7 +25,7 @@ use Rattle.amqp_endpoint_talk.proofs.Calls.{changed-goes, changed-rests}
 use Rattle.amqp_endpoint_attached.specs.Linked.{Linked, gives}
 use Rattle.amqp_endpoint_attached.specs.TakenOut.{TakenOut}
 use Rattle.amqp_endpoint_linking.specs.Linking.{Link, Links, Session, Talk}
-use Rattle.amqp_endpoint_link_hearing.specs.Flowing.{LeaveWith, LeavesOnce, LeavesWith, LetsGo, ended_link}
+use Rattle.amqp_endpoint_link_hearing.specs.Flowing.{LeaveWith, LeavesOnce, LeavesWith, ended_link}
 use Rattle.amqp_endpoint_link_hearing.specs.Heard.{session_of}
 use Rattle.amqp_endpoint_link_hearing.specs.InSession.{GoesOn}
 use Rattle.amqp_endpoint_link_hearing.specs.Saying.{LinkHeard}
@@ -124,6 +124,9 @@ stands-on old channel out it (Live session told) took is mid out_mid t number so
     let same : session ≡ number = same_Some _ _ (sym is ∙ some) in
     subst (λ (n : ℕ). IsSome (live_at mid.sessions n)) same (ap is_some s.stands)
 stands-on old channel out it heard took is mid out_mid t number some = absurd (none-some number (sym is ∙ some))
+
+pub none-live : (o : Option Session) → None ≡ o → IsSome o → ⊥
+none-live o is some = let here : IsSome None = subst (λ (s : Option Session). IsSome s) (sym is) some in absurd cc
 
 -- those that leave with this frame, and with the frames behind it
 pub leave-next : (frames : List SessionFrame) (i : ℕ) (frame : SessionFrame) → i < length frames

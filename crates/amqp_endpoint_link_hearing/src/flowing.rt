@@ -113,6 +113,22 @@ fn let_go(
     let Some(session) = session else {
         return;
     };
+    let_go_in(talk, links, session, out, from);
+}
+
+/// Links leave the session with this number, which has begun, with the frames from this index on.
+fn let_go_in(
+    talk: &mut Conversation<Numbered<LinkEnd>>,
+    links: &mut Links<LinkEnd>,
+    session: u64,
+    out: &VecDeque<SessionFrame>,
+    from: usize,
+)
+    requires { IsSome (live_at talk.old.sessions session) }
+    ensures leave { LetsGo (Some session) (drop from out.now.items) talk.old links.old talk.new links.new }
+    ensures goes { (limit : ℕ) → Goes limit talk.old talk.new out.now.items out.now.items }
+    ensures rests { Rests talk.old talk.new out.now.items out.now.items }
+{
     let Some(session) = talk.sessions.live_mut(session) else {
         unreachable!()
     };
