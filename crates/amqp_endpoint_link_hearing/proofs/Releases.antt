@@ -126,7 +126,8 @@ stands-on old channel out it (Live session told) took is mid out_mid t number so
 stands-on old channel out it heard took is mid out_mid t number some = absurd (none-some number (sym is ∙ some))
 
 pub none-live : (o : Option Session) → None ≡ o → IsSome o → ⊥
-none-live o is some = let here : IsSome None = subst (λ (s : Option Session). IsSome s) (sym is) some in absurd cc
+none-live o is some =
+    let here : IsSome {T = Session} None = subst (λ (s : Option Session). IsSome s) (sym is) some in absurd cc
 
 -- those that leave with this frame, and with the frames behind it
 pub leave-next : (frames : List SessionFrame) (i : ℕ) (frame : SessionFrame) → i < length frames
