@@ -3,7 +3,11 @@ use Rattle.std.proofs.Common.{◌≡◌, inl, inr, ℕ, Bool, true, false, List,
 use Rattle.std.proofs.Common.{refl, sym, ap, subst}
 use Rattle.std.specs.Prelude.{Result, ⊤}
 use Rattle.amqp_session_types.specs.declared.channels.IncomingChannel.{IncomingChannel}
+use Rattle.amqp_session_types.specs.declared.handles.OutputHandle.{OutputHandle}
 use Rattle.amqp_session_performatives.specs.declared.session_frame.SessionFrame.{SessionFrame}
+use Rattle.amqp_session_performatives.specs.declared.session_frame.SessionFrameBody.{SessionFrameBody}
+use Rattle.amqp_session_performatives.specs.declared.session_frame.SessionFrameBody.TheVariants as session_body
+use Rattle.amqp_session_core.specs.State.{link_at}
 use Rattle.amqp_session_frames.specs.declared.frame.FrameBody.{FrameBody}
 use Rattle.amqp_session_frames.specs.declared.frame.FrameBody.TheVariants as body
 use Rattle.amqp_link_base.specs.declared.detached.Detached.{Detached}
@@ -22,6 +26,7 @@ use Rattle.amqp_endpoint_model.specs.Relay.{IsNew}
 use Rattle.amqp_endpoint_model.specs.Said.{Said, Told, attaching, count, credit_is, done, link_closed, session_begun}
 use Rattle.amqp_endpoint_model.specs.Said.{message_sent, tried_end, truth, waiting}
 use Rattle.amqp_endpoint_model.specs.State.{State, fresh as fresh_endpoint}
+use Rattle.amqp_endpoint_attached.specs.Linked.{Linked}
 use Rattle.amqp_endpoint_linking.specs.Linking.{Link, Links, Session, Talk}
 use Rattle.amqp_endpoint_linking.specs.GivingBack.{AllGivenBack, GoOn, SessionGivenBack}
 use Rattle.amqp_endpoint_linking.specs.Ending.{Finishes, Leaves}
@@ -29,6 +34,8 @@ use Rattle.amqp_endpoint_link_attaching.specs.Attaching.{with_room}
 use Rattle.amqp_endpoint_link_calls.specs.Closing.{ClosedAt}
 use Rattle.amqp_endpoint_link_calls.specs.Places.{Where}
 use Rattle.amqp_endpoint_link_hearing.specs.Detaching.{Becomes}
+use Rattle.amqp_endpoint_link_hearing.specs.Flowing.{LeaveWith, LeavesOnce, LeavesWith, LetsGo, ended_link}
+use Rattle.amqp_endpoint_link_hearing.specs.Heard.{session_of}
 use Rattle.amqp_endpoint_link_hearing.specs.Leaving.{IsLeft}
 use Rattle.amqp_endpoint_linked.specs.Attaching.{LinkAttached}
 use Rattle.amqp_endpoint_linked.specs.Calling.{Calls}
@@ -108,6 +115,33 @@ heard-detach back_on (Some (session, told)) old mid new links links_new frames e
     left-so back_on links links_new came told.closed b.link.number b.left b.is_left
 heard-detach back_on None old mid new links links_new frames events it b came = same back_on links links_new came b.same
 
+-- a link that leaves by a Flow comes to rest, or is closed
+once : (back_on : BackGoesOn) (it : Option (ℕ × Bool)) (handle : OutputHandle) (old new : Linked)
+    (links links_new : Links) → LeavesOnce it handle old links new links_new → HaveCome links → HaveCome links_new
+once back_on None handle old new links links_new l came = same back_on links links_new came l.1
+once back_on (Some (number, is_closed)) handle old new links links_new l came =
+    left-so back_on links links_new came is_closed number l.left l.is_left
+
+with-frame : (back_on : BackGoesOn) (frame : SessionFrameBody) (old new : Linked) (links links_new : Links)
+    → LeavesWith frame old links new links_new → HaveCome links → HaveCome links_new
+with-frame back_on (session_body.Detach detach) old new links links_new l came =
+    once back_on (ended_link (link_at old.session detach.handle.0)) (record { 0 = detach.handle.0 }) old new links
+    links_new l came
+with-frame back_on frame old new links links_new l came = same back_on links links_new came l.1
+
+with-each : (back_on : BackGoesOn) (frames : List SessionFrame) (old new : Linked) (links links_new : Links)
+    → LeaveWith frames old links new links_new → HaveCome links → HaveCome links_new
+with-each back_on [] old new links links_new l came = same back_on links links_new came l.1
+with-each back_on (frame ∷ frames) old new links links_new (mid, links_mid, one, others) came =
+    with-each back_on frames mid new links_mid links_new others
+    (with-frame back_on frame.body old mid links links_mid one came)
+
+heard-flow : (back_on : BackGoesOn) (took : Option ℕ) (frames : List SessionFrame) (mid new : Talk)
+    (links links_new : Links) → LetsGo took frames mid links new links_new → HaveCome links → HaveCome links_new
+heard-flow back_on None frames mid new links links_new l came = same back_on links links_new came l.1
+heard-flow back_on (Some session) frames mid new links links_new g came =
+    with-each back_on frames g.before.value g.after.value links links_new g.done came
+
 heard : (back_on : BackGoesOn) (said : FrameBody) (old new : Talk) (links links_new : Links) (given given_new limit : ℕ)
     (channel : IncomingChannel) (frames : List SessionFrame) (events : List Event)
     → Hears old links given limit channel said frames events new links_new given_new → HaveCome links
@@ -119,7 +153,7 @@ heard back_on (body.Begin begin) old new links links_new given given_new limit c
 heard back_on (body.Attach attach) old new links links_new given given_new limit channel frames events (a, g) came =
     elim a.hears [ inl t ↦ same back_on links links_new came t.same | inr f ↦ back back_on links links_new came _ f.fails.back ]
 heard back_on (body.Flow flow) old new links links_new given given_new limit channel frames events (inl t, g) came =
-    same back_on links links_new came t.same
+    heard-flow back_on (session_of t.heard) frames t.mid new links links_new t.leave came
 heard back_on (body.Flow flow) old new links links_new given given_new limit channel frames events (inr f, g) came =
     back back_on links links_new came _ f.back
 heard back_on (body.Transfer transfer payload) old new links links_new given given_new limit channel frames events

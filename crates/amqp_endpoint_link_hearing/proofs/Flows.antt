@@ -1,7 +1,7 @@
 -- The peer's Flow.
-use Rattle.std.proofs.Common.{◌≡◌, inl, inr, ℕ, true, List, [], ◌++◌, Result, Ok, Err, refl, sym, ap, subst, ◌∙◌}
-use Rattle.std.proofs.Common.{append-nil, length, take}
-use Rattle.std.proofs.lemmas.List.{take_at}
+use Rattle.std.proofs.Common.{◌≡◌, inl, inr, ℕ, true, List, [], ◌++◌, Ok, refl, sym, ap, subst, ◌∙◌}
+use Rattle.std.proofs.Common.{append-nil, drop, length, take, Option}
+use Rattle.std.proofs.lemmas.List.{drop_at, take_at}
 use Rattle.std.proofs.lemmas.List.Elements.{All-nil}
 use Rattle.amqp_session_types.specs.declared.channels.IncomingChannel.{IncomingChannel}
 use Rattle.amqp_session_performatives.specs.declared.flow.Flow.{Flow}
@@ -18,9 +18,9 @@ use Rattle.amqp_endpoint_talk.specs.Going.{Goes, Rests}
 use Rattle.amqp_endpoint_attached.specs.Linked.{gives}
 use Rattle.amqp_endpoint_linking.specs.Linking.{Links, Talk}
 use Rattle.amqp_endpoint_linking.specs.Handed.{Tells}
-use Rattle.amqp_endpoint_link_hearing.specs.Flowing.{HearsFlow}
-use Rattle.amqp_endpoint_link_hearing.specs.Saying.{FailsBySaid, LinkHeard, LinkRefusal, RefusesSaid}
-use Rattle.amqp_endpoint_link_hearing.specs.Heard.{Forgets}
+use Rattle.amqp_endpoint_link_hearing.specs.Flowing.{HearsFlow, LetsGo}
+use Rattle.amqp_endpoint_link_hearing.specs.Saying.{FailsBySaid, LinkHeard, RefusesSaid}
+use Rattle.amqp_endpoint_link_hearing.specs.Heard.{session_of}
 use Rattle.amqp_endpoint_link_hearing.proofs.Refusals.{alone}
 
 -- frames that are taken back
@@ -44,28 +44,32 @@ module _ (old new : Talk) (out out_new : List SessionFrame) (from : ℕ) (is : f
       record { silent = λ none. back out out_new g.frames from is g.queued; idle = r.idle }
 
 module _ (old : Talk) (channel : IncomingChannel) (flow : Flow) (out : List SessionFrame) (new : Talk)
-    (out_new : List SessionFrame) (goes : Goes 0 old new out out_new) (links links_new : Links)
-    (told told_new : List Event) where
+    (out_new : List SessionFrame) (links links_new : Links) (told told_new : List Event) where
   abbrev Hears : Type 0
   Hears =
       Tells (λ (frames : List SessionFrame) (events : List Event).
       HearsFlow old links channel flow frames events new links_new) out told out_new told_new
 
-  pub flow-taken : (r : Result LinkHeard LinkRefusal) → Forgets r (Ok tt)
-      → Answered gives old out channel (said.Flow flow) r new out_new → links_new ≡ links → told_new ≡ told → Hears
-  flow-taken (Err refusal) is answered same untold = absurd is
-  flow-taken (Ok heard) is answered same untold =
+  pub flow-taken : (heard : LinkHeard) (took : Option ℕ) → took ≡ session_of heard → (mid : Talk)
+      → Answered gives old out channel (said.Flow flow) (Ok heard) mid out_new → Goes 0 old mid out out_new
+      → (from : ℕ) → from ≡ length out → LetsGo took (drop from out_new) mid links new links_new → told_new ≡ told
+      → Hears
+  flow-taken heard took is mid answered went from at leave untold =
       record {
-        frames = goes.frames;
+        frames = went.frames;
         events = [];
         is_so =
             inl (record {
               heard = heard;
-              answered = alone old channel (said.Flow flow) out new out_new goes (Ok heard) answered;
+              mid = mid;
+              answered = alone old channel (said.Flow flow) out mid out_new went (Ok heard) answered;
+              leave =
+                  subst (λ (o : Option ℕ). LetsGo o went.frames mid links new links_new) is
+                  (subst (λ (fs : List SessionFrame). LetsGo took fs mid links new links_new)
+                  (ap (drop from) went.queued ∙ drop_at out went.frames from (sym at)) leave);
               told = refl;
-              same = same;
             });
-        queued = goes.queued;
+        queued = went.queued;
         are_told = untold ∙ sym (append-nil told);
       }
 
@@ -79,14 +83,6 @@ module _ (old : Talk) (channel : IncomingChannel) (flow : Flow) (out : List Sess
         queued = t.queued;
         are_told = t.are_told;
       }
-
--- what was refused
-pub forgotten : (old : Talk) (channel : IncomingChannel) (it : LinkPerformative) (out : List SessionFrame) (new : Talk)
-    (out_new : List SessionFrame) (r : Result LinkHeard LinkRefusal) (refusal : LinkRefusal) → Forgets r (Err refusal)
-    → Answered gives old out channel it r new out_new → Answered gives old out channel it (Err refusal) new out_new
-forgotten old channel it out new out_new (Ok heard) refusal is answered = absurd is
-forgotten old channel it out new out_new (Err why) refusal is answered =
-    subst (λ (x : LinkRefusal). Answered gives old out channel it (Err x) new out_new) (sym is) answered
 
 -- there is no memory even for what is told
 pub untold : (old : Talk) (channel : IncomingChannel) (it : LinkPerformative) (e : EndpointError) → e ≡ fault.Memory

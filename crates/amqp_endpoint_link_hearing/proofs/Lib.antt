@@ -2,6 +2,7 @@ mod Plain
 mod Refusals
 mod Lending
 mod Flows
+mod Releases
 mod Doing
 mod Heard
 mod Attaches

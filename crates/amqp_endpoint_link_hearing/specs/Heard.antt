@@ -1,5 +1,5 @@
 -- What was heard, without what doesn't concern a link that attaches or is detached (part 2, 2.6.3, 2.6.5).
-use Rattle.std.specs.Prelude.{◌≡◌, ℕ, Option, Some, None, Result, Ok, Err, ⊤}
+use Rattle.std.specs.Prelude.{ℕ, Option, Some, None}
 use Rattle.amqp_link_base.specs.declared.detached.Detached.{Detached}
 use Rattle.amqp_endpoint_links.specs.declared.asking.AttachTaken.TheVariants as attach
 use Rattle.amqp_endpoint_links.specs.declared.asking.DetachTaken.TheVariants as detach
@@ -21,8 +21,7 @@ abbrev pub detach_of : LinkHeard → Option (ℕ × Detached)
 detach_of (Live session (taken.Detach (detach.ByLink told))) = Some (session, told)
 detach_of heard = None
 
--- what was answered, but for what was heard
-abbrev pub Forgets : {H E : Type 0} → Result H E → Result ⊤ E → Type 0
-Forgets (Ok heard) (Ok done) = Unit {0}
-Forgets (Err e) (Err why) = why ≡ e
-Forgets answer result = ⊥
+-- the session that took it, where one did that has begun
+abbrev pub session_of : LinkHeard → Option ℕ
+session_of (Live session taken) = Some session
+session_of heard = None

@@ -1,6 +1,6 @@
 //! What was heard, without what doesn't concern a link that attaches or is detached.
 ghost use Rattle.std.specs.Prelude.{◌≡◌};
-ghost use Rattle.amqp_endpoint_link_hearing.specs.Heard.{Forgets, attach_of, detach_of};
+ghost use Rattle.amqp_endpoint_link_hearing.specs.Heard.{attach_of, detach_of, session_of};
 
 use amqp_endpoint_conversation::Heard;
 use amqp_endpoint_links::{AttachTaken, DetachTaken, PerformativeTaken};
@@ -52,12 +52,12 @@ pub(crate) fn detach_of(heard: Heard<AttachTold, Told, Detached>) -> Option<(u64
     }
 }
 
-/// An answer, without what was heard.
-pub(crate) fn forget<H: Drop, E: Drop>(answer: Result<H, E>) -> Result<(), E>
-    ensures { Forgets answer result }
+/// The session that took what was heard, where one did that has begun.
+pub(crate) fn session_of(heard: Heard<AttachTold, Told, Detached>) -> Option<u64>
+    ensures { result ≡ session_of heard }
 {
-    match answer {
-        Ok(_) => Ok(()),
-        Err(error) => Err(error),
+    match heard {
+        Heard::Live(session, _) => Some(session),
+        Heard::Asked(_) | Heard::Dropped(_) => None,
     }
 }
