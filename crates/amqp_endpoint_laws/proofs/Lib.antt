@@ -1,3 +1,7 @@
 mod Keeping
 mod Kept
 mod LinksKept
+mod Serials
+mod Unnumbered
+mod Numbered
+mod Counted

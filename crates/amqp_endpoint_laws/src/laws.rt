@@ -1,5 +1,5 @@
 //! The laws. A function here does nothing but name the laws that it rests on: its contract is the law.
-ghost use Rattle.std.specs.Prelude.{List};
+ghost use Rattle.std.specs.Prelude.{◌≡◌, ◌<◌, ◌^◌, ℕ, List, map, slice_get, Some};
 ghost use Rattle.amqp_endpoint_names.specs.State.{AreApart};
 ghost use Rattle.amqp_endpoint_model.specs.History.{Run};
 ghost use Rattle.amqp_endpoint_model.specs.Relay.{IsNew};
@@ -8,8 +8,10 @@ ghost use Rattle.amqp_endpoint_model.specs.State.{State, fresh};
 ghost use Rattle.amqp_endpoint_model.specs.declared.call.Call.{Call};
 ghost use Rattle.amqp_endpoint_model.specs.declared.settings.Settings.{Settings};
 ghost use Rattle.amqp_endpoint_linked.specs.Does.{linked};
+ghost use Rattle.amqp_endpoint_linked.specs.Sending.{tag_of};
 ghost use Rattle.amqp_endpoint_linked.specs.declared.linked.LinkedSessions.{LinkedSessions};
 ghost use Rattle.amqp_endpoint_laws.specs.Linking.{HaveCome};
+ghost use Rattle.amqp_endpoint_laws.specs.Telling.{events_told, numbers_told, numbers_under, tags_given};
 
 use amqp_endpoint_linking::laws::links_given_back_go_on;
 
@@ -31,4 +33,45 @@ pub fn live_names_are_apart()
         Run linked (fresh settings sessions) calls told end → AreApart end.sessions.links.links }
 {
     links_have_a_history();
+}
+
+/// The tags that an endpoint gives messages which it accepts to be sent are those of the numbers 0, 1, 2 and so on, in
+/// this order: of all under the count of them. So each message has the tag of its own number (part 2, 2.8.7).
+pub fn tags_are_serials()
+    ensures { (sessions : LinkedSessions) (settings : Settings) (calls : List Call) (told : List Told)
+        (end : State LinkedSessions) → IsNew linked settings sessions →
+        Run linked (fresh settings sessions) calls told end →
+        tags_given told ≡ map tag_of (numbers_under end.sessions.sent) }
+{}
+
+/// No two of the first 2^64 messages that an endpoint accepts to be sent have one tag, by whichever links they go and
+/// however often these and their sessions end and begin (part 2, 2.6.12, 2.8.7).
+pub fn tags_are_apart()
+    ensures { (sessions : LinkedSessions) (settings : Settings) (calls : List Call) (told : List Told)
+        (end : State LinkedSessions) → IsNew linked settings sessions →
+        Run linked (fresh settings sessions) calls told end →
+        (m n : ℕ) (tag : List ℕ) → m < 2 ^ 64 → n < 2 ^ 64 →
+        slice_get (tags_given told) m ≡ Some tag → slice_get (tags_given told) n ≡ Some tag → m ≡ n }
+{
+    tags_are_serials();
+}
+
+/// The messages that an endpoint hands out have the numbers 0, 1, 2 and so on, in the order in which it tells of them:
+/// all under the count of them.
+pub fn numbers_of_messages_are_serials()
+    ensures { (sessions : LinkedSessions) (settings : Settings) (calls : List Call) (told : List Told)
+        (end : State LinkedSessions) → IsNew linked settings sessions →
+        Run linked (fresh settings sessions) calls told end →
+        numbers_told (events_told told) ≡ numbers_under end.sessions.given }
+{}
+
+/// No two messages that an endpoint hands out have one number.
+pub fn numbers_of_messages_are_apart()
+    ensures { (sessions : LinkedSessions) (settings : Settings) (calls : List Call) (told : List Told)
+        (end : State LinkedSessions) → IsNew linked settings sessions →
+        Run linked (fresh settings sessions) calls told end →
+        (m n number : ℕ) → slice_get (numbers_told (events_told told)) m ≡ Some number →
+        slice_get (numbers_told (events_told told)) n ≡ Some number → m ≡ n }
+{
+    numbers_of_messages_are_serials();
 }
