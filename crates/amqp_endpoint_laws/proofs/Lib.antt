@@ -5,3 +5,7 @@ mod Serials
 mod Unnumbered
 mod Numbered
 mod Counted
+mod SessionsApart
+mod SessionsGoing
+mod SessionsHeard
+mod SessionsKept
