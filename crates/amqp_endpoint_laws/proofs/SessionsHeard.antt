@@ -47,11 +47,12 @@ use Rattle.amqp_endpoint_linking.specs.Linking.{Link, Links, Session, Sessions, 
 use Rattle.amqp_endpoint_link_hearing.specs.declared.attaching.LinkAttached.{LinkAttached}
 use Rattle.amqp_endpoint_links.specs.declared.asking.AttachTaken.TheVariants as answer
 use Rattle.amqp_endpoint_links.specs.declared.hearing.PerformativeTaken.TheVariants as taken
-use Rattle.amqp_endpoint_link_hearing.specs.Heard.{attach_of}
+use Rattle.amqp_endpoint_link_hearing.specs.Heard.{attach_of, session_of}
 use Rattle.amqp_endpoint_link_hearing.specs.Attaching as attaching
 use Rattle.amqp_endpoint_link_hearing.specs.Attaching.{LinkTakes}
 use Rattle.amqp_endpoint_link_hearing.specs.Detaching as detaching
 use Rattle.amqp_endpoint_link_hearing.specs.Disposing as disposing
+use Rattle.amqp_endpoint_link_hearing.specs.Flowing.{LetsGo}
 use Rattle.amqp_endpoint_link_hearing.specs.InSession.{GoesOn}
 use Rattle.amqp_endpoint_link_hearing.specs.Saying.{LinkHeard, LinkRefusal, RefusesSaid}
 use Rattle.amqp_endpoint_link_hearing.specs.Transferring as transferring
@@ -198,6 +199,12 @@ transfer-becomes (Some (session, took)) old mid new given it frames events given
     transfer-comes took.told old mid new given session it b.own events given_new b.comes
 transfer-becomes None old mid new given it frames events given_new c = talk-stays mid new c.stays
 
+-- links leave by the peer's Flow
+flow-lets-go : (took : Option ℕ) (frames : List SessionFrame) (mid new : Talk) (links links_new : Links)
+    → LetsGo took frames mid links new links_new → TalkGoes mid new
+flow-lets-go None frames mid new links links_new l = talk-stays mid new l.0
+flow-lets-go (Some session) frames mid new links links_new g = in-session _ mid session new g
+
 -- the peer's Disposition and Detach
 disposition-follows : (runs : Option (ℕ × Vec (ℕ × ℕ))) (limit : ℕ) (old mid new : Talk) (it : Disposition)
     (frames : List SessionFrame) (events : List Event)
@@ -235,7 +242,8 @@ heard-goes (body.Attach attach) old new links links_new given given_new limit ch
       | inr f ↦ answered old [] channel _ _ new frames f.fails.answered
     ]
 heard-goes (body.Flow flow) old new links links_new given given_new limit channel frames events (inl t, g) =
-    answered old [] channel _ (Ok t.heard) new frames t.answered
+    goes-on old.sessions t.mid.sessions new.sessions (answered old [] channel _ (Ok t.heard) t.mid frames t.answered)
+    (flow-lets-go (session_of t.heard) frames t.mid new links links_new t.leave)
 heard-goes (body.Flow flow) old new links links_new given given_new limit channel frames events (inr f, g) =
     answered old [] channel _ _ new frames f.answered
 heard-goes (body.Transfer transfer payload) old new links links_new given given_new limit channel frames events
