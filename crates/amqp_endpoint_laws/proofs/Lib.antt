@@ -1,3 +1,11 @@
 mod Keeping
 mod Kept
 mod LinksKept
+mod Serials
+mod Unnumbered
+mod Numbered
+mod Counted
+mod SessionsApart
+mod SessionsGoing
+mod SessionsHeard
+mod SessionsKept

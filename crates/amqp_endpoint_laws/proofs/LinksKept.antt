@@ -20,6 +20,7 @@ use Rattle.amqp_endpoint_names.proofs.Apart.{none_apart, stay_apart}
 use Rattle.amqp_endpoint_model.specs.declared.call.Call.{Call}
 use Rattle.amqp_endpoint_model.specs.declared.call.Call.TheVariants as call
 use Rattle.amqp_endpoint_model.specs.declared.event.Event.{Event}
+use Rattle.amqp_endpoint_model.specs.declared.phase.Phase.{Phase}
 use Rattle.amqp_endpoint_model.specs.declared.settings.Settings.{Settings}
 use Rattle.amqp_endpoint_model.specs.History.{Run}
 use Rattle.amqp_endpoint_model.specs.Relay.{IsNew}
@@ -42,7 +43,7 @@ use Rattle.amqp_endpoint_linked.specs.Calling.{Calls}
 use Rattle.amqp_endpoint_linked.specs.Does.{linked}
 use Rattle.amqp_endpoint_linked.specs.Hearing.{Hears}
 use Rattle.amqp_endpoint_linked.specs.declared.linked.LinkedSessions.{LinkedSessions}
-use Rattle.amqp_endpoint_laws.proofs.Keeping.{Keeps}
+use Rattle.amqp_endpoint_laws.proofs.Keeping.{Keeps, KeepsSilent}
 use Rattle.amqp_endpoint_laws.specs.Linking.{HaveCome}
 use Rattle.amqp_endpoint_laws.proofs.Kept.{run-keeps}
 
@@ -209,27 +210,40 @@ called back_on (call.Waiting n) (waiting turn) old new limit frames c came =
 called back_on by_call answer old new limit frames c came = absurd c
 
 module _ (back_on : BackGoesOn) (left_on : LeftGoesOn) (finished_on : FinishedGoesOn) where
-  links-keep : Keeps linked (λ (s : LinkedSessions). HaveCome s.links)
+  abbrev LinksHaveCome : Phase → LinkedSessions → Type 0
+  LinksHaveCome phase s = HaveCome s.links
+
+  links-keep-silent : KeepsSilent linked LinksHaveCome
+  links-keep-silent =
+      record {
+        moved = λ phase s connection live came. came;
+        renewed = λ s came. came;
+        runs = λ phase s came. came;
+        refused = λ phase old new limit channel said e r came.
+            same back_on old.links new.links came r.0.same;
+        closed = λ phase old new c came.
+            goes-on back_on old.links new.links came (left_on old.talk new.talk old.links new.links c.0);
+        finished = λ phase to old new f came.
+            goes-on back_on old.links new.links came (finished_on old.talk new.talk old.links new.links f.0);
+      }
+
+  links-keep : Keeps linked (λ seen tags phase s. LinksHaveCome phase s)
   links-keep =
       record {
-        moved = λ s connection came. came;
-        taken = λ old new limit channel said frames events h came.
+        silent = λ seen tags. links-keep-silent;
+        told = λ seen tags event phase s theirs came. came;
+        taken = λ seen tags phase old new limit channel said frames events h came.
             heard back_on said old.talk new.talk old.links new.links old.given new.given limit
             (record { 0 = channel }) frames events h.0 came;
-        refused = λ old new limit channel said e r came. same back_on old.links new.links came r.0.same;
-        called = λ old new limit by_call answer frames c came.
+        called = λ seen tags phase old new limit by_call answer frames may c came.
             called back_on by_call answer old new limit frames c.0 came;
-        closed = λ old new c came.
-            goes-on back_on old.links new.links came (left_on old.talk new.talk old.links new.links c.0);
-        finished = λ old new f came.
-            goes-on back_on old.links new.links came (finished_on old.talk new.talk old.links new.links f.0);
       }
 
   pub have-come : (sessions : LinkedSessions) (settings : Settings) (calls : List Call) (told : List Told)
       (end : State LinkedSessions) → IsNew linked settings sessions
       → Run linked (fresh_endpoint settings sessions) calls told end → HaveCome end.sessions.links
   have-come sessions settings calls told end new run =
-      run-keeps linked (λ (s : LinkedSessions). HaveCome s.links) links-keep (fresh_endpoint settings sessions) end
+      run-keeps linked (λ seen tags phase s. LinksHaveCome phase s) links-keep [] [] (fresh_endpoint settings sessions) end
       calls told run
       (record { steps = []; history = ap (λ (s : LinkedSessions). s.links) new.is })
 

@@ -1,6 +1,8 @@
 //! The laws. A function here does nothing but name the laws that it rests on: its contract is the law.
-ghost use Rattle.std.specs.Prelude.{List};
+ghost use Rattle.std.specs.Prelude.{◌≡◌, ◌<◌, ◌^◌, ℕ, List, map, slice_get, Some};
+ghost use Rattle.amqp_session_types.specs.declared.channels.OutgoingChannel.{OutgoingChannel};
 ghost use Rattle.amqp_endpoint_names.specs.State.{AreApart};
+ghost use Rattle.amqp_endpoint_sessions.specs.State.{channel_at};
 ghost use Rattle.amqp_endpoint_model.specs.History.{Run};
 ghost use Rattle.amqp_endpoint_model.specs.Relay.{IsNew};
 ghost use Rattle.amqp_endpoint_model.specs.Said.{Told};
@@ -8,10 +10,17 @@ ghost use Rattle.amqp_endpoint_model.specs.State.{State, fresh};
 ghost use Rattle.amqp_endpoint_model.specs.declared.call.Call.{Call};
 ghost use Rattle.amqp_endpoint_model.specs.declared.settings.Settings.{Settings};
 ghost use Rattle.amqp_endpoint_linked.specs.Does.{linked};
+ghost use Rattle.amqp_endpoint_linked.specs.Sending.{tag_of};
 ghost use Rattle.amqp_endpoint_linked.specs.declared.linked.LinkedSessions.{LinkedSessions};
+ghost use Rattle.amqp_endpoint_laws.specs.Conversing.{SessionsGoOn};
 ghost use Rattle.amqp_endpoint_laws.specs.Linking.{HaveCome};
+ghost use Rattle.amqp_endpoint_laws.specs.Telling.{events_told, numbers_told, numbers_under, tags_given};
 
+use amqp_endpoint_asked::AskedSession;
 use amqp_endpoint_linking::laws::links_given_back_go_on;
+use amqp_endpoint_links::{AskingSession, Numbered};
+use amqp_endpoint_sessions::laws::each_session_has_its_own_history;
+use amqp_link_ends::LinkEnd;
 
 /// The links of an endpoint have a history of their own in each of its runs, from none on, by steps of
 /// amqp_endpoint_names. So what holds of all histories of links holds in each run.
@@ -31,4 +40,65 @@ pub fn live_names_are_apart()
         Run linked (fresh settings sessions) calls told end → AreApart end.sessions.links.links }
 {
     links_have_a_history();
+}
+
+/// The tags that an endpoint gives messages which it accepts to be sent are those of the numbers 0, 1, 2 and so on, in
+/// this order: of all under the count of them. So each message has the tag of its own number (part 2, 2.8.7).
+pub fn tags_are_serials()
+    ensures { (sessions : LinkedSessions) (settings : Settings) (calls : List Call) (told : List Told)
+        (end : State LinkedSessions) → IsNew linked settings sessions →
+        Run linked (fresh settings sessions) calls told end →
+        tags_given told ≡ map tag_of (numbers_under end.sessions.sent) }
+{}
+
+/// No two of the first 2^64 messages that an endpoint accepts to be sent have one tag, by whichever links they go and
+/// however often these and their sessions end and begin (part 2, 2.6.12, 2.8.7).
+pub fn tags_are_apart()
+    ensures { (sessions : LinkedSessions) (settings : Settings) (calls : List Call) (told : List Told)
+        (end : State LinkedSessions) → IsNew linked settings sessions →
+        Run linked (fresh settings sessions) calls told end →
+        (m n : ℕ) (tag : List ℕ) → m < 2 ^ 64 → n < 2 ^ 64 →
+        slice_get (tags_given told) m ≡ Some tag → slice_get (tags_given told) n ≡ Some tag → m ≡ n }
+{
+    tags_are_serials();
+}
+
+/// The messages that an endpoint hands out have the numbers 0, 1, 2 and so on, in the order in which it tells of them:
+/// all under the count of them.
+pub fn numbers_of_messages_are_serials()
+    ensures { (sessions : LinkedSessions) (settings : Settings) (calls : List Call) (told : List Told)
+        (end : State LinkedSessions) → IsNew linked settings sessions →
+        Run linked (fresh settings sessions) calls told end →
+        numbers_told (events_told told) ≡ numbers_under end.sessions.given }
+{}
+
+/// No two messages that an endpoint hands out have one number.
+pub fn numbers_of_messages_are_apart()
+    ensures { (sessions : LinkedSessions) (settings : Settings) (calls : List Call) (told : List Told)
+        (end : State LinkedSessions) → IsNew linked settings sessions →
+        Run linked (fresh settings sessions) calls told end →
+        (m n number : ℕ) → slice_get (numbers_told (events_told told)) m ≡ Some number →
+        slice_get (numbers_told (events_told told)) n ≡ Some number → m ≡ n }
+{
+    numbers_of_messages_are_serials();
+}
+
+/// The sessions of an endpoint have a history of their own in each of its runs, by steps of amqp_endpoint_sessions, from
+/// whichever sessions on. So what holds of all histories of sessions holds in each run: a number is given once, no step
+/// but its own touches a session, and one that is over stays over (part 2, 2.5).
+pub fn sessions_have_a_history()
+    ensures { (old end : State LinkedSessions) (calls : List Call) (told : List Told) →
+        Run linked old calls told end → SessionsGoOn old.sessions.talk.sessions end.sessions.talk.sessions }
+{}
+
+/// No two sessions of an endpoint that have an outgoing channel have one, whatever calls it gets and whatever its peer
+/// says, and also once it has connected again (part 2, 2.5.1, 2.5.2).
+pub fn channels_are_apart()
+    ensures { (sessions : LinkedSessions) (settings : Settings) (calls : List Call) (told : List Told)
+        (end : State LinkedSessions) → IsNew linked settings sessions →
+        Run linked (fresh settings sessions) calls told end →
+        (m n : ℕ) (channel : OutgoingChannel) → channel_at end.sessions.talk.sessions m ≡ Some channel →
+        channel_at end.sessions.talk.sessions n ≡ Some channel → m ≡ n }
+{
+    each_session_has_its_own_history::<Box<AskedSession>, Box<AskingSession<Numbered<LinkEnd>>>>();
 }

@@ -1,0 +1,205 @@
+-- An endpoint counts the messages that it accepts to be sent and those that it hands out.
+use Rattle.std.proofs.Common.{◌≡◌, ◌<◌, inl, inr, ℕ, suc, List, [], ◌∷◌, ◌++◌, Option, Some, None, map, refl, sym, ap, subst, ◌∙◌}
+use Rattle.std.specs.Prelude.{◌^◌, option_map, slice_get}
+use Rattle.std.proofs.lemmas.Option.{none-some, same_Some, slice_get-map}
+use Rattle.std.proofs.lemmas.List.{append-nil, map-append}
+use Rattle.amqp_session_performatives.specs.declared.session_frame.SessionFrame.{SessionFrame}
+use Rattle.amqp_session_core.specs.State.{link_at}
+use Rattle.amqp_link_attach.specs.declared.exchange.AttachExchange.{AttachExchange}
+use Rattle.amqp_link_ends.specs.declared.end.End.{End}
+use Rattle.amqp_endpoint_names.specs.declared.place.LinkPlace.TheVariants.{AtRest, Held}
+use Rattle.amqp_endpoint_names.specs.State.{place_at}
+use Rattle.amqp_endpoint_model.specs.declared.call.Call.{Call}
+use Rattle.amqp_endpoint_model.specs.declared.call.Call.TheVariants as call
+use Rattle.amqp_endpoint_model.specs.declared.event.Event.{Event}
+use Rattle.amqp_endpoint_model.specs.declared.settings.Settings.{Settings}
+use Rattle.amqp_endpoint_model.specs.History.{Run}
+use Rattle.amqp_endpoint_model.specs.Relay.{IsNew}
+use Rattle.amqp_endpoint_model.specs.Said.{Said, Told, attaching, count, credit_is, done, link_closed, session_begun}
+use Rattle.amqp_endpoint_model.specs.Said.{message_sent, tried_end, truth, waiting}
+use Rattle.amqp_endpoint_model.specs.State.{State, fresh}
+use Rattle.amqp_endpoint_attached.specs.Linked.{end_at}
+use Rattle.amqp_endpoint_linking.specs.Linking.{Links, Talk}
+use Rattle.amqp_endpoint_link_calls.specs.Closing.{ClosedAt, closed_end}
+use Rattle.amqp_endpoint_link_calls.specs.Places.{Where}
+use Rattle.amqp_endpoint_outcomes.specs.All.{open_count}
+use Rattle.amqp_endpoint_linked.specs.Attaching.{exchange_told}
+use Rattle.amqp_endpoint_linked.specs.Calling.{Calls}
+use Rattle.amqp_endpoint_linked.specs.Counting.{Counted, CountsStay}
+use Rattle.amqp_endpoint_linked.specs.Does.{linked}
+use Rattle.amqp_endpoint_linked.specs.Sending.{tag_of}
+use Rattle.amqp_endpoint_linked.specs.declared.linked.LinkedSessions.{LinkedSessions}
+use Rattle.amqp_endpoint_laws.specs.Telling.{events_of, events_told, numbers_told, numbers_under, tag_given, tags_given}
+use Rattle.amqp_endpoint_laws.proofs.Keeping.{IsOfConnection, Keeps, KeepsSilent}
+use Rattle.amqp_endpoint_laws.proofs.Kept.{run-keeps}
+use Rattle.amqp_endpoint_laws.proofs.Numbered.{GivesNext, gives-next}
+use Rattle.amqp_endpoint_laws.proofs.Serials.{at-under, numbers-append, same-tags}
+use Rattle.amqp_endpoint_laws.proofs.Unnumbered.{Unnumbered, by-unnumbered, first-unnumbered}
+use Rattle.amqp_endpoint_model.specs.declared.event.Event.TheVariants.{Opened, Closed}
+
+-- the tags are those of the numbers under the one count, and the messages have the numbers under the other
+pub record Counts (seen : List Event) (tags : List (List ℕ)) (s : LinkedSessions) : Type 0 where
+  pub tags_are : tags ≡ map tag_of (numbers_under s.sent)
+  pub numbers_are : numbers_told seen ≡ numbers_under s.given
+
+stay : (seen : List Event) (tags : List (List ℕ)) (old new : LinkedSessions) → CountsStay old new
+    → Counts seen tags old → Counts seen tags new
+stay seen tags old new same c =
+    record {
+      tags_are = c.tags_are ∙ ap (λ (n : ℕ). map tag_of (numbers_under n)) (sym same.sent);
+      numbers_are = c.numbers_are ∙ ap (λ (n : ℕ). numbers_under n) (sym same.given);
+    }
+
+-- what is told then holds no message
+told-more : (seen events : List Event) (tags : List (List ℕ)) (s : LinkedSessions) → Unnumbered events
+    → Counts seen tags s → Counts (seen ++ events) tags s
+told-more seen events tags s none c =
+    record {
+      tags_are = c.tags_are;
+      numbers_are =
+          numbers-append seen events ∙ ap (λ (ns : List ℕ). numbers_told seen ++ ns) none
+          ∙ append-nil (numbers_told seen) ∙ c.numbers_are;
+    }
+
+-- or one
+told-next : (seen events : List Event) (tags : List (List ℕ)) (old new : LinkedSessions) → new.sent ≡ old.sent
+    → GivesNext events old.given new.given → Counts seen tags old → Counts (seen ++ events) tags new
+told-next seen events tags old new sent (inl (none, given)) c =
+    told-more seen events tags new none (stay seen tags old new (record { sent = sent; given = given }) c)
+told-next seen events tags old new sent (inr (next, given)) c =
+    record {
+      tags_are = c.tags_are ∙ ap (λ (n : ℕ). map tag_of (numbers_under n)) (sym sent);
+      numbers_are =
+          numbers-append seen events ∙ ap (λ (ns : List ℕ). numbers_told seen ++ ns) next
+          ∙ ap (λ (ns : List ℕ). ns ++ old.given ∷ []) c.numbers_are
+          ∙ ap (λ (n : ℕ). numbers_under n) (sym given);
+    }
+
+-- a call that sends no message, and tells of none
+called-plain : (seen events : List Event) (tags : List (List ℕ)) (old new : LinkedSessions) → Unnumbered events
+    → CountsStay old new → Counts seen tags old → Counts (seen ++ events) (tags ++ []) new
+called-plain seen events tags old new none same c =
+    subst (λ (ts : List (List ℕ)). Counts (seen ++ events) ts new) (sym (append-nil tags))
+    (told-more seen events tags new none (stay seen tags old new same c))
+
+exchange-unnumbered : (link : ℕ) (exchange : Option AttachExchange) → Unnumbered (exchange_told link exchange)
+exchange-unnumbered link None = refl
+exchange-unnumbered link (Some exchange) = refl
+
+closed-unnumbered : (place : Where) (number : ℕ) (events : List Event) (old new : Talk) (links links_new : Links)
+    (frames : List SessionFrame) → ClosedAt place old links number [] events new links_new frames → Unnumbered events
+closed-unnumbered None number events old new links links_new frames c = absurd c
+closed-unnumbered (Some (AtRest end)) number events old new links links_new frames c =
+    ap (λ (es : List Event). numbers_told es) c.forgets.told
+    ∙ by-unnumbered number None (open_count (Some end)) (closed_end end)
+closed-unnumbered (Some (Held session handle)) number events old new links links_new frames c =
+    ap (λ (es : List Event). numbers_told es) c.done.did.told
+    ∙ first-unnumbered (open_count (end_at c.done.before.value handle)) None
+    (link_at c.done.did.mid.session handle.0)
+
+called : (seen : List Event) (tags : List (List ℕ)) (by_call : Call) (answer : Said) (old new : LinkedSessions)
+    (limit : ℕ) (frames : List SessionFrame) → Calls old limit by_call answer frames new → Counted by_call old new
+    → Counts seen tags old → Counts (seen ++ events_of answer) (tags ++ tag_given answer) new
+called seen tags call.Begin (session_begun n) old new limit frames c same s =
+    called-plain seen [] tags old new refl same s
+called seen tags (call.AcceptBegin channel) (session_begun n) old new limit frames c same s =
+    called-plain seen [] tags old new refl same s
+called seen tags (call.End n) done old new limit frames c same s = called-plain seen [] tags old new refl same s
+called seen tags (call.IsEnded n) (truth b) old new limit frames c same s =
+    called-plain seen [] tags old new refl same s
+called seen tags (call.TryEnd n) (tried_end o) old new limit frames c same s =
+    called-plain seen [] tags old new refl same s
+called seen tags (call.AttachSender n settings) (attaching link events) old new limit frames c same s =
+    called-plain seen events tags old new
+    (ap (λ (es : List Event). numbers_told es) c.told ∙ exchange-unnumbered c.placed.link c.placed.exchange) same s
+called seen tags (call.AttachReceiver n settings) (attaching link events) old new limit frames c same s =
+    called-plain seen events tags old new
+    (ap (λ (es : List Event). numbers_told es) c.told ∙ exchange-unnumbered c.placed.link c.placed.exchange) same s
+called seen tags (call.Detach link) done old new limit frames c same s = called-plain seen [] tags old new refl same s
+called seen tags (call.CloseLink link) (link_closed events) old new limit frames c same s =
+    called-plain seen events tags old new
+    (closed-unnumbered (place_at old.links link) link events old.talk new.talk old.links new.links frames c) same s
+called seen tags (call.Grant link n) (credit_is left) old new limit frames c same s =
+    called-plain seen [] tags old new refl same s
+called seen tags (call.Drain link) done old new limit frames c same s = called-plain seen [] tags old new refl same s
+called seen tags (call.Send link message) (message_sent tag outcome) old new limit frames c more s =
+    record {
+      tags_are =
+          ap (λ (ts : List (List ℕ)). ts ++ tag ∷ []) s.tags_are
+          ∙ ap (λ (t : List ℕ). map tag_of (numbers_under old.sent) ++ t ∷ []) c.sends.tagged
+          ∙ sym (map-append tag_of (numbers_under old.sent) (old.sent ∷ []))
+          ∙ ap (λ (n : ℕ). map tag_of (numbers_under n)) (sym more.sent);
+      numbers_are =
+          ap (λ (es : List Event). numbers_told es) (append-nil seen) ∙ s.numbers_are
+          ∙ ap (λ (n : ℕ). numbers_under n) (sym more.given);
+    }
+called seen tags (call.Dispose link message disposal) done old new limit frames c same s =
+    called-plain seen [] tags old new refl same s
+called seen tags (call.DisposeAll link messages disposal) done old new limit frames c same s =
+    called-plain seen [] tags old new refl same s
+called seen tags (call.Credit link) (credit_is left) old new limit frames c same s =
+    called-plain seen [] tags old new refl same s
+called seen tags (call.HeldBack n) (count m) old new limit frames c same s =
+    called-plain seen [] tags old new refl same s
+called seen tags (call.Waiting n) (waiting turn) old new limit frames c same s =
+    called-plain seen [] tags old new refl same s
+called seen tags by_call answer old new limit frames c same s = absurd c
+
+connection-unnumbered : (event : Event) → IsOfConnection event → Unnumbered (event ∷ [])
+connection-unnumbered (Opened o) theirs = refl
+connection-unnumbered (Closed c) theirs = refl
+connection-unnumbered event theirs = absurd theirs
+
+counts-keep : Keeps linked (λ seen tags phase s. Counts seen tags s)
+counts-keep =
+    record {
+      silent = λ seen tags. record {
+        moved = λ phase s connection live c.
+            record { tags_are = c.tags_are; numbers_are = c.numbers_are };
+        renewed = λ s c. record { tags_are = c.tags_are; numbers_are = c.numbers_are };
+        runs = λ phase s c. c;
+        refused = λ phase old new limit channel said e r c. stay seen tags old new r.1 c;
+        closed = λ phase old new l c. stay seen tags old new l.1 c;
+        finished = λ phase to old new f c. stay seen tags old new f.1 c;
+      };
+      told = λ seen tags event phase s theirs c.
+          told-more seen (event ∷ []) tags s (connection-unnumbered event theirs) c;
+      taken = λ seen tags phase old new limit channel said frames events h c.
+          told-next seen events tags old new h.1
+          (gives-next said old.talk new.talk old.links new.links old.given new.given limit
+          (record { 0 = channel }) frames events h.0) c;
+      called = λ seen tags phase old new limit by_call answer frames may c s.
+          called seen tags by_call answer old new limit frames c.0 c.1 s;
+    }
+
+pub counts : (sessions : LinkedSessions) (settings : Settings) (calls : List Call) (told : List Told)
+    (end : State LinkedSessions) → IsNew linked settings sessions
+    → Run linked (fresh settings sessions) calls told end → Counts (events_told told) (tags_given told) end.sessions
+counts sessions settings calls told end new run =
+    run-keeps linked (λ seen tags phase s. Counts seen tags s) counts-keep [] [] (fresh settings sessions) end calls told run
+    (record {
+      tags_are = ap (λ (s : LinkedSessions). map tag_of (numbers_under s.sent)) (sym new.is);
+      numbers_are = ap (λ (s : LinkedSessions). numbers_under s.given) (sym new.is);
+    })
+
+module _ (tags : List (List ℕ)) (sent : ℕ) (are : tags ≡ map tag_of (numbers_under sent)) where
+  -- the tag at a place is that of its number
+  tag-at : (n : ℕ) (tag : List ℕ) → slice_get tags n ≡ Some tag → tag_of n ≡ tag
+  tag-at n tag is =
+      by (slice_get (numbers_under sent) n) refl
+      (sym (slice_get-map tag_of (numbers_under sent) n) ∙ sym (ap (λ (ts : List (List ℕ)). slice_get ts n) are) ∙ is)
+    where
+      by : (found : Option ℕ) → slice_get (numbers_under sent) n ≡ found → option_map tag_of found ≡ Some tag
+          → tag_of n ≡ tag
+      by None there is = absurd (none-some _ is)
+      by (Some k) there is = ap tag_of (sym (at-under sent n k there)) ∙ same_Some _ _ is
+
+  pub tags-apart : (m n : ℕ) (tag : List ℕ) → m < 2 ^ 64 → n < 2 ^ 64 → slice_get tags m ≡ Some tag
+      → slice_get tags n ≡ Some tag → m ≡ n
+  tags-apart m n tag m_fits n_fits a b = same-tags m n m_fits n_fits (tag-at m tag a ∙ sym (tag-at n tag b))
+
+pub numbers-apart : (numbers : List ℕ) (given : ℕ) → numbers ≡ numbers_under given → (m n number : ℕ)
+    → slice_get numbers m ≡ Some number → slice_get numbers n ≡ Some number → m ≡ n
+numbers-apart numbers given are m n number a b =
+    sym (at-under given m number (sym (ap (λ (ns : List ℕ). slice_get ns m) are) ∙ a))
+    ∙ at-under given n number (sym (ap (λ (ns : List ℕ). slice_get ns n) are) ∙ b)

@@ -1,0 +1,152 @@
+-- A frame of the peer hands out one message under the next number, or none.
+use Rattle.std.proofs.Common.{◌≡◌, ◌⊎◌, inl, inr, ℕ, suc, ◌+◌, Bool, true, false, List, [], ◌∷◌, ◌++◌, Option, Some, None, Ok, Err}
+use Rattle.std.proofs.Common.{arith, refl, ap, ◌∙◌}
+use Rattle.std.specs.Prelude.{Result}
+use Rattle.std.specs.Global.{Vec}
+use Rattle.amqp_session_types.specs.declared.channels.IncomingChannel.{IncomingChannel}
+use Rattle.amqp_session_types.specs.declared.error.Error.{Error}
+use Rattle.amqp_session_types.specs.declared.handles.OutputHandle.{OutputHandle}
+use Rattle.amqp_session_performatives.specs.declared.attach.Attach.{Attach}
+use Rattle.amqp_session_performatives.specs.declared.detach.Detach.{Detach}
+use Rattle.amqp_session_performatives.specs.declared.disposition.Disposition.{Disposition}
+use Rattle.amqp_session_performatives.specs.declared.session_frame.SessionFrame.{SessionFrame}
+use Rattle.amqp_session_performatives.specs.declared.transfer.Transfer.{Transfer}
+use Rattle.amqp_session_core.specs.declared.incoming.TransferTaken.{TransferTaken}
+use Rattle.amqp_session_frames.specs.declared.frame.FrameBody.{FrameBody}
+use Rattle.amqp_session_frames.specs.declared.frame.FrameBody.TheVariants as body
+use Rattle.amqp_link_base.specs.declared.detached.Detached.{Detached}
+use Rattle.amqp_link_receiving.specs.declared.answer.Told.{Told}
+use Rattle.amqp_link_receiving.specs.declared.answer.Told.TheVariants as told
+use Rattle.amqp_link_sender.specs.declared.attaching.Attaching.{Attaching}
+use Rattle.amqp_link_types.specs.declared.link_error.LinkError.{LinkError}
+use Rattle.amqp_endpoint_links.specs.declared.asking.NamedLink.{NamedLink}
+use Rattle.amqp_endpoint_links.specs.declared.asking.NamedLink.TheVariants.{Waiting}
+use Rattle.amqp_endpoint_conversation.specs.declared.beginning.BeginHeard.{BeginHeard}
+use Rattle.amqp_endpoint_conversation.specs.declared.beginning.BeginHeard.TheVariants as begin_heard
+use Rattle.amqp_endpoint_attached.specs.Linked.{end_at}
+use Rattle.amqp_endpoint_model.specs.declared.event.Event.{Event}
+use Rattle.amqp_endpoint_linking.specs.Hearing.{begin_told, end_told}
+use Rattle.amqp_endpoint_linking.specs.Linking.{Link, Links, Talk}
+use Rattle.amqp_endpoint_outcomes.specs.All.{told_by}
+use Rattle.amqp_endpoint_link_hearing.specs.declared.attaching.LinkAttached.{LinkAttached}
+use Rattle.amqp_endpoint_links.specs.declared.asking.AttachTaken.TheVariants as answer
+use Rattle.amqp_endpoint_links.specs.declared.hearing.PerformativeTaken.TheVariants as taken
+use Rattle.amqp_endpoint_conversation.specs.declared.hearing.Heard.TheVariants as heard
+use Rattle.amqp_endpoint_link_hearing.specs.Heard.{attach_of}
+use Rattle.amqp_endpoint_link_hearing.specs.Saying.{LinkHeard}
+use Rattle.amqp_endpoint_link_hearing.specs.Attaching as attaching
+use Rattle.amqp_endpoint_link_hearing.specs.Attaching.{LinkTakes}
+use Rattle.amqp_endpoint_link_hearing.specs.Detaching as detaching
+use Rattle.amqp_endpoint_link_hearing.specs.Detaching.{detached_told, ending}
+use Rattle.amqp_endpoint_link_hearing.specs.Disposing as disposing
+use Rattle.amqp_endpoint_link_hearing.specs.Transferring as transferring
+use Rattle.amqp_endpoint_link_hearing.specs.Transferring.{Comes, ComesToNothing}
+use Rattle.amqp_endpoint_linked.specs.Hearing.{Hears}
+use Rattle.amqp_endpoint_laws.specs.Telling.{numbers_told}
+use Rattle.amqp_endpoint_laws.proofs.Unnumbered.{Unnumbered, both-unnumbered, by-unnumbered, reached-unnumbered}
+
+-- where so many messages were handed out before, and behind that so many
+abbrev pub GivesNext : List Event → ℕ → ℕ → Type 0
+GivesNext events given given_new =
+    (Unnumbered events × (given_new ≡ given)) ⊎ ((numbers_told events ≡ given ∷ []) × (given_new ≡ suc given))
+
+told-unnumbered : (events others : List Event) → events ≡ others → Unnumbered others → Unnumbered events
+told-unnumbered events others is none = ap (λ (es : List Event). numbers_told es) is ∙ none
+
+begin-unnumbered : (it : BeginHeard) (channel : IncomingChannel) → Unnumbered (begin_told it channel)
+begin-unnumbered (begin_heard.Asked number) channel = refl
+begin-unnumbered (begin_heard.Begun number) channel = refl
+begin-unnumbered begin_heard.Dropped channel = refl
+
+end-unnumbered : (is_told : Bool) (number : ℕ) (error : Option Error) → Unnumbered (end_told is_told number error)
+end-unnumbered true number error = refl
+end-unnumbered false number error = refl
+
+attach-taken : (outcome : Result Attaching LinkError) (old new : Talk) (session : ℕ) (handle : OutputHandle)
+    (link : Link) (left : Option LinkAttached) (frames : List SessionFrame) (events : List Event)
+    → LinkTakes outcome old session handle link left frames events new → Unnumbered events
+attach-taken (Ok made) old new session handle link left frames events t = told-unnumbered events _ t.2 refl
+attach-taken (Err error) old new session handle link left frames events t = told-unnumbered events _ t.2 refl
+
+attach-becomes : (it : LinkHeard) (named : NamedLink) (old new : Talk) (attach : Attach) (left : Option LinkAttached)
+    (frames : List SessionFrame) (events : List Event)
+    → attaching.Becomes (attach_of it) named old attach left frames events new → Unnumbered events
+attach-becomes (heard.Asked session) named old new attach left frames events b = told-unnumbered events _ b.2 refl
+attach-becomes (heard.Live session (taken.Attach answer.Asked)) named old new attach left frames events b =
+    told-unnumbered events _ b.2 refl
+attach-becomes (heard.Live session (taken.Attach (answer.ByLink by_link))) (Waiting handle) old new attach left frames
+    events b =
+    attach-taken (attaching.outcome_of by_link) old new session handle b.link left frames events b.takes
+attach-becomes it named old new attach left frames events b = told-unnumbered events [] b.2 refl
+
+transfer-comes : (it_told : Told) (old mid new : Talk) (given session : ℕ) (it : Transfer)
+    (frames : List SessionFrame) (events : List Event) (given_new : ℕ)
+    → Comes it_told old given it session mid frames events new given_new → GivesNext events given given_new
+transfer-comes (told.Message message) old mid new given session it frames events given_new c =
+    inr (ap (λ (es : List Event). numbers_told es) c.tells, omega (arith, c.counted))
+transfer-comes (told.Refused error) old mid new given session it frames events given_new (c, g) =
+    inl (told-unnumbered events _ c.tells refl, g)
+transfer-comes other old mid new given session it frames events given_new c =
+    inl (told-unnumbered events [] c.untold refl, c.uncounted)
+
+transfer-becomes : (took_it : Option (ℕ × TransferTaken Told)) (old mid new : Talk) (given : ℕ) (it : Transfer)
+    (frames : List SessionFrame) (events : List Event) (given_new : ℕ)
+    → transferring.Becomes took_it old given it mid frames events new given_new → GivesNext events given given_new
+transfer-becomes (Some (session, took)) old mid new given it frames events given_new b =
+    transfer-comes took.told old mid new given session it b.own events given_new b.comes
+transfer-becomes None old mid new given it frames events given_new c =
+    inl (told-unnumbered events [] c.untold refl, c.uncounted)
+
+disposition-follows : (runs : Option (ℕ × Vec (ℕ × ℕ))) (limit : ℕ) (old mid new : Talk) (it : Disposition)
+    (frames : List SessionFrame) (events : List Event)
+    → disposing.Follows runs limit old it mid frames events new → Unnumbered events
+disposition-follows (Some (session, runs)) limit old mid new it frames events d =
+    told-unnumbered events _ d.done.done.told (reached-unnumbered d.done.before.value.session d.deliveries)
+disposition-follows None limit old mid new it frames events r = told-unnumbered events [] r.untold refl
+
+detach-becomes : (took_it : Option (ℕ × Detached)) (old mid new : Talk) (links links_new : Links) (it : Detach)
+    (frames : List SessionFrame) (events : List Event)
+    → detaching.Becomes took_it old links it mid frames events new links_new → Unnumbered events
+detach-becomes (Some (session, detached)) old mid new links links_new it frames events b =
+    told-unnumbered events _ b.tells
+    (both-unnumbered (detached_told b.link.number detached.closed it.error)
+    (told_by b.link.number it.error (ending it.closed (end_at b.stood.value b.handle)) b.link.link) refl
+    (by-unnumbered b.link.number it.error (ending it.closed (end_at b.stood.value b.handle)) b.link.link))
+detach-becomes None old mid new links links_new it frames events w = told-unnumbered events [] w.untold refl
+
+pub gives-next : (said : FrameBody) (old new : Talk) (links links_new : Links) (given given_new limit : ℕ)
+    (channel : IncomingChannel) (frames : List SessionFrame) (events : List Event)
+    → Hears old links given limit channel said frames events new links_new given_new
+    → GivesNext events given given_new
+gives-next (body.Begin begin) old new links links_new given given_new limit channel frames events (inl t, g) =
+    inl (told-unnumbered events _ t.told (begin-unnumbered t.heard channel), g)
+gives-next (body.Begin begin) old new links links_new given given_new limit channel frames events (inr f, g) =
+    inl (told-unnumbered events _ f.fails.told refl, g)
+gives-next (body.Attach attach) old new links links_new given given_new limit channel frames events (a, g) =
+    elim a.hears [
+      | inl t ↦ inl (attach-becomes t.heard t.named t.mid new attach a.left frames events t.becomes, g)
+      | inr f ↦ inl (told-unnumbered events _ f.fails.told refl, g)
+    ]
+gives-next (body.Flow flow) old new links links_new given given_new limit channel frames events (inl t, g) =
+    inl (told-unnumbered events [] t.told refl, g)
+gives-next (body.Flow flow) old new links links_new given given_new limit channel frames events (inr f, g) =
+    inl (told-unnumbered events _ f.told refl, g)
+gives-next (body.Transfer transfer payload) old new links links_new given given_new limit channel frames events
+    (left, inl t) =
+    transfer-becomes _ old t.mid new given transfer frames events given_new t.becomes
+gives-next (body.Transfer transfer payload) old new links links_new given given_new limit channel frames events
+    (left, inr f) =
+    inl (told-unnumbered events _ f.fails.told refl, f.uncounted)
+gives-next (body.Disposition disposition) old new links links_new given given_new limit channel frames events
+    (inl t, g) =
+    inl (disposition-follows _ limit old t.mid new disposition frames events t.follows, g)
+gives-next (body.Disposition disposition) old new links links_new given given_new limit channel frames events
+    (inr f, g) =
+    inl (told-unnumbered events _ f.told refl, g)
+gives-next (body.Detach detach) old new links links_new given given_new limit channel frames events (inl t, g) =
+    inl (detach-becomes _ old t.mid new links links_new detach frames events t.becomes, g)
+gives-next (body.Detach detach) old new links links_new given given_new limit channel frames events (inr f, g) =
+    inl (told-unnumbered events _ f.told refl, g)
+gives-next (body.End end) old new links links_new given given_new limit channel frames events (t, g) =
+    inl (told-unnumbered events _ t.told (end-unnumbered _ t.heard.number end.error), g)
+gives-next said old new links links_new given given_new limit channel frames events h = absurd h

@@ -1,0 +1,15 @@
+-- How the sessions of an endpoint go on (part 2, 2.5).
+use Rattle.std.specs.Prelude.{List}
+use Rattle.std.specs.Global.{Box}
+use Rattle.amqp_endpoint_asked.specs.declared.session.AskedSession.{AskedSession}
+use Rattle.amqp_endpoint_sessions.specs.Steps.{History, Step}
+use Rattle.amqp_endpoint_linking.specs.Linking.{Session, Sessions}
+
+-- what happens to the sessions of an endpoint
+abbrev pub SessionsStep : Type 0
+SessionsStep = Step (Box AskedSession) Session
+
+-- these steps, one after the other, made the new sessions of the old
+pub record SessionsGoOn (old new : Sessions) : Type 0 where
+  pub steps : List SessionsStep
+  pub history : History old steps new
