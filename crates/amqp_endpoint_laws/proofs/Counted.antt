@@ -1,12 +1,12 @@
 -- An endpoint counts the messages that it accepts to be sent and those that it hands out.
-use Rattle.std.proofs.Common.{◌≡◌, ◌<◌, inl, inr, ℕ, suc, List, [], ◌∷◌, ◌++◌, Option, Some, None, map, refl, sym, ap, subst, ◌∙◌}
+use Rattle.std.proofs.Common.{◌≡◌, ◌<◌, inl, inr, ℕ, List, [], ◌∷◌, ◌++◌, Option, Some, None, map, refl, sym, ap}
+use Rattle.std.proofs.Common.{subst, ◌∙◌}
 use Rattle.std.specs.Prelude.{◌^◌, option_map, slice_get}
 use Rattle.std.proofs.lemmas.Option.{none-some, same_Some, slice_get-map}
 use Rattle.std.proofs.lemmas.List.{append-nil, map-append}
 use Rattle.amqp_session_performatives.specs.declared.session_frame.SessionFrame.{SessionFrame}
 use Rattle.amqp_session_core.specs.State.{link_at}
 use Rattle.amqp_link_attach.specs.declared.exchange.AttachExchange.{AttachExchange}
-use Rattle.amqp_link_ends.specs.declared.end.End.{End}
 use Rattle.amqp_endpoint_names.specs.declared.place.LinkPlace.TheVariants.{AtRest, Held}
 use Rattle.amqp_endpoint_names.specs.State.{place_at}
 use Rattle.amqp_endpoint_model.specs.declared.call.Call.{Call}
@@ -29,8 +29,9 @@ use Rattle.amqp_endpoint_linked.specs.Counting.{Counted, CountsStay}
 use Rattle.amqp_endpoint_linked.specs.Does.{linked}
 use Rattle.amqp_endpoint_linked.specs.Sending.{tag_of}
 use Rattle.amqp_endpoint_linked.specs.declared.linked.LinkedSessions.{LinkedSessions}
-use Rattle.amqp_endpoint_laws.specs.Telling.{events_of, events_told, numbers_told, numbers_under, tag_given, tags_given}
-use Rattle.amqp_endpoint_laws.proofs.Keeping.{IsOfConnection, Keeps, KeepsSilent}
+use Rattle.amqp_endpoint_laws.specs.Telling.{events_of, events_told, numbers_told, numbers_under, tag_given}
+use Rattle.amqp_endpoint_laws.specs.Telling.{tags_given}
+use Rattle.amqp_endpoint_laws.proofs.Keeping.{IsOfConnection, Keeps}
 use Rattle.amqp_endpoint_laws.proofs.Kept.{run-keeps}
 use Rattle.amqp_endpoint_laws.proofs.Numbered.{GivesNext, gives-next}
 use Rattle.amqp_endpoint_laws.proofs.Serials.{at-under, numbers-append, same-tags}
@@ -176,7 +177,8 @@ pub counts : (sessions : LinkedSessions) (settings : Settings) (calls : List Cal
     (end : State LinkedSessions) → IsNew linked settings sessions
     → Run linked (fresh settings sessions) calls told end → Counts (events_told told) (tags_given told) end.sessions
 counts sessions settings calls told end new run =
-    run-keeps linked (λ seen tags phase s. Counts seen tags s) counts-keep [] [] (fresh settings sessions) end calls told run
+    run-keeps linked (λ seen tags phase s. Counts seen tags s) counts-keep [] [] (fresh settings sessions) end calls
+    told run
     (record {
       tags_are = ap (λ (s : LinkedSessions). map tag_of (numbers_under s.sent)) (sym new.is);
       numbers_are = ap (λ (s : LinkedSessions). numbers_under s.given) (sym new.is);

@@ -1,7 +1,7 @@
 -- What sessions keep by all that they do, each run of their endpoint keeps.
 use Rattle.std.proofs.Common.{◌≡◌, ℕ, Bool, true, false, List, [], ◌∷◌, ◌++◌, Option, Some, None, inl, inr}
 use Rattle.std.proofs.Common.{ap, refl, sym, subst, ◌∙◌}
-use Rattle.std.specs.Prelude.{◌⊎◌, ◌&&◌, if◌then◌else◌, not}
+use Rattle.std.specs.Prelude.{◌⊎◌, ◌&&◌, if◌then◌else◌}
 use Rattle.std.proofs.lemmas.List.{append-nil, append_assoc}
 use Rattle.std.proofs.lemmas.Option.{none-some}
 use Rattle.amqp_session_performatives.specs.declared.open.Open.{Open as OpenFields}
@@ -20,7 +20,8 @@ use Rattle.amqp_endpoint_model.specs.declared.call.Call.TheVariants.{Grant, Drai
 use Rattle.amqp_endpoint_model.specs.declared.call.Call.TheVariants.{Waiting as WaitingCall}
 use Rattle.amqp_endpoint_model.specs.declared.call.Call.TheVariants.{Send, Dispose, DisposeAll}
 use Rattle.amqp_endpoint_model.specs.declared.error.EndpointError.{EndpointError}
-use Rattle.amqp_endpoint_model.specs.declared.error.EndpointError.TheVariants.{AlreadyConnected, NotConnected, PeerLimitUnder512, Memory}
+use Rattle.amqp_endpoint_model.specs.declared.error.EndpointError.TheVariants.{AlreadyConnected, NotConnected}
+use Rattle.amqp_endpoint_model.specs.declared.error.EndpointError.TheVariants.{PeerLimitUnder512, Memory}
 use Rattle.amqp_endpoint_model.specs.declared.error.EndpointError.TheVariants.{Connection, NumbersUsedUp, Session}
 use Rattle.amqp_endpoint_model.specs.declared.event.Event.{Event}
 use Rattle.amqp_endpoint_model.specs.declared.phase.Phase.{Phase}

@@ -152,7 +152,8 @@ heard back_on (body.Begin begin) old new links links_new given given_new limit c
 heard back_on (body.Begin begin) old new links links_new given given_new limit channel frames events (inr f, g) came =
     back back_on links links_new came _ f.fails.back
 heard back_on (body.Attach attach) old new links links_new given given_new limit channel frames events (a, g) came =
-    elim a.hears [ inl t ↦ same back_on links links_new came t.same | inr f ↦ back back_on links links_new came _ f.fails.back ]
+    elim a.hears
+    [ inl t ↦ same back_on links links_new came t.same | inr f ↦ back back_on links links_new came _ f.fails.back ]
 heard back_on (body.Flow flow) old new links links_new given given_new limit channel frames events (inl t, g) came =
     heard-flow back_on (session_of t.heard) frames t.mid new links links_new t.leave came
 heard back_on (body.Flow flow) old new links links_new given given_new limit channel frames events (inr f, g) came =
@@ -177,10 +178,11 @@ heard back_on (body.End end) old new links links_new given given_new limit chann
     session-back back_on links links_new came t.heard.ended t.back
 heard back_on said old new links links_new given given_new limit channel frames events h came = absurd h
 
-called : (back_on : BackGoesOn) (by_call : Call) (answer : Said) (old new : LinkedSessions) (limit : ℕ) (frames : List SessionFrame)
-    → Calls old limit by_call answer frames new → HaveCome old.links → HaveCome new.links
+called : (back_on : BackGoesOn) (by_call : Call) (answer : Said) (old new : LinkedSessions) (limit : ℕ)
+    (frames : List SessionFrame) → Calls old limit by_call answer frames new → HaveCome old.links → HaveCome new.links
 called back_on call.Begin (session_begun n) old new limit frames c came = same back_on old.links new.links came c.same
-called back_on (call.AcceptBegin channel) (session_begun n) old new limit frames c came = same back_on old.links new.links came c.same
+called back_on (call.AcceptBegin channel) (session_begun n) old new limit frames c came =
+    same back_on old.links new.links came c.same
 called back_on (call.End n) done old new limit frames c came = back back_on old.links new.links came _ c.back
 called back_on (call.IsEnded n) (truth b) old new limit frames c came =
     same back_on old.links new.links came (ap (λ (s : LinkedSessions). s.links) c.same)
@@ -193,7 +195,8 @@ called back_on (call.AttachReceiver n settings) (attaching link events) old new 
 called back_on (call.Detach link) done old new limit frames c came = same back_on old.links new.links came c.same
 called back_on (call.CloseLink link) (link_closed events) old new limit frames c came =
     closed-at back_on old.links new.links came _ link events old.talk new.talk frames refl c
-called back_on (call.Grant link n) (credit_is left) old new limit frames c came = same back_on old.links new.links came c.same
+called back_on (call.Grant link n) (credit_is left) old new limit frames c came =
+    same back_on old.links new.links came c.same
 called back_on (call.Drain link) done old new limit frames c came = same back_on old.links new.links came c.same
 called back_on (call.Send link message) (message_sent tag outcome) old new limit frames c came =
     same back_on old.links new.links came c.same
@@ -243,8 +246,8 @@ module _ (back_on : BackGoesOn) (left_on : LeftGoesOn) (finished_on : FinishedGo
       (end : State LinkedSessions) → IsNew linked settings sessions
       → Run linked (fresh_endpoint settings sessions) calls told end → HaveCome end.sessions.links
   have-come sessions settings calls told end new run =
-      run-keeps linked (λ seen tags phase s. LinksHaveCome phase s) links-keep [] [] (fresh_endpoint settings sessions) end
-      calls told run
+      run-keeps linked (λ seen tags phase s. LinksHaveCome phase s) links-keep [] []
+      (fresh_endpoint settings sessions) end calls told run
       (record { steps = []; history = ap (λ (s : LinkedSessions). s.links) new.is })
 
 pub are-apart : (links : Links) → HaveCome links → AreApart links.links

@@ -1,5 +1,6 @@
 -- A frame of the peer hands out one message under the next number, or none.
-use Rattle.std.proofs.Common.{◌≡◌, ◌⊎◌, inl, inr, ℕ, suc, ◌+◌, Bool, true, false, List, [], ◌∷◌, ◌++◌, Option, Some, None, Ok, Err}
+use Rattle.std.proofs.Common.{◌≡◌, ◌⊎◌, inl, inr, ℕ, suc, Bool, true, false, List, [], ◌∷◌, Option, Some}
+use Rattle.std.proofs.Common.{None, Ok, Err}
 use Rattle.std.proofs.Common.{arith, refl, ap, ◌∙◌}
 use Rattle.std.specs.Prelude.{Result}
 use Rattle.std.specs.Global.{Vec}

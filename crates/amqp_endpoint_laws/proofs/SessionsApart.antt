@@ -1,6 +1,7 @@
 -- No two sessions of an endpoint have one outgoing channel (part 2, 2.5.1, 2.5.2).
-use Rattle.std.proofs.Common.{◌≡◌, ◌≢◌, ◌⊎◌, ◌<◌, ◌≤◌, inl, inr, ℕ, zero, suc, Bool, true, false, cond, List, [], ◌∷◌}
-use Rattle.std.proofs.Common.{length, arith, Option, Some, None, refl, sym, ap, subst, ◌∙◌, ◌==◌, true≢false, if◌then◌else◌}
+use Rattle.std.proofs.Common.{◌≡◌, ◌≢◌, ◌⊎◌, ◌<◌, inl, inr, ℕ, zero, suc, Bool, true, false, cond, List, [], ◌∷◌}
+use Rattle.std.proofs.Common.{length, arith, Option, Some, None, refl, sym, ap, subst, ◌∙◌, ◌==◌, true≢false}
+use Rattle.std.proofs.Common.{if◌then◌else◌}
 use Rattle.std.proofs.lemmas.Bool.{cases_lt}
 use Rattle.std.proofs.lemmas.Bool.Decides.{eqb_tells}
 use Rattle.std.proofs.lemmas.List.{length-set}
@@ -16,8 +17,10 @@ use Rattle.amqp_endpoint_sessions.specs.declared.place.Place.{Place}
 use Rattle.amqp_endpoint_sessions.specs.declared.place.Place.TheVariants.{Asked, Live, Ending, Over}
 use Rattle.amqp_endpoint_sessions.specs.State.{State, channel_at, channel_in, channel_of, ended_place, finished_place}
 use Rattle.amqp_endpoint_sessions.specs.State.{place_at, told_place, with_asked, with_live}
-use Rattle.amqp_endpoint_sessions.specs.Steps.{Step, Steps, History, ChangesConnection, Begins, Asks, Accepts, TakesBegin}
-use Rattle.amqp_endpoint_sessions.specs.Steps.{Finished, TakesEnd, Ends, Finishes, TellsEnd, ChangesAsked, ChangesLive}
+use Rattle.amqp_endpoint_sessions.specs.Steps.{Step, Steps, History, ChangesConnection, Begins, Asks, Accepts}
+use Rattle.amqp_endpoint_sessions.specs.Steps.{TakesBegin}
+use Rattle.amqp_endpoint_sessions.specs.Steps.{Finished, TakesEnd, Ends, Finishes, TellsEnd, ChangesAsked}
+use Rattle.amqp_endpoint_sessions.specs.Steps.{ChangesLive}
 use Rattle.amqp_endpoint_sessions.specs.Own.{PlaceHistory, PlaceSteps, is_about, steps_of}
 
 get-put : (t : Table) (key q v : ℕ) → map.get (map.insert t key v) q ≡ cond (q == key) (Some v) (map.get t q)
@@ -116,14 +119,16 @@ module _ {A S : Type 0} (have_own : HaveOwn A S) where
         by : (((c.0 == channel) ≡ true) × (c.0 ≡ channel)) ⊎ (((c.0 == channel) ≡ false) × (c.0 ≢ channel))
             → ((n ≡ number) × (c.0 ≡ channel)) ⊎ (channel_at old n ≡ Some c)
             → cond (c.0 == channel) (Some number) (map.get old.connection.live c.0) ≡ Some n
-        by (inl p) (inl q) = ap (λ (b : Bool). cond b (Some number) (map.get old.connection.live c.0)) p.0 ∙ ap Some (sym q.0)
+        by (inl p) (inl q) =
+            ap (λ (b : Bool). cond b (Some number) (map.get old.connection.live c.0)) p.0 ∙ ap Some (sym q.0)
         by (inl p) (inr q) = absurd (none-some _ (sym vacant ∙ sym (ap (map.get old.connection.live) p.1) ∙ each n c q))
         by (inr p) (inl q) = absurd (p.1 q.1)
         by (inr p) (inr q) = ap (λ (b : Bool). cond b (Some number) (map.get old.connection.live c.0)) p.0 ∙ each n c q
 
     taken : (number : ℕ) (channel : OutgoingChannel) → channel_at old number ≡ Some channel
         → new.connection.live ≡ map.remove old.connection.live channel.0
-        → ((n : ℕ) (c : OutgoingChannel) → channel_at new n ≡ Some c → (channel_at old n ≡ Some c) × (n ≢ number)) → Each new
+        → ((n : ℕ) (c : OutgoingChannel) → channel_at new n ≡ Some c → (channel_at old n ≡ Some c) × (n ≢ number))
+        → Each new
     taken number channel had is back n c e =
         let was = back n c e in
         ap (λ (t : Table). map.get t c.0) is ∙ get-take old.connection.live channel.0 c.0
@@ -133,7 +138,10 @@ module _ {A S : Type 0} (have_own : HaveOwn A S) where
             → (((c.0 == channel.0) ≡ true) × (c.0 ≡ channel.0)) ⊎ (((c.0 == channel.0) ≡ false) × (c.0 ≢ channel.0))
             → cond (c.0 == channel.0) None (map.get old.connection.live c.0) ≡ Some n
         by was (inl p) =
-            absurd (was.1 (same_Some _ _ (sym (each n c was.0) ∙ ap (map.get old.connection.live) p.1 ∙ each number channel had)))
+            absurd
+            (was.1
+            (same_Some _ _
+            (sym (each n c was.0) ∙ ap (map.get old.connection.live) p.1 ∙ each number channel had)))
         by was (inr p) = ap (λ (b : Bool). cond b None (map.get old.connection.live c.0)) p.0 ∙ each n c was.0
 
     -- a channel that stands under its session is taken back
@@ -165,21 +173,27 @@ module _ {A S : Type 0} (have_own : HaveOwn A S) where
   asked_same (Over p c) after = refl
 
   -- what a place is behind a step that is about another session, or changes no channel
-  else_is : (n : ℕ) (old : State A S) (step : Step A S) (new : State A S) (c : OutgoingChannel) → place_at new n ≡ place_at old n
-      → channel_at new n ≡ Some c → channel_at old n ≡ Some c
+  else_is : (n : ℕ) (old : State A S) (step : Step A S) (new : State A S) (c : OutgoingChannel)
+      → place_at new n ≡ place_at old n → channel_at new n ≡ Some c → channel_at old n ≡ Some c
   else_is n old step new c is e = sym (ap channel_in is) ∙ e
 
-  step_keeps : (old : State A S) (step : Step A S) (new : State A S) → KeepsLive step → Steps old step new → Each old → Each new
+  step_keeps : (old : State A S) (step : Step A S) (new : State A S) → KeepsLive step → Steps old step new → Each old
+      → Each new
   step_keeps old (ChangesConnection before after) new k s each =
       kept old new each
       (ap (λ (x : State A S). x.connection.live) s.1 ∙ k ∙ ap (λ (x : channels.State). x.live) s.0)
-      (λ n c e. else_is n old (ChangesConnection before after) new c ((at n old (ChangesConnection before after) new s).other refl) e)
+      (λ n c e.
+      else_is n old (ChangesConnection before after) new c
+      ((at n old (ChangesConnection before after) new s).other refl) e)
   step_keeps old (Begins number channel session) new k s each =
       given old new each number old.connection.offered (s.0).3 (ap (λ (x : channels.State). x.live) (s.0).4)
       (λ n c e.
       let found = at n old (Begins number channel session) new s in
       split (n == number)
-      (λ here. inl (same_number n number here, ap (λ (x : OutgoingChannel). x.0) (same_Some _ _ (sym e ∙ ap channel_in (found.about here).1)) ∙ (s.0).2))
+      (λ here. inl (
+        same_number n number here,
+        ap (λ (x : OutgoingChannel). x.0) (same_Some _ _ (sym e ∙ ap channel_in (found.about here).1)) ∙ (s.0).2,
+      ))
       (λ apart. inr (else_is n old (Begins number channel session) new c (found.other apart) e)))
   step_keeps old (Asks number channel asked) new k s each =
       kept old new each (ap (λ (x : State A S). x.connection.live) s.2)
@@ -195,11 +209,16 @@ module _ {A S : Type 0} (have_own : HaveOwn A S) where
       (λ n c e.
       let found = at n old (Accepts number incoming asked outgoing session) new s in
       split (n == number)
-      (λ here. inl (same_number n number here, ap (λ (x : OutgoingChannel). x.0) (same_Some _ _ (sym e ∙ ap channel_in (found.about here).1)) ∙ gives.2))
+      (λ here. inl (
+        same_number n number here,
+        ap (λ (x : OutgoingChannel). x.0) (same_Some _ _ (sym e ∙ ap channel_in (found.about here).1)) ∙ gives.2,
+      ))
       (λ apart. inr (else_is n old (Accepts number incoming asked outgoing session) new c (found.other apart) e)))
   step_keeps old (TakesBegin number channel begin) new k s each =
       kept old new each (ap (λ (x : channels.State). x.live) (s.0).1)
-      (λ n c e. else_is n old (TakesBegin number channel begin) new c ((at n old (TakesBegin number channel begin) new s).other refl) e)
+      (λ n c e.
+      else_is n old (TakesBegin number channel begin) new c
+      ((at n old (TakesBegin number channel begin) new s).other refl) e)
   step_keeps old (TakesEnd number channel end stood) new k s each = by stood s
     where
       gone : (stood : Place A S) (s : Steps old (TakesEnd number channel end stood) new) (n : ℕ) (c : OutgoingChannel)
@@ -208,7 +227,8 @@ module _ {A S : Type 0} (have_own : HaveOwn A S) where
           let found = at n old (TakesEnd number channel end stood) new s in
           split (n == number)
           (λ here. absurd (none-some _ (sym (over stood) ∙ sym (ap channel_in (found.about here).1) ∙ e)))
-          (λ apart. (else_is n old (TakesEnd number channel end stood) new c (found.other apart) e, other_number n number apart))
+          (λ apart.
+          (else_is n old (TakesEnd number channel end stood) new c (found.other apart) e, other_number n number apart))
         where
           over : (stood : Place A S) → channel_of (ended_place stood) ≡ None
           over (Asked c a) = refl
@@ -217,15 +237,18 @@ module _ {A S : Type 0} (have_own : HaveOwn A S) where
           over (Over p c) = refl
 
       by : (stood : Place A S) → Steps old (TakesEnd number channel end stood) new → Each new
-      by (Asked c a) s = kept old new each (ap (λ (x : State A S). x.connection.live) (s.2).1) (λ n c e. (gone _ s n c e).0)
+      by (Asked c a) s =
+          kept old new each (ap (λ (x : State A S). x.connection.live) (s.2).1) (λ n c e. (gone _ s n c e).0)
       by (Live c l) s =
           let had = ap channel_in s.1 in let back = (s.2).0 in
           taken old new each number c had
-          (freed old new each number c back.mid had (ap (λ (x : channels.State). x.live) (back.ended).1) back.back) (gone _ s)
+          (freed old new each number c back.mid had (ap (λ (x : channels.State). x.live) (back.ended).1) back.back)
+          (gone _ s)
       by (Ending c) s =
           let had = ap channel_in s.1 in let back = (s.2).0 in
           taken old new each number c had
-          (freed old new each number c back.mid had (ap (λ (x : channels.State). x.live) (back.ended).1) back.back) (gone _ s)
+          (freed old new each number c back.mid had (ap (λ (x : channels.State). x.live) (back.ended).1) back.back)
+          (gone _ s)
       by (Over p c) s = absurd s.2
   step_keeps old (Ends number channel session) new k s each =
       kept old new each (ap (λ (x : State A S). x.connection.live) s.1)

@@ -1,6 +1,7 @@
 -- The sessions of an endpoint go on by steps of their own.
-use Rattle.std.proofs.Common.{◌≡◌, ◌⊎◌, inl, inr, ℕ, zero, suc, Bool, true, false, List, [], ◌∷◌, ◌++◌, length, Option, Some, None, Ok, Err}
-use Rattle.std.proofs.Common.{refl, sym, ap, subst, ◌∙◌}
+use Rattle.std.proofs.Common.{◌≡◌, ℕ, zero, suc, List, [], ◌∷◌, ◌++◌}
+use Rattle.std.proofs.Common.{Option, Some, None, Ok, Err}
+use Rattle.std.proofs.Common.{refl, subst}
 use Rattle.std.specs.Prelude.{Result, ⊤}
 use Rattle.amqp_session_types.specs.declared.channels.OutgoingChannel.{OutgoingChannel}
 use Rattle.amqp_session_types.specs.declared.refusals.TryEndError.{TryEndError}
@@ -46,7 +47,8 @@ end-sent : (old : Sessions) (number : ℕ) (left : Option (OutgoingChannel × Se
 end-sent old number None new e = stays old new e.1
 end-sent old number (Some given) new e = goes-by (Ends number given.0 given.1) old new tt e
 
-pub end-told : (old : Sessions) (number : ℕ) (told : Result ⊤ TryEndError) (new : Sessions) → EndTold old number told new → Go old new
+pub end-told : (old : Sessions) (number : ℕ) (told : Result ⊤ TryEndError) (new : Sessions)
+    → EndTold old number told new → Go old new
 end-told old number (Ok done) new e = goes-by (TellsEnd number) old new tt e
 end-told old number (Err why) new e = stays old new e.1
 

@@ -1,12 +1,12 @@
 -- The sessions of an endpoint go on by what their peer says.
-use Rattle.std.proofs.Common.{◌≡◌, ◌⊎◌, inl, inr, ℕ, Bool, true, false, List, [], Option, Some, None, Ok, Err, sym, ap, subst}
+use Rattle.std.proofs.Common.{◌≡◌, inl, inr, ℕ, Bool, true, false, List, [], Option, Some, None, Ok, Err}
+use Rattle.std.proofs.Common.{ap}
 use Rattle.std.specs.Prelude.{Result}
 use Rattle.std.specs.Global.{Box, Vec}
 use Rattle.amqp_session_types.specs.declared.channels.IncomingChannel.{IncomingChannel}
 use Rattle.amqp_session_types.specs.declared.handles.OutputHandle.{OutputHandle}
 use Rattle.amqp_session_types.specs.declared.refusals.ConnectionError.{ConnectionError}
 use Rattle.amqp_session_types.specs.declared.refusals.ConnectionError.TheVariants as connection
-use Rattle.amqp_session_types.specs.declared.refusals.SessionError.{SessionError}
 use Rattle.amqp_session_types.specs.declared.refusals.SessionError.TheVariants.{IllegalState}
 use Rattle.amqp_session_performatives.specs.declared.attach.Attach.{Attach}
 use Rattle.amqp_session_performatives.specs.declared.begin.Begin.{Begin}
@@ -43,7 +43,7 @@ use Rattle.amqp_endpoint_attached.specs.Linked.{Linked, gives}
 use Rattle.amqp_endpoint_model.specs.declared.error.EndpointError.{EndpointError}
 use Rattle.amqp_endpoint_model.specs.declared.event.Event.{Event}
 use Rattle.amqp_endpoint_linking.specs.Hearing.{HearsBegin, RefusesBegin, RefusesEnd}
-use Rattle.amqp_endpoint_linking.specs.Linking.{Link, Links, Session, Sessions, Talk}
+use Rattle.amqp_endpoint_linking.specs.Linking.{Link, Links, Session, Talk}
 use Rattle.amqp_endpoint_link_hearing.specs.declared.attaching.LinkAttached.{LinkAttached}
 use Rattle.amqp_endpoint_links.specs.declared.asking.AttachTaken.TheVariants as answer
 use Rattle.amqp_endpoint_links.specs.declared.hearing.PerformativeTaken.TheVariants as taken
@@ -178,8 +178,8 @@ attach-becomes (heard.Live session (taken.Attach (answer.ByLink by_link))) (Wait
 attach-becomes it named old new attach left frames events b = talk-stays old new b.3
 
 -- the peer's Transfer
-remembered : (settled : Bool) (handle : OutputHandle) (tag : List ℕ) (number : ℕ) (old : Talk) (session : ℕ) (new : Talk)
-    → RemembersUnless settled handle tag number old session new → TalkGoes old new
+remembered : (settled : Bool) (handle : OutputHandle) (tag : List ℕ) (number : ℕ) (old : Talk) (session : ℕ)
+    (new : Talk) → RemembersUnless settled handle tag number old session new → TalkGoes old new
 remembered true handle tag number old session new same = talk-stays old new same
 remembered false handle tag number old session new g = in-session _ old session new g
 

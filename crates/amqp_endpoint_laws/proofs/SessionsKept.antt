@@ -1,35 +1,32 @@
 -- In each run the sessions of an endpoint go on by steps of their own, and no two have one channel.
-use Rattle.std.proofs.Common.{◌≡◌, inl, inr, ℕ, suc, zero, false, List, [], ◌∷◌, ◌++◌, length, Option, Some, None}
-use Rattle.std.proofs.Common.{refl, sym, ap, subst, ◌∙◌}
-use Rattle.std.specs.Prelude.{Result, Ok, Err, ⊤}
+use Rattle.std.proofs.Common.{◌≡◌, ℕ, suc, zero, false, List, [], ◌∷◌, ◌++◌, Some, None}
+use Rattle.std.proofs.Common.{refl, sym, ap, ◌∙◌}
 use Rattle.std.specs.FinMap as map
 use Rattle.std.specs.Global.{Box}
 use Rattle.std.proofs.lemmas.Option.{none-some}
 use Rattle.amqp_session_types.specs.declared.channels.IncomingChannel.{IncomingChannel}
 use Rattle.amqp_session_types.specs.declared.channels.OutgoingChannel.{OutgoingChannel}
-use Rattle.amqp_session_types.specs.declared.refusals.TryEndError.{TryEndError}
 use Rattle.amqp_session_connection.specs.State as channels
 use Rattle.amqp_session_performatives.specs.declared.session_frame.SessionFrame.{SessionFrame}
 use Rattle.amqp_link_ends.specs.declared.end.End.{End}
 use Rattle.amqp_endpoint_asked.specs.declared.session.AskedSession.{AskedSession}
 use Rattle.amqp_endpoint_names.specs.declared.place.LinkPlace.TheVariants.{AtRest, Held}
 use Rattle.amqp_endpoint_names.specs.State.{place_at}
-use Rattle.amqp_endpoint_sessions.specs.State.{State as SessionsState, channel_at}
+use Rattle.amqp_endpoint_sessions.specs.State.{channel_at}
 use Rattle.amqp_endpoint_sessions.specs.Steps.{Accepts, Begins, ChangesConnection, ChangesLive, Ends, History, Steps}
 use Rattle.amqp_endpoint_model.specs.declared.call.Call.{Call}
 use Rattle.amqp_endpoint_model.specs.declared.call.Call.TheVariants as call
 use Rattle.amqp_endpoint_model.specs.declared.event.Event.{Event}
 use Rattle.amqp_endpoint_model.specs.declared.phase.Phase.{Phase}
-use Rattle.amqp_endpoint_model.specs.declared.phase.Phase.TheVariants.{Unconnected, Greeting, Running}
+use Rattle.amqp_endpoint_model.specs.declared.phase.Phase.TheVariants.{Unconnected, Running}
 use Rattle.amqp_endpoint_model.specs.declared.settings.Settings.{Settings}
 use Rattle.amqp_endpoint_model.specs.History.{Run}
 use Rattle.amqp_endpoint_model.specs.Relay.{IsNew}
 use Rattle.amqp_endpoint_model.specs.Said.{Said, Told, attaching, count, credit_is, done, link_closed, session_begun}
 use Rattle.amqp_endpoint_model.specs.Said.{message_sent, tried_end, truth, waiting}
 use Rattle.amqp_endpoint_model.specs.State.{State, fresh}
-use Rattle.amqp_endpoint_model.specs.Step.{anew}
 use Rattle.amqp_endpoint_linking.specs.Linking.{Links, Session, Sessions, Talk}
-use Rattle.amqp_endpoint_linking.specs.Ending.{Finishes, FinishesFirst, Leaves}
+use Rattle.amqp_endpoint_linking.specs.Ending.{FinishesFirst}
 use Rattle.amqp_endpoint_link_calls.specs.Calling.{Does, DoneAt, detaches, gives_credit, wants_drain}
 use Rattle.amqp_endpoint_link_calls.specs.Closing.{ClosedAt}
 use Rattle.amqp_endpoint_link_calls.specs.Places.{Where}
@@ -44,9 +41,10 @@ use Rattle.amqp_endpoint_linked.specs.declared.linked.LinkedSessions.{LinkedSess
 use Rattle.amqp_endpoint_laws.specs.Conversing.{SessionsGoOn, SessionsStep}
 use Rattle.amqp_endpoint_laws.proofs.Keeping.{Keeps, KeepsSilent, MayDo}
 use Rattle.amqp_endpoint_laws.proofs.Kept.{run-keeps}
-use Rattle.amqp_endpoint_laws.proofs.SessionsApart.{Each, FirstOver, HasNone, HaveOwn, all-over, channels-apart, each-under}
-use Rattle.amqp_endpoint_laws.proofs.SessionsApart.{give-keep, none-over, one-over, steps-none}
-use Rattle.amqp_endpoint_laws.proofs.SessionsGoing.{Go, end-told, finishes-first, goes-by, joined, leaves-first, stays}
+use Rattle.amqp_endpoint_laws.proofs.SessionsApart.{Each, FirstOver, HasNone, HaveOwn, all-over, channels-apart}
+use Rattle.amqp_endpoint_laws.proofs.SessionsApart.{each-under, give-keep, none-over, one-over, steps-none}
+use Rattle.amqp_endpoint_laws.proofs.SessionsGoing.{Go, end-told, finishes-first, goes-by, joined, leaves-first}
+use Rattle.amqp_endpoint_laws.proofs.SessionsGoing.{stays}
 use Rattle.amqp_endpoint_laws.proofs.SessionsHeard.{TalkGoes, changed, heard-goes, refused-goes, talk-stays}
 
 -- what a call does in the session that holds its link
@@ -205,7 +203,8 @@ module _ (have_own : HaveOwn (Box AskedSession) Session) where
       → Stand phase new
   go-stand phase old new g s =
       record {
-        each = each-under have_own old.talk.sessions g.steps new.talk.sessions (give-keep g.steps g.none) g.history s.each;
+        each =
+            each-under have_own old.talk.sessions g.steps new.talk.sessions (give-keep g.steps g.none) g.history s.each;
         none = λ is. steps-none have_own old.talk.sessions g.steps new.talk.sessions g.none g.history (s.none is);
       }
 
@@ -280,7 +279,8 @@ module _ (have_own : HaveOwn (Box AskedSession) Session) where
       }
 
   pub own-channels : (sessions : LinkedSessions) (settings : Settings) (calls : List Call) (told : List Told)
-      (end : State LinkedSessions) → IsNew linked settings sessions → Run linked (fresh settings sessions) calls told end
+      (end : State LinkedSessions) → IsNew linked settings sessions
+      → Run linked (fresh settings sessions) calls told end
       → (m n : ℕ) (channel : OutgoingChannel) → channel_at end.sessions.talk.sessions m ≡ Some channel
       → channel_at end.sessions.talk.sessions n ≡ Some channel → m ≡ n
   own-channels sessions settings calls told end new run =

@@ -83,9 +83,9 @@ pub fn numbers_of_messages_are_apart()
     numbers_of_messages_are_serials();
 }
 
-/// The sessions of an endpoint have a history of their own in each of its runs, by steps of amqp_endpoint_sessions, from
-/// whichever sessions on. So what holds of all histories of sessions holds in each run: a number is given once, no step
-/// but its own touches a session, and one that is over stays over (part 2, 2.5).
+/// The sessions of an endpoint have a history of their own in each of its runs, by steps of amqp_endpoint_sessions,
+/// from whichever sessions on. So what holds of all histories of sessions holds in each run: a number is given once, no
+/// step but its own touches a session, and one that is over stays over (part 2, 2.5).
 pub fn sessions_have_a_history()
     ensures { (old end : State LinkedSessions) (calls : List Call) (told : List Told) →
         Run linked old calls told end → SessionsGoOn old.sessions.talk.sessions end.sessions.talk.sessions }
