@@ -22,6 +22,7 @@ pub fn read_in<S: SessionRelay, R: Read>(
         (IsAtEnd (R.remaining reader.new) × Breaks S.does endpoint.old endpoint.new)
         (λ fed. Receives S.does (R.remaining reader.old) (R.remaining reader.new)
         endpoint.old (fed.events.items) fed.fault endpoint.new)) }
+    ensures room { length input.new ≡ length input.old }
     ensures err { OnErr result (Keeps (R.remaining reader.old) (R.remaining reader.new)
         × (endpoint.new ≡ endpoint.old)) }
 {
