@@ -1,2 +1,3 @@
 pub mod Going
 pub mod Clearing
+pub mod Inside

@@ -1,0 +1,36 @@
+-- What is done inside of a session that has begun, and which transfers are handed out by it (part 2, 2.5.6).
+use Rattle.std.specs.Prelude.{◌≡◌, List, [], ◌∷◌, Bool, true, false, All, if◌then◌else◌}
+use Rattle.amqp_session_performatives.specs.declared.session_frame.SessionFrame.{SessionFrame}
+use Rattle.amqp_session_performatives.specs.declared.session_frame.SessionFrameBody.{SessionFrameBody}
+use Rattle.amqp_session_performatives.specs.declared.session_frame.SessionFrameBody.TheVariants.{Transfer}
+use Rattle.amqp_session_core.specs.History.{History}
+use Rattle.amqp_session_core.specs.Relay.{Relations}
+use Rattle.amqp_session_core.specs.State.{State}
+use Rattle.amqp_session_core.specs.Steps.{SetsWindow, Step, TakesBegin, TakesFlow}
+use Rattle.amqp_endpoint_fitting.specs.Handed.{handed_of}
+
+abbrev pub is_transfer : SessionFrameBody → Bool
+is_transfer (Transfer transfer payload) = true
+is_transfer body = false
+
+-- the transfers among frames, in order
+abbrev pub transfers_in : List SessionFrame → List SessionFrame
+transfers_in [] = []
+transfers_in (frame ∷ frames) = if is_transfer frame.body then frame ∷ transfers_in frames else transfers_in frames
+
+module _ {R A T D : Type 0} where
+  -- a step by which the peer's window stays as it is
+  abbrev pub SetsNoWindow : Step R A T D → Type 0
+  SetsNoWindow (TakesBegin channel begin base left frames) = ⊥
+  SetsNoWindow (TakesFlow flow told reply base left frames) = ⊥
+  SetsNoWindow (SetsWindow flow base) = ⊥
+  SetsNoWindow step = Unit {0}
+
+module _ {R A T D : Type 0} (gives : Relations R A T D) where
+  -- a session goes on by steps of its own, by which its peer's window stays as it is, and the transfers among what is
+  -- handed out are theirs
+  pub record DoneInside (old : State R) (frames : List SessionFrame) (new : State R) : Type 0 where
+    pub steps : List (Step R A T D)
+    pub history : History gives old steps new
+    pub still : All SetsNoWindow steps
+    pub transfers : transfers_in frames ≡ transfers_in (handed_of steps)
