@@ -1,5 +1,5 @@
 -- What is done inside of a session that has begun, and which transfers are handed out by it (part 2, 2.5.6).
-use Rattle.std.specs.Prelude.{◌≡◌, List, [], ◌∷◌, Bool, true, false, All, if◌then◌else◌}
+use Rattle.std.specs.Prelude.{◌≡◌, List, [], ◌∷◌, Bool, true, false, if◌then◌else◌}
 use Rattle.amqp_session_performatives.specs.declared.session_frame.SessionFrame.{SessionFrame}
 use Rattle.amqp_session_performatives.specs.declared.session_frame.SessionFrameBody.{SessionFrameBody}
 use Rattle.amqp_session_performatives.specs.declared.session_frame.SessionFrameBody.TheVariants.{Transfer}
@@ -26,11 +26,15 @@ module _ {R A T D : Type 0} where
   SetsNoWindow (SetsWindow flow base) = ⊥
   SetsNoWindow step = Unit {0}
 
+  abbrev pub SetNoWindow : List (Step R A T D) → Type 0
+  SetNoWindow [] = Unit {0}
+  SetNoWindow (step ∷ steps) = SetsNoWindow step × SetNoWindow steps
+
 module _ {R A T D : Type 0} (gives : Relations R A T D) where
   -- a session goes on by steps of its own, by which its peer's window stays as it is, and the transfers among what is
   -- handed out are theirs
   pub record DoneInside (old : State R) (frames : List SessionFrame) (new : State R) : Type 0 where
     pub steps : List (Step R A T D)
     pub history : History gives old steps new
-    pub still : All SetsNoWindow steps
+    pub still : SetNoWindow steps
     pub transfers : transfers_in frames ≡ transfers_in (handed_of steps)
