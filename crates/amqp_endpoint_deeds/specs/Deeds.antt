@@ -1,0 +1,123 @@
+-- What is done in a run of an endpoint, and what passes between it and its peer by that (part 2, 2.2, 2.4, 2.5).
+use Rattle.std.specs.Prelude.{◌≡◌, ℕ, List, [], ◌∷◌, ◌++◌, false, map, Some}
+use Rattle.amqp_session_connection.specs.State as channels
+use Rattle.amqp_session_performatives.specs.declared.session_frame.SessionFrame.{SessionFrame}
+use Rattle.amqp_session_frames.specs.Cutting.{ReadsAs}
+use Rattle.amqp_session_frames.specs.declared.frame.Frame.{Frame}
+use Rattle.amqp_endpoint_model.specs.declared.call.Call.{Call}
+use Rattle.amqp_endpoint_model.specs.declared.call.Call.TheVariants.{Connect, Feed}
+use Rattle.amqp_endpoint_model.specs.declared.error.EndpointError.{EndpointError}
+use Rattle.amqp_endpoint_model.specs.declared.event.Event.{Event}
+use Rattle.amqp_endpoint_model.specs.declared.phase.Phase.{Phase}
+use Rattle.amqp_endpoint_model.specs.declared.phase.Phase.TheVariants.{Unconnected, Greeting, Running, Over}
+use Rattle.amqp_endpoint_model.specs.Relay.{Relations}
+use Rattle.amqp_endpoint_model.specs.Said.{Said, Told, done, fed, pulled}
+use Rattle.amqp_endpoint_model.specs.State.{State, Waiting, is_unconnected, protocol_header, text_of, waiting_of}
+use Rattle.amqp_endpoint_model.specs.Step.{Admits, anew}
+
+-- one thing that is done
+pub data Deed : Type 0 where
+  -- the connection's own header, Open or Close is queued, or an empty frame
+  Queues : (it : Waiting) → Deed
+  -- a frame of the peer's is taken that is the connection's
+  Hears : (frame : Frame) → Deed
+  -- the sessions take one, where written frames have a limit: these frames are queued, and these events are told
+  Takes : (limit : ℕ) (frame : Frame) (frames : List SessionFrame) (events : List Event) → Deed
+  -- they refuse one, which ends the connection
+  Refuses : (limit : ℕ) (frame : Frame) (error : EndpointError) → Deed
+  -- they do what they are called for: it is answered so, and these frames are queued
+  Does : (limit : ℕ) (call : Call) (answer : Said) (frames : List SessionFrame) → Deed
+  -- their connection goes on, and no channel is given or taken back by that
+  Moves : (connection : channels.State) → Deed
+  -- it begins anew
+  Renews : Deed
+  -- its own Close is sent
+  Closes : Deed
+  -- it is over
+  Finishes : Deed
+
+-- what is queued by it, in order
+abbrev pub queued_in : Deed → List Waiting
+queued_in (Queues it) = it ∷ []
+queued_in (Takes limit frame frames events) = map waiting_of frames
+queued_in (Does limit call answer frames) = map waiting_of frames
+queued_in deed = []
+
+abbrev pub queued_by : List Deed → List Waiting
+queued_by [] = []
+queued_by (deed ∷ deeds) = queued_in deed ++ queued_by deeds
+
+-- the frame of the peer's that is taken in it
+abbrev pub taken_in : Deed → List Frame
+taken_in (Hears frame) = frame ∷ []
+taken_in (Takes limit frame frames events) = frame ∷ []
+taken_in deed = []
+
+abbrev pub taken_by : List Deed → List Frame
+taken_by [] = []
+taken_by (deed ∷ deeds) = taken_in deed ++ taken_by deeds
+
+module _ {S : Type 0} (does : Relations S) where
+  -- the sessions around it
+  abbrev pub IsDeed : S → Deed → S → Type 0
+  IsDeed old (Queues it) new = new ≡ old
+  IsDeed old (Hears frame) new = new ≡ old
+  IsDeed old (Takes limit frame frames events) new = does.takes old limit frame.channel frame.body frames events new
+  IsDeed old (Refuses limit frame error) new = does.refuses old limit frame.channel frame.body error new
+  IsDeed old (Does limit call answer frames) new = does.calls old limit call answer frames new
+  IsDeed old (Moves connection) new =
+      (connection.live ≡ (does.connection old).live) × (new ≡ does.moved old connection)
+  IsDeed old Renews new = new ≡ anew does old
+  IsDeed old Closes new = does.closes old new
+  IsDeed old Finishes new = does.finishes old new
+
+  -- around one after the other
+  abbrev pub AreDone : S → List Deed → S → Type 0
+  AreDone old [] new = new ≡ old
+  AreDone old (deed ∷ deeds) new = (mid : S) × IsDeed old deed mid × AreDone mid deeds new
+
+-- what pull gave since the latest connect
+abbrev pub note_pulled : List (List ℕ) → Call → Said → List (List ℕ)
+note_pulled given Connect done = []
+note_pulled given call (pulled (Some text)) = given ++ text ∷ []
+note_pulled given call answer = given
+
+abbrev pub pulled_since : List (List ℕ) → List Call → List Told → List (List ℕ)
+pulled_since given (call ∷ calls) (t ∷ ts) = pulled_since (note_pulled given call t.answer) calls ts
+pulled_since given calls ts = given
+
+-- the bytes fed since then
+abbrev pub note_fed : List ℕ → Call → Said → List ℕ
+note_fed all Connect done = []
+note_fed all (Feed bytes) (fed events fault) = all ++ bytes
+note_fed all call answer = all
+
+abbrev pub fed_since : List ℕ → List Call → List Told → List ℕ
+fed_since all (call ∷ calls) (t ∷ ts) = fed_since (note_fed all call t.answer) calls ts
+fed_since all calls ts = all
+
+-- what is read of these bytes: nothing before the peer's header is whole (part 2, 2.2), and behind it these frames, one
+-- behind the other. As long as frames are read, what is left waits
+abbrev pub AreRead : Phase → ℕ → List ℕ → List Frame → List ℕ → Type 0
+AreRead Unconnected limit bytes frames rest = Unit {0}
+AreRead Greeting limit bytes frames rest = (frames ≡ []) × (bytes ≡ rest)
+AreRead Running limit bytes frames rest =
+    (body : List ℕ) × (bytes ≡ protocol_header ++ body) × ReadsAs (Admits limit) body frames rest
+AreRead Over limit bytes frames rest =
+    (body : List ℕ) × (left : List ℕ) × (bytes ≡ protocol_header ++ body) × ReadsAs (Admits limit) body frames left
+
+-- what passes on a connection that isn't cut off: what pull gave and what is queued still are what these deeds queue,
+-- and the frames that they take are what is read of the bytes fed
+pub record Passes {S : Type 0} (limit : ℕ) (deeds : List Deed) (given : List (List ℕ)) (bytes : List ℕ) (s : State S)
+    : Type 0 where
+  pub queued : map text_of (queued_by deeds) ≡ given ++ map text_of s.queue
+  pub read : AreRead s.phase limit bytes (taken_by deeds) s.rest
+
+-- sessions stand as these deeds leave them, up to the latest connect and since, where pull gave so much since then, and
+-- these bytes were fed
+pub record IsDone {S : Type 0} (does : Relations S) (limit : ℕ) (start : S) (given : List (List ℕ)) (bytes : List ℕ)
+    (s : State S) : Type 0 where
+  pub before : List Deed
+  pub since : List Deed
+  pub are_done : AreDone does start (before ++ since) s.sessions
+  pub passes : is_unconnected s.phase ≡ false → Passes limit since given bytes s
