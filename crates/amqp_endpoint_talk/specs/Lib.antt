@@ -1,3 +1,4 @@
 pub mod Going
 pub mod Clearing
 pub mod Inside
+pub mod Windows

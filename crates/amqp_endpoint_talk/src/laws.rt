@@ -1,8 +1,15 @@
 //! Laws of a conversation's calls. A function here does nothing: its contract is the law.
-ghost use Rattle.std.specs.Prelude.{◌≡◌, ◌≤◌, ◌++◌, [], ℕ, suc, zero, length, List, All, None, Option, Result, ⊤};
+ghost use Rattle.std.specs.Prelude.{◌≡◌, ◌≤◌, ◌∷◌, ◌++◌, [], ℕ, suc, zero, length, List, All, None, Option, Result, ⊤};
 ghost use Rattle.std.specs.Global.{Box};
 ghost use Rattle.amqp_session_types.specs.declared.channels.OutgoingChannel.{OutgoingChannel};
 ghost use Rattle.amqp_session_types.specs.declared.refusals.TryEndError.{TryEndError};
+ghost use Rattle.amqp_session_core.specs.declared.relay.RelayError.{RelayError};
+ghost use Rattle.amqp_session_core.specs.Frames.{Left};
+ghost use Rattle.amqp_session_core.specs.State.{State};
+ghost use Rattle.amqp_session_core.specs.Steps as session;
+ghost use Rattle.amqp_session_frames.specs.declared.frame.FrameBody.TheVariants as body;
+ghost use Rattle.amqp_session_performatives.specs.declared.flow.Flow.{Flow};
+ghost use Rattle.amqp_session_performatives.specs.declared.link_flow.LinkFlow.{LinkFlow};
 ghost use Rattle.amqp_endpoint_asked.specs.declared.session.AskedSession.{AskedSession};
 ghost use Rattle.amqp_endpoint_links.specs.History.{AskingHistory, AskingStep};
 ghost use Rattle.amqp_endpoint_links.specs.declared.asking.AskingSession.{AskingSession};
@@ -29,6 +36,8 @@ ghost use Rattle.amqp_endpoint_fitting.specs.Handed.{AllAskingEndFit, AllAskingH
 ghost use Rattle.amqp_endpoint_fitting.specs.Read.{IsRead};
 ghost use Rattle.amqp_endpoint_talk.specs.Clearing.{Clears, ClearsFirst};
 ghost use Rattle.amqp_endpoint_talk.specs.Going.{AnswersPlain, Goes, NoneLive, Rests, Within};
+ghost use Rattle.amqp_endpoint_talk.specs.Inside.{DoneInside};
+ghost use Rattle.amqp_endpoint_talk.specs.Windows.{Came, Keeps, counted, went};
 
 use amqp_session_core::LinkRelay;
 
@@ -113,4 +122,21 @@ pub fn sessions_end_with_their_connection<R: LinkRelay>()
         ClearsFirst (suc number) old new }
     ensures all { (old new : Sessions R) → ClearsFirst (length old.places) old new →
         (number : ℕ) → live_at new number ≡ None }
+{}
+
+/// What a session does keeps each of its transfers in the peer's window, and the session counts as a judge of the wire
+/// does (part 2, 2.5.6): by steps of its own by which the window stays, as the peer's Begin opens it, and as a Flow of
+/// the peer's tells it anew.
+pub fn transfers_keep_to_the_window<R: LinkRelay>()
+    ensures inside { (frames : List SessionFrame) (old new : State R) → DoneInside R.gives old frames new →
+        Keeps (counted old.outgoing) (went frames) (counted new.outgoing) }
+    ensures opened { (channel : IncomingChannel) (begin : Begin) (base : ℕ) (left : Left) (frames : List SessionFrame)
+        (old new : State R) → session.Steps R.gives old (session.TakesBegin channel begin base left frames) new →
+        Keeps (counted old.outgoing) (Came (body.Begin begin) ∷ went frames) (counted new.outgoing) }
+    ensures told { (flow : Flow) (link : Option (ℕ × Result (Option LinkFlow) RelayError)) (reply : session.Reply) (base : ℕ)
+        (left : Left) (frames : List SessionFrame) (old new : State R) →
+        session.Steps R.gives old (session.TakesFlow flow link reply base left frames) new →
+        Keeps (counted old.outgoing) (Came (body.Flow flow) ∷ went frames) (counted new.outgoing) }
+    ensures set { (flow : Flow) (base : ℕ) (old new : State R) → session.Steps R.gives old (session.SetsWindow flow base) new →
+        Keeps (counted old.outgoing) (Came (body.Flow flow) ∷ []) (counted new.outgoing) }
 {}
