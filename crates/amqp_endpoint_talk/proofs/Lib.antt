@@ -10,3 +10,4 @@ pub mod Alone
 pub mod Calls
 pub mod Clearing
 pub mod Goings
+pub mod Inside
