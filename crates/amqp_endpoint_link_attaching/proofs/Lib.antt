@@ -2,3 +2,4 @@ pub mod Lent
 pub mod Own
 pub mod Going
 pub mod Entered
+pub mod Inside

@@ -5,3 +5,4 @@ pub mod Detached
 pub mod Credited
 pub mod Counting
 pub mod Closed
+pub mod Inside

@@ -19,3 +19,4 @@ mod Dispositions
 mod Transfers
 mod Transferred
 mod Messages
+pub mod Inside

@@ -11,3 +11,4 @@ pub mod Calls
 pub mod Clearing
 pub mod Goings
 pub mod Windows
+pub mod Inside
