@@ -186,34 +186,39 @@ module _ {S : Type 0} (does : Relations S) where
   closes-own old new c =
       went-on old c.sent new (moves-by _ old c.sent c.sends) (went-by Closes c.sent new refl refl c.left)
 
-  -- a frame is refused
+  -- the frame in front is refused by the sessions, or not by them
+  data Fronted (old new : S) : Type 0 where
+    stays-so : new ≡ old → Fronted old new
+    bars : (limit : ℕ) (f : Frame) (e : EndpointError) → does.refuses old limit f.channel f.body e new
+        → Fronted old new
+
   refuses-body : (e : EndpointError) (f : Frame) (body : FrameBody) → f.body ≡ body → (s : State S) (sessions : S)
-      → RefusesBody does s e f.channel body sessions → Went s.sessions sessions
-  refuses-body PeerLimitUnder512 f (Open o) is s sessions (none, least, same) = stood s.sessions sessions same
-  refuses-body (Connection OutOfOrder) f (Open o) is s sessions (some, same) = stood s.sessions sessions same
+      → RefusesBody does s e f.channel body sessions → Fronted s.sessions sessions
+  refuses-body PeerLimitUnder512 f (Open o) is s sessions (none, least, same) = stays-so same
+  refuses-body (Connection OutOfOrder) f (Open o) is s sessions (some, same) = stays-so same
   refuses-body e f body is s sessions r =
-      went-by (Refuses (limit_of s.peer_limit) f e) s.sessions sessions refl refl
+      bars (limit_of s.peer_limit) f e
       (subst (λ (b : FrameBody). does.refuses s.sessions (limit_of s.peer_limit) f.channel b e sessions) (sym is)
       r.refuses)
 
   barred : (e : EndpointError) (s : State S) (left : List ℕ) (sessions : S) → FrontBarred does s left e sessions
-      → Went s.sessions sessions
+      → Fronted s.sessions sessions
   barred e s left sessions b = refuses-body e b.frame b.frame.body refl s sessions b.refuses
 
   unread : (s : State S) (left : List ℕ) (sessions : S)
       → (sessions ≡ s.sessions) ⊎ ((e : EndpointError) × FrontBarred does s left e sessions)
-      → Went s.sessions sessions
-  unread s left sessions (inl same) = stood s.sessions sessions same
+      → Fronted s.sessions sessions
+  unread s left sessions (inl same) = stays-so same
   unread s left sessions (inr (e, b)) = barred e s left sessions b
 
   front-refused : (e : EndpointError) (s : State S) (left : List ℕ) (sessions : S)
-      → FrontRefused does s left e sessions → Went s.sessions sessions
+      → FrontRefused does s left e sessions → Fronted s.sessions sessions
   front-refused PeerLimitUnder512 s left sessions r = barred PeerLimitUnder512 s left sessions r
   front-refused (Connection e) s left sessions r = barred (Connection e) s left sessions r
   front-refused (Session e) s left sessions r = barred (Session e) s left sessions r
   front-refused NumbersUsedUp s left sessions r = barred NumbersUsedUp s left sessions r
   front-refused Memory s left sessions r = unread s left sessions r
-  front-refused e s left sessions r = stood s.sessions sessions r.1
+  front-refused e s left sessions r = stays-so r.1
 
   -- frames are taken, and what is queued is behind what was
   record Adds (old : State S) (frames : List Frame) (new : State S) : Type 0 where
@@ -354,6 +359,48 @@ module _ {S : Type 0} (does : Relations S) where
         );
       }
 
+  after-front : (condition : Option (List ℕ)) (s : State S) (sessions : S) (new : State S)
+      → Fronted s.sessions sessions → AfterFault does condition (record s { sessions = sessions }) new → MayCut s new
+  after-front condition s sessions new (stays-so same) a =
+      let c = after-fault condition (record s { sessions = sessions }) new a in
+      record {
+        deeds = c.deeds;
+        are_done = subst (λ (x : S). AreDone does x c.deeds new.sessions) same c.are_done;
+        untaken = c.untaken;
+        over = c.over;
+      }
+  after-front None s sessions new (bars limit f e r) (finishes, after) =
+      record {
+        deeds = Refuses limit f e ∷ [];
+        are_done = (
+          new.sessions,
+          record {
+            refused = sessions;
+            refuses = r;
+            own_close = true;
+            closes = record { told = sessions; tells = refl; over = finishes };
+          },
+          refl,
+        );
+        untaken = refl;
+        over = λ up. never new.phase (ap (λ (t : State S). t.phase) after) up;
+      }
+  after-front (Some condition) s sessions new (bars limit f e r) (closes, is) =
+      let frame : Frame = own_close_with (Some (error_of condition)) in
+      record {
+        deeds = Refuses limit f e ∷ close-deeds s.own_close frame;
+        are_done = (
+          new.sessions,
+          record { refused = sessions; refuses = r; own_close = s.own_close; closes = closes },
+          close-done s.own_close frame new.sessions,
+        );
+        untaken = close-takes-none s.own_close frame;
+        over = λ up. (
+          ap (λ (t : State S). t.queue) is ∙ close-queues s s.own_close frame refl,
+          ap (λ (t : State S). t.phase) is,
+        );
+      }
+
   -- these bytes were read, and so much was taken
   record ReadsThem (old : State S) (all : List ℕ) (new : State S) : Type 0 where
     deeds : List Deed
@@ -383,29 +430,21 @@ module _ {S : Type 0} (does : Relations S) where
       → ReadsAs (Admits old.settings.max_frame_size) all frames left → Adds old frames mid
       → EndsRunning does mid left (Some e) new → ReadsThem old all new
   read-faulted old mid all left frames e new read a r =
-      let w = front-refused e mid left r.sessions r.refused in
-      let c = after-fault (condition_of e) (record mid { sessions = r.sessions }) new r.after in
-      let more : List Deed = w.deeds ++ c.deeds in
-      let taken : taken_by (a.deeds ++ more) ≡ frames =
-      taken-append a.deeds more
-      ∙ ap (λ (fs : List Frame). taken_by a.deeds ++ fs)
-      (taken-append w.deeds c.deeds ∙ ap (λ (fs : List Frame). fs ++ taken_by c.deeds) w.untaken ∙ c.untaken)
+      let c =
+      after-front (condition_of e) mid r.sessions new (front-refused e mid left r.sessions r.refused) r.after in
+      let taken : taken_by (a.deeds ++ c.deeds) ≡ frames =
+      taken-append a.deeds c.deeds ∙ ap (λ (fs : List Frame). taken_by a.deeds ++ fs) c.untaken
       ∙ append-nil (taken_by a.deeds) ∙ a.taken in
       record {
-        deeds = a.deeds ++ more;
+        deeds = a.deeds ++ c.deeds;
         are_done =
-            done-append old.sessions mid.sessions new.sessions a.deeds more a.are_done
-            (done-append mid.sessions r.sessions new.sessions w.deeds c.deeds w.are_done c.are_done);
+            done-append old.sessions mid.sessions new.sessions a.deeds c.deeds a.are_done c.are_done;
         queued = λ up.
             (c.over up).0 ∙ ap (λ (ws : List Waiting). ws ++ queued_by c.deeds) a.queued
             ∙ append_assoc old.queue (queued_by a.deeds) (queued_by c.deeds)
-            ∙ ap (λ (ws : List Waiting). old.queue ++ ws)
-            (sym
-            (queued-append a.deeds more
-            ∙ ap (λ (ws : List Waiting). queued_by a.deeds ++ ws)
-            (queued-append w.deeds c.deeds ∙ ap (λ (ws : List Waiting). ws ++ queued_by c.deeds) w.silent)));
+            ∙ ap (λ (ws : List Waiting). old.queue ++ ws) (sym (queued-append a.deeds c.deeds));
         read = λ up.
-            subst (λ (p : Phase). ReadNow p old.settings.max_frame_size all (taken_by (a.deeds ++ more)) new.rest)
+            subst (λ (p : Phase). ReadNow p old.settings.max_frame_size all (taken_by (a.deeds ++ c.deeds)) new.rest)
             (sym (c.over up).1)
             (left, subst (λ (fs : List Frame). ReadsAs (Admits old.settings.max_frame_size) all fs left) (sym taken) read);
       }

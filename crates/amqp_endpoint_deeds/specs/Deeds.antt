@@ -1,5 +1,5 @@
 -- What is done in a run of an endpoint, and what passes between it and its peer by that (part 2, 2.2, 2.4, 2.5).
-use Rattle.std.specs.Prelude.{◌≡◌, ℕ, List, [], ◌∷◌, ◌++◌, false, map, Some}
+use Rattle.std.specs.Prelude.{◌≡◌, ℕ, List, [], ◌∷◌, ◌++◌, Bool, false, map, Some}
 use Rattle.amqp_session_connection.specs.State as channels
 use Rattle.amqp_session_performatives.specs.declared.session_frame.SessionFrame.{SessionFrame}
 use Rattle.amqp_session_frames.specs.Cutting.{ReadsAs}
@@ -13,7 +13,7 @@ use Rattle.amqp_endpoint_model.specs.declared.phase.Phase.TheVariants.{Unconnect
 use Rattle.amqp_endpoint_model.specs.Relay.{Relations}
 use Rattle.amqp_endpoint_model.specs.Said.{Said, Told, done, fed, pulled}
 use Rattle.amqp_endpoint_model.specs.State.{State, Waiting, is_unconnected, protocol_header, text_of, waiting_of}
-use Rattle.amqp_endpoint_model.specs.Step.{Admits, anew}
+use Rattle.amqp_endpoint_model.specs.Step.{Admits, ClosesBy, anew}
 
 -- one thing that is done
 pub data Deed : Type 0 where
@@ -23,7 +23,7 @@ pub data Deed : Type 0 where
   Hears : (frame : Frame) → Deed
   -- the sessions take one, where written frames have a limit: these frames are queued, and these events are told
   Takes : (limit : ℕ) (frame : Frame) (frames : List SessionFrame) (events : List Event) → Deed
-  -- they refuse one, which ends the connection
+  -- they refuse one, and the connection is over by that
   Refuses : (limit : ℕ) (frame : Frame) (error : EndpointError) → Deed
   -- they do what they are called for: it is answered so, and these frames are queued
   Does : (limit : ℕ) (call : Call) (answer : Said) (frames : List SessionFrame) → Deed
@@ -58,12 +58,19 @@ taken_by [] = []
 taken_by (deed ∷ deeds) = taken_in deed ++ taken_by deeds
 
 module _ {S : Type 0} (does : Relations S) where
+  -- a frame is refused, and the connection is over, behind the own Close where that hadn't gone
+  pub record EndsBy (old : S) (limit : ℕ) (frame : Frame) (error : EndpointError) (new : S) : Type 0 where
+    pub refused : S
+    pub refuses : does.refuses old limit frame.channel frame.body error refused
+    pub own_close : Bool
+    pub closes : ClosesBy does own_close refused new
+
   -- the sessions around it
   abbrev pub IsDeed : S → Deed → S → Type 0
   IsDeed old (Queues it) new = new ≡ old
   IsDeed old (Hears frame) new = new ≡ old
   IsDeed old (Takes limit frame frames events) new = does.takes old limit frame.channel frame.body frames events new
-  IsDeed old (Refuses limit frame error) new = does.refuses old limit frame.channel frame.body error new
+  IsDeed old (Refuses limit frame error) new = EndsBy old limit frame error new
   IsDeed old (Does limit call answer frames) new = does.calls old limit call answer frames new
   IsDeed old (Moves connection) new =
       (connection.live ≡ (does.connection old).live) × (new ≡ does.moved old connection)

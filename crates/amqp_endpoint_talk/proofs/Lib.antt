@@ -12,3 +12,4 @@ pub mod Clearing
 pub mod Goings
 pub mod Windows
 pub mod Inside
+pub mod HeardWindows

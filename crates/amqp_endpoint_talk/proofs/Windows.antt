@@ -59,7 +59,7 @@ keeps-on old mid new ps qs k l =
       counts = counts-append old ps qs ∙ ap (λ (c : Count). count_behind c qs) k.counts ∙ l.counts;
     }
 
-went-append : (these more : List SessionFrame) → went (these ++ more) ≡ went these ++ went more
+pub went-append : (these more : List SessionFrame) → went (these ++ more) ≡ went these ++ went more
 went-append [] more = refl
 went-append (f ∷ these) more = ap (λ (ps : List Passing). Went f ∷ ps) (went-append these more)
 
@@ -191,7 +191,7 @@ module _ {R A T D : Type 0} (gives : Relations R A T D) where
   disposition-counts false old new d numbers (none, same) = ap (λ (s : State R). counted s.outgoing) same
 
   -- a step by which the window stays
-  step-keeps : (step : Step R A T D) (old new : State R) → SetsNoWindow step → Steps gives old step new
+  pub step-keeps : (step : Step R A T D) (old new : State R) → SetsNoWindow step → Steps gives old step new
       → Keeps (counted old.outgoing) (went (handed step)) (counted new.outgoing)
   step-keeps Stays old new still s = keeps-still _ _ (ap (λ t. counted t.outgoing) s)
   step-keeps (SendsBegin frame) old new still s =

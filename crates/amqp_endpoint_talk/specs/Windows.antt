@@ -1,7 +1,7 @@
 -- What passes in a session, and how each of its transfers is held to the peer's window (part 2, 2.5.6).
 use Rattle.std.specs.Prelude.{◌≡◌, ℕ, ◌+◌, ◌%◌, ◌^◌, ◌<◌, List, [], ◌∷◌, Option, Some, None, map}
 use Rattle.amqp_session_frames.specs.declared.frame.FrameBody.{FrameBody}
-use Rattle.amqp_session_frames.specs.declared.frame.FrameBody.TheVariants.{Begin, Flow}
+use Rattle.amqp_session_frames.specs.declared.frame.FrameBody.TheVariants as body
 use Rattle.amqp_session_performatives.specs.declared.session_frame.SessionFrame.{SessionFrame}
 use Rattle.amqp_session_performatives.specs.declared.session_frame.SessionFrameBody.{SessionFrameBody}
 use Rattle.amqp_session_performatives.specs.declared.session_frame.SessionFrameBody.TheVariants.{Transfer}
@@ -9,6 +9,16 @@ use Rattle.amqp_session_unsettled.specs.Range.{ahead}
 use Rattle.amqp_session_outgoing.specs.State as sending
 use Rattle.amqp_session_core.specs.declared.batch.BehindFrame.{BehindFrame}
 use Rattle.amqp_session_core.specs.declared.batch.TransferFrame.{TransferFrame}
+use Rattle.amqp_endpoint_links.specs.declared.hearing.LinkPerformative.{LinkPerformative}
+use Rattle.amqp_endpoint_links.specs.declared.hearing.LinkPerformative.TheVariants as said
+
+-- what a peer says in a session, as the body of its frame
+abbrev pub body_said : LinkPerformative → FrameBody
+body_said (said.Attach attach named) = body.Attach attach
+body_said (said.Flow flow) = body.Flow flow
+body_said (said.Transfer transfer payload) = body.Transfer transfer payload
+body_said (said.Disposition disposition) = body.Disposition disposition
+body_said (said.Detach detach) = body.Detach detach
 
 -- one of the frames that pass in a session
 pub data Passing : Type 0 where
@@ -36,8 +46,8 @@ base_by first (Some next) = next
 
 -- the peer's Begin opens the window for the next transfers, and each of its Flows tells it anew
 abbrev pub told_by : FrameBody → Count → Count
-told_by (Begin begin) c = record c { base = c.next; width = begin.incoming_window }
-told_by (Flow flow) c = record c { base = base_by c.first flow.next_incoming_id; width = flow.incoming_window }
+told_by (body.Begin begin) c = record c { base = c.next; width = begin.incoming_window }
+told_by (body.Flow flow) c = record c { base = base_by c.first flow.next_incoming_id; width = flow.incoming_window }
 told_by body c = c
 
 -- each transfer that goes takes the next number, on a circle of 2^32

@@ -1,5 +1,5 @@
 //! Laws of a conversation's calls. A function here does nothing: its contract is the law.
-ghost use Rattle.std.specs.Prelude.{◌≡◌, ◌≤◌, ◌∷◌, ◌++◌, [], ℕ, suc, zero, length, List, All, None, Option, Result, ⊤};
+ghost use Rattle.std.specs.Prelude.{◌≡◌, ◌≢◌, ◌≤◌, ◌∷◌, ◌++◌, [], ℕ, suc, zero, length, List, All, None, Option, Result, Err, ⊤};
 ghost use Rattle.std.specs.Global.{Box};
 ghost use Rattle.amqp_session_types.specs.declared.channels.OutgoingChannel.{OutgoingChannel};
 ghost use Rattle.amqp_session_types.specs.declared.refusals.TryEndError.{TryEndError};
@@ -22,9 +22,13 @@ ghost use Rattle.amqp_endpoint_conversation.specs.Beginning.{AcceptsHere, BeginA
 ghost use Rattle.amqp_session_types.specs.declared.channels.IncomingChannel.{IncomingChannel};
 ghost use Rattle.amqp_session_types.specs.declared.error.Error.{Error};
 ghost use Rattle.amqp_session_types.specs.declared.refusals.ConnectionError.{ConnectionError};
+ghost use Rattle.amqp_session_types.specs.declared.refusals.SessionError.{SessionError};
+ghost use Rattle.amqp_session_types.specs.declared.refusals.SessionError.TheVariants.{Memory};
 ghost use Rattle.amqp_session_performatives.specs.declared.begin.Begin.{Begin};
 ghost use Rattle.amqp_session_performatives.specs.declared.end.End.{End};
 ghost use Rattle.amqp_endpoint_links.specs.declared.hearing.LinkPerformative.{LinkPerformative};
+ghost use Rattle.amqp_endpoint_links.specs.declared.hearing.PerformativeTaken.{PerformativeTaken};
+ghost use Rattle.amqp_endpoint_links.specs.Hearing.{Hears};
 ghost use Rattle.amqp_endpoint_conversation.specs.declared.beginning.BeginHeard.{BeginHeard};
 ghost use Rattle.amqp_endpoint_conversation.specs.declared.beginning.BeginRefusal.{BeginRefusal};
 ghost use Rattle.amqp_endpoint_conversation.specs.declared.ending.EndHeard.{EndHeard};
@@ -37,7 +41,7 @@ ghost use Rattle.amqp_endpoint_fitting.specs.Read.{IsRead};
 ghost use Rattle.amqp_endpoint_talk.specs.Clearing.{Clears, ClearsFirst};
 ghost use Rattle.amqp_endpoint_talk.specs.Going.{AnswersPlain, Goes, NoneLive, Rests, Within};
 ghost use Rattle.amqp_endpoint_talk.specs.Inside.{DoneInside};
-ghost use Rattle.amqp_endpoint_talk.specs.Windows.{Came, Keeps, counted, went};
+ghost use Rattle.amqp_endpoint_talk.specs.Windows.{Came, Keeps, body_said, counted, went};
 
 use amqp_session_core::LinkRelay;
 
@@ -125,8 +129,8 @@ pub fn sessions_end_with_their_connection<R: LinkRelay>()
 {}
 
 /// What a session does keeps each of its transfers in the peer's window, and the session counts as a judge of the wire
-/// does (part 2, 2.5.6): by steps of its own by which the window stays, as the peer's Begin opens it, and as a Flow of
-/// the peer's tells it anew.
+/// does (part 2, 2.5.6): by steps of its own by which the window stays, as the peer's Begin opens it, as a Flow of the
+/// peer's tells it anew, and so by all that the session hears of its peer, where there is memory for that.
 pub fn transfers_keep_to_the_window<R: LinkRelay>()
     ensures inside { (frames : List SessionFrame) (old new : State R) → DoneInside R.gives old frames new →
         Keeps (counted old.outgoing) (went frames) (counted new.outgoing) }
@@ -139,4 +143,9 @@ pub fn transfers_keep_to_the_window<R: LinkRelay>()
         Keeps (counted old.outgoing) (Came (body.Flow flow) ∷ went frames) (counted new.outgoing) }
     ensures set { (flow : Flow) (base : ℕ) (old new : State R) → session.Steps R.gives old (session.SetsWindow flow base) new →
         Keeps (counted old.outgoing) (Came (body.Flow flow) ∷ []) (counted new.outgoing) }
+    ensures heard { (it : LinkPerformative)
+        (told : Result (PerformativeTaken R.Attached R.Transferred R.Detached) SessionError)
+        (frames : List SessionFrame) (old new : AskingSession R) → told ≢ Err Memory →
+        Hears R.gives old [] it told new frames →
+        Keeps (counted old.session.outgoing) (Came (body_said it) ∷ went frames) (counted new.session.outgoing) }
 {}

@@ -1,3 +1,4 @@
+use Rattle.amqp_endpoint_talk.proofs.HeardWindows.{hears-keep}
 use Rattle.amqp_endpoint_talk.proofs.Windows.{begin-keeps, flow-keeps, inside-keeps, set-keeps}
 use Rattle.amqp_endpoint_talk.proofs.laws.transfers_keep_to_the_window.Goals as goal
 
@@ -14,3 +15,7 @@ returns-clause-told g c = λ flow link reply base left frames old new s.
 
 pub returns-clause-set : goal.returns-clause-set
 returns-clause-set g c = λ flow base old new s. set-keeps g.R.LinkRelay.gives flow base old new s
+
+pub returns-clause-heard : goal.returns-clause-heard
+returns-clause-heard g c = λ it told frames old new memory h.
+    hears-keep g.R.LinkRelay.gives it told frames old new memory h

@@ -1,0 +1,80 @@
+-- What passes in each session of an endpoint by what is done (part 2, 2.5).
+use Rattle.std.specs.Prelude.{◌≡◌, ◌==◌, ℕ, Bool, false, List, [], ◌∷◌, ◌++◌, length, Option, Some, None, if◌then◌else◌}
+use Rattle.amqp_link_ends.specs.declared.end.End.{End}
+use Rattle.amqp_session_connection.specs.Steps.{named_session}
+use Rattle.amqp_session_frames.specs.declared.frame.Frame.{Frame}
+use Rattle.amqp_session_frames.specs.declared.frame.FrameBody.{FrameBody}
+use Rattle.amqp_session_frames.specs.declared.frame.FrameBody.TheVariants as body
+use Rattle.amqp_endpoint_deeds.specs.Deeds.{Deed, Does, IsDeed, Takes}
+use Rattle.amqp_endpoint_linked.specs.Does.{linked}
+use Rattle.amqp_endpoint_linked.specs.declared.linked.LinkedSessions.{LinkedSessions}
+use Rattle.amqp_endpoint_linking.specs.Linking.{Session, Sessions}
+use Rattle.amqp_endpoint_model.specs.declared.call.Call.{Call}
+use Rattle.amqp_endpoint_model.specs.declared.call.Call.TheVariants as call
+use Rattle.amqp_endpoint_model.specs.Said.{Said, session_begun}
+use Rattle.amqp_endpoint_names.specs.State.{place_at}
+use Rattle.amqp_endpoint_names.specs.declared.place.LinkPlace.{LinkPlace}
+use Rattle.amqp_endpoint_names.specs.declared.place.LinkPlace.TheVariants.{AtRest, Held}
+use Rattle.amqp_endpoint_sessions.specs.State.{live_at, reached}
+use Rattle.amqp_endpoint_talk.specs.Windows.{Came, Passing, went}
+
+-- a session that has begun, by its number
+abbrev pub when_live : ℕ → Option Session → Option ℕ
+when_live number None = None
+when_live number (Some session) = Some number
+
+abbrev pub live_only : Sessions → Option ℕ → Option ℕ
+live_only s None = None
+live_only s (Some number) = when_live number (live_at s number)
+
+-- the session that takes a Begin of the peer's: where it names no channel the next one, for which it asks; and else the
+-- one that has the channel, if its own side goes on
+abbrev pub begun_by : Sessions → Option ℕ → Option ℕ
+begun_by s None = Some (length s.places)
+begun_by s (Some channel) = live_only s (named_session s.connection (Some channel))
+
+-- the session that takes a frame of the peer's: any other than a Begin is for the one that its channel reaches
+abbrev pub taken_in : LinkedSessions → ℕ → FrameBody → Option ℕ
+taken_in s channel (body.Begin begin) = begun_by s.talk.sessions begin.remote_channel
+taken_in s channel it = reached s.talk.sessions channel
+
+-- the session that holds a link
+abbrev pub holder : Option (LinkPlace End) → Option ℕ
+holder None = None
+holder (Some (Held session handle)) = Some session
+holder (Some (AtRest end)) = None
+
+-- the session that a call is about by which frames are sent
+abbrev pub called_in : LinkedSessions → Call → Said → Option ℕ
+called_in s call.Begin (session_begun number) = Some number
+called_in s (call.AcceptBegin channel) (session_begun number) = Some number
+called_in s (call.End number) answer = Some number
+called_in s (call.AttachSender number settings) answer = Some number
+called_in s (call.AttachReceiver number settings) answer = Some number
+called_in s (call.Detach link) answer = holder (place_at s.links link)
+called_in s (call.CloseLink link) answer = holder (place_at s.links link)
+called_in s (call.Grant link credit) answer = holder (place_at s.links link)
+called_in s (call.Drain link) answer = holder (place_at s.links link)
+called_in s (call.Send link message) answer = holder (place_at s.links link)
+called_in s (call.Dispose link message disposal) answer = holder (place_at s.links link)
+called_in s (call.DisposeAll link messages disposal) answer = holder (place_at s.links link)
+called_in s it answer = None
+
+abbrev pub is_it : Option ℕ → ℕ → Bool
+is_it None number = false
+is_it (Some other) number = number == other
+
+-- what passes in the session with this number by one deed
+abbrev pub passes_in : ℕ → LinkedSessions → Deed → List Passing
+passes_in number s (Takes limit frame frames events) =
+    if is_it (taken_in s frame.channel frame.body) number then Came frame.body ∷ went frames else []
+passes_in number s (Does limit it answer frames) =
+    if is_it (called_in s it answer) number then went frames else []
+passes_in number s deed = []
+
+-- and by one after the other
+abbrev pub PassesIn : ℕ → LinkedSessions → List Deed → LinkedSessions → List Passing → Type 0
+PassesIn number old [] new passings = (new ≡ old) × (passings ≡ [])
+PassesIn number old (deed ∷ deeds) new passings =
+    (mid : LinkedSessions) × (later : List Passing) × IsDeed linked old deed mid × PassesIn number mid deeds new later
+    × (passings ≡ passes_in number old deed ++ later)
