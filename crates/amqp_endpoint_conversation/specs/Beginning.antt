@@ -115,6 +115,12 @@ module _ {R A T D : Type 0} (gives : Relations R A T D) where
     pub names_one : IsSome begin.remote_channel
     pub stepped : Steps old.sessions (TakesBegin number channel begin) mid
 
+  -- and nothing else changes
+  pub record LeadsAlone (old : Conversation R) (channel : IncomingChannel) (begin : Begin) (number : ℕ)
+      (new : Conversation R) : Type 0 where
+    pub led : Leads old channel begin number new.sessions
+    pub rest : new ≡ record old { sessions = new.sessions }
+
   -- the session that the peer's Begin names takes it
   pub record BeginsThere (old : Conversation R) (out : List SessionFrame) (channel : IncomingChannel) (begin : Begin)
       (number : ℕ) (new : Conversation R) (out_new : List SessionFrame) : Type 0 where
@@ -154,7 +160,7 @@ module _ {R A T D : Type 0} (gives : Relations R A T D) where
       BeginsThere old out channel begin number new out_new
   BeginAnswered old out channel begin (Ok Dropped) new out_new = BeginDropped old channel begin new × (out_new ≡ out)
   BeginAnswered old out channel begin (Err (Connection Memory)) new out_new =
-      (out_new ≡ out) × ((new ≡ old) ⊎ ((number : ℕ) × Leads old channel begin number new.sessions))
+      (out_new ≡ out) × ((new ≡ old) ⊎ ((number : ℕ) × LeadsAlone old channel begin number new))
   BeginAnswered old out channel begin (Err (Connection e)) new out_new =
       RefusedBegin begin.remote_channel old channel begin e × (new ≡ old) × (out_new ≡ out)
   BeginAnswered old out channel begin (Err (Session number IllegalState)) new out_new =

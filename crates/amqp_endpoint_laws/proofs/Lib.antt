@@ -9,3 +9,7 @@ mod SessionsApart
 mod SessionsGoing
 mod SessionsHeard
 mod SessionsKept
+mod PassedPlaces
+mod PassedHeard
+mod PassedCalled
+mod PassedKept

@@ -143,7 +143,7 @@ begin-answered old out channel begin (Err (begin_refused.Connection connection.M
     talk-stays old new is
 begin-answered old out channel begin (Err (begin_refused.Connection connection.Memory)) new out_new
     (same, inr (number, led)) =
-    goes-by (TakesBegin number channel begin) old.sessions new.sessions tt led.stepped
+    goes-by (TakesBegin number channel begin) old.sessions new.sessions tt led.led.stepped
 begin-answered old out channel begin (Err (begin_refused.Connection e)) new out_new a = talk-stays old new a.1
 begin-answered old out channel begin (Err (begin_refused.Session number IllegalState)) new out_new a =
     goes-by (TakesBegin number channel begin) old.sessions new.sessions tt a.0.led.stepped

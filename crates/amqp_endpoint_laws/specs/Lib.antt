@@ -1,3 +1,4 @@
 pub mod Linking
 pub mod Telling
 pub mod Conversing
+pub mod Passed

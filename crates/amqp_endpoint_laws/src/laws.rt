@@ -12,8 +12,11 @@ ghost use Rattle.amqp_endpoint_model.specs.declared.settings.Settings.{Settings}
 ghost use Rattle.amqp_endpoint_linked.specs.Does.{linked};
 ghost use Rattle.amqp_endpoint_linked.specs.Sending.{tag_of};
 ghost use Rattle.amqp_endpoint_linked.specs.declared.linked.LinkedSessions.{LinkedSessions};
+ghost use Rattle.amqp_endpoint_deeds.specs.Deeds.{AreDone, Deed};
+ghost use Rattle.amqp_endpoint_talk.specs.Windows.{KeepsWindow, Passing, begins_with};
 ghost use Rattle.amqp_endpoint_laws.specs.Conversing.{SessionsGoOn};
 ghost use Rattle.amqp_endpoint_laws.specs.Linking.{HaveCome};
+ghost use Rattle.amqp_endpoint_laws.specs.Passed.{PassesIn};
 ghost use Rattle.amqp_endpoint_laws.specs.Telling.{events_told, numbers_told, numbers_under, tags_given};
 
 use amqp_endpoint_asked::AskedSession;
@@ -102,3 +105,16 @@ pub fn channels_are_apart()
 {
     each_session_has_its_own_history::<Box<AskedSession>, Box<AskingSession<Numbered<LinkEnd>>>>();
 }
+
+/// Each transfer that an endpoint queues lies in the window that the peer gave its session: its number, counted from the
+/// session's first transfer on, is less than so many ahead of the window's first, on a circle of 2^32, as the latest
+/// Begin or Flow that the session took says (part 2, 2.5.6). This is so of all that passes in each session, in whichever
+/// deeds the endpoint's run consists.
+pub fn transfers_stay_in_the_window()
+    ensures kept { (sessions end : LinkedSessions) (settings : Settings) (deeds : List Deed) (number : ℕ)
+        (passings : List Passing) → IsNew linked settings sessions →
+        PassesIn number sessions deeds end passings →
+        KeepsWindow (begins_with settings.first_transfer_number) passings }
+    ensures some { (old new : LinkedSessions) (deeds : List Deed) (number : ℕ) → AreDone linked old deeds new →
+        (passings : List Passing) × PassesIn number old deeds new passings }
+{}

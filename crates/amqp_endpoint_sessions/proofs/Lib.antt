@@ -1,3 +1,3 @@
 mod Apart
-mod Owning
+pub mod Owning
 mod Places

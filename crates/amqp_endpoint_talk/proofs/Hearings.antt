@@ -232,7 +232,7 @@ module _ {R A T D : Type 0} (gives : Relations R A T D) (P : State R → Type 0)
     begin-handed old new (Err (unbegun.Connection connection.Memory)) out out_new (same, inl is) =
         kept old new out out_new is same
     begin-handed old new (Err (unbegun.Connection connection.Memory)) out out_new (same, inr (number, leads)) =
-        led old new.sessions number out out_new leads.stepped same
+        led old new.sessions number out out_new (leads.led).stepped same
     begin-handed old new (Err (unbegun.Connection e)) out out_new t = kept old new out out_new t.1 t.2
     begin-handed old new (Err (unbegun.Session number IllegalState)) out out_new t =
         led old new.sessions number out out_new (((t.0).led).stepped) t.1

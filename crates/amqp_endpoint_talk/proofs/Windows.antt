@@ -40,13 +40,13 @@ use Rattle.amqp_endpoint_talk.specs.Windows.{Keeps, Sending, counted, sent_by, t
 pub keeps-still : (old new : Count) → new ≡ old → Keeps old [] new
 keeps-still old new same = record { each = tt; counts = sym same }
 
-each-append : (c : Count) (ps qs : List Passing) → KeepsWindow c ps → KeepsWindow (count_behind c ps) qs
+pub each-append : (c : Count) (ps qs : List Passing) → KeepsWindow c ps → KeepsWindow (count_behind c ps) qs
     → KeepsWindow c (ps ++ qs)
 each-append c [] qs k l = l
 each-append c (Came b ∷ ps) qs k l = each-append (told_by b c) ps qs k l
 each-append c (Went f ∷ ps) qs (allowed, k) l = (allowed, each-append (sent_by f.body c) ps qs k l)
 
-counts-append : (c : Count) (ps qs : List Passing) → count_behind c (ps ++ qs) ≡ count_behind (count_behind c ps) qs
+pub counts-append : (c : Count) (ps qs : List Passing) → count_behind c (ps ++ qs) ≡ count_behind (count_behind c ps) qs
 counts-append c [] qs = refl
 counts-append c (Came b ∷ ps) qs = counts-append (told_by b c) ps qs
 counts-append c (Went f ∷ ps) qs = counts-append (sent_by f.body c) ps qs
@@ -164,7 +164,7 @@ table-counts : {R : Type 0} → (role : Role) (table : Table) (s : State R)
 table-counts Sender table s = refl
 table-counts Receiver table s = refl
 
-due-free : (due : Bool) (f : SessionFields) (number : ℕ) (old new : Count) → new ≡ old
+pub due-free : (due : Bool) (f : SessionFields) (number : ℕ) (old new : Count) → new ≡ old
     → Keeps old (went (option_to_list (if due then Some (session_flow f number) else None))) new
 due-free true f number old new same = free new [] _ _ old refl tt refl (keeps-still old new same)
 due-free false f number old new same = keeps-still old new same

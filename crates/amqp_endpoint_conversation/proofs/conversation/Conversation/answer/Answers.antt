@@ -4,7 +4,7 @@ use Rattle.amqp_session_core.specs.Table.{after_incoming_begin}
 use Rattle.amqp_endpoint_links.specs.declared.asking.AskingSession.{AskingSession}
 use Rattle.amqp_endpoint_sessions.specs.Lends.{set_live}
 use Rattle.amqp_endpoint_sessions.specs.State.{live_at}
-use Rattle.amqp_endpoint_conversation.specs.Beginning.{BeginBarred, HearsBegin, Leads, Sessions}
+use Rattle.amqp_endpoint_conversation.specs.Beginning.{BeginBarred, HearsBegin, LeadsAlone, Sessions}
 use Rattle.amqp_endpoint_conversation.proofs.Answering.{unlent}
 use Rattle.amqp_endpoint_conversation.proofs.conversation.Conversation.answer.Goals as goal
 
@@ -68,7 +68,11 @@ returns-in-Err-hear_begin g c =
       out,
       inr (
         c.in-Ok.number,
-        subst (λ (ss : Sessions g.row.R.Denot). Leads g.R.LinkRelay.gives c.args.self.now c.args.channel c.args.begin.now
-            c.in-Ok.number ss) (sym back) (record { names_one = c.requires; stepped = c.in-Ok.ensures.ok }),
+        subst
+            (λ (ss : Sessions g.row.R.Denot).
+            LeadsAlone g.R.LinkRelay.gives c.args.self.now c.args.channel c.args.begin.now c.in-Ok.number
+            (record c.args.self.now { sessions = ss }))
+            (sym back)
+            (record { led = record { names_one = c.requires; stepped = c.in-Ok.ensures.ok }; rest = refl }),
       ),
     )

@@ -1,0 +1,400 @@
+-- Whatever is done, each transfer of a session lies in its peer's window.
+use Rattle.std.proofs.Common.{◌≡◌, ◌<◌, ◌⊎◌, inl, inr, ℕ, zero, suc, Bool, true, false, List, [], ◌∷◌, ◌++◌, Option}
+use Rattle.std.proofs.Common.{Some, None, Ok, Err, ap, arith, length, refl, slice_get, sym, subst, ◌∙◌, ◌==◌}
+use Rattle.std.specs.Prelude.{Result, if◌then◌else◌}
+use Rattle.std.specs.Global.{Box}
+use Rattle.std.proofs.lemmas.Option.{none-some, slice_get_past, slice_get_within}
+use Rattle.amqp_session_types.specs.declared.channels.IncomingChannel.{IncomingChannel}
+use Rattle.amqp_session_types.specs.declared.channels.OutgoingChannel.{OutgoingChannel}
+use Rattle.amqp_session_performatives.specs.declared.begin.Begin.{Begin}
+use Rattle.amqp_session_performatives.specs.declared.end.End.{End}
+use Rattle.amqp_session_performatives.specs.declared.session_frame.SessionFrame.{SessionFrame}
+use Rattle.amqp_session_types.specs.declared.refusals.ConnectionError.{ConnectionError}
+use Rattle.amqp_session_types.specs.declared.refusals.ConnectionError.TheVariants as connection
+use Rattle.amqp_session_types.specs.declared.refusals.SessionError.TheVariants.{IllegalState}
+use Rattle.amqp_session_frames.specs.declared.frame.Frame.{Frame}
+use Rattle.amqp_session_frames.specs.declared.frame.FrameBody.{FrameBody}
+use Rattle.amqp_session_frames.specs.declared.frame.FrameBody.TheVariants as body
+use Rattle.amqp_endpoint_asked.specs.declared.session.AskedSession.{AskedSession}
+use Rattle.amqp_endpoint_attached.specs.Linked.{gives}
+use Rattle.amqp_endpoint_conversation.specs.Beginning.{BeginAnswered}
+use Rattle.amqp_endpoint_conversation.specs.Ending.{EndAnswered}
+use Rattle.amqp_endpoint_conversation.specs.Hearing.{Answered, AnsweredAt, AnsweredIn, LiveAnswered}
+use Rattle.amqp_endpoint_conversation.specs.declared.beginning.BeginRefusal.{BeginRefusal}
+use Rattle.amqp_endpoint_conversation.specs.declared.beginning.BeginRefusal.TheVariants as begin_refused
+use Rattle.amqp_endpoint_conversation.specs.declared.hearing.HearRefusal.TheVariants as refused
+use Rattle.amqp_endpoint_conversation.specs.declared.hearing.Heard.TheVariants as heard
+use Rattle.amqp_endpoint_links.specs.declared.hearing.LinkPerformative.{LinkPerformative}
+use Rattle.amqp_endpoint_deeds.specs.Deeds.{AreDone, Closes, Deed, Does, EndsBy, Finishes, Hears, IsDeed, Moves, Queues}
+use Rattle.amqp_endpoint_deeds.specs.Deeds.{Refuses, Renews, Takes}
+use Rattle.amqp_endpoint_link_hearing.specs.Saying.{LinkHeard, LinkRefusal, RefusesSaid}
+use Rattle.amqp_endpoint_linked.specs.Does.{linked}
+use Rattle.amqp_endpoint_linked.specs.Hearing.{RefusesBody}
+use Rattle.amqp_endpoint_linked.specs.declared.linked.LinkedSessions.{LinkedSessions}
+use Rattle.amqp_endpoint_linking.specs.Ending.{FinishesFirst, LeavesFirst}
+use Rattle.amqp_endpoint_linking.specs.Hearing.{RefusesBegin, RefusesEnd}
+use Rattle.amqp_endpoint_linking.specs.Linking.{Links, Session, Sessions, Stood, Talk}
+use Rattle.amqp_endpoint_model.specs.Relay.{IsNew}
+use Rattle.amqp_endpoint_model.specs.Step.{ClosesBy, SendsClose}
+use Rattle.amqp_endpoint_model.specs.declared.error.EndpointError.{EndpointError}
+use Rattle.amqp_endpoint_model.specs.declared.settings.Settings.{Settings}
+use Rattle.amqp_endpoint_sessions.specs.Own.{PlaceHistory, PlaceSteps, steps_of}
+use Rattle.amqp_endpoint_sessions.specs.State.{asked_at, finished_place, live_at, place_at, reached}
+use Rattle.amqp_endpoint_sessions.specs.Steps.{Accepts, Asks, Begins, ChangesAsked, ChangesConnection, ChangesLive, Ends}
+use Rattle.amqp_endpoint_sessions.specs.Steps.{EndSent, Finished, Finishes as FinishesStep, TakesBegin, TakesEnd}
+use Rattle.amqp_endpoint_sessions.specs.Steps.{TellsEnd}
+use Rattle.amqp_endpoint_sessions.specs.declared.place.Place.TheVariants.{Asked, Live, Ending, Over}
+use Rattle.amqp_endpoint_sessions.proofs.Owning.{at, other_number, own, same_number}
+use Rattle.amqp_endpoint_talk.specs.Windows.{Count, KeepsWindow, Passing, begins_with, count_behind, went}
+use Rattle.amqp_endpoint_talk.proofs.Windows.{each-append}
+use Rattle.amqp_endpoint_laws.specs.Conversing.{SessionsStep}
+use Rattle.amqp_endpoint_laws.specs.Passed.{PassesIn, is_it, passes_in}
+use Rattle.amqp_endpoint_laws.proofs.PassedCalled.{called}
+use Rattle.amqp_endpoint_laws.proofs.PassedHeard.{frame-heard}
+use Rattle.amqp_endpoint_laws.proofs.PassedPlaces.{Counts, Judges, eq-same, judges-end, judges-on, judges-still}
+use Rattle.amqp_endpoint_laws.proofs.SessionsGoing.{Go}
+use Rattle.amqp_endpoint_laws.proofs.SessionsHeard.{refused-goes}
+
+-- a session that is ending, or over
+abbrev IsGone : Option Stood → Type 0
+IsGone (Some (Ending channel)) = Unit {0}
+IsGone (Some (Over peer_end complete)) = Unit {0}
+IsGone o = ⊥
+
+gone-counts : (o : Option Stood) → IsGone o → (first : ℕ) (c : Count) → Counts first o c
+gone-counts (Some (Ending channel)) gone first c = tt
+gone-counts (Some (Over peer_end complete)) gone first c = tt
+gone-counts (Some (Asked channel a)) gone first c = absurd gone
+gone-counts (Some (Live channel s)) gone first c = absurd gone
+gone-counts None gone first c = absurd gone
+
+finished-gone : (stood : Stood) → IsGone (Some (finished_place stood))
+finished-gone (Asked channel a) = tt
+finished-gone (Live channel s) = tt
+finished-gone (Ending channel) = tt
+finished-gone (Over peer_end complete) = tt
+
+-- a session stays, or is ending or over then
+abbrev Wanes : Sessions → Sessions → ℕ → Type 0
+Wanes old new n = (place_at new n ≡ place_at old n) ⊎ IsGone (place_at new n)
+
+wanes-on : (old mid new : Sessions) (n : ℕ) → Wanes old mid n → Wanes mid new n → Wanes old new n
+wanes-on old mid new n w (inr gone) = inr gone
+wanes-on old mid new n (inl same) (inl is) = inl (is ∙ same)
+wanes-on old mid new n (inr gone) (inl is) = inr (subst IsGone (sym is) gone)
+
+judges-wane : (first : ℕ) (old new : Sessions) (n : ℕ) → Wanes old new n
+    → Judges first (place_at old n) [] (place_at new n)
+judges-wane first old new n (inl same) = judges-still first (place_at old n) (place_at new n) same
+judges-wane first old new n (inr gone) =
+    judges-end first (place_at old n) (place_at new n) [] (λ c. tt) (gone-counts (place_at new n) gone first)
+
+-- by a step that is about one session, which is gone behind it
+by-about : (number : ℕ) (old new : Sessions) (n : ℕ) → ((n == number) ≡ false → place_at new n ≡ place_at old n)
+    → IsGone (place_at new number) → Wanes old new n
+by-about number old new n other gone = by (n == number) refl
+  where
+    by : (b : Bool) → (n == number) ≡ b → Wanes old new n
+    by true e = inr (subst (λ (k : ℕ). IsGone (place_at new k)) (sym (same_number n number e)) gone)
+    by false e = inl (other e)
+
+end-sent : (old new : Sessions) (number : ℕ) (left : Option (OutgoingChannel × Session)) → EndSent old number left new
+    → (n : ℕ) → Wanes old new n
+end-sent old new number None e n = inl (ap (λ (s : Sessions). place_at s n) e.1)
+end-sent old new number (Some given) e n =
+    let (was, is) = (at number old (Ends number given.0 given.1) new e).about (eq-same number) in
+    by-about number old new n (λ other. (at n old (Ends number given.0 given.1) new e).other other)
+    (subst IsGone (sym is) tt)
+
+left-first : (count : ℕ) (old new : Sessions) (links links_new : Links) → LeavesFirst count old links new links_new
+    → (n : ℕ) → Wanes old new n
+left-first zero old new links links_new l n = inl (ap (λ (s : Sessions). place_at s n) l.0)
+left-first (suc count) old new links links_new (mid, links_mid, first, one) n =
+    wanes-on old mid new n (left-first count old mid links links_mid first n) (end-sent mid new count one.left one.sent n)
+
+finished : (old new : Sessions) (number : ℕ) (stood : Option Stood) → Finished old number stood new → (n : ℕ)
+    → Wanes old new n
+finished old new number None f n = inl (ap (λ (s : Sessions). place_at s n) f.1)
+finished old new number (Some stood) f n =
+    let (was, is) = (at number old (FinishesStep number stood) new f).about (eq-same number) in
+    by-about number old new n (λ other. (at n old (FinishesStep number stood) new f).other other)
+    (subst IsGone (sym is) (finished-gone stood))
+
+finished-first : (count : ℕ) (old new : Sessions) (links links_new : Links)
+    → FinishesFirst count old links new links_new → (n : ℕ) → Wanes old new n
+finished-first zero old new links links_new f n = inl (ap (λ (s : Sessions). place_at s n) f.0)
+finished-first (suc count) old new links links_new (mid, links_mid, first, one) n =
+    wanes-on old mid new n (finished-first count old mid links links_mid first n)
+    (finished mid new count one.stood one.finished n)
+
+-- once the connection of each session is over none goes on
+abbrev IsOver : Sessions → ℕ → Type 0
+IsOver s n = IsGone (place_at s n) ⊎ (place_at s n ≡ None)
+
+over-on : (old new : Sessions) (n : ℕ) → IsOver old n → Wanes old new n → IsOver new n
+over-on old new n o (inr gone) = inl gone
+over-on old new n (inl gone) (inl same) = inl (subst IsGone (sym same) gone)
+over-on old new n (inr none) (inl same) = inr (same ∙ none)
+
+finished-one : (old new : Sessions) (number : ℕ) (stood : Option Stood) → Finished old number stood new
+    → IsOver new number
+finished-one old new number None f = inr (ap (λ (s : Sessions). place_at s number) f.1 ∙ f.0)
+finished-one old new number (Some stood) f =
+    let (was, is) = (at number old (FinishesStep number stood) new f).about (eq-same number) in
+    inl (subst IsGone (sym is) (finished-gone stood))
+
+over-step : (count n : ℕ) (mid new : Sessions) (stood : Option Stood) → Finished mid count stood new
+    → (n < count → IsOver mid n) → n < suc count → IsOver new n
+over-step count n mid new stood f before below = by (n == count) refl
+  where
+    by : (b : Bool) → (n == count) ≡ b → IsOver new n
+    by true e =
+        subst (λ (k : ℕ). IsOver new k) (sym (same_number n count e)) (finished-one mid new count stood f)
+    by false e =
+        over-on mid new n (before (omega (arith, below, other_number n count e))) (finished mid new count stood f n)
+
+all-over : (count : ℕ) (old new : Sessions) (links links_new : Links) → FinishesFirst count old links new links_new
+    → (n : ℕ) → n < count → IsOver new n
+all-over zero old new links links_new f n below = absurd (omega (arith, below))
+all-over (suc count) old new links links_new (mid, links_mid, first, one) n below =
+    over-step count n mid new one.stood one.finished (all-over count old mid links links_mid first n) below
+
+over-at : (o : Option Stood) (old new : Sessions) (links links_new : Links) (n : ℕ) → place_at old n ≡ o
+    → FinishesFirst (length old.places) old links new links_new → IsOver new n
+over-at (Some stood) old new links links_new n e f =
+    all-over (length old.places) old new links links_new f n (slice_get_within old.places n stood e)
+over-at None old new links links_new n e f =
+    over-on old new n (inr e) (finished-first (length old.places) old new links links_new f n)
+
+-- no session vanishes
+kept-there : (step : SessionsStep) (a : Option Stood) (mid : Option Stood) → PlaceSteps a step mid → mid ≡ None → ⊥
+kept-there (ChangesConnection before after) a mid s none = s
+kept-there (Begins number channel session) a mid s none = none-some _ (sym none ∙ s.1)
+kept-there (Asks number channel asked) a mid s none = none-some _ (sym none ∙ s.1)
+kept-there (Accepts number incoming asked outgoing session) a mid s none = none-some _ (sym none ∙ s.1)
+kept-there (TakesBegin number channel begin) a mid s none = s
+kept-there (TakesEnd number channel end stood) a mid s none = none-some _ (sym none ∙ s.1)
+kept-there (Ends number channel session) a mid s none = none-some _ (sym none ∙ s.1)
+kept-there (FinishesStep number stood) a mid s none = none-some _ (sym none ∙ s.1)
+kept-there (TellsEnd number) a mid (stood, was, came, is) none = none-some _ (sym none ∙ is)
+kept-there (ChangesAsked number before after) a mid (stood, was, lives, is) none = none-some _ (sym none ∙ is)
+kept-there (ChangesLive number before after) a mid (stood, was, lives, is) none = none-some _ (sym none ∙ is)
+
+never-was : (steps : List SessionsStep) (a : Option Stood) (end : Option Stood) → PlaceHistory a steps end
+    → end ≡ None → a ≡ None
+never-was [] a end same none = sym same ∙ none
+never-was (step ∷ steps) a end (mid, one, rest) none =
+    absurd (kept-there step a mid one (never-was steps mid end rest none))
+
+never-there : (old new : Sessions) → Go old new → (n : ℕ) → place_at new n ≡ None → place_at old n ≡ None
+never-there old new g n none =
+    never-was (steps_of n g.steps) (place_at old n) (place_at new n) (own n old g.steps new g.history) none
+
+-- what the sessions refuse leaves the number of the first transfer
+abbrev Firsts : Talk → Talk → Type 0
+Firsts old new = new.first_transfer_number ≡ old.first_transfer_number
+
+first-same : (old new : Talk) → new ≡ old → Firsts old new
+first-same old new same = ap (λ (t : Talk). t.first_transfer_number) same
+
+first-rest : (old new : Talk) → new ≡ record old { sessions = new.sessions } → Firsts old new
+first-rest old new rest = ap (λ (t : Talk). t.first_transfer_number) rest
+
+first-live : (old : Talk) (number : ℕ) (before : Session) (it : LinkPerformative) (r : Result LinkHeard LinkRefusal)
+    (new : Talk) (frames : List SessionFrame) → LiveAnswered gives old [] number before it r new frames
+    → Firsts old new
+first-live old number before it (Ok (heard.Live n t)) new frames a = first-rest old new (a.1).rest
+first-live old number before it (Ok (heard.Asked n)) new frames a = absurd a
+first-live old number before it (Ok (heard.Dropped n)) new frames a = absurd a
+first-live old number before it (Err refused.Memory) new frames (inl a) = first-same old new a.1
+first-live old number before it (Err refused.Memory) new frames (inr a) = first-rest old new (a.refuses).rest
+first-live old number before it (Err (refused.Session n fault session)) new frames (same, f) =
+    first-rest f.mid new (f.ends).rest ∙ first-rest old f.mid (f.refuses).rest
+first-live old number before it (Err refused.NotFound) new frames a = absurd a
+first-live old number before it (Err (refused.Asked n fault)) new frames a = absurd a
+
+first-at : (asked : Option (Box AskedSession)) (live : Option Session) (old : Talk) (number : ℕ)
+    (it : LinkPerformative) (r : Result LinkHeard LinkRefusal) (new : Talk) (frames : List SessionFrame)
+    → AnsweredAt gives asked live old [] number it r new frames → Firsts old new
+first-at (Some asked) live old number it (Ok (heard.Asked n)) new frames (a, none) = first-rest old new (a.1).rest
+first-at (Some asked) live old number it (Ok (heard.Live n t)) new frames (a, none) = absurd a
+first-at (Some asked) live old number it (Ok (heard.Dropped n)) new frames (a, none) = absurd a
+first-at (Some asked) live old number it (Err refused.Memory) new frames (a, none) = first-same old new a.1
+first-at (Some asked) live old number it (Err (refused.Asked n e)) new frames (a, none) = first-same old new (a.2).1
+first-at (Some asked) live old number it (Err refused.NotFound) new frames (a, none) = absurd a
+first-at (Some asked) live old number it (Err (refused.Session n e s)) new frames (a, none) = absurd a
+first-at None (Some session) old number it r new frames a = first-live old number session it r new frames a
+first-at None None old number it r new frames (is, same, none) = first-same old new same
+
+first-in : (number : Option ℕ) (old : Talk) (it : LinkPerformative) (r : Result LinkHeard LinkRefusal) (new : Talk)
+    (frames : List SessionFrame) → AnsweredIn gives number old [] it r new frames → Firsts old new
+first-in None old it r new frames (is, same, none) = first-same old new same
+first-in (Some number) old it r new frames a = first-at _ _ old number it r new frames a
+
+first-answered : (old : Talk) (channel : IncomingChannel) (it : LinkPerformative) (r : Result LinkHeard LinkRefusal)
+    (new : Talk) (frames : List SessionFrame) → Answered gives old [] channel it r new frames → Firsts old new
+first-answered old channel it r new frames a = first-in (reached old.sessions channel.0) old it r new frames a
+
+first-said : (old : Talk) (channel : IncomingChannel) (it : LinkPerformative) (e : EndpointError) (new : Talk)
+    → RefusesSaid old channel it e new → Firsts old new
+first-said old channel it e new (inl b) = first-answered old channel it (Err b.refusal) new b.frames b.answered
+first-said old channel it e new (inr u) = first-same old new u.1
+
+first-begin : (old : Talk) (channel : IncomingChannel) (begin : Begin) (r : BeginRefusal) (new : Talk)
+    → BeginAnswered gives old [] channel begin (Err r) new [] → Firsts old new
+first-begin old channel begin (begin_refused.Connection connection.Memory) new (none, inl same) =
+    first-same old new same
+first-begin old channel begin (begin_refused.Connection connection.Memory) new (none, inr (number, l)) =
+    first-rest old new l.rest
+first-begin old channel begin (begin_refused.Connection e) new a = first-same old new a.1
+first-begin old channel begin (begin_refused.Session number IllegalState) new (b, none) = first-rest old new b.rest
+first-begin old channel begin (begin_refused.Session number e) new a = absurd a
+
+first-begins : (old : Talk) (channel : IncomingChannel) (begin : Begin) (e : EndpointError) (new : Talk)
+    → RefusesBegin old channel begin e new → Firsts old new
+first-begins old channel begin e new (inl b) = first-begin old channel begin (begin_refused.Connection b.refusal) new b.answered
+first-begins old channel begin e new (inr (inl (memory, u))) = first-begin old channel begin (begin_refused.Session u.number u.fault) new u.refused
+first-begins old channel begin e new (inr (inr u)) = first-same old new u.1
+
+first-end : (old : Talk) (channel : IncomingChannel) (end : End) (r : ConnectionError) (new : Talk)
+    → EndAnswered old [] channel end (Err r) new [] → Firsts old new
+first-end old channel end connection.NotFound new a = first-same old new a.1
+first-end old channel end connection.Memory new a = first-same old new a.0
+first-end old channel end e new a = absurd a
+
+first-body : (it : FrameBody) (old new : Talk) (links : Links) (given limit : ℕ) (channel : IncomingChannel)
+    (e : EndpointError) → RefusesBody old links given limit channel it e new → Firsts old new
+first-body (body.Begin begin) old new links given limit channel e r = first-begins old channel begin e new r
+first-body (body.Attach attach) old new links given limit channel e (inl b) =
+    first-answered old channel _ (Err b.bars.refusal) new b.bars.frames b.bars.answered
+first-body (body.Attach attach) old new links given limit channel e (inr u) = first-same old new u.1
+first-body (body.Flow flow) old new links given limit channel e r = first-said old channel _ e new r
+first-body (body.Transfer transfer payload) old new links given limit channel e (inl u) = first-same old new u.stays
+first-body (body.Transfer transfer payload) old new links given limit channel e (inr (left, inl r)) =
+    first-said old channel _ e new r
+first-body (body.Transfer transfer payload) old new links given limit channel e (inr (left, inr u)) =
+    first-answered old channel _ (Ok u.heard) new [] u.answered
+first-body (body.Disposition disposition) old new links given limit channel e r = first-said old channel _ e new r
+first-body (body.Detach detach) old new links given limit channel e r = first-said old channel _ e new r
+first-body (body.End end) old new links given limit channel e (inl b) =
+    first-end old channel end b.refusal new b.answered
+first-body (body.End end) old new links given limit channel e (inr u) = first-same old new u.1
+first-body it old new links given limit channel e r = absurd r
+
+-- the connection is over behind a frame that was refused
+closed-same : (own : Bool) (old told : LinkedSessions) → SendsClose linked own true old told
+    → (told.talk.sessions.places ≡ old.talk.sessions.places) × Firsts old.talk told.talk
+closed-same true old told same = (
+  ap (λ (s : LinkedSessions). s.talk.sessions.places) same,
+  ap (λ (s : LinkedSessions). s.talk.first_transfer_number) same,
+)
+closed-same false old told m = (
+  ap (λ (s : LinkedSessions). s.talk.sessions.places) m.is,
+  ap (λ (s : LinkedSessions). s.talk.first_transfer_number) m.is,
+)
+
+over-judges : (first : ℕ) (old refused told new : Sessions) (n : ℕ) → Go old refused → told.places ≡ refused.places
+    → IsOver new n → Wanes told new n → Judges first (place_at old n) [] (place_at new n)
+over-judges first old refused told new n g places (inl gone) w =
+    judges-end first (place_at old n) (place_at new n) [] (λ c. tt) (gone-counts (place_at new n) gone first)
+over-judges first old refused told new n g places (inr none) (inr gone) =
+    absurd (subst IsGone none gone)
+over-judges first old refused told new n g places (inr none) (inl same) =
+    let before : place_at refused n ≡ None =
+    sym (ap (λ (ps : List Stood). slice_get ps n) places) ∙ sym same ∙ none in
+    judges-still first (place_at old n) (place_at new n) (none ∙ sym (never-there old refused g n before))
+
+module _ (limit : ℕ) (f : Frame) (error : EndpointError) (old new : LinkedSessions)
+    (e : EndsBy linked old limit f error new) where
+  ends-judges : (n : ℕ)
+      → Judges old.talk.first_transfer_number (place_at old.talk.sessions n) [] (place_at new.talk.sessions n)
+  ends-judges n =
+      let told = e.closes.told in
+      let (places, first) = closed-same e.own_close e.refused told e.closes.tells in
+      let over = ((e.closes.over).0).each in
+      over-judges old.talk.first_transfer_number old.talk.sessions e.refused.talk.sessions told.talk.sessions
+      new.talk.sessions n
+      (refused-goes f.body old.talk e.refused.talk old.links old.given limit (record { 0 = f.channel }) error
+      ((e.refuses).0).refuses)
+      places
+      (over-at (place_at told.talk.sessions n) told.talk.sessions new.talk.sessions told.links new.links n refl over)
+      (finished-first (length told.talk.sessions.places) told.talk.sessions new.talk.sessions told.links new.links over
+      n)
+
+  ends-first : Firsts old.talk new.talk
+  ends-first =
+      let told = e.closes.told in
+      let (places, first) = closed-same e.own_close e.refused told e.closes.tells in
+      first-rest told.talk new.talk ((e.closes.over).0).rest ∙ first
+      ∙ first-body f.body old.talk e.refused.talk old.links old.given limit (record { 0 = f.channel }) error
+      ((e.refuses).0).refuses
+
+still-judges : (old new : LinkedSessions) (n : ℕ) → new.talk.sessions.places ≡ old.talk.sessions.places
+    → Judges old.talk.first_transfer_number (place_at old.talk.sessions n) [] (place_at new.talk.sessions n)
+still-judges old new n same = judges-still _ _ _ (ap (λ (ps : List Stood). slice_get ps n) same)
+
+deed-judges : (deed : Deed) (old new : LinkedSessions) → IsDeed linked old deed new → (n : ℕ)
+    → Judges old.talk.first_transfer_number (place_at old.talk.sessions n) (passes_in n old deed)
+    (place_at new.talk.sessions n)
+deed-judges (Queues it) old new same n =
+    still-judges old new n (ap (λ (s : LinkedSessions). s.talk.sessions.places) same)
+deed-judges (Hears frame) old new same n =
+    still-judges old new n (ap (λ (s : LinkedSessions). s.talk.sessions.places) same)
+deed-judges (Takes limit f frames events) old new h n =
+    (frame-heard f.body old new limit (record { 0 = f.channel }) frames events h.0).all n
+deed-judges (Refuses limit f error) old new e n = ends-judges limit f error old new e n
+deed-judges (Does limit it answer frames) old new c n = (called it answer old new limit frames c.0).all n
+deed-judges (Moves connection) old new m n =
+    still-judges old new n (ap (λ (s : LinkedSessions). s.talk.sessions.places) m.1)
+deed-judges Renews old new is n =
+    still-judges old new n (ap (λ (s : LinkedSessions). s.talk.sessions.places) is)
+deed-judges Closes old new l n =
+    judges-wane _ old.talk.sessions new.talk.sessions n
+    (left-first _ old.talk.sessions new.talk.sessions old.links new.links (l.0).each n)
+deed-judges Finishes old new f n =
+    judges-wane _ old.talk.sessions new.talk.sessions n
+    (finished-first _ old.talk.sessions new.talk.sessions old.links new.links (f.0).each n)
+
+deed-first : (deed : Deed) (old new : LinkedSessions) → IsDeed linked old deed new → Firsts old.talk new.talk
+deed-first (Queues it) old new same = ap (λ (s : LinkedSessions). s.talk.first_transfer_number) same
+deed-first (Hears frame) old new same = ap (λ (s : LinkedSessions). s.talk.first_transfer_number) same
+deed-first (Takes limit f frames events) old new h =
+    (frame-heard f.body old new limit (record { 0 = f.channel }) frames events h.0).first
+deed-first (Refuses limit f error) old new e = ends-first limit f error old new e
+deed-first (Does limit it answer frames) old new c = (called it answer old new limit frames c.0).first
+deed-first (Moves connection) old new m = ap (λ (s : LinkedSessions). s.talk.first_transfer_number) m.1
+deed-first Renews old new is = ap (λ (s : LinkedSessions). s.talk.first_transfer_number) is
+deed-first Closes old new l = first-rest old.talk new.talk (l.0).rest
+deed-first Finishes old new f = first-rest old.talk new.talk (f.0).rest
+
+kept : (deeds : List Deed) (n : ℕ) (old new : LinkedSessions) (passings : List Passing)
+    → PassesIn n old deeds new passings → (c : Count)
+    → Counts old.talk.first_transfer_number (place_at old.talk.sessions n) c → KeepsWindow c passings
+kept [] n old new passings (same, none) c here =
+    subst (λ (ps : List Passing). KeepsWindow c ps) (sym none) tt
+kept (deed ∷ deeds) n old new passings (mid, later, one, rest, is) c here =
+    let ps : List Passing = passes_in n old deed in
+    let j = deed-judges deed old mid one n in
+    let on : KeepsWindow (count_behind c ps) later =
+    kept deeds n mid new later rest (count_behind c ps)
+    (subst (λ (f : ℕ). Counts f (place_at mid.talk.sessions n) (count_behind c ps)) (sym (deed-first deed old mid one))
+    (j.behind c here)) in
+    subst (λ (qs : List Passing). KeepsWindow c qs) (sym is) (each-append c ps later (j.each c here) on)
+
+pub window-kept : (sessions end : LinkedSessions) (settings : Settings) (deeds : List Deed) (n : ℕ)
+    (passings : List Passing) → IsNew linked settings sessions → PassesIn n sessions deeds end passings
+    → KeepsWindow (begins_with settings.first_transfer_number) passings
+window-kept sessions end settings deeds n passings new p =
+    kept deeds n sessions end passings p (begins_with settings.first_transfer_number)
+    (subst
+    (λ (s : LinkedSessions).
+    Counts s.talk.first_transfer_number (place_at s.talk.sessions n) (begins_with settings.first_transfer_number))
+    (sym new.is) refl)
+
+-- something passes in each session, or nothing
+pub some-passes : (deeds : List Deed) (n : ℕ) (old new : LinkedSessions) → AreDone linked old deeds new
+    → (passings : List Passing) × PassesIn n old deeds new passings
+some-passes [] n old new same = ([], (same, refl))
+some-passes (deed ∷ deeds) n old new (mid, one, rest) =
+    let (later, p) = some-passes deeds n mid new rest in
+    (passes_in n old deed ++ later, (mid, later, one, p, refl))
