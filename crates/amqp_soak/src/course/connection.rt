@@ -1,5 +1,5 @@
 //! The connection and its sessions.
-ghost use Rattle.std.specs.Prelude.{◌≡◌, ◌++◌, codes, decimal, OnOk};
+ghost use Rattle.std.specs.Prelude.{◌≡◌, ◌++◌, codes, decimal, IsTrue, OnOk};
 ghost use Rattle.amqp_soak.specs.Ends.{at_end, one_more};
 ghost use Rattle.amqp_soak.specs.Script.{written, Grows, line_end, step_of};
 
@@ -57,7 +57,9 @@ impl Course {
     }
 
     fn new_session(&mut self) -> SessionPair
-        ensures { self.new ≡ record self.old { a = self.new.a; b = self.new.b } }
+        ensures numbers { (result.at_a ≡ self.old.a.sessions) × (result.at_b ≡ self.old.b.sessions) }
+        ensures is_open { IsTrue result.is_open }
+        ensures kept { self.new ≡ record self.old { a = self.new.a; b = self.new.b } }
     {
         SessionPair {
             at_a: self.a.add_session(),

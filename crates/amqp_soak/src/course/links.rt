@@ -1,5 +1,5 @@
 //! Links: they attach, are detached, closed and forgotten.
-ghost use Rattle.std.specs.Prelude.{◌≡◌, ◌↔◌, ◌++◌, All, codes, decimal, IsTrue, OnOk};
+ghost use Rattle.std.specs.Prelude.{◌≡◌, ◌↔◌, ◌++◌, false, All, codes, decimal, slice_get, slice_set, IsTrue, OnOk, Some, if◌then◌else◌};
 ghost use Rattle.amqp_soak.specs.Ends.{at_end, one_more};
 ghost use Rattle.amqp_soak.specs.Script.{written, Grows, LeavesFree, step_of};
 
@@ -77,7 +77,19 @@ impl Course {
     }
 
     fn new_link(&mut self, name: u32, session: usize) -> LinkPair
-        ensures { self.new ≡ record self.old { dice = self.new.dice; a = self.new.a; b = self.new.b } }
+        ensures value { result ≡ record {
+          name = name;
+          session = session;
+          sender = result.sender;
+          mode = result.mode;
+          at_a = self.old.a.links;
+          at_b = self.old.b.links;
+          credit = 0;
+          granted = 0;
+          is_untold = false;
+          phase = Phase.Live;
+        } }
+        ensures kept { self.new ≡ record self.old { dice = self.new.dice; a = self.new.a; b = self.new.b } }
     {
         LinkPair {
             name,
@@ -171,7 +183,10 @@ impl Course {
     }
 
     fn set_left(&mut self, place: usize, is_closed: bool)
-        ensures { self.new ≡ record self.old { links = self.new.links } }
+        ensures left { (link : LinkPair) → slice_get self.old.links.items place ≡ Some link
+            → self.new.links.items ≡ slice_set self.old.links.items place
+            (record link { phase = if is_closed then Phase.Closed else Phase.Resting }) }
+        ensures kept { self.new ≡ record self.old { links = self.new.links } }
     {
         if let Some(link) = self.links.get_mut(place) {
             link.phase = if is_closed {

@@ -1,5 +1,5 @@
 //! Messages: credit is given, they are sent, and disposed of.
-ghost use Rattle.std.specs.Prelude.{◌≡◌, ◌*◌, ◌<◌, ◌++◌, length, codes, decimal, string_bytes, IfOk, OnOk};
+ghost use Rattle.std.specs.Prelude.{◌≡◌, ◌*◌, ◌<◌, ◌++◌, length, codes, decimal, slice_get, slice_set, string_bytes, IfOk, OnOk, Some};
 ghost use Rattle.amqp_soak.specs.Ends.{at_end, one_more};
 ghost use Rattle.amqp_soak.specs.Script.{written, Grows, step_of};
 
@@ -164,7 +164,9 @@ impl Course {
     }
 
     fn set_credit(&mut self, place: usize, credit: u32)
-        ensures { self.new ≡ record self.old { links = self.new.links } }
+        ensures credit { (link : LinkPair) → slice_get self.old.links.items place ≡ Some link
+            → self.new.links.items ≡ slice_set self.old.links.items place (record link { credit = credit }) }
+        ensures kept { self.new ≡ record self.old { links = self.new.links } }
     {
         if let Some(link) = self.links.get_mut(place) {
             link.credit = credit;
