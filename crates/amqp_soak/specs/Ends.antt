@@ -1,5 +1,6 @@
 -- What belongs to one of the two ends, and where an end stands.
-use Rattle.std.specs.Prelude.{ℕ, ◌+◌, ◌-◌, ◌^◌, min, Bool, true, false, not, List, [], ◌==◌, filter, codes, if◌then◌else◌}
+use Rattle.std.specs.Prelude.{ℕ, ◌+◌, ◌-◌, ◌^◌, min, Bool, true, false, not}
+use Rattle.std.specs.Prelude.{List, [], ◌==◌, filter, codes, if◌then◌else◌}
 use Rattle.std.specs.Str.{bytes_eq}
 use Rattle.amqp_soak.specs.declared.side.Side.{Side}
 use Rattle.amqp_soak.specs.declared.side.Side.TheVariants.{A, B}

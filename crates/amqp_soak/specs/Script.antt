@@ -47,8 +47,8 @@ head_of seed count =
 -- the line of an end's settings
 abbrev pub settings_of : Side → Standing → ℕ → List ℕ
 settings_of side s first =
-    codes "settings " ++ (letter_of side ++ (codes " " ++ (letter_of side ++ (codes " " ++ (decimal s.limit ++ (codes " 255 "
-    ++ (decimal s.window ++ (codes " " ++ (decimal first ++ line_end)))))))))
+    codes "settings " ++ (letter_of side ++ (codes " " ++ (letter_of side ++ (codes " " ++ (decimal s.limit
+    ++ (codes " 255 " ++ (decimal s.window ++ (codes " " ++ (decimal first ++ line_end)))))))))
 
 -- the line of a step that this end makes
 abbrev pub step_of : Side → List ℕ → List ℕ

@@ -108,7 +108,8 @@ impl Course {
 
     /// Asks an end which links of a session wait.
     pub(crate) fn say_waiting(&mut self, side: Side, session: u64) -> Result<(), AllocError>
-        ensures line { OnOk result (written self.new ≡ written self.old ++ step_of side (codes "waiting " ++ decimal session)) }
+        ensures line { OnOk result (written self.new
+            ≡ written self.old ++ step_of side (codes "waiting " ++ decimal session)) }
         ensures kept { OnOk result (self.new ≡ record self.old {
           text = self.new.text;
           steps = one_more self.old.steps;

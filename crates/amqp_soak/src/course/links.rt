@@ -1,5 +1,6 @@
 //! Links: they attach, are detached, closed and forgotten.
-ghost use Rattle.std.specs.Prelude.{◌≡◌, ◌↔◌, ◌++◌, false, All, codes, decimal, slice_get, slice_set, IsTrue, OnOk, Some, if◌then◌else◌};
+ghost use Rattle.std.specs.Prelude.{◌≡◌, ◌↔◌, ◌++◌, false, All, codes, decimal, slice_get, slice_set};
+ghost use Rattle.std.specs.Prelude.{IsTrue, OnOk, Some, if◌then◌else◌};
 ghost use Rattle.amqp_soak.specs.Ends.{at_end, one_more};
 ghost use Rattle.amqp_soak.specs.Script.{written, Grows, LeavesFree, step_of};
 

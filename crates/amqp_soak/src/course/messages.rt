@@ -1,5 +1,6 @@
 //! Messages: credit is given, they are sent, and disposed of.
-ghost use Rattle.std.specs.Prelude.{◌≡◌, ◌*◌, ◌<◌, ◌++◌, length, codes, decimal, slice_get, slice_set, string_bytes, IfOk, OnOk, Some};
+ghost use Rattle.std.specs.Prelude.{◌≡◌, ◌*◌, ◌<◌, ◌++◌, length, codes, decimal, slice_get, slice_set};
+ghost use Rattle.std.specs.Prelude.{string_bytes, IfOk, OnOk, Some};
 ghost use Rattle.amqp_soak.specs.Ends.{at_end, one_more};
 ghost use Rattle.amqp_soak.specs.Script.{written, Grows, step_of};
 
