@@ -1,6 +1,7 @@
 //! The connection and its sessions.
 ghost use Rattle.std.specs.Prelude.{◌≡◌, ◌++◌, codes, decimal, IsTrue, OnOk};
 ghost use Rattle.amqp_soak.specs.Ends.{at_end, one_more};
+ghost use Rattle.amqp_soak.specs.declared.side.Side.{Side};
 ghost use Rattle.amqp_soak.specs.Script.{written, Grows, line_end, step_of};
 
 use crate::course::Course;
@@ -31,7 +32,8 @@ impl Course {
 
     /// An end sends an empty frame.
     pub(crate) fn beat(&mut self) -> Result<(), AllocError>
-        ensures { OnOk result (Grows (written self.old) (written self.new)) }
+        ensures { OnOk result ((side : Side)
+            × (written self.new ≡ written self.old ++ step_of side (codes "heartbeat"))) }
     {
         let side = self.dice.side();
         self.say_word(side, "heartbeat")
@@ -100,7 +102,8 @@ impl Course {
     }
 
     fn say_end(&mut self, side: Side, place: usize, session: &SessionPair) -> Result<(), AllocError>
-        ensures { OnOk result (written self.new ≡ written self.old
+        ensures counted { OnOk result (self.new.steps ≡ one_more self.old.steps) }
+        ensures line { OnOk result (written self.new ≡ written self.old
             ++ step_of side (codes "end " ++ decimal (at_end side session.now.at_a session.now.at_b))) }
     {
         self.drop_links(side, place);
