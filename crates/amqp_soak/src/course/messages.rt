@@ -1,5 +1,5 @@
 //! Messages: credit is given, they are sent, and disposed of.
-ghost use Rattle.std.specs.Prelude.{◌≡◌, ◌*◌, ◌<◌, ◌++◌, length, codes, decimal, slice_get, slice_set};
+ghost use Rattle.std.specs.Prelude.{◌≡◌, ◌*◌, ◌<◌, ◌++◌, ℕ, List, length, codes, decimal, slice_get, slice_set};
 ghost use Rattle.std.specs.Prelude.{string_bytes, IfOk, OnOk, Some};
 ghost use Rattle.amqp_soak.specs.Ends.{at_end, one_more};
 ghost use Rattle.amqp_soak.specs.Script.{written, Grows, step_of};
@@ -188,7 +188,8 @@ impl Course {
     }
 
     fn say_send(&mut self, link: &LinkPair, is_settled: bool, size: u32) -> Result<(), AllocError>
-        ensures { OnOk result (Grows (written self.old) (written self.new)) }
+        ensures { OnOk result ((call : List ℕ)
+            × (written self.new ≡ written self.old ++ step_of link.now.sender (codes "send " ++ call))) }
     {
         let number = link.at(link.sender);
         let word = if is_settled { "settled" } else { "unsettled" };
