@@ -1,5 +1,6 @@
 -- A script is read by its grammar.
-use Rattle.std.proofs.Common.{◌≡◌, ◌≢◌, inl, inr, ℕ, Bool, true, false, List, [], ◌∷◌, ◌++◌, map, Option, Some, None, refl, sym, ◌∙◌, ap, subst, append_assoc}
+use Rattle.std.proofs.Common.{◌≡◌, ◌≢◌, inl, inr, ℕ, Bool, true, false, List, [], ◌∷◌, ◌++◌, map, Option, Some, None}
+use Rattle.std.proofs.Common.{refl, sym, ◌∙◌, ap, subst, append_assoc}
 use Rattle.std.proofs.lemmas.List.{map-append}
 use Rattle.amqp_endpoint_model.specs.declared.settings.Settings.{Settings}
 use Rattle.amqp_endpoint_model.specs.declared.call.Call.{Call}
@@ -12,7 +13,9 @@ use Rattle.amqp_endpoint_world.specs.WorldStep.{is_the_worlds}
 use Rattle.amqp_endpoint.specs.declared.scenario.statement.Statement.{Statement}
 use Rattle.amqp_endpoint.specs.declared.scenario.statement.Statement.TheVariants.{One, Two, Settings as SettingsAre, Call as CallAt, Move, Break}
 use Rattle.amqp_endpoint.specs.Script.{Line, Given, OneScript, TwoScript, Reading, nothing, unreadable, of_one, of_two, statement, given_none, given_on, one_step, two_call, two_step, one_before, two_before, one_steps, two_steps, one_given, behind_one, steps_with, other_given, behind_given, two_given, behind_two, form_then, reading_of, script_lines}
-use Rattle.amqp_endpoint.specs.Grammar.{statements, Head, heads_said, OfOne, OfTwo, calls_said, step_said, steps_said, IsOfTwo, AllOfTwo, SaysScript, IsFirstUnreadable, IsGiven, Means, FollowsGrammar}
+use Rattle.amqp_endpoint.specs.Grammar.{statements, Head, heads_said, OfOne, OfTwo, calls_said, step_said, steps_said}
+use Rattle.amqp_endpoint.specs.Grammar.{IsOfTwo, AllOfTwo, SaysScript, IsFirstUnreadable, IsGiven, Means}
+use Rattle.amqp_endpoint.specs.Grammar.{FollowsGrammar}
 
 abbrev Said : Type 0
 Said = List (Option Statement)

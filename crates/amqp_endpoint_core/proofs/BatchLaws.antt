@@ -1,9 +1,11 @@
 -- Laws of what waits as it is written one behind the other.
-use Rattle.std.proofs.Common.{◌≡◌, ℕ, ◌+◌, ◌≤◌, ◌<◌, zero, suc, List, [], ◌∷◌, ◌++◌, length, take, Option, Some, None, true, refl, sym, ap, arith, append_assoc, append-nil, ◌∙◌, slice_index_or}
+use Rattle.std.proofs.Common.{◌≡◌, ℕ, ◌+◌, ◌≤◌, ◌<◌, zero, suc, List, [], ◌∷◌, ◌++◌, length, take, Option, Some, None}
+use Rattle.std.proofs.Common.{true, refl, sym, ap, arith, append_assoc, append-nil, ◌∙◌, slice_index_or}
 use Rattle.std.proofs.lemmas.Bool.Decides.{nat_tests}
 use Rattle.std.proofs.lemmas.List.{length-append, take_more}
 use Rattle.amqp_session_frames.specs.Text.{frame_text}
-use Rattle.amqp_endpoint_model.specs.State.{Waiting, the_header, the_frame, text_of, text_fits, text_or_nothing, written}
+use Rattle.amqp_endpoint_model.specs.State.{Waiting, the_header, the_frame, text_of, text_fits, text_or_nothing}
+use Rattle.amqp_endpoint_model.specs.State.{written}
 use Rattle.amqp_endpoint_core.specs.Queue.{AllWithin, Fills, IsWithin, texts_of}
 use Rattle.amqp_endpoint_core.proofs.QueueLaws.{within-first}
 

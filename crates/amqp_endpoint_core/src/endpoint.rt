@@ -1,4 +1,5 @@
-ghost use Rattle.std.specs.Prelude.{◌≡◌, ◌≤◌, ◌<◌, ◌==◌, ◌&&◌, ◌⊎◌, ◌++◌, ◌∷◌, [], true, false, length, drop, is_some, Some, None, IfOk, IfErr, OnOk, OnErr, MatchOption, MatchResult};
+ghost use Rattle.std.specs.Prelude.{◌≡◌, ◌≤◌, ◌<◌, ◌==◌, ◌&&◌, ◌⊎◌, ◌++◌, ◌∷◌, [], true, false, length, drop, is_some};
+ghost use Rattle.std.specs.Prelude.{Some, None, IfOk, IfErr, OnOk, OnErr, MatchOption, MatchResult};
 ghost use Rattle.amqp_session_connection.specs.Table.{after_send_close};
 ghost use Rattle.amqp_endpoint_model.specs.Relay.{IsNew};
 ghost use Rattle.amqp_endpoint_model.specs.State.{Waiting, fresh, has_opened, is_running, limit_of, text_of, the_frame, the_header, heartbeat, fits, own_close_with};
@@ -198,9 +199,9 @@ impl<S: SessionRelay> Endpoint<S> {
     /// Appends what is queued first to `out`, behind what it holds: as many whole answers of `pull` as are at most
     /// `most` bytes together. It answers how many they are, and takes them out.
     ///
-    /// They are none where nothing is queued, and where the first alone is longer than `most`: it stays queued. No frame
-    /// is longer than the peer's max-frame-size, nor than 512 bytes before its Open (part 2, 2.4.1, 2.7.1): where `most`
-    /// is that, something is taken whenever something is queued.
+    /// They are none where nothing is queued, and where the first alone is longer than `most`: it stays queued. No
+    /// frame is longer than the peer's max-frame-size, nor than 512 bytes before its Open (part 2, 2.4.1, 2.7.1): where
+    /// `most` is that, something is taken whenever something is queued.
     ///
     /// `Memory` where there is no memory. A refusal changes nothing: `out` holds what it held.
     pub fn pull_into(&mut self, out: &mut Vec<u8>, most: usize) -> Result<usize, EndpointError>

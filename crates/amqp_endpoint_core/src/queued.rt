@@ -1,6 +1,7 @@
 ghost use Rattle.std.specs.Prelude.{◌≡◌, ◌+◌, ◌<◌, ◌≤◌, ◌^◌, ◌++◌, [], true, drop, length, IfErr, IfOk, MatchOption, OnErr, OnOk};
 ghost use Rattle.amqp_session_frames.specs.Cutting.{with_size};
-ghost use Rattle.amqp_endpoint_model.specs.State.{Waiting, body_of, fits, protocol_header, text_of, the_frame, the_header, waiting_of, written};
+ghost use Rattle.amqp_endpoint_model.specs.State.{Waiting, body_of, fits, protocol_header, text_of, the_frame};
+ghost use Rattle.amqp_endpoint_model.specs.State.{the_header, waiting_of, written};
 ghost use Rattle.amqp_endpoint_model.specs.declared.error.EndpointError.TheVariants.{Memory};
 ghost use Rattle.amqp_endpoint_core.specs.Queue.{AllWithin, AppendedIn, IsFirst, IsWithin, frames_waiting};
 ghost use Rattle.std.specs.VecDeque.{deque_capacity, deque_len};

@@ -1,5 +1,6 @@
 -- How a link is closed where it is, and what is told then.
-use Rattle.std.proofs.Common.{◌≡◌, ℕ, ◌≤◌, ◌<◌, Bool, true, List, [], ◌∷◌, ◌++◌, Option, Some, None, Result, Ok, Err, refl}
+use Rattle.std.proofs.Common.{◌≡◌, ℕ, ◌≤◌, ◌<◌, Bool, true, List, [], ◌∷◌, ◌++◌, Option, Some, None, Result, Ok, Err}
+use Rattle.std.proofs.Common.{refl}
 use Rattle.std.proofs.Common.{ap, length, sym, subst, ◌∙◌, append-nil}
 use Rattle.std.specs.Prelude.{◌^◌, All, IfOk, OnErr, drop, option_map, option_to_list}
 use Rattle.std.specs.Global.{Box}
@@ -37,7 +38,8 @@ use Rattle.amqp_endpoint_talk.proofs.Calls.{changed-goes}
 use Rattle.amqp_endpoint_talk.proofs.Goings.{read-behind}
 use Rattle.amqp_endpoint_attached.specs.Detaching.{DetachGiven, own_detach}
 use Rattle.amqp_endpoint_attached.specs.Linked.{Linked, LinksIn, end_at, gives}
-use Rattle.amqp_endpoint_outcomes.specs.All.{AreCopies, TellsFirst, TellsIn, behind_told, first_told, open_count, told_by}
+use Rattle.amqp_endpoint_outcomes.specs.All.{AreCopies, TellsFirst, TellsIn, behind_told, first_told, open_count}
+use Rattle.amqp_endpoint_outcomes.specs.All.{told_by}
 use Rattle.amqp_endpoint_link_calls.specs.Calling.{DoneIn}
 use Rattle.amqp_endpoint_link_calls.specs.Closing.{ClosedAt, ClosedBy, ClosesTelling, ForgetsRest, closed_end, closes}
 use Rattle.amqp_endpoint_link_calls.specs.Places.{LinksBy, LinkTalk, Where}

@@ -53,8 +53,8 @@ abbrev pub closes : List Event → Does
 closes events handle before frames after = ClosesTelling events handle before frames after
 
 -- in its session, with what was to be sent before
-pub record ClosedBy (events : List Event) (handle : OutputHandle) (old : Linked) (out : List SessionFrame) (new : Linked)
-    (out_new : List SessionFrame) : Type 0 where
+pub record ClosedBy (events : List Event) (handle : OutputHandle) (old : Linked) (out : List SessionFrame)
+    (new : Linked) (out_new : List SessionFrame) : Type 0 where
   pub frames : List SessionFrame
   pub closed : ClosesTelling events handle old frames new
   pub added : out_new ≡ out ++ frames

@@ -1,5 +1,6 @@
 //! How a link is closed, by its number (part 2, 2.6.6).
-ghost use Rattle.std.specs.Prelude.{◌≡◌, ◌+◌, ◌≤◌, ◌++◌, ℕ, true, false, IfErr, IfOk, None, OnErr, OnOk, Some, option_map};
+ghost use Rattle.std.specs.Prelude.{◌≡◌, ◌+◌, ◌≤◌, ◌++◌, ℕ, true, false, IfErr, IfOk, None, OnErr, OnOk, Some};
+ghost use Rattle.std.specs.Prelude.{option_map};
 ghost use Rattle.std.specs.Vec.{vec_capacity, vec_len};
 ghost use Rattle.amqp_endpoint_names.specs.State.{place_at, rest_at};
 ghost use Rattle.amqp_endpoint_names.specs.declared.place.LinkPlace.TheVariants.{AtRest};
@@ -30,10 +31,10 @@ use std::alloc::Global;
 use std::collections::VecDeque;
 
 /// Closes the link with this number for good (part 2, 2.6.6), and answers the outcomes of the messages that end by
-/// that: of each that is open, in the order in which they were sent, that its link's state has become illegal. Where the
-/// link is attached its own closing Detach, without an error, is handed out, or waits behind what the link has waiting
-/// (part 2, 2.7.7); it fits each limit that a peer may set (part 2, 2.4.1). The link is held by its session until the
-/// peer's Detach comes. A link that is at rest is unknown from now on, and nothing is handed out.
+/// that: of each that is open, in the order in which they were sent, that its link's state has become illegal. Where
+/// the link is attached its own closing Detach, without an error, is handed out, or waits behind what the link has
+/// waiting (part 2, 2.7.7); it fits each limit that a peer may set (part 2, 2.4.1). The link is held by its session
+/// until the peer's Detach comes. A link that is at rest is unknown from now on, and nothing is handed out.
 ///
 /// It is refused, in this order, with `UnknownLink` exactly where no link has the number, with `IllegalState` exactly
 /// where a session holds the link and it isn't attached there, and with `Memory`. Nothing changes then. A link at rest

@@ -236,7 +236,8 @@ module _ (limit : ℕ) (old : Talk) (channel : IncomingChannel) (out : List Sess
 
 module _ (limit : ℕ) (old : Talk) (channel : IncomingChannel) (out : List SessionFrame) (it : Disposition) where
   stands-so : (heard : LinkHeard) (ready : Option Ready) (mid : Talk) (out_mid : List SessionFrame)
-      → Prepares limit old channel it ready → Answered gives old out channel (said.Disposition it) (Ok heard) mid out_mid
+      → Prepares limit old channel it ready
+      → Answered gives old out channel (said.Disposition it) (Ok heard) mid out_mid
       → StandsFor limit mid (runs_of heard) ready
   stands-so (Live session (taken.Disposition back runs)) (Some ready) mid out_mid p t =
       serves limit old channel out it back session runs mid out_mid t ready p

@@ -11,7 +11,8 @@ ghost use Rattle.amqp_endpoint_linking.specs.Handed.{Tells};
 ghost use Rattle.amqp_endpoint_sessions.specs.State.{live_at};
 ghost use Rattle.amqp_endpoint_linking.specs.Linking.{Session};
 ghost use Rattle.amqp_endpoint_link_hearing.specs.Detaching.{HearsDetach, detached_told, ending};
-ghost use Rattle.amqp_endpoint_link_hearing.specs.Leaves.{LeavesBy, LinkLeaves, Prepares, ReadyFor, StandsFor, told_most};
+ghost use Rattle.amqp_endpoint_link_hearing.specs.Leaves.{LeavesBy, LinkLeaves, Prepares, ReadyFor, StandsFor};
+ghost use Rattle.amqp_endpoint_link_hearing.specs.Leaves.{told_most};
 ghost use Rattle.amqp_endpoint_link_hearing.specs.Leaving.{HasPlace};
 ghost use Rattle.amqp_endpoint_link_hearing.specs.Naming.{link_of};
 ghost use Rattle.amqp_endpoint_link_hearing.specs.Saying.{RefusesSaid};
@@ -52,11 +53,11 @@ struct Ready {
 /// peer's handle reaches is answered, where its own Detach hadn't gone, by one that closes it as the peer's does: it
 /// is handed out, or waits behind what the link has waiting, and repeats the peer's error where a frame of 512 bytes
 /// holds it. The link leaves its session, where nothing of it waits there, and is at rest; where either end closed
-/// it, it is unknown from then on. `Detached` is told, and behind it, where the peer closes a sending link, the `Outcome`
-/// of each of its open messages, in the order in which they were sent: that the peer closed the link, with a copy of the
-/// error or without one. A link that the peer asks for is asked for no longer, and
-/// nothing is told; nor is it in a session that is ending. A session that refuses it ends by its fault: its End is
-/// handed out, its links are given back, and `Refused` is told.
+/// it, it is unknown from then on. `Detached` is told, and behind it, where the peer closes a sending link, the
+/// `Outcome` of each of its open messages, in the order in which they were sent: that the peer closed the link, with a
+/// copy of the error or without one. A link that the peer asks for is asked for no longer, and nothing is told; nor is
+/// it in a session that is ending. A session that refuses it ends by its fault: its End is handed out, its links are
+/// given back, and `Refused` is told.
 ///
 /// It ends the connection with `Connection` of `NotFound` where the channel reaches no session, with `Session` where
 /// one refuses it that the peer asks for, and with `Memory`. Nothing is handed out or told then, and no link is given

@@ -32,7 +32,8 @@ use Rattle.amqp_endpoint_link_calls.specs.Calling.{Does, DoneIn}
 use Rattle.amqp_endpoint_link_calls.specs.Places.{LinkTalk, end_live}
 use Rattle.amqp_endpoint_link_calls.proofs.Done.{changed, done-in}
 use Rattle.amqp_endpoint_link_calls.proofs.Going.{answers-plain}
-use Rattle.amqp_endpoint_link_messages.specs.Disposing.{disposes_of_all, disposes_of_one, disposes_of_tag, disposes_of_tags}
+use Rattle.amqp_endpoint_link_messages.specs.Disposing.{disposes_of_all, disposes_of_one, disposes_of_tag}
+use Rattle.amqp_endpoint_link_messages.specs.Disposing.{disposes_of_tags}
 use Rattle.amqp_endpoint_link_messages.specs.Keeping.{kept_tag, kept_tags}
 
 abbrev LinkStep : Type 0

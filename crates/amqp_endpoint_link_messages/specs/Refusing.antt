@@ -1,5 +1,6 @@
 -- Why messages of an endpoint's links aren't disposed of: part 2, 2.6.12, 2.7.6.
-use Rattle.std.specs.Prelude.{◌≡◌, ℕ, ◌==◌, ◌||◌, ◌++◌, Bool, true, false, List, [], ◌∷◌, length, nat_le, Option, Some, None, Result, Ok, Err, if◌then◌else◌}
+use Rattle.std.specs.Prelude.{◌≡◌, ℕ, ◌==◌, ◌||◌, ◌++◌, Bool, true, false, List, [], ◌∷◌, length, nat_le, Option, Some}
+use Rattle.std.specs.Prelude.{None, Result, Ok, Err, if◌then◌else◌}
 use Rattle.amqp_session_states.specs.declared.delivery_state.DeliveryState.{DeliveryState}
 use Rattle.amqp_link_receiving.specs.Numbering.{tag_of}
 use Rattle.amqp_link_receiving.specs.declared.disposing.Disposable.{Disposable}
@@ -12,7 +13,9 @@ use Rattle.amqp_link_ends.specs.declared.end.End.TheVariants.{Receiver}
 use Rattle.amqp_endpoint_names.specs.State.{place_at}
 use Rattle.amqp_endpoint_model.specs.declared.call.Disposal.{Disposal}
 use Rattle.amqp_endpoint_model.specs.declared.error.EndpointError.{EndpointError}
-use Rattle.amqp_endpoint_model.specs.declared.error.EndpointError.TheVariants.{AlreadyDisposed, FrameTooLarge, IllegalState, Memory, NotAssociated, UnknownLink, UnknownMessage}
+use Rattle.amqp_endpoint_model.specs.declared.error.EndpointError.TheVariants.{AlreadyDisposed, FrameTooLarge}
+use Rattle.amqp_endpoint_model.specs.declared.error.EndpointError.TheVariants.{IllegalState, Memory, NotAssociated}
+use Rattle.amqp_endpoint_model.specs.declared.error.EndpointError.TheVariants.{UnknownLink, UnknownMessage}
 use Rattle.amqp_endpoint_attached.specs.Receiving.{is_receiving}
 use Rattle.amqp_endpoint_disposing.specs.Longest.{state_fits}
 use Rattle.amqp_endpoint_link_calls.specs.Places.{LinksBy, LinkTalk, Where, end_held, end_of}
@@ -38,7 +41,8 @@ disposable_under r attached (Some tag) = while_attached attached (disposable_now
 -- already
 abbrev pub disposable_behind : ReceiverState → Bool → List ℕ → ℕ → Result Disposable DisposeRefusal
 disposable_behind r attached before message =
-    if is_among message before then Err refusal.AlreadyDisposed else disposable_under r attached (tag_of r.end.unsettled message)
+    if is_among message before then Err refusal.AlreadyDisposed
+    else disposable_under r attached (tag_of r.end.unsettled message)
 
 -- a message that can't be disposed of, by its number, and why it can't
 abbrev pub Refused : Type 0

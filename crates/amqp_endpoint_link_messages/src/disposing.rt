@@ -9,7 +9,8 @@ ghost use Rattle.amqp_endpoint_talk.specs.Going.{Goes, Rests, Within};
 ghost use Rattle.amqp_endpoint_link_calls.specs.Calling.{DoneIn};
 ghost use Rattle.amqp_endpoint_link_calls.specs.Places.{end_live};
 ghost use Rattle.amqp_endpoint_link_messages.specs.Keeping.{kept_tag};
-ghost use Rattle.amqp_endpoint_link_messages.specs.Disposing.{DisposedAt, DisposedOneAt, disposes_of_all, disposes_of_one};
+ghost use Rattle.amqp_endpoint_link_messages.specs.Disposing.{DisposedAt, DisposedOneAt, disposes_of_all};
+ghost use Rattle.amqp_endpoint_link_messages.specs.Disposing.{disposes_of_one};
 ghost use Rattle.amqp_endpoint_link_messages.specs.Disposing.{disposes_of_tag, disposes_of_tags};
 ghost use Rattle.amqp_endpoint_link_messages.specs.Refusing.{BarsDisposing, refusal_of};
 

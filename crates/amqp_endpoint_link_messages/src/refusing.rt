@@ -5,7 +5,8 @@ ghost use Rattle.amqp_endpoint_sessions.specs.State.{live_at};
 ghost use Rattle.amqp_endpoint_attached.specs.Receiving.{is_receiving};
 ghost use Rattle.amqp_endpoint_link_calls.specs.Places.{end_live};
 ghost use Rattle.amqp_endpoint_link_messages.specs.Keeping.{one_keeps};
-ghost use Rattle.amqp_endpoint_link_messages.specs.Refusing.{disposable_behind, error_of, first_refused, is_among, is_told};
+ghost use Rattle.amqp_endpoint_link_messages.specs.Refusing.{disposable_behind, error_of, first_refused, is_among};
+ghost use Rattle.amqp_endpoint_link_messages.specs.Refusing.{is_told};
 ghost use Rattle.amqp_endpoint_link_messages.specs.Refusing.{of_none_kept, refusal_by, refusal_of, said_at, said_of};
 ghost use Rattle.amqp_endpoint_link_messages.specs.Refusing.{while_attached};
 

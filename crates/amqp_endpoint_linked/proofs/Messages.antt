@@ -34,7 +34,8 @@ pub sent-hands : (limit serial link : ℕ) (old new : Talk) (links : Links) (mes
     SendsMessage limit serial old links link message tag outcome frames new) out out_new
 sent-hands limit serial link old new links message key tag settled outcome out out_new keyed tagged told d =
     let by_tag : DoneAt (sends_by limit (tag_of serial) message settled) (place_at links link) old out new out_new =
-    subst (λ (k : List ℕ). DoneAt (sends_by limit k message settled) (place_at links link) old out new out_new) keyed d in
+    subst (λ (k : List ℕ). DoneAt (sends_by limit k message settled) (place_at links link) old out new out_new)
+    keyed d in
     let h = done-hands (sends_by limit (tag_of serial) message settled) old new out out_new (place_at links link) by_tag
     in
     record {

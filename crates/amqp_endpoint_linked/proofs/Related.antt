@@ -91,7 +91,8 @@ left-hands does old new out out_new place (Err e) d = tt
 
 -- a link that is closed, with its own frames
 module _ (old new : Talk) (links links_new : Links) (link : ℕ) (out out_new : List SessionFrame) where
-  pub closed-hands : (place : Where) (events : List Event) → ClosedAt place old links link out events new links_new out_new
+  pub closed-hands : (place : Where) (events : List Event)
+      → ClosedAt place old links link out events new links_new out_new
       → Hands (λ (frames : List SessionFrame). ClosedAt place old links link [] events new links_new frames) out out_new
   closed-hands None events c = absurd c
   closed-hands (Some (AtRest end)) events c =

@@ -53,7 +53,8 @@ RefusesBody old links given limit channel (body.Transfer transfer payload) e new
     RefusesTransfer old given channel transfer payload e new
 RefusesBody old links given limit channel (body.Disposition disposition) e new =
     RefusesSaid old channel (said.Disposition disposition) e new
-RefusesBody old links given limit channel (body.Detach detach) e new = RefusesSaid old channel (said.Detach detach) e new
+RefusesBody old links given limit channel (body.Detach detach) e new =
+    RefusesSaid old channel (said.Detach detach) e new
 RefusesBody old links given limit channel (body.End end) e new = RefusesEnd old channel end e new
 RefusesBody old links given limit channel other e new = ⊥
 

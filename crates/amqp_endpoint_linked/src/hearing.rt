@@ -21,8 +21,8 @@ use amqp_session_types::{Boxed, IncomingChannel};
 use std::alloc::Global;
 use std::collections::VecDeque;
 
-/// Takes a frame of the peer that is neither Open nor Close, by the function that is for its performative. `given` counts
-/// the messages that are handed out; no frame that is handed out is longer than `limit` bytes.
+/// Takes a frame of the peer that is neither Open nor Close, by the function that is for its performative. `given`
+/// counts the messages that are handed out; no frame that is handed out is longer than `limit` bytes.
 ///
 /// It ends the connection as that function says. Nothing is handed out or told then, and no link changes.
 #[inline(never)]

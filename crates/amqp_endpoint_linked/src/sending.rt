@@ -19,8 +19,8 @@ use std::collections::VecDeque;
 /// Sends a message by the link with this number, and answers the tag of its delivery, and that it is accepted where it
 /// went settled (part 2, 2.6.12, 2.7.5, 2.8.7). `sent` counts the messages that the endpoint accepted.
 ///
-/// It is refused as `amqp_endpoint_link_messages::send` is, before that with `NumbersUsedUp` where the endpoint accepted
-/// 2^64 - 1 messages, and with `Memory` where there is none for the tag. Nothing changes then.
+/// It is refused as `amqp_endpoint_link_messages::send` is, before that with `NumbersUsedUp` where the endpoint
+/// accepted 2^64 - 1 messages, and with `Memory` where there is none for the tag. Nothing changes then.
 pub(crate) fn send(
     talk: &mut Conversation<Numbered<LinkEnd>>,
     links: &Links<LinkEnd>,

@@ -282,8 +282,8 @@ pub trait SessionRelay: Drop {
         ensures idle { does.idle self.old → does.idle self.new }
         ensures still { StandsStill (does.connection self.old) (does.connection self.new) };
 
-    /// Sends a message by the link with this number: all of its transfers are taken or none. What the peer's window lets
-    /// leave of them is handed out, and the rest waits. Answers the tag of its delivery (part 2, 2.6.12, 2.6.14).
+    /// Sends a message by the link with this number: all of its transfers are taken or none. What the peer's window
+    /// lets leave of them is handed out, and the rest waits. Answers the tag of its delivery (part 2, 2.6.12, 2.6.14).
     fn send(
         &mut self,
         alloc: Global,

@@ -1,5 +1,6 @@
 -- What goes back to a receiver that settles once the sender did: part 2, 2.6.12, 2.7.6, 2.8.3.
-use Rattle.std.specs.Prelude.{◌≡◌, ◌≤◌, ℕ, ◌-◌, ◌^◌, List, map, length, All, Bool, true, false, Option, Some, None, if◌then◌else◌}
+use Rattle.std.specs.Prelude.{◌≡◌, ◌≤◌, ℕ, ◌-◌, ◌^◌, List, map, length, All, Bool, true, false, Option, Some, None}
+use Rattle.std.specs.Prelude.{if◌then◌else◌}
 use Rattle.amqp_session_types.specs.declared.modes.Role.TheVariants.{Sender}
 use Rattle.amqp_session_states.specs.declared.delivery_state.DeliveryState.{DeliveryState}
 use Rattle.amqp_session_performatives.specs.declared.disposition.Disposition.{Disposition}
@@ -10,7 +11,8 @@ use Rattle.amqp_endpoint_disposing.specs.Sending.{SendsEach, frames_of}
 use Rattle.amqp_endpoint_attached.specs.Linked.{Linked, gives}
 use Rattle.amqp_endpoint_outcomes.specs.declared.echoing.Echoes.{Echoes}
 
--- The sender settles a run of deliveries, of which its first and its last number are said, and tells this state of them.
+-- The sender settles a run of deliveries, of which its first and its last number are said, and tells this state of
+-- them.
 abbrev pub echo : Option DeliveryState → ℕ × ℕ → Disposition
 echo state run =
     record {

@@ -12,8 +12,8 @@ use Rattle.amqp_endpoint_attached.specs.Linked.{LinksIn}
 use Rattle.amqp_endpoint_model.specs.declared.event.Event.{Event}
 use Rattle.amqp_endpoint_outcomes.specs.Told.{outcome_told}
 
--- Of the messages that ended and weren't told yet, the link with this number tells the one that ended first, if there is
--- one. That the peer closed the link with an error is told as that it closed it: no disposition ends a message so.
+-- Of the messages that ended and weren't told yet, the link with this number tells the one that ended first, if there
+-- is one. That the peer closed the link with an error is told as that it closed it: no disposition ends a message so.
 abbrev pub first_told : ℕ → List (List ℕ × Resolution) → List Event
 first_told number [] = []
 first_told number (message ∷ rest) = outcome_told number message.0 (send_result None message.1)

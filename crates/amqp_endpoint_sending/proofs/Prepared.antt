@@ -1,5 +1,6 @@
 -- A link to which nothing speaks against a message.
-use Rattle.std.proofs.Common.{◌≡◌, ℕ, zero, suc, ◌<◌, List, Bool, true, false, Option, Some, None, Result, refl, sym, ap}
+use Rattle.std.proofs.Common.{◌≡◌, ℕ, zero, suc, ◌<◌, List, Bool, true, false, Option, Some, None, Result, refl, sym}
+use Rattle.std.proofs.Common.{ap}
 use Rattle.std.proofs.Common.{arith, subst, ◌∙◌, length}
 use Rattle.std.specs.Prelude.{IfErr, IfOk, is_some, not, ◌||◌, ◌==◌, if◌then◌else◌}
 use Rattle.amqp_session_types.specs.declared.handles.OutputHandle.{OutputHandle}

@@ -69,7 +69,8 @@ pub half_listed : listed_as (Half (1 ∷ 2 ∷ 3 ∷ []))
 half_listed = refl
 
 abbrev message : WholeMessage
-message = record { payload = 1 ∷ 2 ∷ []; state = None; number = 9; attachment = 0; rcv_settle_mode = None; message = None }
+message =
+    record { payload = 1 ∷ 2 ∷ []; state = None; number = 9; attachment = 0; rcv_settle_mode = None; message = None }
 
 pub whole_listed : listed_as (Whole message) ≡ Some (Received (record { section_number = 0; section_offset = 2 }))
 whole_listed = refl

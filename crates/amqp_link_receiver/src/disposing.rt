@@ -1,7 +1,8 @@
 //! How a receiving link disposes of deliveries (part 2, 2.6.12, 2.7.6 and 2.8.3).
 ghost use Rattle.std.specs.Prelude.{◌≡◌, option_copied};
 ghost use Rattle.amqp_link_receiving.specs.Numbering.{tag_of};
-ghost use Rattle.amqp_link_receiver.specs.Disposing.{Disposes, disposable_now, disposition_of, is_settled, message_numbered, settles_at_once};
+ghost use Rattle.amqp_link_receiver.specs.Disposing.{Disposes, disposable_now, disposition_of, is_settled};
+ghost use Rattle.amqp_link_receiver.specs.Disposing.{message_numbered, settles_at_once};
 
 use crate::link::ReceiverLink;
 use amqp_link_receiving::{Disposable, DisposeRefusal};
@@ -83,8 +84,8 @@ impl ReceiverLink {
 }
 
 impl ReceiverLink {
-    /// The message with a tag bears this number of its owner's from now on, where it has come whole and is unsettled. It
-    /// takes no memory.
+    /// The message with a tag bears this number of its owner's from now on, where it has come whole and is unsettled.
+    /// It takes no memory.
     pub fn number_message(&mut self, alloc: Global, tag: &DeliveryTag, message: u64)
         ensures { self.new ≡ message_numbered self.old tag.now message }
     {

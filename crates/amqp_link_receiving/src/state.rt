@@ -248,8 +248,8 @@ impl ReceivingEnd {
         tell(alloc, &mut self.unsettled, tag, state);
     }
 
-    /// The message with a tag bears this number of its owner's from now on, where it has come whole and is unsettled. It
-    /// takes no memory.
+    /// The message with a tag bears this number of its owner's from now on, where it has come whole and is unsettled.
+    /// It takes no memory.
     pub fn number_message(&mut self, alloc: Global, tag: &DeliveryTag, message: u64)
         ensures { self.new ≡ record self.old { unsettled = message_named self.old.unsettled tag.now message } }
     {

@@ -1,7 +1,8 @@
 //! How an attachment of a sending link ends (part 2, 2.6.4 to 2.6.6).
 ghost use Rattle.std.specs.Prelude.{◌≡◌, OnOk, OnErr};
 ghost use Rattle.amqp_link_sender.specs.Sending.{MovesLink};
-ghost use Rattle.amqp_link_sender.specs.Ending.{broken, closed_at_rest, TakesDetach, detach_sent, detach_taken, ended, why_closed, given_error, error_kept};
+ghost use Rattle.amqp_link_sender.specs.Ending.{broken, closed_at_rest, TakesDetach, detach_sent, detach_taken, ended};
+ghost use Rattle.amqp_link_sender.specs.Ending.{why_closed, given_error, error_kept};
 
 use crate::link::SenderLink;
 use amqp_link_base::{Detached, IllegalState};
@@ -87,8 +88,8 @@ impl SenderLink {
         end(&mut self.messages, closed, Failure::Closed);
     }
 
-    /// The link is closed while it is at rest, without a frame: its open messages end without an outcome (part 2, 2.6.6).
-    /// It takes no memory.
+    /// The link is closed while it is at rest, without a frame: its open messages end without an outcome (part 2,
+    /// 2.6.6). It takes no memory.
     pub fn close_at_rest(&mut self)
         ensures { self.new ≡ closed_at_rest self.old }
     {

@@ -91,10 +91,11 @@ impl SenderLink {
         self.messages.room()
     }
 
-    /// Gives up room that was made for messages: so many more at most are sure to find room then. With the room of before
-    /// it takes a message back that was made ready and isn't sent. It takes no memory.
+    /// Gives up room that was made for messages: so many more at most are sure to find room then. With the room of
+    /// before it takes a message back that was made ready and isn't sent. It takes no memory.
     pub fn lower_room(&mut self, room: usize)
-        ensures { self.new ≡ record self.old { messages = record self.old.messages { room = min self.old.messages.room room } } }
+        ensures { self.new
+            ≡ record self.old { messages = record self.old.messages { room = min self.old.messages.room room } } }
     {
         self.messages.lower_room(room);
     }

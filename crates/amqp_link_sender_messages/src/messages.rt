@@ -1,5 +1,6 @@
 //! The messages of a sending link (part 2, 2.6.12 and 2.6.13).
-ghost use Rattle.std.specs.Prelude.{◌≡◌, ℕ, List, ◌+◌, ◌-◌, ◌<◌, ◌≤◌, [], ◌∷◌, ◌++◌, length, drop, map, max, min, not, filter, is_some, None, Some, IsSome, IfNone, IfOk, OnOk, OnErr, option_copied};
+ghost use Rattle.std.specs.Prelude.{◌≡◌, ℕ, List, ◌+◌, ◌-◌, ◌<◌, ◌≤◌, [], ◌∷◌, ◌++◌, length, drop, map, max, min, not};
+ghost use Rattle.std.specs.Prelude.{filter, is_some, None, Some, IsSome, IfNone, IfOk, OnOk, OnErr, option_copied};
 ghost use Rattle.std.specs.List.{IsDistinct};
 ghost use Rattle.std.specs.Map.{keys_of, lookup, remove_entry, set_value};
 ghost use Rattle.std.specs.Option.{option_to_list};

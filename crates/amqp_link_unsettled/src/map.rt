@@ -1,5 +1,7 @@
 //! The unsettled deliveries of a link, in the order in which they were registered (part 2, 2.6.12).
-ghost use Rattle.std.specs.Prelude.{◌≡◌, ℕ, ◌==◌, ◌+◌, ◌-◌, ◌<◌, ◌≤◌, ◌^◌, List, [], ◌∷◌, ◌++◌, length, max, min, is_some, None, Some, IsSome, IfSome, IfNone, IsOk, OnOk, OnErr, option_copied, filter, reverse};
+ghost use Rattle.std.specs.Prelude.{◌≡◌, ℕ, ◌==◌, ◌+◌, ◌-◌, ◌<◌, ◌≤◌, ◌^◌, List, [], ◌∷◌, ◌++◌, length, max, min};
+ghost use Rattle.std.specs.Prelude.{is_some, None, Some, IsSome, IfSome, IfNone, IsOk, OnOk, OnErr, option_copied};
+ghost use Rattle.std.specs.Prelude.{filter, reverse};
 ghost use Rattle.std.specs.List.{IsDistinct};
 ghost use Rattle.std.specs.Map.{keys_of, lookup, remove_entry, set_value};
 ghost use Rattle.std.specs.Map.Iter.{ShowsInOrder, deref_pair};

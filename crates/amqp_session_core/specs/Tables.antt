@@ -17,7 +17,8 @@ unless_to link (Some to) = if to == link then None else Some to
 
 -- each handle of the peer that leads to a link is the one that is noted for the link, unless several led to one once
 abbrev pub IsSole : RouteTable → RouteTable → Bool → Type 0
-IsSole handles leads several = several ≡ false → (handle link : ℕ) → map.get handles handle ≡ Some link → map.get leads link ≡ Some handle
+IsSole handles leads several =
+    several ≡ false → (handle link : ℕ) → map.get handles handle ≡ Some link → map.get leads link ≡ Some handle
 
 -- the handle that is noted for a link doesn't lead to it
 abbrev pub LeadsNowhere : RouteTable → RouteTable → ℕ → Type 0

@@ -78,8 +78,8 @@ impl Handles {
 #[derive(Debug, Drop)]
 pub(crate) struct Routes {
     handles: Handles,
-    /// The peer's handle that leads to a link, by the own one, where one alone does. What no handle leads to any more may
-    /// stand here too.
+    /// The peer's handle that leads to a link, by the own one, where one alone does. What no handle leads to any more
+    /// may stand here too.
     leads: Handles,
     /// Whether several of the peer's handles led to one link once. Then `leads` tells nothing.
     has_several: bool,

@@ -1,24 +1,29 @@
 //! Sessions and links, each with its halves at both ends.
+ghost use Rattle.std.specs.Prelude.{◌≡◌, ◌≢◌, false, if◌then◌else◌};
+ghost use Rattle.amqp_soak.specs.Ends.{at_end, settled_by};
+
 use crate::side::Side;
 
 /// A session between the two ends.
 #[derive(Debug, Clone, Copy, PartialEq, Eq)]
-pub struct SessionPair {
+pub(crate) struct SessionPair {
     /// Its number at `a`.
-    pub at_a: u64,
+    pub(crate) at_a: u64,
     /// Its number at `b`.
-    pub at_b: u64,
+    pub(crate) at_b: u64,
     /// The channel on which `a` sends.
-    pub channel_a: u32,
+    pub(crate) channel_a: u32,
     /// The channel on which `b` sends.
-    pub channel_b: u32,
+    pub(crate) channel_b: u32,
     /// Whether it has begun and not ended.
-    pub is_open: bool,
+    pub(crate) is_open: bool,
 }
 
 impl SessionPair {
     /// Its number at an end.
-    pub fn at(&self, side: Side) -> u64 {
+    pub(crate) fn at(&self, side: Side) -> u64
+        ensures { result ≡ at_end side self.now.at_a self.now.at_b }
+    {
         match side {
             Side::A => self.at_a,
             Side::B => self.at_b,
@@ -28,7 +33,7 @@ impl SessionPair {
 
 /// How far a link is.
 #[derive(Debug, Clone, Copy, PartialEq, Eq)]
-pub enum Phase {
+pub(crate) enum Phase {
     /// Attached at both ends.
     Live,
     /// Detached at both ends.
@@ -39,32 +44,34 @@ pub enum Phase {
 
 /// A link between the two ends.
 #[derive(Debug, Clone, Copy, PartialEq, Eq)]
-pub struct LinkPair {
+pub(crate) struct LinkPair {
     /// Its name is `link` and this number.
-    pub name: u32,
+    pub(crate) name: u32,
     /// The place of its session among the sessions.
-    pub session: usize,
+    pub(crate) session: usize,
     /// The end that sends.
-    pub sender: Side,
+    pub(crate) sender: Side,
     /// How it settles its messages.
-    pub mode: &'static str,
+    pub(crate) mode: &'static str,
     /// Its number at `a`.
-    pub at_a: u64,
+    pub(crate) at_a: u64,
     /// Its number at `b`.
-    pub at_b: u64,
+    pub(crate) at_b: u64,
     /// How many messages its sender may still send, as it was told.
-    pub credit: u32,
+    pub(crate) credit: u32,
     /// At most this credit is left at its receiver.
-    pub granted: u32,
+    pub(crate) granted: u32,
     /// Whether its sender isn't told yet of the credit that was granted last.
-    pub is_untold: bool,
+    pub(crate) is_untold: bool,
     /// How far it is.
-    pub phase: Phase,
+    pub(crate) phase: Phase,
 }
 
 impl LinkPair {
     /// Its number at an end.
-    pub fn at(&self, side: Side) -> u64 {
+    pub(crate) fn at(&self, side: Side) -> u64
+        ensures { result ≡ at_end side self.now.at_a self.now.at_b }
+    {
         match side {
             Side::A => self.at_a,
             Side::B => self.at_b,
@@ -72,7 +79,12 @@ impl LinkPair {
     }
 
     /// Its sender is told of its credit.
-    pub fn tell(&mut self) {
+    pub(crate) fn tell(&mut self)
+        ensures { self.new
+            ≡ (if self.old.is_untold
+            then record self.old { credit = self.old.granted; is_untold = false }
+            else self.old) }
+    {
         if self.is_untold {
             self.credit = self.granted;
             self.is_untold = false;
@@ -80,7 +92,9 @@ impl LinkPair {
     }
 
     /// Whether a message goes settled that is sent so.
-    pub fn settles(&self, is_settled: bool) -> bool {
+    pub(crate) fn settles(&self, is_settled: bool) -> bool
+        ensures { result ≡ settled_by self.now.mode.now is_settled }
+    {
         match self.mode {
             "settled" => true,
             "unsettled" => false,
@@ -89,7 +103,9 @@ impl LinkPair {
     }
 
     /// The end that receives.
-    pub fn receiver(&self) -> Side {
+    pub(crate) fn receiver(&self) -> Side
+        ensures { result ≢ self.now.sender }
+    {
         self.sender.other()
     }
 }

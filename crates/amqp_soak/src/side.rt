@@ -1,9 +1,10 @@
 //! The two ends.
-ghost use Rattle.std.specs.Prelude.{◌≢◌};
+ghost use Rattle.std.specs.Prelude.{◌≡◌, ◌≢◌};
+ghost use Rattle.amqp_soak.specs.Ends.{letter_of};
 
 /// One of the two ends.
 #[derive(Debug, Clone, Copy, PartialEq, Eq)]
-pub enum Side {
+pub(crate) enum Side {
     /// The end `a`.
     A,
     /// The end `b`.
@@ -12,7 +13,9 @@ pub enum Side {
 
 impl Side {
     /// The word that names the end.
-    pub fn letter(self) -> &'static str {
+    pub(crate) fn letter(self) -> &'static str
+        ensures { result.now ≡ letter_of self }
+    {
         match self {
             Side::A => "a",
             Side::B => "b",
@@ -20,7 +23,7 @@ impl Side {
     }
 
     /// Its peer.
-    pub fn other(self) -> Side
+    pub(crate) fn other(self) -> Side
         ensures { result ≢ self }
     {
         match self {

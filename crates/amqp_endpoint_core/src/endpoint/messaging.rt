@@ -15,13 +15,14 @@ use std::alloc::Global;
 
 impl<S: SessionRelay> Endpoint<S> {
     /// Sends a message by the link with this number, as its bytes: all of its transfers are taken, or none. Those are
-    /// queued that the peer's window lets leave, and the others wait (part 2, 2.5.6, 2.6.12, 2.6.14). Answers the tag of
-    /// its delivery, which no other message of the endpoint has, and that it is accepted where it went settled.
+    /// queued that the peer's window lets leave, and the others wait (part 2, 2.5.6, 2.6.12, 2.6.14). Answers the tag
+    /// of its delivery, which no other message of the endpoint has, and that it is accepted where it went settled.
     ///
     /// `UnknownLink` where no link has the number, then `IllegalState` where it receives or isn't attached, then
-    /// `MessageTooLarge` where the message is larger than both ends allow, or has 2^32 bytes, then `CreditMissing`, then
-    /// `NumberInUse` where the number of its delivery is still unsettled, then `NumbersUsedUp`. `Memory` where there is no
-    /// memory. A refusal changes nothing. Exactly when each comes say the sessions (`bars` of their relations).
+    /// `MessageTooLarge` where the message is larger than both ends allow, or has 2^32 bytes, then `CreditMissing`,
+    /// then `NumberInUse` where the number of its delivery is still unsettled, then `NumbersUsedUp`. `Memory` where
+    /// there is no memory. A refusal changes nothing. Exactly when each comes say the sessions (`bars` of their
+    /// relations).
     pub fn send_raw(&mut self, link: u64, message: &Sending) -> Result<Sent, EndpointError>
         ensures ok { IfOk result (λ s. SessionsDo S.does self.old (Call.Send link message.now)
             (message_sent s.tag s.outcome) self.new) }
@@ -35,11 +36,11 @@ impl<S: SessionRelay> Endpoint<S> {
         Ok(sent)
     }
 
-    /// Sends a message by the link with this number, as the bytes of its sections (part 3, 3.2): as `send_raw` does. A body
-    /// that holds its bytes already shares them.
+    /// Sends a message by the link with this number, as the bytes of its sections (part 3, 3.2): as `send_raw` does. A
+    /// body that holds its bytes already shares them.
     ///
-    /// It is refused as `send_raw` is; before that with `MessageTooLarge` where a section of it is too long to be written,
-    /// and with `Memory` where there is none for its bytes. A refusal changes nothing.
+    /// It is refused as `send_raw` is; before that with `MessageTooLarge` where a section of it is too long to be
+    /// written, and with `Memory` where there is none for its bytes. A refusal changes nothing.
     pub fn send<B: WriteBody>(
         &mut self,
         link: u64,
@@ -64,8 +65,8 @@ impl<S: SessionRelay> Endpoint<S> {
     ///
     /// `UnknownLink` where no link has the number, then `IllegalState` where it sends, then `UnknownMessage` where no
     /// message has the number, or another link keeps it, then `AlreadyDisposed` where it was disposed of for good, or
-    /// settled, then `NotAssociated` where it has no delivery number in the present attachment, then `FrameTooLarge` where
-    /// the state is longer than the peer takes. `Memory` where there is no memory. A refusal changes nothing.
+    /// settled, then `NotAssociated` where it has no delivery number in the present attachment, then `FrameTooLarge`
+    /// where the state is longer than the peer takes. `Memory` where there is no memory. A refusal changes nothing.
     pub fn dispose(
         &mut self,
         link: u64,
@@ -83,8 +84,8 @@ impl<S: SessionRelay> Endpoint<S> {
     }
 
     /// Disposes of the messages with these numbers, which came by the link with that number, all of them or none: a
-    /// Disposition is queued for each run of consecutive deliveries that are settled alike (part 2, 2.6.12, 2.7.6). Of no
-    /// messages there is none.
+    /// Disposition is queued for each run of consecutive deliveries that are settled alike (part 2, 2.6.12, 2.7.6). Of
+    /// no messages there is none.
     ///
     /// It is refused as `dispose` is, for the first message that is, and with `AlreadyDisposed` for one that is named
     /// twice. A refusal changes nothing.

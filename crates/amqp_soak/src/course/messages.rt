@@ -1,4 +1,9 @@
 //! Messages: credit is given, they are sent, and disposed of.
+ghost use Rattle.std.specs.Prelude.{◌≡◌, ◌*◌, ◌<◌, ◌++◌, ℕ, List, length, codes, decimal, slice_get, slice_set};
+ghost use Rattle.std.specs.Prelude.{string_bytes, IfOk, OnOk, Some};
+ghost use Rattle.amqp_soak.specs.Ends.{at_end, one_more};
+ghost use Rattle.amqp_soak.specs.Script.{written, Grows, step_of};
+
 use crate::course::Course;
 use crate::pairs::{LinkPair, Phase};
 use crate::side::Side;
@@ -13,7 +18,9 @@ const SETTLINGS: &[&str] = &["settled", "unsettled", "mode"];
 
 impl Course {
     /// Something is done with the messages of a link, if there is one.
-    pub fn talk(&mut self) -> Result<(), AllocError> {
+    pub(crate) fn talk(&mut self) -> Result<(), AllocError>
+        ensures { OnOk result (Grows (written self.old) (written self.new)) }
+    {
         let Some(place) = self.any_link(Phase::Live)? else {
             return self.carry();
         };
@@ -27,7 +34,9 @@ impl Course {
     }
 
     /// A call that is mostly refused: of a link whatever its state, by an end whatever its role.
-    pub fn stray(&mut self) -> Result<(), AllocError> {
+    pub(crate) fn stray(&mut self) -> Result<(), AllocError>
+        ensures { OnOk result (Grows (written self.old) (written self.new)) }
+    {
         let phase = self.dice.of(&[Phase::Live, Phase::Resting, Phase::Closed]);
         let Some(place) = self.any_link(phase.unwrap_or(Phase::Closed))? else {
             return Ok(());
@@ -39,7 +48,9 @@ impl Course {
         }
     }
 
-    fn send_astray(&mut self, place: usize) -> Result<(), AllocError> {
+    fn send_astray(&mut self, place: usize) -> Result<(), AllocError>
+        ensures { OnOk result (Grows (written self.old) (written self.new)) }
+    {
         let Some(link) = self.links.get(place).copied() else {
             return Ok(());
         };
@@ -49,7 +60,9 @@ impl Course {
         self.say_send(&link, false, 5)
     }
 
-    fn dispose_astray(&mut self, place: usize) -> Result<(), AllocError> {
+    fn dispose_astray(&mut self, place: usize) -> Result<(), AllocError>
+        ensures { OnOk result (Grows (written self.old) (written self.new)) }
+    {
         let Some(link) = self.links.get(place).copied() else {
             return Ok(());
         };
@@ -60,7 +73,9 @@ impl Course {
         self.say(side, call)
     }
 
-    fn ask_waiting(&mut self, place: usize) -> Result<(), AllocError> {
+    fn ask_waiting(&mut self, place: usize) -> Result<(), AllocError>
+        ensures { OnOk result (Grows (written self.old) (written self.new)) }
+    {
         let Some(link) = self.links.get(place).copied() else {
             return Ok(());
         };
@@ -71,7 +86,9 @@ impl Course {
     }
 
     /// Gives credit, or has the sender be told of what was given.
-    fn give_credit(&mut self, place: usize, link: &LinkPair) -> Result<(), AllocError> {
+    fn give_credit(&mut self, place: usize, link: &LinkPair) -> Result<(), AllocError>
+        ensures { OnOk result (Grows (written self.old) (written self.new)) }
+    {
         if link.is_untold {
             return self.move_all(link.receiver());
         }
@@ -79,7 +96,9 @@ impl Course {
     }
 
     /// Gives credit, mostly no less than was left.
-    fn grant(&mut self, place: usize) -> Result<(), AllocError> {
+    fn grant(&mut self, place: usize) -> Result<(), AllocError>
+        ensures { OnOk result (Grows (written self.old) (written self.new)) }
+    {
         let is_less = self.dice.one_in(30);
         let more = self.dice.below(8);
         let Some(link) = self.links.get_mut(place) else {
@@ -97,7 +116,9 @@ impl Course {
     }
 
     /// Has the sender use the credit up.
-    fn drain(&mut self, place: usize) -> Result<(), AllocError> {
+    fn drain(&mut self, place: usize) -> Result<(), AllocError>
+        ensures { OnOk result (Grows (written self.old) (written self.new)) }
+    {
         let Some(link) = self.links.get_mut(place) else {
             return Ok(());
         };
@@ -107,13 +128,22 @@ impl Course {
         self.say_drain(side, number)
     }
 
-    fn say_drain(&mut self, side: Side, number: u64) -> Result<(), AllocError> {
+    fn say_drain(&mut self, side: Side, number: u64) -> Result<(), AllocError>
+        ensures line { OnOk result (written self.new
+            ≡ written self.old ++ step_of side (codes "drain " ++ decimal number)) }
+        ensures kept { OnOk result (self.new ≡ record self.old {
+          text = self.new.text;
+          steps = one_more self.old.steps;
+        }) }
+    {
         let call = format!(in self.alloc; "drain {number}")?;
         self.say(side, call)
     }
 
     /// Sends a message, or gives credit where there is none.
-    fn send(&mut self, place: usize) -> Result<(), AllocError> {
+    fn send(&mut self, place: usize) -> Result<(), AllocError>
+        ensures { OnOk result (Grows (written self.old) (written self.new)) }
+    {
         let Some(link) = self.links.get(place).copied() else {
             return Ok(());
         };
@@ -134,14 +164,20 @@ impl Course {
         self.standing(link.receiver()).expect(coming, size)
     }
 
-    fn set_credit(&mut self, place: usize, credit: u32) {
+    fn set_credit(&mut self, place: usize, credit: u32)
+        ensures credit { (link : LinkPair) → slice_get self.old.links.items place ≡ Some link
+            → self.new.links.items ≡ slice_set self.old.links.items place (record link { credit = credit }) }
+        ensures kept { self.new ≡ record self.old { links = self.new.links } }
+    {
         if let Some(link) = self.links.get_mut(place) {
             link.credit = credit;
         }
     }
 
     /// The size of a message to an end: none, little, about a frame, or several frames.
-    fn size_to(&mut self, side: Side) -> u32 {
+    fn size_to(&mut self, side: Side) -> u32
+        ensures { self.new ≡ record self.old { dice = self.new.dice } }
+    {
         let limit = self.standing(side).limit;
         match self.dice.below(10) {
             0 => 0,
@@ -151,7 +187,10 @@ impl Course {
         }
     }
 
-    fn say_send(&mut self, link: &LinkPair, is_settled: bool, size: u32) -> Result<(), AllocError> {
+    fn say_send(&mut self, link: &LinkPair, is_settled: bool, size: u32) -> Result<(), AllocError>
+        ensures { OnOk result ((call : List ℕ)
+            × (written self.new ≡ written self.old ++ step_of link.now.sender (codes "send " ++ call))) }
+    {
         let number = link.at(link.sender);
         let word = if is_settled { "settled" } else { "unsettled" };
         let payload = self.payload(size)?;
@@ -160,7 +199,11 @@ impl Course {
     }
 
     /// Random bytes, as a script has them.
-    fn payload(&mut self, size: u32) -> Result<String, AllocError> {
+    fn payload(&mut self, size: u32) -> Result<String, AllocError>
+        ensures kept { self.new ≡ record self.old { dice = self.new.dice } }
+        ensures none { size ≡ 0 → IfOk result (λ text. string_bytes text ≡ codes "-") }
+        ensures some { 0 < size → IfOk result (λ text. length (string_bytes text) ≡ 2 * size) }
+    {
         if size == 0 {
             return String::from_str(self.alloc, "-");
         }
@@ -172,7 +215,9 @@ impl Course {
     }
 
     /// Disposes of a message that came by the link's receiving end, or tries a number.
-    fn dispose(&mut self, place: usize) -> Result<(), AllocError> {
+    fn dispose(&mut self, place: usize) -> Result<(), AllocError>
+        ensures { OnOk result (Grows (written self.old) (written self.new)) }
+    {
         let Some(link) = self.links.get(place).copied() else {
             return Ok(());
         };
@@ -189,7 +234,9 @@ impl Course {
     }
 
     /// One of the messages that came by a link and are open, or any other at times.
-    fn open_message(&mut self, side: Side, link: u64) -> Result<Option<usize>, AllocError> {
+    fn open_message(&mut self, side: Side, link: u64) -> Result<Option<usize>, AllocError>
+        ensures { self.new ≡ record self.old { dice = self.new.dice } }
+    {
         let mut open = Vec::new(self.alloc);
         let is_any = self.dice.one_in(20);
         for (number, message) in self.standing(side).came.iter().enumerate() {
@@ -200,7 +247,9 @@ impl Course {
         Ok(self.dice.of(open.as_slice()))
     }
 
-    fn set_disposed(&mut self, side: Side, number: usize) {
+    fn set_disposed(&mut self, side: Side, number: usize)
+        ensures { written self.new ≡ written self.old }
+    {
         if let Some(message) = self.standing(side).came.get_mut(number) {
             message.is_open = false;
         }

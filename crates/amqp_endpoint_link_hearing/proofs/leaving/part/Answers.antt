@@ -35,8 +35,8 @@ returns-clause-parted c =
 
 pub returns-clause-goes : goal.returns-clause-goes
 returns-clause-goes c limit least =
-    parted-goes c.args.talk.now c.args.session c.args.handle c.args.count c.args.answers c.args.answer.closed c.args.answer.error
-    c.tell_and_part-left.result
+    parted-goes c.args.talk.now c.args.session c.args.handle c.args.count c.args.answers c.args.answer.closed
+    c.args.answer.error c.tell_and_part-left.result
     (behind-talk c.args.talk.now c.args.session c.in-Some.session.now c.tell_and_part-left.new.session)
     c.args.out.now.items c.tell_and_part-left.new.out.items limit c.len-from.result c.args.answer.place
     (hands-on
@@ -49,8 +49,8 @@ returns-clause-goes c limit least =
 
 pub returns-clause-rests : goal.returns-clause-rests
 returns-clause-rests c =
-    parted-rests c.args.talk.now c.args.session c.args.handle c.args.count c.args.answers c.args.answer.closed c.args.answer.error
-    c.tell_and_part-left.result
+    parted-rests c.args.talk.now c.args.session c.args.handle c.args.count c.args.answers c.args.answer.closed
+    c.args.answer.error c.tell_and_part-left.result
     (behind-talk c.args.talk.now c.args.session c.in-Some.session.now c.tell_and_part-left.new.session)
     c.args.out.now.items c.tell_and_part-left.new.out.items
     (hands-on

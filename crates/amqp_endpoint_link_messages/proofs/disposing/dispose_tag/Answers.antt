@@ -47,7 +47,8 @@ returns-clause-goes c =
           c.dispose.new.session)
           c.args.out.now.items c.dispose.new.out.items
           (stays c.args.talk.now c.args.session c.in-Some.session.now (sym c.in-Some.ensures.value)
-          c.dispose.new.session (w.in-Err.ensures.kept.0 ∙ c.deref_mut.ensures.value)) w.in-Err.ensures.kept.1 c.args.limit
+          c.dispose.new.session (w.in-Err.ensures.kept.0 ∙ c.deref_mut.ensures.value)) w.in-Err.ensures.kept.1
+          c.args.limit
     ]
 
 pub returns-clause-waits : goal.returns-clause-waits

@@ -47,7 +47,8 @@ returns-clause-goes c =
           c.dispose_all.new.session)
           c.args.out.now.items c.dispose_all.new.out.items
           (stays c.args.talk.now c.args.session c.in-Some.session.now (sym c.in-Some.ensures.value)
-          c.dispose_all.new.session (w.in-Err.ensures.kept.0 ∙ c.deref_mut.ensures.value)) w.in-Err.ensures.kept.1 c.args.limit
+          c.dispose_all.new.session (w.in-Err.ensures.kept.0 ∙ c.deref_mut.ensures.value)) w.in-Err.ensures.kept.1
+          c.args.limit
     ]
 
 pub returns-clause-waits : goal.returns-clause-waits

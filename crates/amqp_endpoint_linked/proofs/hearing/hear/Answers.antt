@@ -15,8 +15,8 @@ returns-in-Begin-clause-ok c =
     hears-if c.args.talk.now call.new.talk c.args.links.now call.new.links c.args.given.now c.args.given.now
     c.args.limit c.args.channel c.args.body (body.Begin c.in-Begin.begin) c.args.out.now.items call.new.out.items
     c.args.events.now.items call.new.events.items
-    (λ frames events. HearsBegin c.args.talk.now c.args.links.now c.args.channel c.in-Begin.begin frames events call.new.talk call.new.links)
-    (λ frames events h. (h, refl)) c.in-Begin.is call.result call.ensures.ok
+    (λ frames events. HearsBegin c.args.talk.now c.args.links.now c.args.channel c.in-Begin.begin frames events
+    call.new.talk call.new.links) (λ frames events h. (h, refl)) c.in-Begin.is call.result call.ensures.ok
 
 pub returns-in-Begin-clause-err : goal.returns-in-Begin-clause-err
 returns-in-Begin-clause-err c =
@@ -46,8 +46,8 @@ returns-in-Attach-clause-ok c =
     hears-if c.args.talk.now call.new.talk c.args.links.now call.new.links c.args.given.now c.args.given.now
     c.args.limit c.args.channel c.args.body (body.Attach c.in-Attach.attach) c.args.out.now.items call.new.out.items
     c.args.events.now.items call.new.events.items
-    (λ frames events. AttachHeard c.args.talk.now c.args.links.now c.args.channel c.in-Attach.attach frames events call.new.talk call.new.links)
-    (λ frames events h. (h, refl)) c.in-Attach.is call.result call.ensures.ok
+    (λ frames events. AttachHeard c.args.talk.now c.args.links.now c.args.channel c.in-Attach.attach frames events
+    call.new.talk call.new.links) (λ frames events h. (h, refl)) c.in-Attach.is call.result call.ensures.ok
 
 pub returns-in-Attach-clause-err : goal.returns-in-Attach-clause-err
 returns-in-Attach-clause-err c =
@@ -77,8 +77,8 @@ returns-in-Flow-clause-ok c =
     hears-if c.args.talk.now call.new.talk c.args.links.now call.new.links c.args.given.now c.args.given.now
     c.args.limit c.args.channel c.args.body (body.Flow c.in-Flow.flow) c.args.out.now.items call.new.out.items
     c.args.events.now.items call.new.events.items
-    (λ frames events. HearsFlow c.args.talk.now c.args.links.now c.args.channel c.in-Flow.flow frames events call.new.talk call.new.links)
-    (λ frames events h. (h, refl)) c.in-Flow.is call.result call.ensures.ok
+    (λ frames events. HearsFlow c.args.talk.now c.args.links.now c.args.channel c.in-Flow.flow frames events
+    call.new.talk call.new.links) (λ frames events h. (h, refl)) c.in-Flow.is call.result call.ensures.ok
 
 pub returns-in-Flow-clause-err : goal.returns-in-Flow-clause-err
 returns-in-Flow-clause-err c =
@@ -106,10 +106,10 @@ pub returns-in-Transfer-clause-ok : goal.returns-in-Transfer-clause-ok
 returns-in-Transfer-clause-ok c =
     let call = c.hear_transfer in
     hears-if c.args.talk.now call.new.talk c.args.links.now call.new.links c.args.given.now call.new.given
-    c.args.limit c.args.channel c.args.body (body.Transfer c.in-Transfer.performative c.in-Transfer.payload) c.args.out.now.items call.new.out.items
-    c.args.events.now.items call.new.events.items
-    (λ frames events. HearsTransfer c.args.talk.now c.args.links.now c.args.given.now c.args.channel c.in-Transfer.performative c.in-Transfer.payload frames
-    events call.new.talk call.new.links call.new.given)
+    c.args.limit c.args.channel c.args.body (body.Transfer c.in-Transfer.performative c.in-Transfer.payload)
+    c.args.out.now.items call.new.out.items c.args.events.now.items call.new.events.items
+    (λ frames events. HearsTransfer c.args.talk.now c.args.links.now c.args.given.now c.args.channel
+    c.in-Transfer.performative c.in-Transfer.payload frames events call.new.talk call.new.links call.new.given)
     (λ frames events h. h) c.in-Transfer.is call.result call.ensures.ok
 
 pub returns-in-Transfer-clause-err : goal.returns-in-Transfer-clause-err
@@ -128,10 +128,10 @@ pub returns-in-Disposition-clause-ok : goal.returns-in-Disposition-clause-ok
 returns-in-Disposition-clause-ok c =
     let call = c.hear_disposition in
     hears-if c.args.talk.now call.new.talk c.args.links.now call.new.links c.args.given.now c.args.given.now
-    c.args.limit c.args.channel c.args.body (body.Disposition c.in-Disposition.disposition) c.args.out.now.items call.new.out.items
-    c.args.events.now.items call.new.events.items
-    (λ frames events. HearsDisposition c.args.talk.now c.args.links.now c.args.limit c.args.channel c.in-Disposition.disposition frames events call.new.talk
-    call.new.links)
+    c.args.limit c.args.channel c.args.body (body.Disposition c.in-Disposition.disposition) c.args.out.now.items
+    call.new.out.items c.args.events.now.items call.new.events.items
+    (λ frames events. HearsDisposition c.args.talk.now c.args.links.now c.args.limit c.args.channel
+    c.in-Disposition.disposition frames events call.new.talk call.new.links)
     (λ frames events h. (h, refl)) c.in-Disposition.is call.result call.ensures.ok
 
 pub returns-in-Disposition-clause-err : goal.returns-in-Disposition-clause-err
@@ -162,8 +162,8 @@ returns-in-Detach-clause-ok c =
     hears-if c.args.talk.now call.new.talk c.args.links.now call.new.links c.args.given.now c.args.given.now
     c.args.limit c.args.channel c.args.body (body.Detach c.in-Detach.detach) c.args.out.now.items call.new.out.items
     c.args.events.now.items call.new.events.items
-    (λ frames events. HearsDetach c.args.talk.now c.args.links.now c.args.channel c.in-Detach.detach frames events call.new.talk call.new.links)
-    (λ frames events h. (h, refl)) c.in-Detach.is call.result call.ensures.ok
+    (λ frames events. HearsDetach c.args.talk.now c.args.links.now c.args.channel c.in-Detach.detach frames events
+    call.new.talk call.new.links) (λ frames events h. (h, refl)) c.in-Detach.is call.result call.ensures.ok
 
 pub returns-in-Detach-clause-err : goal.returns-in-Detach-clause-err
 returns-in-Detach-clause-err c =
@@ -193,8 +193,8 @@ returns-in-End-clause-ok c =
     hears-if c.args.talk.now call.new.talk c.args.links.now call.new.links c.args.given.now c.args.given.now
     c.args.limit c.args.channel c.args.body (body.End c.in-End.end) c.args.out.now.items call.new.out.items
     c.args.events.now.items call.new.events.items
-    (λ frames events. TakesEnd c.args.talk.now c.args.links.now c.args.channel c.in-End.end frames events call.new.talk call.new.links)
-    (λ frames events h. (h, refl)) c.in-End.is call.result call.ensures.ok
+    (λ frames events. TakesEnd c.args.talk.now c.args.links.now c.args.channel c.in-End.end frames events call.new.talk
+    call.new.links) (λ frames events h. (h, refl)) c.in-End.is call.result call.ensures.ok
 
 pub returns-in-End-clause-err : goal.returns-in-End-clause-err
 returns-in-End-clause-err c =

@@ -7,6 +7,7 @@ use Rattle.amqp_session_core.proofs.routes.forget_lead.Goals as goal
 pub returns-then-eq : goal.returns-then-eq
 returns-then-eq c =
     let here : map.get c.args.handles.now c.in-Some.handle ≡ Some c.args.link = search rules in
-    let sole : (h : ℕ) → map.get c.args.handles.now h ≡ Some c.args.link → Some c.in-Some.handle ≡ Some h = λ h has. sym c.in-Some.is ∙ c.requires.sole h has in
-    subst (λ (t : RouteTable). (h : ℕ) → map.get t h ≡ unless_to c.args.link (map.get c.args.handles.now h)) (sym c.remove.ensures.rest)
-    (led-here c.args.handles.now c.args.link c.in-Some.handle sole here)
+    let sole : (h : ℕ) → map.get c.args.handles.now h ≡ Some c.args.link → Some c.in-Some.handle ≡ Some h =
+    λ h has. sym c.in-Some.is ∙ c.requires.sole h has in
+    subst (λ (t : RouteTable). (h : ℕ) → map.get t h ≡ unless_to c.args.link (map.get c.args.handles.now h))
+    (sym c.remove.ensures.rest) (led-here c.args.handles.now c.args.link c.in-Some.handle sole here)

@@ -37,8 +37,8 @@ returns-clause-ok g c =
     let (stands, fits, least, within, waits, idle) = c.self.invariant in
     let phase : c.self.inside.phase ≡ c.args.self.now.phase =
     ap (λ (s : State g.row.S.Denot). s.phase) c.self.view_is in
-    called g.S.SessionRelay.does c.args.self.now c.limit-limit.result (call.Dispose c.args.link c.args.message c.args.disposal.now)
-    done
+    called g.S.SessionRelay.does c.args.self.now c.limit-limit.result
+    (call.Dispose c.args.link c.args.message c.args.disposal.now) done
     c.self.inside.queue.items
     c.self.inside.out.items c.dispose.new.out.items c.self.inside.sessions c.dispose.new.self _
     (ap (λ (s : State g.row.S.Denot). s.sessions) c.self.view_is) c.limit-limit.ensures

@@ -18,17 +18,19 @@ invariant_of-self-2 g c =
     let limit_is : c.limit-limit.result ≡ limit =
     c.limit-limit.ensures ∙ ap (λ (s : State g.row.S.Denot). limit_of s.peer_limit) (sym c.self.view_is) in (
       stands_still does c.self.inside.settings c.self.inside.phase c.self.inside.phase c.self.inside.peer_limit
-          c.self.inside.peer_limit c.self.inside.sessions c.dispose_all.new.self stands c.in_ok-dispose_all.ensures.still
-          stands.agrees,
+          c.self.inside.peer_limit c.self.inside.sessions c.dispose_all.new.self stands
+          c.in_ok-dispose_all.ensures.still stands.agrees,
       fits,
       least,
       queue_called does limit c.limit-limit.result (call.DisposeAll c.args.link c.args.messages.now c.args.disposal.now)
           done
           c.self.inside.queue.items c.self.inside.out.items
-          c.dispose_all.new.out.items c.self.inside.sessions c.dispose_all.new.self limit_is c.in_ok-dispose_all.ensures.ok within,
+          c.dispose_all.new.out.items c.self.inside.sessions c.dispose_all.new.self limit_is
+          c.in_ok-dispose_all.ensures.ok within,
       wait_least does c.self.inside.phase c.self.inside.peer_limit c.self.inside.sessions c.dispose_all.new.self
           c.in_ok-dispose_all.ensures.within least waits,
-      idle_still does c.self.inside.phase c.self.inside.sessions c.dispose_all.new.self c.in_ok-dispose_all.ensures.idle idle,
+      idle_still does c.self.inside.phase c.self.inside.sessions c.dispose_all.new.self
+          c.in_ok-dispose_all.ensures.idle idle,
     )
 
 pub returns-clause-ok : goal.returns-clause-ok
@@ -37,8 +39,8 @@ returns-clause-ok g c =
     let (stands, fits, least, within, waits, idle) = c.self.invariant in
     let phase : c.self.inside.phase ≡ c.args.self.now.phase =
     ap (λ (s : State g.row.S.Denot). s.phase) c.self.view_is in
-    called g.S.SessionRelay.does c.args.self.now c.limit-limit.result (call.DisposeAll c.args.link c.args.messages.now c.args.disposal.now)
-    done
+    called g.S.SessionRelay.does c.args.self.now c.limit-limit.result
+    (call.DisposeAll c.args.link c.args.messages.now c.args.disposal.now) done
     c.self.inside.queue.items
     c.self.inside.out.items c.dispose_all.new.out.items c.self.inside.sessions c.dispose_all.new.self _
     (ap (λ (s : State g.row.S.Denot). s.sessions) c.self.view_is) c.limit-limit.ensures

@@ -13,7 +13,8 @@ returns-clause-ok c =
     let call = c.attach_sender in
     let new : LinkedSessions = record old { talk = call.new.talk; links = call.new.links } in
     called-if old new c.args.limit (AttachSender c.args.session c.args.settings.now) c.args.out.now.items
-    call.new.out.items c.requires.least c.requires.waiting call.ensures.goes (record { sent = refl; given = refl }) (λ a. attaching a.link a.events.items)
+    call.new.out.items c.requires.least c.requires.waiting call.ensures.goes (record { sent = refl; given = refl })
+    (λ a. attaching a.link a.events.items)
     (λ a frames. LinkAttached old.talk old.links c.args.limit c.args.session (sender_by c.args.settings.now) a.link
     a.events.items frames new.talk new.links)
     (λ a frames attached. attached) call.result call.ensures.ok

@@ -11,8 +11,8 @@ returns-clause-ok c =
     let old = c.args.self.now in
     let new : LinkedSessions = record old { talk = c.begin.new.talk } in
     called-if old new c.args._limit Begin c.args.out.now.items c.begin.new.out.items c.requires.least
-    c.requires.waiting (c.begin.ensures.goes c.args._limit) (record { sent = refl; given = refl }) (λ number. session_begun number)
-    (λ number frames. Begins old.talk number frames new.talk)
+    c.requires.waiting (c.begin.ensures.goes c.args._limit) (record { sent = refl; given = refl })
+    (λ number. session_begun number) (λ number frames. Begins old.talk number frames new.talk)
     (λ number frames begins. record { begins = begins; same = refl }) c.begin.result c.begin.ensures.ok
 
 pub returns-clause-within : goal.returns-clause-within

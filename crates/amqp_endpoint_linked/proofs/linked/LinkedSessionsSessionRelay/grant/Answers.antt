@@ -14,8 +14,8 @@ returns-clause-ok c =
     let new : LinkedSessions = record old { talk = call.new.talk } in
     let place = place_at old.links c.args.link in
     called-if old new c.args._limit (Grant c.args.link c.args.credit) c.args.out.now.items call.new.out.items
-    c.requires.least c.requires.waiting (call.ensures.goes c.args._limit) (record { sent = refl; given = refl }) (λ left. credit_is left)
-    (λ left frames. DoneAt (gives_credit c.args.credit left) place old.talk [] new.talk frames)
+    c.requires.least c.requires.waiting (call.ensures.goes c.args._limit) (record { sent = refl; given = refl })
+    (λ left. credit_is left) (λ left frames. DoneAt (gives_credit c.args.credit left) place old.talk [] new.talk frames)
     (λ left frames is. record { is_done = is; same = refl }) call.result
     (left-hands (gives_credit c.args.credit) old.talk new.talk c.args.out.now.items call.new.out.items place
     call.result call.ensures.ok)

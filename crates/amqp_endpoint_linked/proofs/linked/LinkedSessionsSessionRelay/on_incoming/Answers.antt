@@ -6,7 +6,8 @@ use Rattle.amqp_endpoint_linked.proofs.linked.LinkedSessionsSessionRelay.on_inco
 pub returns-clause-ok : goal.returns-clause-ok
 returns-clause-ok c =
     let old = c.args.self.now in
-    let new : LinkedSessions = record old { talk = c.hear.new.talk; links = c.hear.new.links; given = c.hear.new.given } in
+    let new : LinkedSessions =
+    record old { talk = c.hear.new.talk; links = c.hear.new.links; given = c.hear.new.given } in
     taken old new c.args.limit c.args.channel c.args.body c.args.out.now.items c.hear.new.out.items
     c.args.events.now.items c.hear.new.events.items refl c.requires.least c.requires.waiting
     (c.hear.ensures.goes c.requires.least) c.hear.result c.hear.ensures.ok
@@ -14,7 +15,8 @@ returns-clause-ok c =
 pub returns-clause-err : goal.returns-clause-err
 returns-clause-err c =
     let old = c.args.self.now in
-    let new : LinkedSessions = record old { talk = c.hear.new.talk; links = c.hear.new.links; given = c.hear.new.given } in
+    let new : LinkedSessions =
+    record old { talk = c.hear.new.talk; links = c.hear.new.links; given = c.hear.new.given } in
     refused old new c.args.limit c.args.channel c.args.body c.args.out.now.items c.hear.new.out.items
     c.args.events.now.items c.hear.new.events.items refl c.hear.result c.hear.ensures.err c.hear.ensures.kept
 

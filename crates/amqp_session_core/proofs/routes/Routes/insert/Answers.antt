@@ -14,7 +14,10 @@ invariant_of-self-2 c = λ not.
       | else-self w ↦
           let was : c.self.inside.has_several ≡ false = search rules in
           let noted : c.insert.new.self ≡ map.insert c.self.inside.leads (c.args.link).0 c.args.handle = search rules in
-          let nowhere : LeadsNowhere c.self.inside.handles c.self.inside.leads (c.args.link).0 = w.leads_to-has_several.ensures (sym w.has_several-is ∙ not) in
-          sole-tried c.self.inside.handles c.self.inside.leads c.args.handle (c.args.link).0 (subst (λ b. IsSole c.self.inside.handles c.self.inside.leads b) was c.self.invariant) nowhere
-          c.insert-2.result c.insert-2.new.self c.insert.new.self noted c.insert-2.ensures.ok c.insert-2.ensures.err refl
+          let nowhere : LeadsNowhere c.self.inside.handles c.self.inside.leads (c.args.link).0 =
+          w.leads_to-has_several.ensures (sym w.has_several-is ∙ not) in
+          sole-tried c.self.inside.handles c.self.inside.leads c.args.handle (c.args.link).0
+          (subst (λ b. IsSole c.self.inside.handles c.self.inside.leads b) was c.self.invariant) nowhere
+          c.insert-2.result c.insert-2.new.self c.insert.new.self noted c.insert-2.ensures.ok c.insert-2.ensures.err
+          refl
     ]

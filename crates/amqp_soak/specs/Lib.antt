@@ -1,0 +1,4 @@
+pub mod Choices
+pub mod Ends
+pub mod Lends
+pub mod Script
