@@ -1,12 +1,20 @@
 -- How bytes move between an endpoint and its stream.
-use Rattle.std.specs.Prelude.{◌≡◌, ℕ, ◌<◌, Bool, true, false, List, [], ◌++◌, length, take, drop, Option}
+use Rattle.std.specs.Prelude.{◌≡◌, ℕ, ◌<◌, Bool, true, false, List, [], ◌++◌, length, take, drop, Option, ⊤}
 use Rattle.std.specs.Io.KnownBytes.{Appends, Consumes}
 use Rattle.amqp_endpoint_model.specs.declared.error.EndpointError.{EndpointError}
+use Rattle.amqp_endpoint_model.specs.declared.error.EndpointError.TheVariants.{Memory}
 use Rattle.amqp_endpoint_model.specs.declared.event.Event.{Event}
 use Rattle.amqp_endpoint_model.specs.Relay.{Relations}
 use Rattle.amqp_endpoint_model.specs.State.{State}
 use Rattle.amqp_endpoint_model.specs.Step.{FeedsIn}
 use Rattle.amqp_endpoint_core.specs.Queue.{texts_of}
+use Rattle.amqp_caller.specs.declared.error.CallerError.{CallerError}
+use Rattle.amqp_caller.specs.declared.error.CallerError.TheVariants.{Endpoint, Stream}
+
+-- why writing stops: the stream refuses, or there is no memory to pull what is queued
+abbrev pub StopsWriting : CallerError → Type 0
+StopsWriting (Stream refusal) = ⊤
+StopsWriting (Endpoint refusal) = refusal ≡ Memory
 
 -- a writer took the first of these bytes, and the others are left
 pub record Writes (contents contents_new : Option (List ℕ)) (bytes bytes_new : List ℕ) : Type 0 where

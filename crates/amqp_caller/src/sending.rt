@@ -1,6 +1,6 @@
 ghost use Rattle.std.specs.Prelude.{◌≡◌, ◌<◌, [], length, IfErr, IfOk, OnOk};
 ghost use Rattle.amqp_endpoint_model.specs.declared.error.EndpointError.TheVariants.{Memory};
-ghost use Rattle.amqp_caller.specs.Moves.{PullsNext, Sends, Writes};
+ghost use Rattle.amqp_caller.specs.Moves.{PullsNext, Sends, StopsWriting, Writes};
 
 use crate::error::CallerError;
 use amqp_endpoint_core::Endpoint;
@@ -14,8 +14,9 @@ const BATCH: usize = 65536;
 /// Writes what `output` holds, and then all that the endpoint has queued, in order. It uses `output` for what was
 /// pulled and isn't written yet: a program keeps it, empty at first, for each call.
 ///
-/// `Stream` where the writer refuses, and `Endpoint` where there is no memory. No byte is lost or written twice: what
-/// isn't written stands in `output` or stays queued, and a later call goes on from there.
+/// `Stream` where the writer refuses, and `Endpoint` with `Memory`, and no other error, where there is no memory. No
+/// byte is lost or written twice, also behind an error: what isn't written stands in `output` or stays queued, and a
+/// later call goes on from there.
 #[tactic(auto, using(crate::proofs::MoveLaws::sends_held))]
 pub fn write_out<S: SessionRelay, W: Write>(
     endpoint: &mut Endpoint<S>,
@@ -25,6 +26,7 @@ pub fn write_out<S: SessionRelay, W: Write>(
     ensures sends { Sends (W.contents writer.old) (W.contents writer.new)
         endpoint.old (output.old.items) endpoint.new (output.new.items) }
     ensures all { OnOk result ((output.new.items ≡ []) × (endpoint.new.queue ≡ [])) }
+    ensures err { IfErr result (λ e. StopsWriting e) }
 {
     write_held(output, writer)?;
     while pull_next(endpoint, output)? {

@@ -1,14 +1,12 @@
 -- No Disposition that tells a state is longer than the longest.
-use Rattle.std.proofs.Common.{◌≡◌, ◌⊎◌, inl, inr, ℕ, ◌+◌, ◌-◌, ◌≤◌, ◌<◌, Bool, true, false, List, [], ◌∷◌, ◌++◌}
-use Rattle.std.proofs.Common.{length, arith}
+use Rattle.std.proofs.Common.{◌≡◌, ℕ, ◌+◌, ◌-◌, ◌≤◌, Bool, true, false, List, [], ◌∷◌, ◌++◌, length, arith}
 use Rattle.std.proofs.Common.{refl, sym, ap, subst, ◌∙◌}
-use Rattle.std.specs.Prelude.{◌^◌, ◌==◌, Option, Some, None, nat_lt, if◌then◌else◌}
+use Rattle.std.specs.Prelude.{◌^◌, Option, Some, None}
 use Rattle.std.specs.Int.{w32, to_be_bytes}
-use Rattle.std.proofs.lemmas.Bool.Decides.{nat_tests}
 use Rattle.std.proofs.lemmas.List.{length-append}
 use Rattle.serde_amqp_item.specs.Item.{Item, items_of, item_count, scalar, boolean, uint, ulong, described, list}
 use Rattle.serde_amqp_item.specs.Record.{trimmed}
-use Rattle.serde_amqp_item.specs.Canon.{◌>>=◌, canon, canon_all, counted_text, list_text}
+use Rattle.serde_amqp_item.specs.Canon.{◌>>=◌, canon, canon_all, list_text}
 use Rattle.serde_amqp_de.specs.Takes.{is_boolean}
 use Rattle.amqp_session_types.specs.declared.modes.Role.TheVariants as role
 use Rattle.amqp_session_states.specs.DeliveryState.{delivery_state_item}
@@ -18,8 +16,9 @@ use Rattle.amqp_session_performatives.specs.Disposition.{disposition_fields, dis
 use Rattle.amqp_session_performatives.specs.declared.disposition.Disposition.{Disposition}
 use Rattle.amqp_link_unsettled.specs.Listing.{FitsText}
 use Rattle.amqp_endpoint_lengths.specs.Plain.{IsUint, MayBeUint}
-use Rattle.amqp_endpoint_lengths.proofs.Texts.{Within, this, either, made, not_below, short, uint-short, boolean-short}
+use Rattle.amqp_endpoint_lengths.proofs.Texts.{Short, Within, this, made, short, uint-short, boolean-short}
 use Rattle.amqp_endpoint_lengths.proofs.Fields.{ShortFields, field, option-short, default-short}
+use Rattle.amqp_endpoint_lengths.proofs.Lists.{Sized, described-short, no-more, sized}
 use Rattle.amqp_endpoint_disposing.specs.Longest.{longest}
 
 -- a receiver's Disposition that tells a state
@@ -33,76 +32,6 @@ telling first last settled state =
       state = Some state;
       batchable = false;
     }
-
--- the text of a list, narrow or wide, and what it is longer than
-abbrev size : Option (List ℕ) → ℕ
-size None = 0
-size (Some text) = length text
-
-abbrev Sized : List ℕ → List ℕ → Type 0
-Sized content text =
-    ((length content < 255) × (3 + length content ≤ length text))
-    ⊎ ((length content + 4 < 2 ^ 32) × (9 + length content ≤ length text))
-
-below : (n m : ℕ) → nat_lt n m ≡ true → n < m
-below n m h = grind (arith, nat_tests)
-
-not_none : (n : ℕ) → 1 ≤ n → (n == 0) ≡ true → ⊥
-not_none n h e = grind (arith, nat_tests)
-
-sized : (count : ℕ) (content text : List ℕ) → 1 ≤ length content → list_text count content ≡ Some text
-    → Sized content text
-sized count content text some is = first (length content == 0) refl is
-  where
-    wide : List ℕ
-    wide = 0xd0 ∷ (to_be_bytes w32 (length content + 4) ++ to_be_bytes w32 count ++ content)
-
-    long : length wide ≡ 9 + length content
-    long = omega (
-      arith,
-      length-append (to_be_bytes w32 (length content + 4)) (to_be_bytes w32 count ++ content),
-      length-append (to_be_bytes w32 count) content,
-    )
-
-    third : (b : Bool) → nat_lt (length content + 4) (2 ^ 32) ≡ b → (if b then Some wide else None) ≡ Some text
-        → Sized content text
-    third true e is = inr (below (length content + 4) (2 ^ 32) e, omega (arith, long, ap size is))
-    third false e is = absurd cc
-
-    second : (b : Bool) → nat_lt (length content) 255 ≡ b
-        → (if b then Some (0xc0 ∷ (length content + 1) ∷ count ∷ content) else
-        if nat_lt (length content + 4) (2 ^ 32) then Some wide else None) ≡ Some text → Sized content text
-    second true e is = inl (below (length content) 255 e, omega (arith, ap size is))
-    second false e is = third (nat_lt (length content + 4) (2 ^ 32)) refl is
-
-    first : (b : Bool) → (length content == 0) ≡ b
-        → (if b then Some (0x45 ∷ []) else counted_text 0xc0 0xd0 count content) ≡ Some text → Sized content text
-    first true e is = absurd (not_none (length content) some e)
-    first false e is = second (nat_lt (length content) 255) refl is
-
--- a list with no more content has no longer a text
-no-more : (most count : ℕ) (content other text : List ℕ) → Sized other text → length text ≤ most
-    → length content ≤ length other → Within most (list_text count content)
-no-more most count content other text (inl h) le few =
-    either most (length content == 0) _ _ (λ e. this most (0x45 ∷ []) (omega (arith, h.1, le))) (λ e.
-    either most (nat_lt (length content) 255) _ _
-    (λ f. this most (0xc0 ∷ (length content + 1) ∷ count ∷ content) (omega (arith, h.1, le, few)))
-    (λ f. absurd (not_below (length content) 255 (omega (arith, h.0, few)) f)))
-no-more most count content other text (inr h) le few =
-    either most (length content == 0) _ _ (λ e. this most (0x45 ∷ []) (omega (arith, h.1, le))) (λ e.
-    either most (nat_lt (length content) 255) _ _
-    (λ f. this most (0xc0 ∷ (length content + 1) ∷ count ∷ content) (omega (arith, h.1, le, few))) (λ f.
-    either most (nat_lt (length content + 4) (2 ^ 32)) _ _
-    (λ g. this most (0xd0 ∷ (to_be_bytes w32 (length content + 4) ++ to_be_bytes w32 count ++ content))
-    (omega (
-      arith,
-      h.1,
-      le,
-      few,
-      length-append (to_be_bytes w32 (length content + 4)) (to_be_bytes w32 count ++ content),
-      length-append (to_be_bytes w32 count) content,
-    )))
-    (λ g. absurd (not_below (length content + 4) (2 ^ 32) (omega (arith, h.0, few)) g))))
 
 -- the fields of a Disposition have together at most twelve bytes more than the state
 module _ (state : DeliveryState) (text : List ℕ) (is : canon (delivery_state_item state) ≡ Some text) where
@@ -170,13 +99,6 @@ within-fits : (limit most : ℕ) (text : Option (List ℕ)) → Within most text
 within-fits limit most text w le =
     subst (λ (o : Option (List ℕ)). FitsText limit o) (sym w.is) (omega (arith, le, w.short))
 
--- a described list of the code of a Disposition has three bytes more than the list
-described-short : (most : ℕ) (v : Item) → Within most (canon v)
-    → Within (3 + most) (canon (described (scalar (ulong 0x15)) v))
-described-short most v w =
-    made most (3 + most) (canon v) (λ b. Some (0x00 ∷ (0x53 ∷ 0x15 ∷ []) ++ b)) w
-    (λ b le. this (3 + most) (0x00 ∷ (0x53 ∷ 0x15 ∷ []) ++ b) (omega (arith, le)))
-
 module _ (limit : ℕ) (state : DeliveryState) (first : ℕ) (last : Option ℕ) (settled : Bool) (h : IsUint first)
     (k : MayBeUint last) where
   abbrev Fits : Type 0
@@ -201,7 +123,10 @@ module _ (limit : ℕ) (state : DeliveryState) (first : ℕ) (last : Option ℕ)
       (fields-short state text is first last settled h k).within
       (λ x le. no-more (length whole) (item_count (items_of (trimmed fields))) x (content_of text) whole of
       (omega arith) (omega (arith, le, long))) in
-      within-fits limit (3 + length whole) _ (described-short (length whole) (list (items_of (trimmed fields))) listed)
+      let coded : Short 2 (scalar (ulong 0x15)) =
+      short 2 (scalar (ulong 0x15)) (0x53 ∷ 0x15 ∷ []) refl (omega arith) in
+      within-fits limit (3 + length whole) _
+      (described-short 0x15 (length whole) (list (items_of (trimmed fields))) coded listed)
       (omega (arith, fit))
 
   by-state : (o : Option (List ℕ)) → canon (delivery_state_item state) ≡ o

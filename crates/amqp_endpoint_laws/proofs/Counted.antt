@@ -1,5 +1,5 @@
 -- An endpoint counts the messages that it accepts to be sent and those that it hands out.
-use Rattle.std.proofs.Common.{◌≡◌, ◌<◌, inl, inr, ℕ, List, [], ◌∷◌, ◌++◌, Option, Some, None, map, refl, sym, ap}
+use Rattle.std.proofs.Common.{◌≡◌, ◌<◌, inl, inr, ℕ, List, [], ◌∷◌, ◌++◌, Option, Some, None, map, arith, refl, sym, ap}
 use Rattle.std.proofs.Common.{subst, ◌∙◌}
 use Rattle.std.specs.Prelude.{◌^◌, option_map, slice_get}
 use Rattle.std.proofs.lemmas.Option.{none-some, same_Some, slice_get-map}
@@ -34,13 +34,15 @@ use Rattle.amqp_endpoint_laws.specs.Telling.{tags_given}
 use Rattle.amqp_endpoint_laws.proofs.Keeping.{IsOfConnection, Keeps}
 use Rattle.amqp_endpoint_laws.proofs.Kept.{run-keeps}
 use Rattle.amqp_endpoint_laws.proofs.Numbered.{GivesNext, gives-next}
-use Rattle.amqp_endpoint_laws.proofs.Serials.{at-under, numbers-append, same-tags}
+use Rattle.amqp_endpoint_laws.proofs.Serials.{at-under, below-count, numbers-append, same-tags}
 use Rattle.amqp_endpoint_laws.proofs.Unnumbered.{Unnumbered, by-unnumbered, first-unnumbered}
 use Rattle.amqp_endpoint_model.specs.declared.event.Event.TheVariants.{Opened, Closed}
 
--- the tags are those of the numbers under the one count, and the messages have the numbers under the other
+-- the tags are those of the numbers under the one count, each of which eight bytes hold, and the messages have the
+-- numbers under the other
 pub record Counts (seen : List Event) (tags : List (List ℕ)) (s : LinkedSessions) : Type 0 where
   pub tags_are : tags ≡ map tag_of (numbers_under s.sent)
+  pub tags_fit : s.sent < 2 ^ 64
   pub numbers_are : numbers_told seen ≡ numbers_under s.given
 
 stay : (seen : List Event) (tags : List (List ℕ)) (old new : LinkedSessions) → CountsStay old new
@@ -48,6 +50,7 @@ stay : (seen : List Event) (tags : List (List ℕ)) (old new : LinkedSessions) �
 stay seen tags old new same c =
     record {
       tags_are = c.tags_are ∙ ap (λ (n : ℕ). map tag_of (numbers_under n)) (sym same.sent);
+      tags_fit = subst (λ (n : ℕ). n < 2 ^ 64) (sym same.sent) c.tags_fit;
       numbers_are = c.numbers_are ∙ ap (λ (n : ℕ). numbers_under n) (sym same.given);
     }
 
@@ -57,6 +60,7 @@ told-more : (seen events : List Event) (tags : List (List ℕ)) (s : LinkedSessi
 told-more seen events tags s none c =
     record {
       tags_are = c.tags_are;
+      tags_fit = c.tags_fit;
       numbers_are =
           numbers-append seen events ∙ ap (λ (ns : List ℕ). numbers_told seen ++ ns) none
           ∙ append-nil (numbers_told seen) ∙ c.numbers_are;
@@ -70,6 +74,7 @@ told-next seen events tags old new sent (inl (none, given)) c =
 told-next seen events tags old new sent (inr (next, given)) c =
     record {
       tags_are = c.tags_are ∙ ap (λ (n : ℕ). map tag_of (numbers_under n)) (sym sent);
+      tags_fit = subst (λ (n : ℕ). n < 2 ^ 64) (sym sent) c.tags_fit;
       numbers_are =
           numbers-append seen events ∙ ap (λ (ns : List ℕ). numbers_told seen ++ ns) next
           ∙ ap (λ (ns : List ℕ). ns ++ old.given ∷ []) c.numbers_are
@@ -130,6 +135,7 @@ called seen tags (call.Send link message) (message_sent tag outcome) old new lim
           ∙ ap (λ (t : List ℕ). map tag_of (numbers_under old.sent) ++ t ∷ []) c.sends.tagged
           ∙ sym (map-append tag_of (numbers_under old.sent) (old.sent ∷ []))
           ∙ ap (λ (n : ℕ). map tag_of (numbers_under n)) (sym more.sent);
+      tags_fit = omega (arith, more.sent, c.sends.numbered);
       numbers_are =
           ap (λ (es : List Event). numbers_told es) (append-nil seen) ∙ s.numbers_are
           ∙ ap (λ (n : ℕ). numbers_under n) (sym more.given);
@@ -156,8 +162,8 @@ counts-keep =
     record {
       silent = λ seen tags. record {
         moved = λ phase s connection live c.
-            record { tags_are = c.tags_are; numbers_are = c.numbers_are };
-        renewed = λ s c. record { tags_are = c.tags_are; numbers_are = c.numbers_are };
+            record { tags_are = c.tags_are; tags_fit = c.tags_fit; numbers_are = c.numbers_are };
+        renewed = λ s c. record { tags_are = c.tags_are; tags_fit = c.tags_fit; numbers_are = c.numbers_are };
         runs = λ phase s c. c;
         refused = λ phase old new limit channel said e r c. stay seen tags old new r.1 c;
         closed = λ phase old new l c. stay seen tags old new l.1 c;
@@ -181,24 +187,31 @@ counts sessions settings calls told end new run =
     told run
     (record {
       tags_are = ap (λ (s : LinkedSessions). map tag_of (numbers_under s.sent)) (sym new.is);
+      tags_fit = subst (λ (s : LinkedSessions). s.sent < 2 ^ 64) (sym new.is) (omega arith);
       numbers_are = ap (λ (s : LinkedSessions). numbers_under s.given) (sym new.is);
     })
 
-module _ (tags : List (List ℕ)) (sent : ℕ) (are : tags ≡ map tag_of (numbers_under sent)) where
-  -- the tag at a place is that of its number
-  tag-at : (n : ℕ) (tag : List ℕ) → slice_get tags n ≡ Some tag → tag_of n ≡ tag
+module _ (seen : List Event) (tags : List (List ℕ)) (s : LinkedSessions) (c : Counts seen tags s) where
+  -- the tag at a place is that of its number, which eight bytes hold
+  tag-at : (n : ℕ) (tag : List ℕ) → slice_get tags n ≡ Some tag → (n < 2 ^ 64) × (tag_of n ≡ tag)
   tag-at n tag is =
-      by (slice_get (numbers_under sent) n) refl
-      (sym (slice_get-map tag_of (numbers_under sent) n) ∙ sym (ap (λ (ts : List (List ℕ)). slice_get ts n) are) ∙ is)
+      by (slice_get (numbers_under s.sent) n) refl
+      (sym (slice_get-map tag_of (numbers_under s.sent) n)
+      ∙ sym (ap (λ (ts : List (List ℕ)). slice_get ts n) c.tags_are) ∙ is)
     where
-      by : (found : Option ℕ) → slice_get (numbers_under sent) n ≡ found → option_map tag_of found ≡ Some tag
-          → tag_of n ≡ tag
+      by : (found : Option ℕ) → slice_get (numbers_under s.sent) n ≡ found → option_map tag_of found ≡ Some tag
+          → (n < 2 ^ 64) × (tag_of n ≡ tag)
       by None there is = absurd (none-some _ is)
-      by (Some k) there is = ap tag_of (sym (at-under sent n k there)) ∙ same_Some _ _ is
+      by (Some k) there is = (
+        omega (arith, below-count s.sent n k there, c.tags_fit),
+        ap tag_of (sym (at-under s.sent n k there)) ∙ same_Some _ _ is,
+      )
 
-  pub tags-apart : (m n : ℕ) (tag : List ℕ) → m < 2 ^ 64 → n < 2 ^ 64 → slice_get tags m ≡ Some tag
-      → slice_get tags n ≡ Some tag → m ≡ n
-  tags-apart m n tag m_fits n_fits a b = same-tags m n m_fits n_fits (tag-at m tag a ∙ sym (tag-at n tag b))
+  pub tags-apart : (m n : ℕ) (tag : List ℕ) → slice_get tags m ≡ Some tag → slice_get tags n ≡ Some tag → m ≡ n
+  tags-apart m n tag a b =
+      let first = tag-at m tag a in
+      let second = tag-at n tag b in
+      same-tags m n first.0 second.0 (first.1 ∙ sym second.1)
 
 pub numbers-apart : (numbers : List ℕ) (given : ℕ) → numbers ≡ numbers_under given → (m n number : ℕ)
     → slice_get numbers m ≡ Some number → slice_get numbers n ≡ Some number → m ≡ n

@@ -5,7 +5,7 @@ use Rattle.std.specs.Prelude.{◌^◌, slice_get}
 use Rattle.std.specs.Int.{w64, from_be_bytes}
 use Rattle.std.proofs.lemmas.List.{append_assoc, length_push}
 use Rattle.std.proofs.lemmas.Nat.{from_be_bytes-to_be_bytes_8}
-use Rattle.std.proofs.lemmas.Option.{none-some, same_Some}
+use Rattle.std.proofs.lemmas.Option.{none-some, same_Some, slice_get_within}
 use Rattle.amqp_endpoint_model.specs.declared.event.Event.{Event}
 use Rattle.amqp_endpoint_linked.specs.Sending.{tag_of}
 use Rattle.amqp_endpoint_laws.specs.Telling.{number_told, numbers_told, numbers_under}
@@ -38,6 +38,11 @@ at-under (suc number) m n is =
       | inl there ↦ at-under number m n there
       | inr last ↦ last.1 ∙ sym (last.0 ∙ under-length number)
     ]
+
+-- and is one of them
+pub below-count : (number m n : ℕ) → slice_get (numbers_under number) m ≡ Some n → m < number
+below-count number m n is =
+    omega (arith, slice_get_within (numbers_under number) m n is, under-length number)
 
 pub same-tags : (m n : ℕ) → m < 2 ^ 64 → n < 2 ^ 64 → tag_of m ≡ tag_of n → m ≡ n
 same-tags m n m_fits n_fits same =

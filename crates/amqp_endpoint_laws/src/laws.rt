@@ -1,5 +1,5 @@
 //! The laws. A function here does nothing but name the laws that it rests on: its contract is the law.
-ghost use Rattle.std.specs.Prelude.{◌≡◌, ◌<◌, ◌^◌, ℕ, List, map, slice_get, Some};
+ghost use Rattle.std.specs.Prelude.{◌≡◌, ℕ, List, map, slice_get, Some};
 ghost use Rattle.amqp_session_types.specs.declared.channels.OutgoingChannel.{OutgoingChannel};
 ghost use Rattle.amqp_endpoint_names.specs.State.{AreApart};
 ghost use Rattle.amqp_endpoint_sessions.specs.State.{channel_at};
@@ -54,17 +54,15 @@ pub fn tags_are_serials()
         tags_given told ≡ map tag_of (numbers_under end.sessions.sent) }
 {}
 
-/// No two of the first 2^64 messages that an endpoint accepts to be sent have one tag, by whichever links they go and
-/// however often these and their sessions end and begin (part 2, 2.6.12, 2.8.7).
+/// No two messages that an endpoint accepts to be sent have one tag, by whichever links they go and however often these
+/// and their sessions end and begin (part 2, 2.6.12, 2.8.7).
 pub fn tags_are_apart()
     ensures { (sessions : LinkedSessions) (settings : Settings) (calls : List Call) (told : List Told)
         (end : State LinkedSessions) → IsNew linked settings sessions →
         Run linked (fresh settings sessions) calls told end →
-        (m n : ℕ) (tag : List ℕ) → m < 2 ^ 64 → n < 2 ^ 64 →
+        (m n : ℕ) (tag : List ℕ) →
         slice_get (tags_given told) m ≡ Some tag → slice_get (tags_given told) n ≡ Some tag → m ≡ n }
-{
-    tags_are_serials();
-}
+{}
 
 /// The messages that an endpoint hands out have the numbers 0, 1, 2 and so on, in the order in which it tells of them:
 /// all under the count of them.

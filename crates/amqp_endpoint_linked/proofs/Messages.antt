@@ -1,6 +1,6 @@
 -- What the calls of messages do is what they are related by, with their own frames.
-use Rattle.std.proofs.Common.{◌≡◌, ◌≤◌, ℕ, suc, Bool, List, [], ◌∷◌, Option, None, Result, Ok, Err, refl, sym, subst}
-use Rattle.std.proofs.Common.{◌∙◌, append-nil}
+use Rattle.std.proofs.Common.{◌≡◌, ◌≤◌, ◌<◌, ◌-◌, ◌^◌, ℕ, suc, Bool, List, [], ◌∷◌, Option, None, Result, Ok, Err}
+use Rattle.std.proofs.Common.{refl, sym, subst, ◌∙◌, append-nil}
 use Rattle.std.specs.Prelude.{⊤, IfOk, OnOk}
 use Rattle.amqp_session_performatives.specs.declared.session_frame.SessionFrame.{SessionFrame}
 use Rattle.amqp_session_states.specs.declared.outcome.Outcome.{Outcome}
@@ -27,12 +27,12 @@ use Rattle.amqp_endpoint_linked.proofs.Related.{called, done-hands}
 
 -- a link has sent a message under the tag of this serial number, with its own frames
 pub sent-hands : (limit serial link : ℕ) (old new : Talk) (links : Links) (message : Sending) (key tag : List ℕ)
-    (settled : Bool) (outcome : Option Outcome) (out out_new : List SessionFrame) → key ≡ tag_of serial
-    → tag ≡ tag_of serial → outcome ≡ outcome_of settled
+    (settled : Bool) (outcome : Option Outcome) (out out_new : List SessionFrame) → serial < 2 ^ 64 - 1
+    → key ≡ tag_of serial → tag ≡ tag_of serial → outcome ≡ outcome_of settled
     → DoneAt (sends_by limit key message settled) (place_at links link) old out new out_new
     → Hands (λ (frames : List SessionFrame).
     SendsMessage limit serial old links link message tag outcome frames new) out out_new
-sent-hands limit serial link old new links message key tag settled outcome out out_new keyed tagged told d =
+sent-hands limit serial link old new links message key tag settled outcome out out_new numbered keyed tagged told d =
     let by_tag : DoneAt (sends_by limit (tag_of serial) message settled) (place_at links link) old out new out_new =
     subst (λ (k : List ℕ). DoneAt (sends_by limit k message settled) (place_at links link) old out new out_new)
     keyed d in
@@ -40,7 +40,7 @@ sent-hands limit serial link old new links message key tag settled outcome out o
     in
     record {
       frames = h.frames;
-      is_so = record { settled = settled; sent = h.is_so; tagged = tagged; told = told };
+      is_so = record { numbered = numbered; settled = settled; sent = h.is_so; tagged = tagged; told = told };
       queued = h.queued;
     }
 

@@ -1,11 +1,10 @@
 -- How an endpoint sends messages and disposes of those that came (part 2, 2.6.12, 2.7.5, 2.7.6).
-use Rattle.std.specs.Prelude.{◌≡◌, ◌⊎◌, ℕ, ◌-◌, ◌^◌, List, [], Bool, true, false, Option, Some, None}
+use Rattle.std.specs.Prelude.{◌≡◌, ◌⊎◌, ℕ, ◌-◌, ◌^◌, ◌<◌, List, [], Bool, true, false, Option, Some, None}
 use Rattle.std.specs.Int.{w64, to_be_bytes}
 use Rattle.amqp_session_performatives.specs.declared.session_frame.SessionFrame.{SessionFrame}
 use Rattle.amqp_session_states.specs.declared.outcome.Outcome.{Outcome}
 use Rattle.amqp_session_states.specs.declared.outcome.Outcome.TheVariants.{Accepted}
 use Rattle.amqp_endpoint_names.specs.State.{place_at}
-use Rattle.amqp_endpoint_model.specs.declared.call.Disposal.{Disposal}
 use Rattle.amqp_endpoint_model.specs.declared.call.Sending.{Sending}
 use Rattle.amqp_endpoint_model.specs.declared.error.EndpointError.{EndpointError}
 use Rattle.amqp_endpoint_model.specs.declared.error.EndpointError.TheVariants.{Memory, NumbersUsedUp}
@@ -26,6 +25,8 @@ outcome_of false = None
 -- settled, are answered
 pub record SendsMessage (limit serial : ℕ) (old : Talk) (links : Links) (link : ℕ) (message : Sending) (tag : List ℕ)
     (outcome : Option Outcome) (frames : List SessionFrame) (new : Talk) : Type 0 where
+  -- a serial number was left for it
+  pub numbered : serial < 2 ^ 64 - 1
   pub settled : Bool
   pub sent : DoneAt (sends limit (tag_of serial) message settled) (place_at links link) old [] new frames
   pub tagged : tag ≡ tag_of serial

@@ -6,7 +6,7 @@ use Rattle.std.specs.Int.{w16, w32, to_be_bytes}
 use Rattle.std.proofs.lemmas.Bool.Decides.{nat_tests}
 use Rattle.std.proofs.lemmas.List.{length-append}
 use Rattle.std.proofs.lemmas.List.Elements.{All-cons, All-head, All-nil, All-tail}
-use Rattle.serde_amqp_item.specs.Item.{Item, items_of, item_count, scalar, null, binary, boolean, uint, list}
+use Rattle.serde_amqp_item.specs.Item.{Item, items_of, item_count, scalar, null, binary, boolean, uint, ulong, list}
 use Rattle.serde_amqp_item.specs.Record.{option_item, trimmed}
 use Rattle.serde_amqp_item.specs.Canon.{◌>>=◌, canon, canon_all, list_text}
 use Rattle.serde_amqp_item.proofs.Texts.{canon_long}
@@ -27,10 +27,10 @@ use Rattle.amqp_endpoint_model.specs.State.{text_fits}
 use Rattle.amqp_endpoint_lengths.specs.Plain.{IsUint, MayBeUint}
 use Rattle.amqp_endpoint_lengths.proofs.Texts.{Short, Within, boolean-short, made, null-short, short, this, uint-short}
 use Rattle.amqp_endpoint_lengths.proofs.Fields.{ShortFields, default-short, field, option-short}
+use Rattle.amqp_endpoint_lengths.proofs.Lists.{Sized, described-short, no-more, size, sized}
 use Rattle.amqp_endpoint_fitting.specs.Fits.{BehindFits, FrameFits, UnitFits}
 use Rattle.amqp_endpoint_sending.specs.Sending.{Message, first_on}
-use Rattle.amqp_endpoint_sending.proofs.Lists.{Listed, Parts, Sized, described-short, listed, no-more, parts, size}
-use Rattle.amqp_endpoint_sending.proofs.Lists.{sized}
+use Rattle.amqp_endpoint_sending.proofs.Lists.{Listed, Parts, listed, parts}
 
 abbrev Unit : Type 0
 Unit = Outbound TransferFrame BehindFrame
@@ -234,7 +234,10 @@ module _ (handle : OutputHandle) (m : Message) (settled : Bool) where
         (list_text (item_count (items_of (trimmed (transfer_fields other))))) fields.within
         (λ x le. no-more (length whole.whole) (item_count (items_of (trimmed (transfer_fields other)))) x whole.content
         whole.whole of (omega arith) (omega (arith, le, of_fields.long))) in
-        let all = described-short (length whole.whole) (list (items_of (trimmed (transfer_fields other)))) inner in
+        let coded : Short 2 (scalar (ulong 0x14)) =
+        short 2 (scalar (ulong 0x14)) (0x53 ∷ 0x14 ∷ []) refl (omega arith) in
+        let all =
+        described-short 0x14 (length whole.whole) (list (items_of (trimmed (transfer_fields other)))) coded inner in
         record { bytes = all.bytes; is = all.is; short = omega (arith, all.short, whole.long) }
 
 -- each of the transfers, in a frame of its link

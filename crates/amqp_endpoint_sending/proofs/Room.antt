@@ -9,8 +9,8 @@ use Rattle.amqp_session_performatives.specs.Transfer.{transfer_fields, transfer_
 use Rattle.amqp_link_split.specs.Room.{measured, room_behind, room_of}
 use Rattle.amqp_endpoint_lengths.proofs.Texts.{Short, Within, boolean-short, either, not_below, short, this, uint-short}
 use Rattle.amqp_endpoint_lengths.proofs.Fields.{field, record-short}
+use Rattle.amqp_endpoint_lengths.proofs.Lists.{not_none}
 use Rattle.amqp_endpoint_sending.specs.Sending.{Message, first_on}
-use Rattle.amqp_endpoint_sending.proofs.Lists.{not_none}
 
 -- a binary of at most 254 bytes has two more (part 1, 1.6.19)
 binary-short : (most : ℕ) (s : List ℕ) → length s ≤ most → most < 255 → Short (2 + most) (scalar (binary s))

@@ -1,156 +1,132 @@
 -- Which of the peer's handles leads to a link.
-use Rattle.std.proofs.Common.{◌≡◌, ◌≢◌, ◌⊎◌, inl, inr, ℕ, Bool, true, false, Option, Some, None, Result, Ok, Err, OnOk}
-use Rattle.std.proofs.Common.{OnErr, refl, sym, ap, ◌∙◌, subst, ◌==◌, if◌then◌else◌}
+use Rattle.std.proofs.Common.{◌≡◌, ◌≢◌, ◌⊎◌, inl, inr, ⊎_elim, ℕ, Bool, true, false, true≢false, Option, Some, None}
+use Rattle.std.proofs.Common.{Result, Ok, Err, OnOk, OnErr, refl, sym, ap, ◌∙◌, ◌==◌, eq-eqb, ne_eqb}
+use Rattle.std.proofs.lemmas.Bool.{cond-true, cond-false}
 use Rattle.std.proofs.lemmas.Bool.Decides.{eqb_tells}
+use Rattle.std.proofs.lemmas.Option.{none-some, same_Some}
 use Rattle.std.specs.Ordering.{nat_cmp}
 use Rattle.std.specs.FinMap as map
 use Rattle.std.specs.FinMap.{get-empty}
-use Rattle.amqp_session_core.specs.Tables.{RouteTable, IsSole, LeadsNowhere, unless_to}
+use Rattle.amqp_session_core.specs.Tables.{RouteTable, IsSole, is_to, leads, leads_by, unless_to}
 use Rattle.amqp_session_core.proofs.Tables.{get-put, get-put-other, get-take}
 
--- the same under the number itself
-get-put-same : (t : RouteTable) (key v : ℕ) → map.get (map.insert t key v) key ≡ Some v
-get-put-same t key v = get-put t key key v ∙ by (eqb_tells key key)
-  where
-    by : (((key == key) ≡ true) × (key ≡ key)) ⊎ (((key == key) ≡ false) × (key ≢ key))
-        → (if key == key then Some v else map.get t key) ≡ Some v
-    by (inl p) = ap (λ (b : Bool). if b then Some v else map.get t key) p.0
-    by (inr p) = absurd (p.1 refl)
+which : (a b : ℕ) → (a ≡ b) ⊎ (a ≢ b)
+which a b = ⊎_elim (λ p. inl p.1) (λ p. inr p.1) (eqb_tells a b)
 
-get-take-same : (t : RouteTable) (key : ℕ) → map.get (map.remove t key) key ≡ None
-get-take-same t key = get-take t key key ∙ by (eqb_tells key key)
-  where
-    by : (((key == key) ≡ true) × (key ≡ key)) ⊎ (((key == key) ≡ false) × (key ≢ key))
-        → (if key == key then None else map.get t key) ≡ None
-    by (inl p) = ap (λ (b : Bool). if b then None else map.get t key) p.0
-    by (inr p) = absurd (p.1 refl)
+-- the same under the number itself, and without it
+module _ (t : RouteTable) (key : ℕ) where
+  get-put-same : (v : ℕ) → map.get (map.insert t key v) key ≡ Some v
+  get-put-same v = get-put t key key v ∙ cond-true (key == key) (Some v) (map.get t key) (eq-eqb key key refl)
 
-get-take-other : (t : RouteTable) (key q : ℕ) → q ≢ key → map.get (map.remove t key) q ≡ map.get t q
-get-take-other t key q ne = get-take t key q ∙ by (eqb_tells q key)
-  where
-    by : (((q == key) ≡ true) × (q ≡ key)) ⊎ (((q == key) ≡ false) × (q ≢ key))
-        → (if q == key then None else map.get t q) ≡ map.get t q
-    by (inl p) = absurd (ne p.1)
-    by (inr p) = ap (λ (b : Bool). if b then None else map.get t q) p.0
+  get-take-same : map.get (map.remove t key) key ≡ None
+  get-take-same = get-take t key key ∙ cond-true (key == key) None (map.get t key) (eq-eqb key key refl)
 
--- a link is another than this one, or none
-unless-other : (link : ℕ) (o : Option ℕ) → o ≢ Some link → o ≡ unless_to link o
-unless-other link None other = refl
-unless-other link (Some to) other = by (eqb_tells to link)
-  where
-    by : (((to == link) ≡ true) × (to ≡ link)) ⊎ (((to == link) ≡ false) × (to ≢ link))
-        → Some to ≡ (if to == link then None else Some to)
-    by (inl p) = absurd (other (ap (λ (n : ℕ). Some n) p.1))
-    by (inr p) = sym (ap (λ (b : Bool). if b then None else Some to) p.0)
+  get-take-other : (q : ℕ) → q ≢ key → map.get (map.remove t key) q ≡ map.get t q
+  get-take-other q ne = get-take t key q ∙ cond-false (q == key) None (map.get t q) (ne_eqb q key ne)
 
-unless-same : (link : ℕ) (o : Option ℕ) → o ≡ Some link → None ≡ unless_to link o
-unless-same link o same = by (eqb_tells link link) ∙ ap (λ (x : Option ℕ). unless_to link x) (sym same)
-  where
-    by : (((link == link) ≡ true) × (link ≡ link)) ⊎ (((link == link) ≡ false) × (link ≢ link))
-        → None ≡ (if link == link then None else Some link)
-    by (inl p) = sym (ap (λ (b : Bool). if b then None else Some link) p.0)
-    by (inr p) = absurd (p.1 refl)
+-- a route to this link is taken away, and another isn't
+module _ (link : ℕ) where
+  is_to-same : (o : Option ℕ) → o ≡ Some link → is_to link o ≡ true
+  is_to-same None same = absurd (none-some _ same)
+  is_to-same (Some to) same = eq-eqb to link (same_Some _ _ same)
 
--- what is left leads to another link
-unless-is : (link to : ℕ) (o : Option ℕ) → unless_to link o ≡ Some to → (o ≡ Some to) × (to ≢ link)
-unless-is link to None is = absurd cc
-unless-is link to (Some x) is = by (eqb_tells x link)
-  where
-    by : (((x == link) ≡ true) × (x ≡ link)) ⊎ (((x == link) ≡ false) × (x ≢ link)) → (Some x ≡ Some to) × (to ≢ link)
-    by (inl p) =
-        absurd (let clash : None ≡ Some to = sym (ap (λ (b : Bool). if b then None else Some x) p.0) ∙ is in cc)
-    by (inr p) =
-        let same : Some x ≡ Some to = sym (ap (λ (b : Bool). if b then None else Some x) p.0) ∙ is in
-        (same, λ e. p.1 (let whole : Some x ≡ Some link = same ∙ ap (λ (n : ℕ). Some n) e in cc))
+  unless-same : (o : Option ℕ) → is_to link o ≡ true → None ≡ unless_to link o
+  unless-same None same = refl
+  unless-same (Some to) same = sym (cond-true (to == link) None (Some to) same)
 
-module _ (handles leads : RouteTable) where
+  unless-other : (o : Option ℕ) → o ≢ Some link → o ≡ unless_to link o
+  unless-other None other = refl
+  unless-other (Some to) other =
+      sym (cond-false (to == link) None (Some to) (ne_eqb to link (λ e. other (ap (λ (n : ℕ). Some n) e))))
+
+  unless-is : (to : ℕ) (o : Option ℕ) → unless_to link o ≡ Some to → (o ≡ Some to) × (to ≢ link)
+  unless-is to None is = absurd (none-some _ is)
+  unless-is to (Some x) is =
+      elim (which x link) [
+        | inl e ↦ absurd (none-some _ (sym (cond-true (x == link) None (Some x) (eq-eqb x link e)) ∙ is))
+        | inr ne ↦
+            let same : Some x ≡ Some to = sym (cond-false (x == link) None (Some x) (ne_eqb x link ne)) ∙ is in
+            (same, λ e. ne (same_Some _ _ same ∙ e))
+      ]
+
+module _ (handles noted : RouteTable) where
   -- no route is there to be noted
-  pub sole-none : handles ≡ map.empty → IsSole handles leads false
-  sole-none none not handle link has =
-      absurd (let clash : None ≡ Some link = sym (get-empty nat_cmp handle)
-      ∙ sym (ap (λ (t : RouteTable). map.get t handle) none) ∙ has in cc)
+  pub sole-none : handles ≡ map.empty → IsSole handles noted false
+  sole-none none not h l has =
+      absurd (none-some _ (sym (ap (λ (t : RouteTable). map.get t h) none ∙ get-empty nat_cmp h) ∙ has))
 
-  -- a handle is noted for a link, to which none led
-  module _ (handle link : ℕ) (was : IsSole handles leads false) (nowhere : LeadsNowhere handles leads link) where
-    sole-noted : IsSole handles (map.insert leads link handle) false
-    sole-noted not h l has = by (eqb_tells l link)
-      where
-        by : (((l == link) ≡ true) × (l ≡ link)) ⊎ (((l == link) ≡ false) × (l ≢ link))
-            → map.get (map.insert leads link handle) l ≡ Some h
-        by (inl p) =
-            let to : map.get handles h ≡ Some link = has ∙ ap (λ (n : ℕ). Some n) p.1 in
-            absurd (nowhere h (was refl h link to) to)
-        by (inr p) = get-put-other leads link l handle p.1 ∙ was refl h l has
+  -- a handle is noted for a link to which none led
+  module _ (handle link : ℕ) (was : IsSole handles noted false) (none : leads handles noted link ≡ false) where
+    never-led : (h : ℕ) → map.get handles h ≢ Some link
+    never-led h has =
+        true≢false
+        (sym (ap (leads_by handles link) (was refl h link has) ∙ is_to-same link (map.get handles h) has) ∙ none)
 
-    -- and leads to it then
-    sole-put : IsSole (map.insert handles handle link) (map.insert leads link handle) false
-    sole-put not h l has = by (eqb_tells h handle)
-      where
-        by : (((h == handle) ≡ true) × (h ≡ handle)) ⊎ (((h == handle) ≡ false) × (h ≢ handle))
-            → map.get (map.insert leads link handle) l ≡ Some h
-        by (inl p) =
-            let here : Some link ≡ Some l =
-            sym (get-put-same handles handle link)
-            ∙ ap (λ (k : ℕ). map.get (map.insert handles handle link) k) (sym p.1) ∙ has in
-            let same : link ≡ l = cc in
-            subst (λ (k : ℕ). map.get (map.insert leads link handle) k ≡ Some h) same
-            (get-put-same leads link handle ∙ ap (λ (n : ℕ). Some n) (sym p.1))
-        by (inr p) = sole-noted refl h l (sym (get-put-other handles handle h link p.1) ∙ has)
+    -- each route is that of the handle, or was there
+    sole-put : (new : RouteTable)
+        → ((h l : ℕ) → map.get new h ≡ Some l → ((h ≡ handle) × (l ≡ link)) ⊎ (map.get handles h ≡ Some l))
+        → IsSole new (map.insert noted link handle) false
+    sole-put new routes not h l has =
+        elim (routes h l has) [
+          | inl this ↦
+              ap (λ (k : ℕ). map.get (map.insert noted link handle) k) this.1 ∙ get-put-same noted link handle
+              ∙ ap (λ (k : ℕ). Some k) (sym this.0)
+          | inr old ↦
+              elim (which l link) [
+                | inl e ↦ absurd (never-led h (old ∙ ap (λ (k : ℕ). Some k) e))
+                | inr ne ↦ get-put-other noted link l handle ne ∙ was refl h l old
+              ]
+        ]
 
-    -- or there was no memory to have it lead there
-    pub sole-tried : {T E : Type 0} (result : Result T E) (new noted : RouteTable)
-        → noted ≡ map.insert leads link handle
-        → OnOk result (new ≡ map.insert handles handle link) → OnErr result (new ≡ handles) → IsSole new noted false
-    sole-tried (Ok x) new noted is ok err =
-        subst (λ (t : RouteTable). IsSole new t false) (sym is)
-        (subst (λ (t : RouteTable). IsSole t (map.insert leads link handle) false) (sym ok) sole-put)
-    sole-tried (Err e) new noted is ok err =
-        subst (λ (t : RouteTable). IsSole new t false) (sym is)
-        (subst (λ (t : RouteTable). IsSole t (map.insert leads link handle) false) (sym err) sole-noted)
+    -- the handle leads to the link then, or there was no memory for that
+    pub sole-tried : {T E : Type 0} (result : Result T E) (new : RouteTable)
+        → OnOk result (new ≡ map.insert handles handle link) → OnErr result (new ≡ handles)
+        → IsSole new (map.insert noted link handle) false
+    sole-tried (Err e) new ok err = sole-put new (λ h l has. inr (ap (λ (t : RouteTable). map.get t h) (sym err) ∙ has))
+    sole-tried (Ok x) new ok err =
+        sole-put new (λ h l has.
+        let put : map.get (map.insert handles handle link) h ≡ Some l =
+        ap (λ (t : RouteTable). map.get t h) (sym ok) ∙ has in
+        elim (which h handle) [
+          | inl e ↦
+              inl (
+                e,
+                same_Some _ _ (sym put ∙ ap (λ (k : ℕ). map.get (map.insert handles handle link) k) e
+                    ∙ get-put-same handles handle link),
+              )
+          | inr ne ↦ inr (sym (get-put-other handles handle h link ne) ∙ put)
+        ])
 
-  module _ (several : Bool) (was : IsSole handles leads several) where
+  module _ (several : Bool) (was : IsSole handles noted several) where
     -- a route less
-    pub sole-less : (handle : ℕ) → IsSole (map.remove handles handle) leads several
-    sole-less handle not h l has = by (eqb_tells h handle)
-      where
-        by : (((h == handle) ≡ true) × (h ≡ handle)) ⊎ (((h == handle) ≡ false) × (h ≢ handle))
-            → map.get leads l ≡ Some h
-        by (inl p) =
-            absurd (let clash : None ≡ Some l = sym (get-take-same handles handle)
-            ∙ ap (λ (k : ℕ). map.get (map.remove handles handle) k) (sym p.1) ∙ has in cc)
-        by (inr p) = was not h l (sym (get-take-other handles handle h p.1) ∙ has)
+    pub sole-less : (handle : ℕ) → IsSole (map.remove handles handle) noted several
+    sole-less handle not h l has =
+        elim (which h handle) [
+          | inl e ↦
+              absurd (none-some _ (sym (ap (λ (k : ℕ). map.get (map.remove handles handle) k) e
+              ∙ get-take-same handles handle) ∙ has))
+          | inr ne ↦ was not h l (sym (get-take-other handles handle h ne) ∙ has)
+        ]
 
     -- no route to a link
     pub sole-forgotten : (link : ℕ) (left : RouteTable)
-        → ((h : ℕ) → map.get left h ≡ unless_to link (map.get handles h)) → IsSole left (map.remove leads link) several
+        → ((h : ℕ) → map.get left h ≡ unless_to link (map.get handles h)) → IsSole left (map.remove noted link) several
     sole-forgotten link left are not h l has =
         let found : (map.get handles h ≡ Some l) × (l ≢ link) =
         unless-is link l (map.get handles h) (sym (are h) ∙ has) in
-        get-take-other leads link l found.1 ∙ was not h l found.0
+        get-take-other noted link l found.1 ∙ was not h l found.0
 
 -- the one handle that leads to a link leads there no longer
-module _ (handles : RouteTable) (link : ℕ) where
-  pub led-none : ((h : ℕ) → map.get handles h ≡ Some link → None ≡ Some h)
-      → (h : ℕ) → map.get handles h ≡ unless_to link (map.get handles h)
-  led-none sole h = unless-other link (map.get handles h) (λ has. absurd (let clash : None ≡ Some h = sole h has in cc))
-
-  module _ (handle : ℕ) (sole : (h : ℕ) → map.get handles h ≡ Some link → Some handle ≡ Some h) where
-    pub led-elsewhere : map.get handles handle ≢ Some link
-        → (h : ℕ) → map.get handles h ≡ unless_to link (map.get handles h)
-    led-elsewhere other h = unless-other link (map.get handles h) (λ has.
-        let same : handle ≡ h = (let e = sole h has in cc) in
-        other (ap (λ (k : ℕ). map.get handles k) same ∙ has))
-
-    pub led-here : map.get handles handle ≡ Some link
-        → (h : ℕ) → map.get (map.remove handles handle) h ≡ unless_to link (map.get handles h)
-    led-here here h = by (eqb_tells h handle)
-      where
-        by : (((h == handle) ≡ true) × (h ≡ handle)) ⊎ (((h == handle) ≡ false) × (h ≢ handle))
-            → map.get (map.remove handles handle) h ≡ unless_to link (map.get handles h)
-        by (inl p) =
-            ap (λ (k : ℕ). map.get (map.remove handles handle) k) p.1
-            ∙ get-take-same handles handle
-            ∙ unless-same link (map.get handles h) (ap (λ (k : ℕ). map.get handles k) p.1 ∙ here)
-        by (inr p) =
-            get-take-other handles handle h p.1
-            ∙ unless-other link (map.get handles h) (λ has. p.1 (sym (let e : Some handle ≡ Some h = sole h has in cc)))
+pub led-here : (handles : RouteTable) (link handle : ℕ)
+    → ((h : ℕ) → map.get handles h ≡ Some link → Some handle ≡ Some h) → is_to link (map.get handles handle) ≡ true
+    → (h : ℕ) → map.get (map.remove handles handle) h ≡ unless_to link (map.get handles h)
+led-here handles link handle sole here h =
+    elim (which h handle) [
+      | inl e ↦
+          ap (λ (k : ℕ). map.get (map.remove handles handle) k) e ∙ get-take-same handles handle
+          ∙ unless-same link (map.get handles handle) here
+          ∙ ap (λ (k : ℕ). unless_to link (map.get handles k)) (sym e)
+      | inr ne ↦
+          get-take-other handles handle h ne
+          ∙ unless-other link (map.get handles h) (λ has. ne (sym (same_Some _ _ (sole h has))))
+    ]

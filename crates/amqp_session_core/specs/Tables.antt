@@ -1,5 +1,5 @@
 -- The own handles of links by the handles that the peer gave them (part 2, 2.6.2).
-use Rattle.std.specs.Prelude.{ℕ, Bool, false, ◌≡◌, ◌≢◌, ◌==◌, Option, Some, None, if◌then◌else◌}
+use Rattle.std.specs.Prelude.{ℕ, Bool, false, ◌≡◌, ◌==◌, Option, Some, None, if◌then◌else◌}
 use Rattle.std.specs.Coded.{Coded, coded_ℕ}
 use Rattle.std.specs.Ordering.{nat_cmp}
 use Rattle.std.specs.FinMap as map
@@ -15,11 +15,21 @@ abbrev pub unless_to : ℕ → Option ℕ → Option ℕ
 unless_to link None = None
 unless_to link (Some to) = if to == link then None else Some to
 
+-- a route leads to this link
+abbrev pub is_to : ℕ → Option ℕ → Bool
+is_to link None = false
+is_to link (Some to) = to == link
+
+-- the handle that is noted for a link leads to it
+abbrev pub leads_by : RouteTable → ℕ → Option ℕ → Bool
+leads_by handles link None = false
+leads_by handles link (Some handle) = is_to link (map.get handles handle)
+
+-- whether a handle leads to the link, by the one that is noted for it: no other does where no two led to one link once
+abbrev pub leads : RouteTable → RouteTable → ℕ → Bool
+leads handles noted link = leads_by handles link (map.get noted link)
+
 -- each handle of the peer that leads to a link is the one that is noted for the link, unless several led to one once
 abbrev pub IsSole : RouteTable → RouteTable → Bool → Type 0
-IsSole handles leads several =
-    several ≡ false → (handle link : ℕ) → map.get handles handle ≡ Some link → map.get leads link ≡ Some handle
-
--- the handle that is noted for a link doesn't lead to it
-abbrev pub LeadsNowhere : RouteTable → RouteTable → ℕ → Type 0
-LeadsNowhere handles leads link = (handle : ℕ) → map.get leads link ≡ Some handle → map.get handles handle ≢ Some link
+IsSole handles noted several =
+    several ≡ false → (handle link : ℕ) → map.get handles handle ≡ Some link → map.get noted link ≡ Some handle

@@ -1,6 +1,6 @@
-ghost use Rattle.std.specs.Prelude.{◌≡◌, ℕ, Some, OnOk, OnErr, not, false, ◌==◌};
+ghost use Rattle.std.specs.Prelude.{◌≡◌, ℕ, Some, OnOk, OnErr, not, ◌==◌};
 ghost use Rattle.std.specs.FinMap as map;
-ghost use Rattle.amqp_session_core.specs.Tables.{LeadsNowhere, unless_to};
+ghost use Rattle.amqp_session_core.specs.Tables.{is_to, leads, unless_to};
 
 use amqp_session_types::OutputHandle;
 use indexmap::IndexMap;
@@ -78,10 +78,9 @@ impl Handles {
 #[derive(Debug, Drop)]
 pub(crate) struct Routes {
     handles: Handles,
-    /// The peer's handle that leads to a link, by the own one, where one alone does. What no handle leads to any more
-    /// may stand here too.
-    leads: Handles,
-    /// Whether several of the peer's handles led to one link once. Then `leads` tells nothing.
+    /// The handle of the peer that was the last to lead to a link, by the own one. It may lead there no longer.
+    noted: Handles,
+    /// Whether several of the peer's handles led to one link once. Then others may lead there than the noted one.
     has_several: bool,
 }
 
@@ -94,7 +93,7 @@ impl Model for Routes {
 
     ghost view = { λ r. r.handles };
 
-    ghost invariant = { λ r. IsSole r.handles r.leads r.has_several };
+    ghost invariant = { λ r. IsSole r.handles r.noted r.has_several };
 }
 
 impl Routes {
@@ -104,7 +103,7 @@ impl Routes {
     {
         Routes {
             handles: Handles::new(alloc),
-            leads: Handles::new(alloc),
+            noted: Handles::new(alloc),
             has_several: false,
         }
     }
@@ -121,8 +120,8 @@ impl Routes {
         ensures ok { OnOk result (self.new ≡ map.insert self.old handle link.0) }
         ensures err { OnErr result (self.new ≡ self.old) }
     {
-        let has_several = self.has_several || leads_to(&self.handles, &self.leads, link.0);
-        self.leads.insert(link.0, handle)?;
+        let has_several = self.has_several || leads(&self.handles, &self.noted, link.0);
+        self.noted.insert(link.0, handle)?;
         self.has_several = has_several;
         self.handles.insert(handle, link.0)
     }
@@ -138,33 +137,43 @@ impl Routes {
     pub(crate) fn forget(&mut self, link: OutputHandle)
         ensures { (handle : ℕ) → map.get self.new handle ≡ unless_to link.0 (map.get self.old handle) }
     {
-        let lead = self.leads.remove(link.0);
+        let noted = self.noted.remove(link.0);
         if self.has_several {
             self.handles.forget(link.0);
         } else {
-            forget_lead(&mut self.handles, lead, link.0);
+            forget_noted(&mut self.handles, noted, link.0);
         }
     }
 }
 
-/// Takes the route to a link away, which is no other than that of the handle noted for it.
-fn forget_lead(handles: &mut Handles, lead: Option<u32>, link: u32)
-    requires sole { (handle : ℕ) → map.get handles.old handle ≡ Some link → lead ≡ Some handle }
+/// Takes the route to a link away, where no handle leads there but the one that is noted for it.
+fn forget_noted(handles: &mut Handles, noted: Option<u32>, link: u32)
+    requires sole { (handle : ℕ) → map.get handles.old handle ≡ Some link → noted ≡ Some handle }
     ensures { (handle : ℕ) → map.get handles.new handle ≡ unless_to link (map.get handles.old handle) }
 {
-    if let Some(handle) = lead {
-        if handles.get(handle) == Some(link) {
+    if let Some(handle) = noted {
+        if is_to(handles.get(handle), link) {
             let _ = handles.remove(handle);
         }
     }
 }
 
-/// Whether the handle that led to a link last leads there still.
-fn leads_to(handles: &Handles, leads: &Handles, link: u32) -> bool
-    ensures { result ≡ false → LeadsNowhere handles.now leads.now link }
+/// Whether the handle that is noted for a link leads to it.
+fn leads(handles: &Handles, noted: &Handles, link: u32) -> bool
+    ensures { result ≡ leads handles.now noted.now link }
 {
-    match leads.get(link) {
-        Some(handle) => handles.get(handle) == Some(link),
+    match noted.get(link) {
+        Some(handle) => is_to(handles.get(handle), link),
+        None => false,
+    }
+}
+
+/// Whether a route leads to this link.
+fn is_to(route: Option<u32>, link: u32) -> bool
+    ensures { result ≡ is_to link route }
+{
+    match route {
+        Some(to) => to == link,
         None => false,
     }
 }

@@ -5,5 +5,5 @@ use Rattle.amqp_session_core.proofs.routes.Routes.remove.Goals as goal
 
 pub invariant_of-self : goal.invariant_of-self
 invariant_of-self c =
-    subst (λ (t : RouteTable). IsSole t c.self.inside.leads c.self.inside.has_several) (sym c.remove.ensures.rest)
-    (sole-less c.self.inside.handles c.self.inside.leads c.self.inside.has_several c.self.invariant c.args.handle)
+    subst (λ (t : RouteTable). IsSole t c.self.inside.noted c.self.inside.has_several) (sym c.remove.ensures.rest)
+    (sole-less c.self.inside.handles c.self.inside.noted c.self.inside.has_several c.self.invariant c.args.handle)
