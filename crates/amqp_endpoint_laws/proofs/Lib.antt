@@ -13,3 +13,4 @@ mod PassedPlaces
 mod PassedHeard
 mod PassedCalled
 mod PassedKept
+mod PassedWindows

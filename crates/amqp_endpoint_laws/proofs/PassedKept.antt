@@ -1,4 +1,4 @@
--- Whatever is done, each transfer of a session lies in its peer's window.
+-- What is kept by all that a session does is kept by all that an endpoint does.
 use Rattle.std.proofs.Common.{◌≡◌, ◌<◌, ◌⊎◌, inl, inr, ℕ, zero, suc, Bool, true, false, List, [], ◌∷◌, ◌++◌, Option}
 use Rattle.std.proofs.Common.{Some, None, Ok, Err, ap, arith, length, refl, slice_get, sym, subst, ◌∙◌, ◌==◌}
 use Rattle.std.specs.Prelude.{Result, if◌then◌else◌}
@@ -45,28 +45,14 @@ use Rattle.amqp_endpoint_sessions.specs.Steps.{EndSent, Finished, Finishes as Fi
 use Rattle.amqp_endpoint_sessions.specs.Steps.{TellsEnd}
 use Rattle.amqp_endpoint_sessions.specs.declared.place.Place.TheVariants.{Asked, Live, Ending, Over}
 use Rattle.amqp_endpoint_sessions.proofs.Owning.{at, other_number, own, same_number}
-use Rattle.amqp_endpoint_talk.specs.Windows.{Count, KeepsWindow, Passing, begins_with, count_behind, went}
-use Rattle.amqp_endpoint_talk.proofs.Windows.{each-append}
+use Rattle.amqp_endpoint_talk.specs.Windows.{Passing}
 use Rattle.amqp_endpoint_laws.specs.Conversing.{SessionsStep}
 use Rattle.amqp_endpoint_laws.specs.Passed.{PassesIn, is_it, passes_in}
 use Rattle.amqp_endpoint_laws.proofs.PassedCalled.{called}
 use Rattle.amqp_endpoint_laws.proofs.PassedHeard.{frame-heard}
-use Rattle.amqp_endpoint_laws.proofs.PassedPlaces.{Counts, Judges, eq-same, judges-end, judges-on, judges-still}
+use Rattle.amqp_endpoint_laws.proofs.PassedPlaces.{IsGone, Keeping, eq-same}
 use Rattle.amqp_endpoint_laws.proofs.SessionsGoing.{Go}
 use Rattle.amqp_endpoint_laws.proofs.SessionsHeard.{refused-goes}
-
--- a session that is ending, or over
-abbrev IsGone : Option Stood → Type 0
-IsGone (Some (Ending channel)) = Unit {0}
-IsGone (Some (Over peer_end complete)) = Unit {0}
-IsGone o = ⊥
-
-gone-counts : (o : Option Stood) → IsGone o → (first : ℕ) (c : Count) → Counts first o c
-gone-counts (Some (Ending channel)) gone first c = tt
-gone-counts (Some (Over peer_end complete)) gone first c = tt
-gone-counts (Some (Asked channel a)) gone first c = absurd gone
-gone-counts (Some (Live channel s)) gone first c = absurd gone
-gone-counts None gone first c = absurd gone
 
 finished-gone : (stood : Stood) → IsGone (Some (finished_place stood))
 finished-gone (Asked channel a) = tt
@@ -82,12 +68,6 @@ wanes-on : (old mid new : Sessions) (n : ℕ) → Wanes old mid n → Wanes mid 
 wanes-on old mid new n w (inr gone) = inr gone
 wanes-on old mid new n (inl same) (inl is) = inl (is ∙ same)
 wanes-on old mid new n (inr gone) (inl is) = inr (subst IsGone (sym is) gone)
-
-judges-wane : (first : ℕ) (old new : Sessions) (n : ℕ) → Wanes old new n
-    → Judges first (place_at old n) [] (place_at new n)
-judges-wane first old new n (inl same) = judges-still first (place_at old n) (place_at new n) same
-judges-wane first old new n (inr gone) =
-    judges-end first (place_at old n) (place_at new n) [] (λ c. tt) (gone-counts (place_at new n) gone first)
 
 -- by a step that is about one session, which is gone behind it
 by-about : (number : ℕ) (old new : Sessions) (n : ℕ) → ((n == number) ≡ false → place_at new n ≡ place_at old n)
@@ -293,103 +273,113 @@ closed-same false old told m = (
   ap (λ (s : LinkedSessions). s.talk.first_transfer_number) m.is,
 )
 
-over-judges : (first : ℕ) (old refused told new : Sessions) (n : ℕ) → Go old refused → told.places ≡ refused.places
-    → IsOver new n → Wanes told new n → Judges first (place_at old n) [] (place_at new n)
-over-judges first old refused told new n g places (inl gone) w =
-    judges-end first (place_at old n) (place_at new n) [] (λ c. tt) (gone-counts (place_at new n) gone first)
-over-judges first old refused told new n g places (inr none) (inr gone) =
-    absurd (subst IsGone none gone)
-over-judges first old refused told new n g places (inr none) (inl same) =
-    let before : place_at refused n ≡ None =
-    sym (ap (λ (ps : List Stood). slice_get ps n) places) ∙ sym same ∙ none in
-    judges-still first (place_at old n) (place_at new n) (none ∙ sym (never-there old refused g n before))
+module _ (J : ℕ → Option Stood → List Passing → Option Stood → Type 0) (k : Keeping J) where
+  judges-wane : (first : ℕ) (old new : Sessions) (n : ℕ) → Wanes old new n
+      → J first (place_at old n) [] (place_at new n)
+  judges-wane first old new n (inl same) = k.still first (place_at old n) (place_at new n) same
+  judges-wane first old new n (inr gone) = k.gone first (place_at old n) (place_at new n) [] gone refl
 
-module _ (limit : ℕ) (f : Frame) (error : EndpointError) (old new : LinkedSessions)
-    (e : EndsBy linked old limit f error new) where
-  ends-judges : (n : ℕ)
-      → Judges old.talk.first_transfer_number (place_at old.talk.sessions n) [] (place_at new.talk.sessions n)
-  ends-judges n =
-      let told = e.closes.told in
-      let (places, first) = closed-same e.own_close e.refused told e.closes.tells in
-      let over = ((e.closes.over).0).each in
-      over-judges old.talk.first_transfer_number old.talk.sessions e.refused.talk.sessions told.talk.sessions
-      new.talk.sessions n
-      (refused-goes f.body old.talk e.refused.talk old.links old.given limit (record { 0 = f.channel }) error
-      ((e.refuses).0).refuses)
-      places
-      (over-at (place_at told.talk.sessions n) told.talk.sessions new.talk.sessions told.links new.links n refl over)
-      (finished-first (length told.talk.sessions.places) told.talk.sessions new.talk.sessions told.links new.links over
-      n)
+  over-judges : (first : ℕ) (old refused told new : Sessions) (n : ℕ) → Go old refused → told.places ≡ refused.places
+      → IsOver new n → Wanes told new n → J first (place_at old n) [] (place_at new n)
+  over-judges first old refused told new n g places (inl gone) w =
+      k.gone first (place_at old n) (place_at new n) [] gone refl
+  over-judges first old refused told new n g places (inr none) (inr gone) =
+      absurd (subst IsGone none gone)
+  over-judges first old refused told new n g places (inr none) (inl same) =
+      let before : place_at refused n ≡ None =
+      sym (ap (λ (ps : List Stood). slice_get ps n) places) ∙ sym same ∙ none in
+      k.still first (place_at old n) (place_at new n) (none ∙ sym (never-there old refused g n before))
 
-  ends-first : Firsts old.talk new.talk
-  ends-first =
-      let told = e.closes.told in
-      let (places, first) = closed-same e.own_close e.refused told e.closes.tells in
-      first-rest told.talk new.talk ((e.closes.over).0).rest ∙ first
-      ∙ first-body f.body old.talk e.refused.talk old.links old.given limit (record { 0 = f.channel }) error
-      ((e.refuses).0).refuses
+  module _ (limit : ℕ) (f : Frame) (error : EndpointError) (old new : LinkedSessions)
+      (e : EndsBy linked old limit f error new) where
+    ends-judges : (n : ℕ)
+        → J old.talk.first_transfer_number (place_at old.talk.sessions n) [] (place_at new.talk.sessions n)
+    ends-judges n =
+        let told = e.closes.told in
+        let (places, first) = closed-same e.own_close e.refused told e.closes.tells in
+        let over = ((e.closes.over).0).each in
+        over-judges old.talk.first_transfer_number old.talk.sessions e.refused.talk.sessions told.talk.sessions
+        new.talk.sessions n
+        (refused-goes f.body old.talk e.refused.talk old.links old.given limit (record { 0 = f.channel }) error
+        ((e.refuses).0).refuses)
+        places
+        (over-at (place_at told.talk.sessions n) told.talk.sessions new.talk.sessions told.links new.links n refl over)
+        (finished-first (length told.talk.sessions.places) told.talk.sessions new.talk.sessions told.links new.links over
+        n)
 
-still-judges : (old new : LinkedSessions) (n : ℕ) → new.talk.sessions.places ≡ old.talk.sessions.places
-    → Judges old.talk.first_transfer_number (place_at old.talk.sessions n) [] (place_at new.talk.sessions n)
-still-judges old new n same = judges-still _ _ _ (ap (λ (ps : List Stood). slice_get ps n) same)
+    ends-first : Firsts old.talk new.talk
+    ends-first =
+        let told = e.closes.told in
+        let (places, first) = closed-same e.own_close e.refused told e.closes.tells in
+        first-rest told.talk new.talk ((e.closes.over).0).rest ∙ first
+        ∙ first-body f.body old.talk e.refused.talk old.links old.given limit (record { 0 = f.channel }) error
+        ((e.refuses).0).refuses
 
-deed-judges : (deed : Deed) (old new : LinkedSessions) → IsDeed linked old deed new → (n : ℕ)
-    → Judges old.talk.first_transfer_number (place_at old.talk.sessions n) (passes_in n old deed)
-    (place_at new.talk.sessions n)
-deed-judges (Queues it) old new same n =
-    still-judges old new n (ap (λ (s : LinkedSessions). s.talk.sessions.places) same)
-deed-judges (Hears frame) old new same n =
-    still-judges old new n (ap (λ (s : LinkedSessions). s.talk.sessions.places) same)
-deed-judges (Takes limit f frames events) old new h n =
-    (frame-heard f.body old new limit (record { 0 = f.channel }) frames events h.0).all n
-deed-judges (Refuses limit f error) old new e n = ends-judges limit f error old new e n
-deed-judges (Does limit it answer frames) old new c n = (called it answer old new limit frames c.0).all n
-deed-judges (Moves connection) old new m n =
-    still-judges old new n (ap (λ (s : LinkedSessions). s.talk.sessions.places) m.1)
-deed-judges Renews old new is n =
-    still-judges old new n (ap (λ (s : LinkedSessions). s.talk.sessions.places) is)
-deed-judges Closes old new l n =
-    judges-wane _ old.talk.sessions new.talk.sessions n
-    (left-first _ old.talk.sessions new.talk.sessions old.links new.links (l.0).each n)
-deed-judges Finishes old new f n =
-    judges-wane _ old.talk.sessions new.talk.sessions n
-    (finished-first _ old.talk.sessions new.talk.sessions old.links new.links (f.0).each n)
+  still-judges : (old new : LinkedSessions) (n : ℕ) → new.talk.sessions.places ≡ old.talk.sessions.places
+      → J old.talk.first_transfer_number (place_at old.talk.sessions n) [] (place_at new.talk.sessions n)
+  still-judges old new n same = k.still _ _ _ (ap (λ (ps : List Stood). slice_get ps n) same)
 
-deed-first : (deed : Deed) (old new : LinkedSessions) → IsDeed linked old deed new → Firsts old.talk new.talk
-deed-first (Queues it) old new same = ap (λ (s : LinkedSessions). s.talk.first_transfer_number) same
-deed-first (Hears frame) old new same = ap (λ (s : LinkedSessions). s.talk.first_transfer_number) same
-deed-first (Takes limit f frames events) old new h =
-    (frame-heard f.body old new limit (record { 0 = f.channel }) frames events h.0).first
-deed-first (Refuses limit f error) old new e = ends-first limit f error old new e
-deed-first (Does limit it answer frames) old new c = (called it answer old new limit frames c.0).first
-deed-first (Moves connection) old new m = ap (λ (s : LinkedSessions). s.talk.first_transfer_number) m.1
-deed-first Renews old new is = ap (λ (s : LinkedSessions). s.talk.first_transfer_number) is
-deed-first Closes old new l = first-rest old.talk new.talk (l.0).rest
-deed-first Finishes old new f = first-rest old.talk new.talk (f.0).rest
+  deed-judges : (deed : Deed) (old new : LinkedSessions) → IsDeed linked old deed new → (n : ℕ)
+      → J old.talk.first_transfer_number (place_at old.talk.sessions n) (passes_in n old deed)
+      (place_at new.talk.sessions n)
+  deed-judges (Queues it) old new same n =
+      still-judges old new n (ap (λ (s : LinkedSessions). s.talk.sessions.places) same)
+  deed-judges (Hears frame) old new same n =
+      still-judges old new n (ap (λ (s : LinkedSessions). s.talk.sessions.places) same)
+  deed-judges (Takes limit f frames events) old new h n =
+      (frame-heard J k f.body old new limit (record { 0 = f.channel }) frames events h.0).all n
+  deed-judges (Refuses limit f error) old new e n = ends-judges limit f error old new e n
+  deed-judges (Does limit it answer frames) old new c n = (called J k it answer old new limit frames c.0).all n
+  deed-judges (Moves connection) old new m n =
+      still-judges old new n (ap (λ (s : LinkedSessions). s.talk.sessions.places) m.1)
+  deed-judges Renews old new is n =
+      still-judges old new n (ap (λ (s : LinkedSessions). s.talk.sessions.places) is)
+  deed-judges Closes old new l n =
+      judges-wane _ old.talk.sessions new.talk.sessions n
+      (left-first _ old.talk.sessions new.talk.sessions old.links new.links (l.0).each n)
+  deed-judges Finishes old new f n =
+      judges-wane _ old.talk.sessions new.talk.sessions n
+      (finished-first _ old.talk.sessions new.talk.sessions old.links new.links (f.0).each n)
 
-kept : (deeds : List Deed) (n : ℕ) (old new : LinkedSessions) (passings : List Passing)
-    → PassesIn n old deeds new passings → (c : Count)
-    → Counts old.talk.first_transfer_number (place_at old.talk.sessions n) c → KeepsWindow c passings
-kept [] n old new passings (same, none) c here =
-    subst (λ (ps : List Passing). KeepsWindow c ps) (sym none) tt
-kept (deed ∷ deeds) n old new passings (mid, later, one, rest, is) c here =
-    let ps : List Passing = passes_in n old deed in
-    let j = deed-judges deed old mid one n in
-    let on : KeepsWindow (count_behind c ps) later =
-    kept deeds n mid new later rest (count_behind c ps)
-    (subst (λ (f : ℕ). Counts f (place_at mid.talk.sessions n) (count_behind c ps)) (sym (deed-first deed old mid one))
-    (j.behind c here)) in
-    subst (λ (qs : List Passing). KeepsWindow c qs) (sym is) (each-append c ps later (j.each c here) on)
+  deed-first : (deed : Deed) (old new : LinkedSessions) → IsDeed linked old deed new → Firsts old.talk new.talk
+  deed-first (Queues it) old new same = ap (λ (s : LinkedSessions). s.talk.first_transfer_number) same
+  deed-first (Hears frame) old new same = ap (λ (s : LinkedSessions). s.talk.first_transfer_number) same
+  deed-first (Takes limit f frames events) old new h =
+      (frame-heard J k f.body old new limit (record { 0 = f.channel }) frames events h.0).first
+  deed-first (Refuses limit f error) old new e = ends-first limit f error old new e
+  deed-first (Does limit it answer frames) old new c = (called J k it answer old new limit frames c.0).first
+  deed-first (Moves connection) old new m = ap (λ (s : LinkedSessions). s.talk.first_transfer_number) m.1
+  deed-first Renews old new is = ap (λ (s : LinkedSessions). s.talk.first_transfer_number) is
+  deed-first Closes old new l = first-rest old.talk new.talk (l.0).rest
+  deed-first Finishes old new f = first-rest old.talk new.talk (f.0).rest
 
-pub window-kept : (sessions end : LinkedSessions) (settings : Settings) (deeds : List Deed) (n : ℕ)
-    (passings : List Passing) → IsNew linked settings sessions → PassesIn n sessions deeds end passings
-    → KeepsWindow (begins_with settings.first_transfer_number) passings
-window-kept sessions end settings deeds n passings new p =
-    kept deeds n sessions end passings p (begins_with settings.first_transfer_number)
-    (subst
-    (λ (s : LinkedSessions).
-    Counts s.talk.first_transfer_number (place_at s.talk.sessions n) (begins_with settings.first_transfer_number))
-    (sym new.is) refl)
+  -- so it is by all of them
+  pub deeds-judge : (deeds : List Deed) (n : ℕ) (old new : LinkedSessions) (passings : List Passing)
+      → PassesIn n old deeds new passings
+      → J old.talk.first_transfer_number (place_at old.talk.sessions n) passings (place_at new.talk.sessions n)
+  deeds-judge [] n old new passings (same, none) =
+      subst
+      (λ (ps : List Passing).
+      J old.talk.first_transfer_number (place_at old.talk.sessions n) ps (place_at new.talk.sessions n))
+      (sym none)
+      (k.still _ _ _ (ap (λ (s : LinkedSessions). place_at s.talk.sessions n) same))
+  deeds-judge (deed ∷ deeds) n old new passings (mid, later, one, rest, is) =
+      let first : ℕ = old.talk.first_transfer_number in
+      subst (λ (ps : List Passing). J first (place_at old.talk.sessions n) ps (place_at new.talk.sessions n)) (sym is)
+      (k.on first (place_at old.talk.sessions n) (place_at mid.talk.sessions n) (place_at new.talk.sessions n)
+      (passes_in n old deed) later (deed-judges deed old mid one n)
+      (subst (λ (f : ℕ). J f (place_at mid.talk.sessions n) later (place_at new.talk.sessions n))
+      (deed-first deed old mid one) (deeds-judge deeds n mid new later rest)))
+
+  -- from new sessions on
+  pub new-judges : (sessions end : LinkedSessions) (settings : Settings) (deeds : List Deed) (n : ℕ)
+      (passings : List Passing) → IsNew linked settings sessions → PassesIn n sessions deeds end passings
+      → J settings.first_transfer_number None passings (place_at end.talk.sessions n)
+  new-judges sessions end settings deeds n passings new p =
+      subst
+      (λ (s : LinkedSessions).
+      J s.talk.first_transfer_number (place_at s.talk.sessions n) passings (place_at end.talk.sessions n))
+      new.is (deeds-judge deeds n sessions end passings p)
 
 -- something passes in each session, or nothing
 pub some-passes : (deeds : List Deed) (n : ℕ) (old new : LinkedSessions) → AreDone linked old deeds new

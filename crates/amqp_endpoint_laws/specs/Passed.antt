@@ -1,14 +1,23 @@
 -- What passes in each session of an endpoint by what is done (part 2, 2.5).
 use Rattle.std.specs.Prelude.{◌≡◌, ◌==◌, ℕ, Bool, false, List, [], ◌∷◌, ◌++◌, length, Option, Some, None, if◌then◌else◌}
+use Rattle.amqp_session_types.specs.declared.channels.OutgoingChannel.{OutgoingChannel}
+use Rattle.amqp_link_base.specs.declared.detached.Detached.{Detached}
 use Rattle.amqp_link_ends.specs.declared.end.End.{End}
+use Rattle.amqp_link_ends.specs.declared.relay.AttachTold.{AttachTold}
+use Rattle.amqp_link_receiving.specs.declared.answer.Told.{Told}
 use Rattle.amqp_session_connection.specs.Steps.{named_session}
-use Rattle.amqp_session_frames.specs.declared.frame.Frame.{Frame}
+use Rattle.amqp_session_performatives.specs.declared.session_frame.SessionFrame.{SessionFrame}
+use Rattle.amqp_session_core.specs.History.{History}
+use Rattle.amqp_session_core.specs.State.{State as SessionState, fresh}
+use Rattle.amqp_session_core.specs.Steps.{Step}
 use Rattle.amqp_session_frames.specs.declared.frame.FrameBody.{FrameBody}
 use Rattle.amqp_session_frames.specs.declared.frame.FrameBody.TheVariants as body
 use Rattle.amqp_endpoint_deeds.specs.Deeds.{Deed, Does, IsDeed, Takes}
 use Rattle.amqp_endpoint_linked.specs.Does.{linked}
 use Rattle.amqp_endpoint_linked.specs.declared.linked.LinkedSessions.{LinkedSessions}
-use Rattle.amqp_endpoint_linking.specs.Linking.{Session, Sessions}
+use Rattle.amqp_endpoint_attached.specs.Linked.{gives}
+use Rattle.amqp_endpoint_fitting.specs.Handed.{handed_of}
+use Rattle.amqp_endpoint_linking.specs.Linking.{Link, Session, Sessions}
 use Rattle.amqp_endpoint_model.specs.declared.call.Call.{Call}
 use Rattle.amqp_endpoint_model.specs.declared.call.Call.TheVariants as call
 use Rattle.amqp_endpoint_model.specs.Said.{Said, session_begun}
@@ -16,7 +25,8 @@ use Rattle.amqp_endpoint_names.specs.State.{place_at}
 use Rattle.amqp_endpoint_names.specs.declared.place.LinkPlace.{LinkPlace}
 use Rattle.amqp_endpoint_names.specs.declared.place.LinkPlace.TheVariants.{AtRest, Held}
 use Rattle.amqp_endpoint_sessions.specs.State.{live_at, reached}
-use Rattle.amqp_endpoint_talk.specs.Windows.{Came, Passing, went}
+use Rattle.amqp_endpoint_talk.specs.Inside.{transfers_in}
+use Rattle.amqp_endpoint_talk.specs.Windows.{Came, Passing, Went, went}
 
 -- a session that has begun, by its number
 abbrev pub when_live : ℕ → Option Session → Option ℕ
@@ -64,6 +74,12 @@ abbrev pub is_it : Option ℕ → ℕ → Bool
 is_it None number = false
 is_it (Some other) number = number == other
 
+-- the frames that are handed out among what passes
+abbrev pub sent_in : List Passing → List SessionFrame
+sent_in [] = []
+sent_in (Came it ∷ passings) = sent_in passings
+sent_in (Went frame ∷ passings) = frame ∷ sent_in passings
+
 -- what passes in the session with this number by one deed
 abbrev pub passes_in : ℕ → LinkedSessions → Deed → List Passing
 passes_in number s (Takes limit frame frames events) =
@@ -78,3 +94,12 @@ PassesIn number old [] new passings = (new ≡ old) × (passings ≡ [])
 PassesIn number old (deed ∷ deeds) new passings =
     (mid : LinkedSessions) × (later : List Passing) × IsDeed linked old deed mid × PassesIn number mid deeds new later
     × (passings ≡ passes_in number old deed ++ later)
+
+-- a session came about by steps of its own since it was new, with the number of its first transfer, and the transfers
+-- that passed are those that these steps handed out
+pub record HasCome (first : ℕ) (passings : List Passing) (s : SessionState Link) : Type 0 where
+  pub channel : OutgoingChannel
+  pub window : ℕ
+  pub steps : List (Step Link AttachTold Told Detached)
+  pub history : History gives (fresh channel first window) steps s
+  pub transfers : transfers_in (sent_in passings) ≡ transfers_in (handed_of steps)

@@ -106,7 +106,7 @@ module _ (new : Count) where
   with-one (body.Detach detach) f is fs old rest k = free new (went fs) f _ old is tt refl (rest old k)
   with-one (body.End end) f is fs old rest k = free new (went fs) f _ old is tt refl (rest old k)
 
-  with-others : (frames : List SessionFrame) (old : Count) → Keeps old (went (transfers_in frames)) new
+  pub with-others : (frames : List SessionFrame) (old : Count) → Keeps old (went (transfers_in frames)) new
       → Keeps old (went frames) new
   with-others [] old k = k
   with-others (f ∷ fs) old k = with-one f.body f refl fs old (λ c. with-others fs c) k

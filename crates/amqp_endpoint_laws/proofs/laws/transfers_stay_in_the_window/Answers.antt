@@ -1,4 +1,5 @@
-use Rattle.amqp_endpoint_laws.proofs.PassedKept.{some-passes, window-kept}
+use Rattle.amqp_endpoint_laws.proofs.PassedKept.{some-passes}
+use Rattle.amqp_endpoint_laws.proofs.PassedWindows.{window-kept}
 use Rattle.amqp_endpoint_laws.proofs.laws.transfers_stay_in_the_window.Goals as goal
 
 pub returns-clause-kept : goal.returns-clause-kept
