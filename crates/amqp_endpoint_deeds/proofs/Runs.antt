@@ -35,12 +35,13 @@ use Rattle.amqp_endpoint_model.specs.State.{waiting_of}
 use Rattle.amqp_endpoint_model.specs.Step.{Admits, AfterFault, Breaks, BreaksGreeting, ClosesBoth, ClosesBy, ClosesOwn}
 use Rattle.amqp_endpoint_model.specs.Step.{Ends, EndsRunning, FeedsIn, FrontBarred, FrontRefused, Greets, MovesBy}
 use Rattle.amqp_endpoint_model.specs.Step.{ReadsOn, RefusesBody, SendsClose, SessionsDo, Step, TakesAll, TakesBody}
-use Rattle.amqp_endpoint_model.specs.Step.{anew, at_state, closed, condition_of, connected, cut_off, faulted, opened}
+use Rattle.amqp_endpoint_model.specs.Step.{anew, at_state, condition_of, connected, opened}
 use Rattle.amqp_endpoint_model.specs.Step.{with_close}
 use Rattle.amqp_endpoint_model.specs.History.{Run}
 use Rattle.amqp_endpoint_model.proofs.Keeping.{step-settings}
-use Rattle.amqp_endpoint_deeds.specs.Deeds.{AreDone, AreRead, Closes, Deed, Does, Finishes, Hears, IsDeed, IsDone, Moves}
-use Rattle.amqp_endpoint_deeds.specs.Deeds.{Passes, Queues, Refuses, Renews, Takes, fed_since, note_fed, note_pulled}
+use Rattle.amqp_endpoint_deeds.specs.Deeds.{AreDone, AreRead, Closes, Deed, Does}
+use Rattle.amqp_endpoint_deeds.specs.Deeds.{Finishes, Hears, IsDeed, IsDone, Moves}
+use Rattle.amqp_endpoint_deeds.specs.Deeds.{Queues, Refuses, Renews, Takes, fed_since, note_fed, note_pulled}
 use Rattle.amqp_endpoint_deeds.specs.Deeds.{pulled_since, queued_by, queued_in, taken_by, taken_in}
 
 -- what deeds queue and take, one list behind the other
@@ -445,8 +446,11 @@ module _ {S : Type 0} (does : Relations S) where
             ∙ ap (λ (ws : List Waiting). old.queue ++ ws) (sym (queued-append a.deeds c.deeds));
         read = λ up.
             subst (λ (p : Phase). ReadNow p old.settings.max_frame_size all (taken_by (a.deeds ++ c.deeds)) new.rest)
-            (sym (c.over up).1)
-            (left, subst (λ (fs : List Frame). ReadsAs (Admits old.settings.max_frame_size) all fs left) (sym taken) read);
+            (sym (c.over up).1) (
+              left,
+              subst (λ (fs : List Frame). ReadsAs (Admits old.settings.max_frame_size) all fs left) (sym taken)
+                  read,
+            );
       }
 
   read-ends : (phase : Phase) (old mid : State S) (all left : List ℕ) (frames : List Frame)

@@ -14,3 +14,4 @@ mod PassedHeard
 mod PassedCalled
 mod PassedKept
 mod PassedWindows
+mod PassedSteps

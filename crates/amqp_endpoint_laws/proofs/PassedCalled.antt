@@ -1,15 +1,11 @@
 -- What passes in a session by a call.
 use Rattle.std.proofs.Common.{◌≡◌, ◌==◌, ℕ, Bool, true, false, List, [], ◌∷◌, Option, Some, None, Ok, Err}
-use Rattle.std.proofs.Common.{ap, refl, sym, subst, ◌∙◌}
+use Rattle.std.proofs.Common.{ap, refl, sym, subst}
 use Rattle.std.specs.Prelude.{Result, ⊤}
-use Rattle.std.specs.Global.{Box}
-use Rattle.std.proofs.lemmas.Option.{none-some}
 use Rattle.amqp_session_types.specs.declared.refusals.TryEndError.{TryEndError}
 use Rattle.amqp_session_performatives.specs.declared.begin.Begin.{Begin}
 use Rattle.amqp_session_performatives.specs.declared.session_frame.SessionFrame.{SessionFrame}
 use Rattle.amqp_link_ends.specs.declared.end.End.{End}
-use Rattle.amqp_endpoint_asked.specs.declared.session.AskedSession.{AskedSession}
-use Rattle.amqp_endpoint_asked.specs.declared.session.SessionFlow.{SessionFlow}
 use Rattle.amqp_endpoint_attached.specs.Linked.{gives}
 use Rattle.amqp_endpoint_names.specs.State.{place_at as link_place}
 use Rattle.amqp_endpoint_names.specs.declared.place.LinkPlace.TheVariants.{AtRest, Held}
@@ -26,7 +22,7 @@ use Rattle.amqp_endpoint_model.specs.declared.call.Disposal.{Disposal}
 use Rattle.amqp_endpoint_model.specs.declared.event.Event.{Event}
 use Rattle.amqp_endpoint_model.specs.Said.{Said, attaching, count, credit_is, done, link_closed, message_sent}
 use Rattle.amqp_endpoint_model.specs.Said.{session_begun, tried_end, truth, waiting}
-use Rattle.amqp_endpoint_linking.specs.Linking.{Link, Session, Sessions, Stood, Talk}
+use Rattle.amqp_endpoint_linking.specs.Linking.{Session, Sessions, Stood, Talk}
 use Rattle.amqp_endpoint_link_attaching.proofs.Inside.{attaches-inside}
 use Rattle.amqp_endpoint_link_calls.specs.Calling.{Does, DoneAt, DoneIn, detaches, gives_credit, wants_drain}
 use Rattle.amqp_endpoint_link_calls.specs.Closing.{ClosedAt, closes}
@@ -44,7 +40,7 @@ use Rattle.amqp_endpoint_talk.specs.Windows.{Passing, went}
 use Rattle.amqp_endpoint_talk.proofs.Inside.{none-inside}
 use Rattle.amqp_endpoint_laws.specs.Passed.{called_in, holder}
 use Rattle.amqp_endpoint_laws.proofs.PassedPlaces.{AllPassed, IsGone, Keeping, Passed, all-passed, by-step, eq-same}
-use Rattle.amqp_endpoint_laws.proofs.PassedPlaces.{inside, inside-passed, judged-at, live-passed, none-at-all}
+use Rattle.amqp_endpoint_laws.proofs.PassedPlaces.{by-steps, inside-passed, judged-at, live-passed, none-at-all}
 use Rattle.amqp_endpoint_laws.proofs.PassedPlaces.{passed-on, same-at-all}
 
 -- the session of which the peer's End came is over
@@ -130,11 +126,12 @@ module _ (J : ℕ → Option Stood → List Passing → Option Stood → Type 0)
       let j : J first (Some (Asked a.incoming a.wanted)) ps (Some (Live a.outgoing a.session)) =
       k.accepts first old.incoming_window a.incoming channel a.wanted a.outgoing a.session a.frame a.accepted in
       let p : Passed J k number ps old there =
-      by-step J k number (Accepts number a.incoming a.wanted a.outgoing a.session) old there ps (λ n e. e) a.stepped refl
+      by-step J k number (Accepts number a.incoming a.wanted a.outgoing a.session) old there ps (λ n e. e) a.stepped
+      refl
       (judged-at J k first (Some (Asked a.incoming a.wanted)) (Some (Live a.outgoing a.session)) _ _ ps was is j) in
       let q : Passed J k number [] there new =
       live-passed J k number a.session (with_links a.session a.wanted.value.links) there new [] a.taken_over a.rest
-      (inside [] (none-inside gives _ _ refl) refl) in
+      (by-steps [] (none-inside gives _ _ refl) refl) in
       subst (λ (fs : List SessionFrame). Passed J k number (went fs) old new)
       (sym a.queued) (passed-on J k number ps [] old there new p q)
 
@@ -212,7 +209,8 @@ module _ (J : ℕ → Option Stood → List Passing → Option Stood → Type 0)
   called (call.Drain link) done old new limit frames c =
       done-at wants_drain (link_place old.links link) old.talk new.talk frames drains-inside c.is_done
   called (call.Send link message) (message_sent tag outcome) old new limit frames c =
-      done-at (sends limit (tag_of old.sent) message c.sends.settled) (link_place old.links link) old.talk new.talk frames
+      done-at (sends limit (tag_of old.sent) message c.sends.settled) (link_place old.links link) old.talk new.talk
+      frames
       (sends-inside limit (tag_of old.sent) message c.sends.settled) c.sends.sent
   called (call.Dispose link message disposal) done old new limit frames c =
       done-at (disposes_of_one limit message disposal) (link_place old.links link) old.talk new.talk frames

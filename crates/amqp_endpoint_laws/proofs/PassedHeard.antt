@@ -1,11 +1,10 @@
 -- What passes in a session as its peer says something in it.
-use Rattle.std.proofs.Common.{◌≡◌, ◌≢◌, ◌⊎◌, inl, inr, ℕ, Bool, true, false, List, [], ◌∷◌, ◌++◌, Option, Some, None}
+use Rattle.std.proofs.Common.{◌≡◌, ◌≢◌, inl, inr, ℕ, Bool, true, false, List, [], ◌∷◌, ◌++◌, Option, Some, None}
 use Rattle.std.proofs.Common.{Ok, Err, ap, append-nil, refl, sym, subst, ◌∙◌}
 use Rattle.std.specs.Prelude.{IsSome, Result, if◌then◌else◌, option_to_list}
-use Rattle.std.specs.Global.{Box, Vec}
+use Rattle.std.specs.Global.{Box}
 use Rattle.std.proofs.lemmas.Option.{none-some, same_Some}
 use Rattle.amqp_session_types.specs.declared.channels.IncomingChannel.{IncomingChannel}
-use Rattle.amqp_session_types.specs.declared.channels.OutgoingChannel.{OutgoingChannel}
 use Rattle.amqp_session_types.specs.declared.error.Error.{Error}
 use Rattle.amqp_session_types.specs.declared.handles.OutputHandle.{OutputHandle}
 use Rattle.amqp_session_types.specs.declared.refusals.SessionError.{SessionError}
@@ -31,10 +30,8 @@ use Rattle.amqp_link_receiving.specs.declared.answer.Told.{Told}
 use Rattle.amqp_link_receiving.specs.declared.answer.Told.TheVariants as told
 use Rattle.amqp_link_sender.specs.declared.attaching.Attaching.{Attaching}
 use Rattle.amqp_link_types.specs.declared.link_error.LinkError.{LinkError}
-use Rattle.amqp_endpoint_asked.specs.AskedSession.{asked_by}
 use Rattle.amqp_endpoint_asked.specs.declared.session.AskedSession.{AskedSession}
 use Rattle.amqp_endpoint_attached.specs.Linked.{Linked, gives}
-use Rattle.amqp_endpoint_links.specs.Hearing.{Hears}
 use Rattle.amqp_endpoint_links.specs.declared.asking.NamedLink.{NamedLink}
 use Rattle.amqp_endpoint_links.specs.declared.asking.NamedLink.TheVariants.{Absent, Attached, Waiting}
 use Rattle.amqp_endpoint_links.specs.declared.asking.AttachTaken.TheVariants as attach_answer
@@ -43,9 +40,10 @@ use Rattle.amqp_endpoint_links.specs.declared.hearing.LinkPerformative.{LinkPerf
 use Rattle.amqp_endpoint_links.specs.declared.hearing.LinkPerformative.TheVariants as said
 use Rattle.amqp_endpoint_links.specs.declared.hearing.PerformativeTaken.{PerformativeTaken}
 use Rattle.amqp_endpoint_links.specs.declared.hearing.PerformativeTaken.TheVariants as taken
-use Rattle.amqp_endpoint_sessions.specs.State.{asked_at, asked_of, asked_on, ended_place, first_of, live_at, live_of, place_at}
+use Rattle.amqp_endpoint_sessions.specs.State.{asked_at, asked_of, asked_on, ended_place}
+use Rattle.amqp_endpoint_sessions.specs.State.{first_of, live_at, live_of, place_at}
 use Rattle.amqp_endpoint_sessions.specs.State.{reached, routed, routed_in, asked_in, when_asked, with_channel}
-use Rattle.amqp_endpoint_sessions.specs.Steps.{Asks, Ends, Steps, TakesBegin, TakesEnd}
+use Rattle.amqp_endpoint_sessions.specs.Steps.{Asks, Ends, TakesBegin, TakesEnd}
 use Rattle.amqp_endpoint_sessions.specs.declared.place.Place.TheVariants.{Asked, Live, Ending, Over}
 use Rattle.amqp_endpoint_sessions.proofs.Owning.{at}
 use Rattle.amqp_endpoint_conversation.specs.declared.beginning.BeginHeard.{BeginHeard}
@@ -68,7 +66,7 @@ use Rattle.amqp_endpoint_link_hearing.specs.Disposing.{runs_of}
 use Rattle.amqp_endpoint_link_hearing.specs.Flowing.{LetsGo}
 use Rattle.amqp_endpoint_link_hearing.specs.Heard.{attach_of, detach_of, session_of}
 use Rattle.amqp_endpoint_link_hearing.specs.InSession.{GoesOn}
-use Rattle.amqp_endpoint_link_hearing.specs.Saying.{LinkHeard, LinkRefusal}
+use Rattle.amqp_endpoint_link_hearing.specs.Saying.{LinkHeard}
 use Rattle.amqp_endpoint_link_hearing.specs.Transferring as transferring
 use Rattle.amqp_endpoint_link_hearing.specs.Transferring.{Comes, RemembersUnless, transfer_of}
 use Rattle.amqp_endpoint_link_hearing.specs.declared.attaching.LinkAttached.{LinkAttached}
@@ -82,7 +80,7 @@ use Rattle.amqp_endpoint_talk.proofs.Windows.{went-append}
 use Rattle.amqp_endpoint_laws.specs.Passed.{begun_by, live_only, sent_in, taken_in, when_live}
 use Rattle.amqp_endpoint_laws.proofs.PassedPlaces.{AllPassed, GoesBy, IsGone, Keeping, Passed, all-passed, asked-passed}
 use Rattle.amqp_endpoint_laws.proofs.PassedPlaces.{by-step, eq-same, free-passed, hears, inside-passed, judged-at}
-use Rattle.amqp_endpoint_laws.proofs.PassedPlaces.{live-passed, none-at-all, none-passed, opens, passed-on}
+use Rattle.amqp_endpoint_laws.proofs.PassedPlaces.{live-passed, none-passed, opens, passed-on}
 
 -- a session that a channel of the peer's reaches stands somewhere
 abbrev IsThere : Option Stood → Type 0
@@ -181,7 +179,8 @@ due-in (Some number) it payload old n t frames new a = due-at _ _ it payload old
 -- the answer to the peer's End is no transfer
 end-free : (stood : Stood) (ended : Option Session) (frames : List SessionFrame) → EndReply stood ended [] frames
     → transfers_in (sent_in (went frames)) ≡ []
-end-free (Live channel s) ended frames (is, sent) = ap (λ (fs : List SessionFrame). transfers_in (sent_in (went fs))) sent
+end-free (Live channel s) ended frames (is, sent) =
+    ap (λ (fs : List SessionFrame). transfers_in (sent_in (went fs))) sent
 end-free (Asked channel a) ended frames (is, none) =
     ap (λ (fs : List SessionFrame). transfers_in (sent_in (went fs))) none
 end-free (Ending channel) ended frames (is, none) =
@@ -197,7 +196,8 @@ end-gone (Over peer_end complete) = tt
 
 module _ (J : ℕ → Option Stood → List Passing → Option Stood → Type 0) (k : Keeping J) where
   -- what the session that a channel reaches hears passes there
-  pub record HeardThere (old : Talk) (channel : ℕ) (it : FrameBody) (session : ℕ) (frames : List SessionFrame) (new : Talk)
+  pub record HeardThere (old : Talk) (channel : ℕ) (it : FrameBody) (session : ℕ) (frames : List SessionFrame)
+      (new : Talk)
       : Type 0 where
     pub reaches : reached old.sessions channel ≡ Some session
     pub passed : Passed J k session (Came it ∷ went frames) old new
@@ -226,7 +226,8 @@ module _ (J : ℕ → Option Stood → List Passing → Option Stood → Type 0)
         (hears it result frames before.value after.value memory h.heard refl refl refl)
 
     silently : (number : ℕ) (frames : List SessionFrame) (new : Talk) → frames ≡ []
-        → Passed J k number (Came (body_said it) ∷ []) old new → Passed J k number (Came (body_said it) ∷ went frames) old new
+        → Passed J k number (Came (body_said it) ∷ []) old new
+        → Passed J k number (Came (body_said it) ∷ went frames) old new
     silently number frames new none p =
         subst (λ (fs : List SessionFrame). Passed J k number (Came (body_said it) ∷ went fs) old new) (sym none) p
 
@@ -238,7 +239,8 @@ module _ (J : ℕ → Option Stood → List Passing → Option Stood → Type 0)
         (record {
           reaches = reaches;
           passed =
-              silently number frames new none (asked-passed J k number before t.after it old new t.stepped t.rest t.heard);
+              silently number frames new none (asked-passed J k number before t.after it old new t.stepped t.rest
+              t.heard);
         })
     asked-ok number before (heard.Live n told_so) frames new reaches none a = absurd a
     asked-ok number before (heard.Dropped n) frames new reaches none a = absurd a
@@ -265,7 +267,8 @@ module _ (J : ℕ → Option Stood → List Passing → Option Stood → Type 0)
         record {
           here =
               k.gone _ _ _ (Came (body_said it) ∷ [])
-              (is-gone (place_at old.sessions number) asked live (reached-there old.sessions number channel reaches)) refl;
+              (is-gone (place_at old.sessions number) asked live (reached-there old.sessions number channel reaches))
+              refl;
           others = λ n e. k.still _ _ _ refl;
           first = refl;
         } in
@@ -491,7 +494,8 @@ module _ (J : ℕ → Option Stood → List Passing → Option Stood → Type 0)
       nothing-passed n frames mid new w.silent w.stays
 
   -- first it is heard, and then something comes of it
-  there-on : (old : Talk) (channel : ℕ) (it : FrameBody) (session : ℕ) (frames more : List SessionFrame) (mid new : Talk)
+  there-on : (old : Talk) (channel : ℕ) (it : FrameBody) (session : ℕ) (frames more : List SessionFrame)
+      (mid new : Talk)
       → HeardThere old channel it session frames mid → Passed J k session (went more) mid new
       → HeardThere old channel it session (frames ++ more) new
   there-on old channel it session frames more mid new h p =
@@ -539,7 +543,8 @@ module _ (J : ℕ → Option Stood → List Passing → Option Stood → Type 0)
         → begun_by old.sessions begin.remote_channel ≡ Some number
         → TakenIn (begun_by old.sessions begin.remote_channel) beginning frames old new
     begin-passed number p is =
-        subst (λ (o : Option ℕ). TakenIn o beginning frames old new) (sym is) (all-passed J k number (Came beginning ∷ went frames) old new p)
+        subst (λ (o : Option ℕ). TakenIn o beginning frames old new) (sym is) (all-passed J k number (Came beginning ∷
+        went frames) old new p)
 
     -- the session that has the channel stands as the others do behind the step that leads the channel to it
     led : (number : ℕ) (mid : Sessions) → Leads gives old channel begin number mid
@@ -570,16 +575,12 @@ module _ (J : ℕ → Option Stood → List Passing → Option Stood → Type 0)
     begin-ok (begin_heard.Asked number) (a, none) =
         let (was, is) =
         (at number old.sessions (Asks number channel a.asked) new.sessions a.stepped).about (eq-same number) in
-        let j : Judges old.first_transfer_number None (Came beginning ∷ []) (Some (Asked channel a.asked)) =
-        record {
-          each = λ c e. tt;
-          behind = λ c e.
-              ap (λ (x : Count). record x { base = x.next; width = begin.incoming_window }) e
-              ∙ sym (ap (λ (s : AskedSession). kept_count old.first_transfer_number s.begin s.flow) a.by_begin);
-        } in
+        let j : J old.first_transfer_number None (Came beginning ∷ []) (Some (Asked channel a.asked)) =
+        k.asks old.first_transfer_number channel a.asked begin a.by_begin in
         let p : Passed J k number (Came beginning ∷ []) old new =
         by-step J k number (Asks number channel a.asked) old new (Came beginning ∷ []) (λ n e. e) a.stepped a.rest
-        (judged-at J k old.first_transfer_number None (Some (Asked channel a.asked)) _ _ (Came beginning ∷ []) was is j) in
+        (judged-at J k old.first_transfer_number None (Some (Asked channel a.asked)) _ _ (Came beginning ∷ []) was is
+        j) in
         begin-passed number
         (subst (λ (fs : List SessionFrame). Passed J k number (Came beginning ∷ went fs) old new) (sym none) p)
         (ap (begun_by old.sessions) a.names_none ∙ ap Some (sym (a.stepped).1))
@@ -592,7 +593,8 @@ module _ (J : ℕ → Option Stood → List Passing → Option Stood → Type 0)
         let there : Talk = record old { sessions = b.mid } in
         let p : Passed J k number (Came beginning ∷ went frames) there new =
         live-passed J k number t.before t.after there new (Came beginning ∷ went frames) t.stepped b.rest g in
-        begin-passed number (passed-on J k number [] (Came beginning ∷ went frames) old there new (led number b.mid b.led) p)
+        begin-passed number (passed-on J k number [] (Came beginning ∷ went frames) old there new (led number b.mid
+        b.led) p)
         (live-begun number b.mid t.before b.led (t.stepped).0)
     begin-ok begin_heard.Dropped (d, none) =
         subst (λ (o : Option ℕ). TakenIn o beginning frames old new)
@@ -615,7 +617,8 @@ module _ (J : ℕ → Option Stood → List Passing → Option Stood → Type 0)
             let to_mid : Passed J k f.number [] old f.mid =
             subst (λ (t : Talk). Passed J k f.number [] old t) (sym b.rest) (led f.number f.mid.sessions b.led) in
             let over : Passed J k f.number (Came beginning ∷ went frames) f.mid new =
-            subst (λ (fs : List SessionFrame). Passed J k f.number (Came beginning ∷ went fs) f.mid new) (sym f.fails.ends.queued)
+            subst (λ (fs : List SessionFrame). Passed J k f.number (Came beginning ∷ went fs) f.mid new) (sym
+            f.fails.ends.queued)
             (ends-passed f.number _ f.fails.session _ f.mid new [] frames refl f.fails.ends) in
             begin-passed f.number (passed-on J k f.number [] (Came beginning ∷ went frames) old f.mid new to_mid over)
             (live-begun f.number f.mid.sessions b.session b.led b.live)
@@ -659,7 +662,8 @@ module _ (J : ℕ → Option Stood → List Passing → Option Stood → Type 0)
       ]
   frame-heard (body.Flow flow) old new limit channel frames events (inl t, g) =
       taken-there old.talk channel.0 (body.Flow flow) (number_of t.heard) frames new.talk
-      (subst (λ (fs : List SessionFrame). HeardThere old.talk channel.0 (body.Flow flow) (number_of t.heard) fs new.talk)
+      (subst (λ (fs : List SessionFrame). HeardThere old.talk channel.0 (body.Flow flow) (number_of t.heard) fs
+      new.talk)
       (append-nil frames)
       (there-on old.talk channel.0 (body.Flow flow) (number_of t.heard) frames [] t.mid new.talk
       (heard-ok old.talk channel (said.Flow flow) t.heard frames t.mid t.answered)
@@ -684,7 +688,8 @@ module _ (J : ℕ → Option Stood → List Passing → Option Stood → Type 0)
       (disposition-comes t.heard limit old.talk t.mid new.talk disposition frames events t.follows))
   frame-heard (body.Disposition disposition) old new limit channel frames events (inr f, g) =
       taken-there old.talk channel.0 (body.Disposition disposition) f.number frames new.talk
-      (heard-fails old.talk channel (said.Disposition disposition) f.number f.fault f.session frames new.talk f.answered)
+      (heard-fails old.talk channel (said.Disposition disposition) f.number f.fault f.session frames new.talk
+      f.answered)
   frame-heard (body.Detach detach) old new limit channel frames events (inl t, g) =
       taken-there old.talk channel.0 (body.Detach detach) (number_of t.heard) frames new.talk
       (there-on old.talk channel.0 (body.Detach detach) (number_of t.heard) [] frames t.mid new.talk

@@ -1,9 +1,9 @@
 -- What is kept by all that a session does is kept by all that an endpoint does.
 use Rattle.std.proofs.Common.{◌≡◌, ◌<◌, ◌⊎◌, inl, inr, ℕ, zero, suc, Bool, true, false, List, [], ◌∷◌, ◌++◌, Option}
 use Rattle.std.proofs.Common.{Some, None, Ok, Err, ap, arith, length, refl, slice_get, sym, subst, ◌∙◌, ◌==◌}
-use Rattle.std.specs.Prelude.{Result, if◌then◌else◌}
+use Rattle.std.specs.Prelude.{Result}
 use Rattle.std.specs.Global.{Box}
-use Rattle.std.proofs.lemmas.Option.{none-some, slice_get_past, slice_get_within}
+use Rattle.std.proofs.lemmas.Option.{none-some, slice_get_within}
 use Rattle.amqp_session_types.specs.declared.channels.IncomingChannel.{IncomingChannel}
 use Rattle.amqp_session_types.specs.declared.channels.OutgoingChannel.{OutgoingChannel}
 use Rattle.amqp_session_performatives.specs.declared.begin.Begin.{Begin}
@@ -32,22 +32,23 @@ use Rattle.amqp_endpoint_linked.specs.Does.{linked}
 use Rattle.amqp_endpoint_linked.specs.Hearing.{RefusesBody}
 use Rattle.amqp_endpoint_linked.specs.declared.linked.LinkedSessions.{LinkedSessions}
 use Rattle.amqp_endpoint_linking.specs.Ending.{FinishesFirst, LeavesFirst}
-use Rattle.amqp_endpoint_linking.specs.Hearing.{RefusesBegin, RefusesEnd}
+use Rattle.amqp_endpoint_linking.specs.Hearing.{RefusesBegin}
 use Rattle.amqp_endpoint_linking.specs.Linking.{Links, Session, Sessions, Stood, Talk}
 use Rattle.amqp_endpoint_model.specs.Relay.{IsNew}
-use Rattle.amqp_endpoint_model.specs.Step.{ClosesBy, SendsClose}
+use Rattle.amqp_endpoint_model.specs.Step.{SendsClose}
 use Rattle.amqp_endpoint_model.specs.declared.error.EndpointError.{EndpointError}
 use Rattle.amqp_endpoint_model.specs.declared.settings.Settings.{Settings}
 use Rattle.amqp_endpoint_sessions.specs.Own.{PlaceHistory, PlaceSteps, steps_of}
-use Rattle.amqp_endpoint_sessions.specs.State.{asked_at, finished_place, live_at, place_at, reached}
-use Rattle.amqp_endpoint_sessions.specs.Steps.{Accepts, Asks, Begins, ChangesAsked, ChangesConnection, ChangesLive, Ends}
+use Rattle.amqp_endpoint_sessions.specs.State.{finished_place, place_at, reached}
+use Rattle.amqp_endpoint_sessions.specs.Steps.{Accepts, Asks, Begins}
+use Rattle.amqp_endpoint_sessions.specs.Steps.{ChangesAsked, ChangesConnection, ChangesLive, Ends}
 use Rattle.amqp_endpoint_sessions.specs.Steps.{EndSent, Finished, Finishes as FinishesStep, TakesBegin, TakesEnd}
 use Rattle.amqp_endpoint_sessions.specs.Steps.{TellsEnd}
 use Rattle.amqp_endpoint_sessions.specs.declared.place.Place.TheVariants.{Asked, Live, Ending, Over}
 use Rattle.amqp_endpoint_sessions.proofs.Owning.{at, other_number, own, same_number}
 use Rattle.amqp_endpoint_talk.specs.Windows.{Passing}
 use Rattle.amqp_endpoint_laws.specs.Conversing.{SessionsStep}
-use Rattle.amqp_endpoint_laws.specs.Passed.{PassesIn, is_it, passes_in}
+use Rattle.amqp_endpoint_laws.specs.Passed.{PassesIn, passes_in}
 use Rattle.amqp_endpoint_laws.proofs.PassedCalled.{called}
 use Rattle.amqp_endpoint_laws.proofs.PassedHeard.{frame-heard}
 use Rattle.amqp_endpoint_laws.proofs.PassedPlaces.{IsGone, Keeping, eq-same}
@@ -90,7 +91,8 @@ left-first : (count : ℕ) (old new : Sessions) (links links_new : Links) → Le
     → (n : ℕ) → Wanes old new n
 left-first zero old new links links_new l n = inl (ap (λ (s : Sessions). place_at s n) l.0)
 left-first (suc count) old new links links_new (mid, links_mid, first, one) n =
-    wanes-on old mid new n (left-first count old mid links links_mid first n) (end-sent mid new count one.left one.sent n)
+    wanes-on old mid new n (left-first count old mid links links_mid first n) (end-sent mid new count one.left
+    one.sent n)
 
 finished : (old new : Sessions) (number : ℕ) (stood : Option Stood) → Finished old number stood new → (n : ℕ)
     → Wanes old new n
@@ -232,8 +234,10 @@ first-begin old channel begin (begin_refused.Session number e) new a = absurd a
 
 first-begins : (old : Talk) (channel : IncomingChannel) (begin : Begin) (e : EndpointError) (new : Talk)
     → RefusesBegin old channel begin e new → Firsts old new
-first-begins old channel begin e new (inl b) = first-begin old channel begin (begin_refused.Connection b.refusal) new b.answered
-first-begins old channel begin e new (inr (inl (memory, u))) = first-begin old channel begin (begin_refused.Session u.number u.fault) new u.refused
+first-begins old channel begin e new (inl b) =
+    first-begin old channel begin (begin_refused.Connection b.refusal) new b.answered
+first-begins old channel begin e new (inr (inl (memory, u))) =
+    first-begin old channel begin (begin_refused.Session u.number u.fault) new u.refused
 first-begins old channel begin e new (inr (inr u)) = first-same old new u.1
 
 first-end : (old : Talk) (channel : IncomingChannel) (end : End) (r : ConnectionError) (new : Talk)
@@ -304,7 +308,8 @@ module _ (J : ℕ → Option Stood → List Passing → Option Stood → Type 0)
         ((e.refuses).0).refuses)
         places
         (over-at (place_at told.talk.sessions n) told.talk.sessions new.talk.sessions told.links new.links n refl over)
-        (finished-first (length told.talk.sessions.places) told.talk.sessions new.talk.sessions told.links new.links over
+        (finished-first (length told.talk.sessions.places) told.talk.sessions new.talk.sessions told.links new.links
+        over
         n)
 
     ends-first : Firsts old.talk new.talk

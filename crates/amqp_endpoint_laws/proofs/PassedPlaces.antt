@@ -1,5 +1,6 @@
 -- What passes in a session as it goes on, and what all that it does keeps.
-use Rattle.std.proofs.Common.{◌≡◌, ◌≢◌, ◌==◌, ◌⊎◌, inl, inr, ℕ, Bool, true, false, List, [], ◌∷◌, ◌++◌, Option, Some, None}
+use Rattle.std.proofs.Common.{◌≡◌, ◌≢◌, ◌==◌, ◌⊎◌, inl, inr, ℕ, Bool}
+use Rattle.std.proofs.Common.{true, false, List, [], ◌∷◌, ◌++◌, Option, Some, None}
 use Rattle.std.proofs.Common.{Ok, Err, ap, refl, sym, subst, ◌∙◌}
 use Rattle.std.specs.Prelude.{Result, if◌then◌else◌}
 use Rattle.std.specs.Global.{Box}
@@ -43,7 +44,7 @@ IsGone o = ⊥
 
 -- a session that has begun goes on, and this passes: by steps of its own, by what it hears, or by the peer's Begin
 pub data GoesBy (old new : State Link) (ps : List Passing) : Type 0 where
-  inside : (frames : List SessionFrame) → DoneInside gives old frames new → ps ≡ went frames → GoesBy old new ps
+  by-steps : (frames : List SessionFrame) → DoneInside gives old frames new → ps ≡ went frames → GoesBy old new ps
   hears : (it : LinkPerformative) (told : Result (PerformativeTaken AttachTold Told Detached) SessionError)
       (frames : List SessionFrame) (before after : Linked) → told ≢ Err Memory
       → Hears gives before [] it told after frames → before.session ≡ old → after.session ≡ new
@@ -160,7 +161,7 @@ module _ (J : ℕ → Option Stood → List Passing → Option Stood → Type 0)
       → new ≡ record old { sessions = new.sessions }
       → DoneInside gives before.value.session frames after.value.session → Passed m (went frames) old new
   inside-passed m before after old new frames s rest d =
-      live-passed m before after old new (went frames) s rest (inside frames d refl)
+      live-passed m before after old new (went frames) s rest (by-steps frames d refl)
 
   pub asked-passed : (m : ℕ) (before after : Box AskedSession) (it : LinkPerformative) (old new : Talk)
       → SessionsSteps old.sessions (ChangesAsked m before after) new.sessions

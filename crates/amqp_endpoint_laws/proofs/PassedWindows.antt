@@ -1,5 +1,5 @@
 -- Whatever is done, each transfer of a session lies in its peer's window.
-use Rattle.std.proofs.Common.{◌≡◌, ℕ, Bool, true, false, List, [], ◌∷◌, ◌++◌, Option, Some, None, Ok, Err}
+use Rattle.std.proofs.Common.{◌≡◌, ℕ, Bool, true, false, List, [], ◌∷◌, ◌++◌, Option, Some, None, Ok}
 use Rattle.std.proofs.Common.{ap, refl, sym, subst, ◌∙◌}
 use Rattle.std.specs.Prelude.{if◌then◌else◌}
 use Rattle.std.specs.Global.{Box}
@@ -39,7 +39,7 @@ use Rattle.amqp_endpoint_talk.proofs.Windows.{begin-keeps, counts-append, each-a
 use Rattle.amqp_endpoint_talk.proofs.Windows.{with-others}
 use Rattle.amqp_endpoint_laws.specs.Passed.{PassesIn, sent_in}
 use Rattle.amqp_endpoint_laws.proofs.PassedKept.{new-judges}
-use Rattle.amqp_endpoint_laws.proofs.PassedPlaces.{GoesBy, IsGone, Keeping, hears, inside, opens}
+use Rattle.amqp_endpoint_laws.proofs.PassedPlaces.{GoesBy, IsGone, Keeping, by-steps, hears, opens}
 
 -- of a session that is asked for it is what the peer told so far
 abbrev kept_count : ℕ → Begin → Option SessionFlow → Count
@@ -129,7 +129,7 @@ judges-free first stood frames none =
 
 goes-keeps : (old new : State Link) (ps : List Passing) → GoesBy old new ps
     → Keeps (counted old.outgoing) ps (counted new.outgoing)
-goes-keeps old new ps (inside frames d is) =
+goes-keeps old new ps (by-steps frames d is) =
     subst (λ (qs : List Passing). Keeps (counted old.outgoing) qs (counted new.outgoing)) (sym is)
     (inside-keeps gives frames old new d)
 goes-keeps old new ps (hears it told frames before after memory h was becomes is) =

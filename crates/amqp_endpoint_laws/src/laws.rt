@@ -2,7 +2,8 @@
 ghost use Rattle.std.specs.Prelude.{◌≡◌, ℕ, List, map, slice_get, Some};
 ghost use Rattle.amqp_session_types.specs.declared.channels.OutgoingChannel.{OutgoingChannel};
 ghost use Rattle.amqp_endpoint_names.specs.State.{AreApart};
-ghost use Rattle.amqp_endpoint_sessions.specs.State.{channel_at};
+ghost use Rattle.amqp_endpoint_linking.specs.Linking.{Session};
+ghost use Rattle.amqp_endpoint_sessions.specs.State.{channel_at, live_at};
 ghost use Rattle.amqp_endpoint_model.specs.History.{Run};
 ghost use Rattle.amqp_endpoint_model.specs.Relay.{IsNew};
 ghost use Rattle.amqp_endpoint_model.specs.Said.{Told};
@@ -16,7 +17,7 @@ ghost use Rattle.amqp_endpoint_deeds.specs.Deeds.{AreDone, Deed};
 ghost use Rattle.amqp_endpoint_talk.specs.Windows.{KeepsWindow, Passing, begins_with};
 ghost use Rattle.amqp_endpoint_laws.specs.Conversing.{SessionsGoOn};
 ghost use Rattle.amqp_endpoint_laws.specs.Linking.{HaveCome};
-ghost use Rattle.amqp_endpoint_laws.specs.Passed.{PassesIn};
+ghost use Rattle.amqp_endpoint_laws.specs.Passed.{HasCome, PassesIn};
 ghost use Rattle.amqp_endpoint_laws.specs.Telling.{events_told, numbers_told, numbers_under, tags_given};
 
 use amqp_endpoint_asked::AskedSession;
@@ -104,10 +105,10 @@ pub fn channels_are_apart()
     each_session_has_its_own_history::<Box<AskedSession>, Box<AskingSession<Numbered<LinkEnd>>>>();
 }
 
-/// Each transfer that an endpoint queues lies in the window that the peer gave its session: its number, counted from the
-/// session's first transfer on, is less than so many ahead of the window's first, on a circle of 2^32, as the latest
-/// Begin or Flow that the session took says (part 2, 2.5.6). This is so of all that passes in each session, in whichever
-/// deeds the endpoint's run consists.
+/// Each transfer that an endpoint queues lies in the window that the peer gave its session: its number, counted from
+/// the session's first transfer on, is less than so many ahead of the window's first, on a circle of 2^32, as the latest
+/// Begin or Flow that the session took says (part 2, 2.5.6). This is so of all that passes in each session, whichever
+/// deeds the endpoint's run consists of.
 pub fn transfers_stay_in_the_window()
     ensures kept { (sessions end : LinkedSessions) (settings : Settings) (deeds : List Deed) (number : ℕ)
         (passings : List Passing) → IsNew linked settings sessions →
@@ -115,4 +116,15 @@ pub fn transfers_stay_in_the_window()
         KeepsWindow (begins_with settings.first_transfer_number) passings }
     ensures some { (old new : LinkedSessions) (deeds : List Deed) (number : ℕ) → AreDone linked old deeds new →
         (passings : List Passing) × PassesIn number old deeds new passings }
+{}
+
+/// A session that goes on came about by steps of its own since it was new, whatever its endpoint did, and the transfers
+/// that passed in it are those that these steps handed out, in order. So what `amqp_session_core::laws` and
+/// `amqp_session_outgoing::laws` say of all histories of a session holds of what an endpoint sends: each link in order,
+/// links in turn, each transfer and each delivery with its number (part 2, 2.5.6, 2.6.12).
+pub fn sessions_come_about_by_their_own_steps()
+    ensures { (sessions end : LinkedSessions) (settings : Settings) (deeds : List Deed) (number : ℕ)
+        (passings : List Passing) (session : Session) → IsNew linked settings sessions →
+        PassesIn number sessions deeds end passings → live_at end.talk.sessions number ≡ Some session →
+        HasCome settings.first_transfer_number passings session.value.session }
 {}

@@ -1,5 +1,5 @@
 -- What a session hears of its peer keeps its transfers in the peer's window.
-use Rattle.std.proofs.Common.{◌≡◌, ◌≢◌, ℕ, Bool, true, false, List, [], ◌∷◌, Option, Some, None, Result, Ok, Err}
+use Rattle.std.proofs.Common.{◌≡◌, ◌≢◌, ℕ, Bool, true, false, List, [], ◌∷◌, Option, Result, Ok, Err}
 use Rattle.std.proofs.Common.{ap, refl, sym, subst, ◌∙◌}
 use Rattle.std.specs.Prelude.{⊤}
 use Rattle.amqp_session_types.specs.declared.refusals.SessionError.{SessionError}
@@ -26,11 +26,10 @@ use Rattle.amqp_session_core.specs.Told.{FlowTaken}
 use Rattle.amqp_endpoint_asked.specs.Asked.{is_asked}
 use Rattle.amqp_endpoint_asked.specs.AskedSession.{session_part}
 use Rattle.amqp_endpoint_links.specs.Asking.{FlowAt, FlowInSession}
-use Rattle.amqp_endpoint_links.specs.Hearing.{Hears, HearsFlow}
-use Rattle.amqp_endpoint_links.specs.History.{AreHearing, AskingHistory, AskingStep, AtMostOne, InSession, IsAttach}
+use Rattle.amqp_endpoint_links.specs.Hearing.{Hears}
+use Rattle.amqp_endpoint_links.specs.History.{AreHearing, AskingHistory, AskingStep, AtMostOne, IsAttach}
 use Rattle.amqp_endpoint_links.specs.History.{IsDetach, IsDoneBy, IsHearing}
 use Rattle.amqp_endpoint_links.specs.declared.asking.AskingSession.{AskingSession}
-use Rattle.amqp_endpoint_links.specs.declared.asking.NamedLink.{NamedLink}
 use Rattle.amqp_endpoint_links.specs.declared.hearing.LinkPerformative.{LinkPerformative}
 use Rattle.amqp_endpoint_links.specs.declared.hearing.LinkPerformative.TheVariants as said
 use Rattle.amqp_endpoint_links.specs.declared.hearing.PerformativeTaken.{PerformativeTaken}

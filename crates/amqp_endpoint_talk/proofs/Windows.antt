@@ -1,8 +1,7 @@
 -- Each transfer that a session's steps hand out lies in the peer's window.
-use Rattle.std.proofs.Common.{◌≡◌, ℕ, ◌+◌, ◌%◌, ◌^◌, Bool, true, false, List, [], ◌∷◌, ◌++◌, Option, Some, None, Result}
-use Rattle.std.proofs.Common.{Ok, Err, inl, inr, ap, refl, sym, subst, ◌∙◌}
-use Rattle.std.specs.Prelude.{option_map, option_to_list, if◌then◌else◌, ⊤}
-use Rattle.amqp_session_frames.specs.declared.frame.FrameBody.{FrameBody}
+use Rattle.std.proofs.Common.{◌≡◌, ℕ, ◌+◌, ◌%◌, ◌^◌, Bool, true, false, List, [], ◌∷◌, ◌++◌, Option, Some, None}
+use Rattle.std.proofs.Common.{Ok, Err, ap, refl, sym, subst, ◌∙◌}
+use Rattle.std.specs.Prelude.{option_map, option_to_list, if◌then◌else◌}
 use Rattle.amqp_session_frames.specs.declared.frame.FrameBody.TheVariants as frame_body
 use Rattle.amqp_session_performatives.specs.declared.begin.Begin.{Begin}
 use Rattle.amqp_session_performatives.specs.declared.disposition.Disposition.{Disposition}
@@ -15,19 +14,18 @@ use Rattle.amqp_session_types.specs.declared.modes.Role.{Role}
 use Rattle.amqp_session_types.specs.declared.modes.Role.TheVariants.{Sender, Receiver}
 use Rattle.amqp_session_unsettled.specs.Table.{Table}
 use Rattle.amqp_session_outgoing.specs.State as sending
-use Rattle.amqp_session_outgoing.specs.State.{Leaves, Sends, with_batch, with_window}
+use Rattle.amqp_session_outgoing.specs.State.{Leaves, with_batch, with_window}
 use Rattle.amqp_session_outgoing.specs.History.{AcceptsBatch}
 use Rattle.amqp_session_core.specs.declared.batch.BehindFrame.{BehindFrame}
 use Rattle.amqp_session_core.specs.declared.batch.BehindFrame.TheVariants as behind
-use Rattle.amqp_session_core.specs.declared.batch.TransferFrame.{TransferFrame}
 use Rattle.amqp_session_core.specs.declared.fields.SessionFields.{SessionFields}
-use Rattle.amqp_session_core.specs.declared.relay.RelayError.{RelayError}
 use Rattle.amqp_session_core.specs.Batch.{Transfers}
-use Rattle.amqp_session_core.specs.Frames.{Left, behind_frame, frames_behind, frames_left, session_flow, transfer_frame}
+use Rattle.amqp_session_core.specs.Frames.{Left, behind_frame, frames_behind, frames_left, session_flow}
 use Rattle.amqp_session_core.specs.History.{History}
 use Rattle.amqp_session_core.specs.Relay.{Relations}
 use Rattle.amqp_session_core.specs.State.{State}
-use Rattle.amqp_session_core.specs.Steps.{Step, Stays, SendsBegin, TakesBegin, SendsEnd, TakesEnd, TakesAttach, TakesFlow}
+use Rattle.amqp_session_core.specs.Steps.{Step, Stays, SendsBegin, TakesBegin}
+use Rattle.amqp_session_core.specs.Steps.{SendsEnd, TakesEnd, TakesAttach, TakesFlow}
 use Rattle.amqp_session_core.specs.Steps.{SetsWindow, TakesTransfer, TakesDisposition, TakesDetach, SendsBehind}
 use Rattle.amqp_session_core.specs.Steps.{SendsTransfers, SendsDisposition, TellsFlow, Allocates, Deallocates, Reserves}
 use Rattle.amqp_session_core.specs.Steps.{Changes, Steps, Reply, NoReply, OfSession, OfLink, Replies, reply_frames}

@@ -27,8 +27,8 @@ pub data Passing : Type 0 where
   -- this is handed out for it
   Went : (frame : SessionFrame) → Passing
 
--- the numbers of a session's first transfer and of its next, and the peer's window: the first number in it, and how many
--- (part 2, 2.5.6)
+-- the numbers of a session's first transfer and of its next, and the peer's window: the first number in it, and how
+-- many (part 2, 2.5.6)
 pub record Count : Type 0 where
   pub first : ℕ
   pub next : ℕ

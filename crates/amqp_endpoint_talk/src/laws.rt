@@ -137,11 +137,12 @@ pub fn transfers_keep_to_the_window<R: LinkRelay>()
     ensures opened { (channel : IncomingChannel) (begin : Begin) (base : ℕ) (left : Left) (frames : List SessionFrame)
         (old new : State R) → session.Steps R.gives old (session.TakesBegin channel begin base left frames) new →
         Keeps (counted old.outgoing) (Came (body.Begin begin) ∷ went frames) (counted new.outgoing) }
-    ensures told { (flow : Flow) (link : Option (ℕ × Result (Option LinkFlow) RelayError)) (reply : session.Reply) (base : ℕ)
-        (left : Left) (frames : List SessionFrame) (old new : State R) →
+    ensures told { (flow : Flow) (link : Option (ℕ × Result (Option LinkFlow) RelayError)) (reply : session.Reply)
+        (base : ℕ) (left : Left) (frames : List SessionFrame) (old new : State R) →
         session.Steps R.gives old (session.TakesFlow flow link reply base left frames) new →
         Keeps (counted old.outgoing) (Came (body.Flow flow) ∷ went frames) (counted new.outgoing) }
-    ensures set { (flow : Flow) (base : ℕ) (old new : State R) → session.Steps R.gives old (session.SetsWindow flow base) new →
+    ensures set { (flow : Flow) (base : ℕ) (old new : State R) →
+        session.Steps R.gives old (session.SetsWindow flow base) new →
         Keeps (counted old.outgoing) (Came (body.Flow flow) ∷ []) (counted new.outgoing) }
     ensures heard { (it : LinkPerformative)
         (told : Result (PerformativeTaken R.Attached R.Transferred R.Detached) SessionError)
