@@ -3,7 +3,7 @@
 ghost use Rattle.std.specs.Prelude.{◌<◌};
 
 use crate::links::{attach_and_detach, begin_and_end};
-use crate::messages::{send_and_receive, send_in_turn};
+use crate::messages::send_and_receive;
 use amqp_endpoint::{Endpoint, EndpointError, Event, Fed, Settings, Text};
 use std::alloc::Global;
 use std::fmt;
@@ -48,11 +48,6 @@ pub enum Work {
     Messages {
         settled: bool,
         size: u32,
-        count: u32,
-    },
-    /// So many settled messages go from one endpoint to another by each of so many links, the links in turn.
-    Turns {
-        links: u32,
         count: u32,
     },
 }
@@ -118,13 +113,6 @@ impl Work {
             }),
             "settled" => Work::messages(true, numbers),
             "unsettled" => Work::messages(false, numbers),
-            "turns" => {
-                let (links, count) = numbers.split_once(' ')?;
-                Some(Work::Turns {
-                    links: links.parse().ok()?,
-                    count: count.parse().ok()?,
-                })
-            }
             _ => None,
         }
     }
@@ -161,7 +149,6 @@ impl Work {
                 size,
                 count,
             } => send_and_receive(alloc, settled, size, count, &mut found)?,
-            Work::Turns { links, count } => send_in_turn(alloc, links, count, &mut found)?,
         }
         Ok(found)
     }

@@ -23,37 +23,7 @@ pub(crate) fn send_and_receive(
     attach(&mut a, &mut b, &link(alloc, 0)?, found)?;
     let message = message(alloc, settled, size)?;
     for number in 0..count {
-        send(&mut a, &mut b, 0, &message, u64::from(number), found)?;
-    }
-    Ok(())
-}
-
-/// So many settled messages of 100 bytes go from one end to the other by each of so many links, the links in turn.
-pub(crate) fn send_in_turn(
-    alloc: Global,
-    links: u32,
-    count: u32,
-    found: &mut Found,
-) -> Result<(), EndpointError> {
-    let mut a = Endpoint::new(alloc, settings(alloc, u16::MAX)?)?;
-    let mut b = Endpoint::new(alloc, settings(alloc, u16::MAX)?)?;
-    open(&mut a, &mut b, found)?;
-    begin(&mut a, &mut b, 0, found)?;
-    for number in 0..links {
-        attach(&mut a, &mut b, &link(alloc, number)?, found)?;
-    }
-    let message = message(alloc, true, 100)?;
-    for number in 0..count {
-        for link in 0..links {
-            send(
-                &mut a,
-                &mut b,
-                u64::from(link),
-                &message,
-                u64::from(number),
-                found,
-            )?;
-        }
+        send(&mut a, &mut b, &message, u64::from(number), found)?;
     }
     Ok(())
 }
@@ -68,23 +38,22 @@ fn message(alloc: Global, settled: bool, size: u32) -> Result<Sending, EndpointE
     })
 }
 
-/// A message goes by a link from one end to the other, which has given credit for it.
+/// A message goes from one end to the other, which has given credit for it.
 fn send(
     a: &mut Endpoint,
     b: &mut Endpoint,
-    link: u64,
     message: &Sending,
     number: u64,
     found: &mut Found,
 ) -> Result<(), EndpointError> {
     if number % CREDIT == 0 {
-        let _left = b.grant(link, CREDIT as u32)?;
+        let _left = b.grant(0, CREDIT as u32)?;
         move_all(b, a, found)?;
     }
-    let sent = a.send_raw(link, message)?;
+    let sent = a.send_raw(0, message)?;
     exchange(a, b, found)?;
     if sent.outcome.is_none() {
-        b.dispose(link, number, &accepted())?;
+        b.dispose(0, number, &accepted())?;
         move_all(b, a, found)?;
     }
     Ok(())
