@@ -41,8 +41,9 @@ use Rattle.amqp_endpoint_linked.specs.declared.linked.LinkedSessions.{LinkedSess
 use Rattle.amqp_endpoint_laws.specs.Conversing.{SessionsGoOn, SessionsStep}
 use Rattle.amqp_endpoint_laws.proofs.Keeping.{Keeps, KeepsSilent, MayDo}
 use Rattle.amqp_endpoint_laws.proofs.Kept.{run-keeps}
-use Rattle.amqp_endpoint_laws.proofs.SessionsApart.{Each, FirstOver, HasNone, HaveOwn, all-over, channels-apart}
-use Rattle.amqp_endpoint_laws.proofs.SessionsApart.{each-under, give-keep, none-over, one-over, steps-none}
+use Rattle.amqp_endpoint_sessions.proofs.Apart.{Each, apart, each_under}
+use Rattle.amqp_endpoint_laws.proofs.SessionsApart.{FirstOver, HasNone, all-over, give-keep, none-over, one-over}
+use Rattle.amqp_endpoint_laws.proofs.SessionsApart.{steps-none}
 use Rattle.amqp_endpoint_laws.proofs.SessionsGoing.{Go, end-told, finishes-first, goes-by, joined, leaves-first}
 use Rattle.amqp_endpoint_laws.proofs.SessionsGoing.{stays}
 use Rattle.amqp_endpoint_laws.proofs.SessionsHeard.{TalkGoes, changed, heard-goes, refused-goes, talk-stays}
@@ -194,103 +195,102 @@ never : Running ≡ Unconnected → ⊥
 never is = absurd cc
 
 -- the sessions that have a channel stand under it, and before a connection none has
-module _ (have_own : HaveOwn (Box AskedSession) Session) where
-  record Stand (phase : Phase) (s : LinkedSessions) : Type 0 where
-    each : Each have_own s.talk.sessions
-    none : phase ≡ Unconnected → HasNone have_own s.talk.sessions
+record Stand (phase : Phase) (s : LinkedSessions) : Type 0 where
+  each : Each s.talk.sessions
+  none : phase ≡ Unconnected → HasNone s.talk.sessions
 
-  go-stand : (phase : Phase) (old new : LinkedSessions) → Go old.talk.sessions new.talk.sessions → Stand phase old
-      → Stand phase new
-  go-stand phase old new g s =
-      record {
-        each =
-            each-under have_own old.talk.sessions g.steps new.talk.sessions (give-keep g.steps g.none) g.history s.each;
-        none = λ is. steps-none have_own old.talk.sessions g.steps new.talk.sessions g.none g.history (s.none is);
-      }
+go-stand : (phase : Phase) (old new : LinkedSessions) → Go old.talk.sessions new.talk.sessions → Stand phase old
+    → Stand phase new
+go-stand phase old new g s =
+    record {
+      each =
+          each_under old.talk.sessions g.steps new.talk.sessions (give-keep g.steps g.none) g.history s.each;
+      none = λ is. steps-none old.talk.sessions g.steps new.talk.sessions g.none g.history (s.none is);
+    }
 
-  call-stand : (phase : Phase) (old new : LinkedSessions)
-      → ByCall (phase ≡ Running) old.talk.sessions new.talk.sessions → Stand phase old → Stand phase new
-  call-stand phase old new (plainly g) s = go-stand phase old new g s
-  call-stand phase old new (begun may number channel session stepped) s =
-      record {
-        each =
-            each-under have_own old.talk.sessions (Begins number channel session ∷ []) new.talk.sessions (tt, tt)
-            (new.talk.sessions, stepped, refl) s.each;
-        none = λ is. absurd (never (sym may ∙ is));
-      }
-  call-stand phase old new (accepted may number incoming wanted outgoing session after mid stepped taken) s =
-      record {
-        each =
-            each-under have_own old.talk.sessions
-            (Accepts number incoming wanted outgoing session ∷ ChangesLive number session after ∷ [])
-            new.talk.sessions (tt, (tt, tt)) (mid, stepped, (new.talk.sessions, taken, refl)) s.each;
-        none = λ is. absurd (never (sym may ∙ is));
-      }
+call-stand : (phase : Phase) (old new : LinkedSessions)
+    → ByCall (phase ≡ Running) old.talk.sessions new.talk.sessions → Stand phase old → Stand phase new
+call-stand phase old new (plainly g) s = go-stand phase old new g s
+call-stand phase old new (begun may number channel session stepped) s =
+    record {
+      each =
+          each_under old.talk.sessions (Begins number channel session ∷ []) new.talk.sessions tt
+          (new.talk.sessions, stepped, refl) s.each;
+      none = λ is. absurd (never (sym may ∙ is));
+    }
+call-stand phase old new (accepted may number incoming wanted outgoing session after mid stepped taken) s =
+    record {
+      each =
+          each_under old.talk.sessions
+          (Accepts number incoming wanted outgoing session ∷ ChangesLive number session after ∷ [])
+          new.talk.sessions tt (mid, stepped, (new.talk.sessions, taken, refl)) s.each;
+      none = λ is. absurd (never (sym may ∙ is));
+    }
 
-  finishes-none : (number : ℕ) (old new : Sessions) (links links_new : Links)
-      → FinishesFirst number old links new links_new → FirstOver have_own number old new
-  finishes-none zero old new links links_new f = none-over have_own old new f.0
-  finishes-none (suc number) old new links links_new (mid, links_mid, first, one) =
-      one-over have_own number old mid one.stood new (finishes-none number old mid links links_mid first) one.finished
+finishes-none : (number : ℕ) (old new : Sessions) (links links_new : Links)
+    → FinishesFirst number old links new links_new → FirstOver number old new
+finishes-none zero old new links links_new f = none-over old new f.0
+finishes-none (suc number) old new links links_new (mid, links_mid, first, one) =
+    one-over number old mid one.stood new (finishes-none number old mid links links_mid first) one.finished
 
-  stand-silent : KeepsSilent linked Stand
-  stand-silent =
-      record {
-        moved = λ phase s connection live p.
-            record {
-              each = λ n c e. ap (λ (t : channels.Table). map.get t c.0) live ∙ p.each n c e;
-              none = λ is n. p.none is n;
-            };
-        renewed = λ s p.
-            record {
-              each = λ n c e. absurd (none-some _ (sym (p.none refl n) ∙ e));
-              none = λ is n. p.none refl n;
-            };
-        runs = λ phase s p. record { each = p.each; none = λ is. absurd (never is) };
-        refused = λ phase old new limit channel said e r p.
-            go-stand phase old new
-            (refused-goes said old.talk new.talk old.links old.given limit (record { 0 = channel }) e r.0.refuses) p;
-        closed = λ phase old new l p.
-            go-stand phase old new
-            (leaves-first _ old.talk.sessions new.talk.sessions old.links new.links l.0.each) p;
-        finished = λ phase to old new f p.
-            let g : Stand phase new =
-            go-stand phase old new
-            (finishes-first _ old.talk.sessions new.talk.sessions old.links new.links f.0.each) p in
-            record {
-              each = g.each;
-              none = λ is.
-                  all-over have_own old.talk.sessions new.talk.sessions
-                  (finishes-none _ old.talk.sessions new.talk.sessions old.links new.links f.0.each);
-            };
-      }
+stand-silent : KeepsSilent linked Stand
+stand-silent =
+    record {
+      moved = λ phase s connection live p.
+          record {
+            each = λ n c e. ap (λ (t : channels.Table). map.get t c.0) live ∙ p.each n c e;
+            none = λ is n. p.none is n;
+          };
+      renewed = λ s p.
+          record {
+            each = λ n c e. absurd (none-some _ (sym (p.none refl n) ∙ e));
+            none = λ is n. p.none refl n;
+          };
+      runs = λ phase s p. record { each = p.each; none = λ is. absurd (never is) };
+      refused = λ phase old new limit channel said e r p.
+          go-stand phase old new
+          (refused-goes said old.talk new.talk old.links old.given limit (record { 0 = channel }) e r.0.refuses) p;
+      closed = λ phase old new l p.
+          go-stand phase old new
+          (leaves-first _ old.talk.sessions new.talk.sessions old.links new.links l.0.each) p;
+      finished = λ phase to old new f p.
+          let g : Stand phase new =
+          go-stand phase old new
+          (finishes-first _ old.talk.sessions new.talk.sessions old.links new.links f.0.each) p in
+          record {
+            each = g.each;
+            none = λ is.
+                all-over old.talk.sessions new.talk.sessions
+                (finishes-none _ old.talk.sessions new.talk.sessions old.links new.links f.0.each);
+          };
+    }
 
-  stand-keep : Keeps linked (λ seen tags phase s. Stand phase s)
-  stand-keep =
-      record {
-        silent = λ seen tags. stand-silent;
-        told = λ seen tags event phase s theirs p. p;
-        taken = λ seen tags phase old new limit channel said frames events h p.
-            go-stand phase old new
-            (heard-goes said old.talk new.talk old.links new.links old.given new.given limit
-            (record { 0 = channel }) frames events h.0) p;
-        called = λ seen tags phase old new limit by_call answer frames may c p.
-            call-stand phase old new (called phase by_call answer old new limit frames may c.0) p;
-      }
+stand-keep : Keeps linked (λ seen tags phase s. Stand phase s)
+stand-keep =
+    record {
+      silent = λ seen tags. stand-silent;
+      told = λ seen tags event phase s theirs p. p;
+      taken = λ seen tags phase old new limit channel said frames events h p.
+          go-stand phase old new
+          (heard-goes said old.talk new.talk old.links new.links old.given new.given limit
+          (record { 0 = channel }) frames events h.0) p;
+      called = λ seen tags phase old new limit by_call answer frames may c p.
+          call-stand phase old new (called phase by_call answer old new limit frames may c.0) p;
+    }
 
-  pub own-channels : (sessions : LinkedSessions) (settings : Settings) (calls : List Call) (told : List Told)
-      (end : State LinkedSessions) → IsNew linked settings sessions
-      → Run linked (fresh settings sessions) calls told end
-      → (m n : ℕ) (channel : OutgoingChannel) → channel_at end.sessions.talk.sessions m ≡ Some channel
-      → channel_at end.sessions.talk.sessions n ≡ Some channel → m ≡ n
-  own-channels sessions settings calls told end new run =
-      let none-at : (n : ℕ) → channel_at sessions.talk.sessions n ≡ None =
-      λ n. ap (λ (s : LinkedSessions). channel_at s.talk.sessions n) new.is in
-      let stand : Stand end.phase end.sessions =
-      run-keeps linked (λ seen tags phase s. Stand phase s) stand-keep [] [] (fresh settings sessions) end calls told
-      run
-      (record {
-        each = λ n c e. absurd (none-some _ (sym (none-at n) ∙ e));
-        none = λ is. none-at;
-      }) in
-      channels-apart have_own end.sessions.talk.sessions stand.each
+pub own-channels : (sessions : LinkedSessions) (settings : Settings) (calls : List Call) (told : List Told)
+    (end : State LinkedSessions) → IsNew linked settings sessions
+    → Run linked (fresh settings sessions) calls told end
+    → (m n : ℕ) (channel : OutgoingChannel) → channel_at end.sessions.talk.sessions m ≡ Some channel
+    → channel_at end.sessions.talk.sessions n ≡ Some channel → m ≡ n
+own-channels sessions settings calls told end new run =
+    let none-at : (n : ℕ) → channel_at sessions.talk.sessions n ≡ None =
+    λ n. ap (λ (s : LinkedSessions). channel_at s.talk.sessions n) new.is in
+    let stand : Stand end.phase end.sessions =
+    run-keeps linked (λ seen tags phase s. Stand phase s) stand-keep [] [] (fresh settings sessions) end calls told
+    run
+    (record {
+      each = λ n c e. absurd (none-some _ (sym (none-at n) ∙ e));
+      none = λ is. none-at;
+    }) in
+    apart end.sessions.talk.sessions stand.each

@@ -20,11 +20,7 @@ ghost use Rattle.amqp_endpoint_laws.specs.Linking.{HaveCome};
 ghost use Rattle.amqp_endpoint_laws.specs.Passed.{HasCome, PassesIn};
 ghost use Rattle.amqp_endpoint_laws.specs.Telling.{events_told, numbers_told, numbers_under, tags_given};
 
-use amqp_endpoint_asked::AskedSession;
 use amqp_endpoint_linking::laws::links_given_back_go_on;
-use amqp_endpoint_links::{AskingSession, Numbered};
-use amqp_endpoint_sessions::laws::each_session_has_its_own_history;
-use amqp_link_ends::LinkEnd;
 
 /// The links of an endpoint have a history of their own in each of its runs, from none on, by steps of
 /// amqp_endpoint_names. So what holds of all histories of links holds in each run.
@@ -101,9 +97,7 @@ pub fn channels_are_apart()
         Run linked (fresh settings sessions) calls told end →
         (m n : ℕ) (channel : OutgoingChannel) → channel_at end.sessions.talk.sessions m ≡ Some channel →
         channel_at end.sessions.talk.sessions n ≡ Some channel → m ≡ n }
-{
-    each_session_has_its_own_history::<Box<AskedSession>, Box<AskingSession<Numbered<LinkEnd>>>>();
-}
+{}
 
 /// Each transfer that an endpoint queues lies in the window that the peer gave its session: its number, counted from
 /// the session's first transfer on, is less than so many ahead of the window's first, on a circle of 2^32, as the

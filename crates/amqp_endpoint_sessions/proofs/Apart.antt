@@ -1,5 +1,5 @@
 -- No two sessions have one outgoing channel.
-use Rattle.std.proofs.Common.{◌≡◌, ◌≢◌, ◌⊎◌, inl, inr, ℕ, Bool, true, false, cond, List, [], ◌∷◌, Option, Some, None, Ok, refl, sym, ap, subst, ◌∙◌, ◌==◌}
+use Rattle.std.proofs.Common.{◌≡◌, ◌≢◌, ◌⊎◌, inl, inr, ℕ, Bool, true, false, cond, List, [], ◌∷◌, Option, Some, None, refl, sym, ap, subst, ◌∙◌, ◌==◌}
 use Rattle.std.proofs.lemmas.Bool.Decides.{eqb_tells}
 use Rattle.std.proofs.lemmas.Option.{none-some, same_Some}
 use Rattle.std.specs.FinMap as map
@@ -9,13 +9,13 @@ use Rattle.amqp_session_connection.specs.State.{Table}
 use Rattle.amqp_session_connection.specs.Steps.{DeallocateSession}
 use Rattle.amqp_endpoint_sessions.specs.declared.place.Place.{Place}
 use Rattle.amqp_endpoint_sessions.specs.declared.place.Place.TheVariants.{Asked, Live, Ending, Over}
-use Rattle.amqp_endpoint_sessions.specs.State.{State, asked_of, channel_at, channel_in, channel_of, ended_place, finished_place, fresh, live_of, place_at, told_place, with_asked, with_live}
-use Rattle.amqp_endpoint_sessions.specs.Steps.{Step, Steps, History, GivesBack, TakesChannelBack, ChangesConnection, Begins, Asks, Accepts, TakesBegin, TakesEnd, Ends, Finishes, TellsEnd, ChangesAsked, ChangesLive}
+use Rattle.amqp_endpoint_sessions.specs.State.{State, channel_at, channel_in, channel_of, ended_place, finished_place, fresh, place_at, told_place, with_asked, with_live}
+use Rattle.amqp_endpoint_sessions.specs.Steps.{Step, Steps, History, ChangesConnection, Begins, Asks, Accepts, TakesBegin, TakesEnd, Ends, Finishes, TellsEnd, ChangesAsked, ChangesLive}
 use Rattle.amqp_endpoint_sessions.specs.Own.{KeepsChannels}
 use Rattle.amqp_endpoint_sessions.proofs.Places.{get-put, get-take}
-use Rattle.amqp_endpoint_sessions.proofs.Owning.{At, at, same_number, other_number}
+use Rattle.amqp_endpoint_sessions.proofs.Owning.{at, same_number, other_number}
 
-split : {X : Type 0} (b : Bool) → (b ≡ true → X) → (b ≡ false → X) → X
+pub split : {X : Type 0} (b : Bool) → (b ≡ true → X) → (b ≡ false → X) → X
 split true t f = t refl
 split false t f = f refl
 
@@ -73,19 +73,19 @@ module _ {A S : Type 0} where
         let is = subst (λ (o : Option ℕ). DeallocateSession mid channel.0 o new.connection) stands back in
         ap (λ (c : channels.State). c.live) is ∙ ap (λ (t : Table). map.remove t channel.0) same
 
-  told_same : (stood : Place A S) → channel_of (told_place stood) ≡ channel_of stood
+  pub told_same : (stood : Place A S) → channel_of (told_place stood) ≡ channel_of stood
   told_same (Asked c a) = refl
   told_same (Live c s) = refl
   told_same (Ending c) = refl
   told_same (Over p c) = refl
 
-  live_same : (stood : Place A S) (after : S) → channel_of (with_live stood after) ≡ channel_of stood
+  pub live_same : (stood : Place A S) (after : S) → channel_of (with_live stood after) ≡ channel_of stood
   live_same (Asked c a) after = refl
   live_same (Live c s) after = refl
   live_same (Ending c) after = refl
   live_same (Over p c) after = refl
 
-  asked_same : (stood : Place A S) (after : A) → channel_of (with_asked stood after) ≡ channel_of stood
+  pub asked_same : (stood : Place A S) (after : A) → channel_of (with_asked stood after) ≡ channel_of stood
   asked_same (Asked c a) after = refl
   asked_same (Live c s) after = refl
   asked_same (Ending c) after = refl

@@ -1,3 +1,3 @@
-mod Apart
+pub mod Apart
 pub mod Owning
 mod Places
