@@ -101,8 +101,8 @@ pub fn channels_are_apart()
 
 /// Each transfer that an endpoint queues lies in the window that the peer gave its session: its number, counted from
 /// the session's first transfer on, is less than so many ahead of the window's first, on a circle of 2^32, as the
-/// latest Begin or Flow that the session took says (part 2, 2.5.6). This is so of all that passes in each session, whichever
-/// deeds the endpoint's run consists of.
+/// latest Begin or Flow that the session took says (part 2, 2.5.6). This is so of all that passes in each session,
+/// whichever deeds the endpoint's run consists of.
 pub fn transfers_stay_in_the_window()
     ensures kept { (sessions end : LinkedSessions) (settings : Settings) (deeds : List Deed) (number : ℕ)
         (passings : List Passing) → IsNew linked settings sessions →
