@@ -1,7 +1,7 @@
 -- Each run of an endpoint is what is done in it, and what passes by that.
 use Rattle.std.proofs.Common.{◌≡◌, ℕ, Bool, true, false, List, [], ◌∷◌, ◌++◌, Option, Some, None, inl, inr}
 use Rattle.std.proofs.Common.{ap, drop, refl, sym, subst, take, ◌∙◌, take-append-drop}
-use Rattle.std.specs.Prelude.{◌⊎◌, map}
+use Rattle.std.specs.Prelude.{◌⊎◌, flat_map, map}
 use Rattle.std.proofs.lemmas.List.{append-nil, append_assoc}
 use Rattle.amqp_session_connection.specs.declared.state.ConnectionState.{ConnectionState}
 use Rattle.amqp_session_connection.specs.declared.state.ConnectionState.TheVariants.{HeaderExchange, OpenSent}
@@ -10,6 +10,7 @@ use Rattle.amqp_session_frames.specs.Cutting.{ReadsAs}
 use Rattle.amqp_session_frames.specs.declared.frame.Frame.{Frame}
 use Rattle.amqp_session_frames.specs.declared.frame.FrameBody.{FrameBody}
 use Rattle.amqp_session_frames.specs.declared.frame.FrameBody.TheVariants.{Empty, Open, Close}
+use Rattle.amqp_session_performatives.specs.declared.session_frame.SessionFrame.{SessionFrame}
 use Rattle.amqp_session_types.specs.declared.refusals.ConnectionError.TheVariants.{IllegalState as OutOfOrder}
 use Rattle.amqp_endpoint_model.specs.declared.call.Call.{Call}
 use Rattle.amqp_endpoint_model.specs.declared.call.Call.TheVariants.{Connect, Feed, Pull, Queued, IsIdle, Heartbeat}
@@ -26,36 +27,53 @@ use Rattle.amqp_endpoint_model.specs.declared.event.Event.{Event}
 use Rattle.amqp_endpoint_model.specs.declared.phase.Phase.{Phase}
 use Rattle.amqp_endpoint_model.specs.declared.phase.Phase.TheVariants.{Unconnected, Greeting, Running, Over}
 use Rattle.amqp_endpoint_model.specs.declared.settings.Settings.{Settings}
-use Rattle.amqp_endpoint_model.specs.Relay.{Relations}
+use Rattle.amqp_endpoint_model.specs.Relay.{IsOfSession, Relations}
 use Rattle.amqp_endpoint_model.specs.Said.{Said, done, refused, fed, pulled, count, truth, tried_close, session_begun}
 use Rattle.amqp_endpoint_model.specs.Said.{tried_end, attaching, link_closed, credit_is, waiting, message_sent, Told}
 use Rattle.amqp_endpoint_model.specs.State.{State, Waiting, is_unconnected, limit_of, own_close_with, own_open}
 use Rattle.amqp_endpoint_model.specs.State.{error_of, fresh, heartbeat, protocol_header, text_of, the_frame, the_header}
 use Rattle.amqp_endpoint_model.specs.State.{waiting_of}
 use Rattle.amqp_endpoint_model.specs.Step.{Admits, AfterFault, Breaks, BreaksGreeting, ClosesBoth, ClosesBy, ClosesOwn}
-use Rattle.amqp_endpoint_model.specs.Step.{Ends, EndsRunning, FeedsIn, FrontBarred, FrontRefused, Greets, MovesBy}
+use Rattle.amqp_endpoint_model.specs.Step.{Ends, EndsRunning, FeedsIn, FrontBarred, FrontRefused, Greets, MovesBy, SessionsAnswer}
 use Rattle.amqp_endpoint_model.specs.Step.{ReadsOn, RefusesBody, SendsClose, SessionsDo, Step, TakesAll, TakesBody}
 use Rattle.amqp_endpoint_model.specs.Step.{anew, at_state, condition_of, connected, opened}
 use Rattle.amqp_endpoint_model.specs.Step.{with_close}
-use Rattle.amqp_endpoint_model.specs.History.{Run}
+use Rattle.amqp_endpoint_model.specs.History.{BodyTells, Run}
 use Rattle.amqp_endpoint_model.proofs.Keeping.{step-settings}
 use Rattle.amqp_endpoint_deeds.specs.Deeds.{AreDone, AreRead, Closes, Deed, Does}
-use Rattle.amqp_endpoint_deeds.specs.Deeds.{Finishes, Hears, IsDeed, IsDone, Moves}
-use Rattle.amqp_endpoint_deeds.specs.Deeds.{Queues, Refuses, Renews, Takes, fed_since, note_fed, note_pulled}
-use Rattle.amqp_endpoint_deeds.specs.Deeds.{pulled_since, queued_by, queued_in, taken_by, taken_in}
+use Rattle.amqp_endpoint_deeds.specs.Deeds.{Finishes, Hears, IsDeed, IsDone, Moves, Tell}
+use Rattle.amqp_endpoint_deeds.specs.Deeds.{Queues, Refuses, Renews, Takes, done_by, done_in, done_since, fed_by}
+use Rattle.amqp_endpoint_deeds.specs.Deeds.{fed_since, given_by, note, pulled_since, queued_by, queued_in, taken_by}
+use Rattle.amqp_endpoint_deeds.specs.Deeds.{taken_in, told_by, told_in, told_since}
+use Rattle.amqp_endpoint_deeds.specs.Telling.{call_done, calls_done, events_of, events_told}
 
--- what deeds queue and take, one list behind the other
-queued-append : (deeds more : List Deed) → queued_by (deeds ++ more) ≡ queued_by deeds ++ queued_by more
-queued-append [] more = refl
-queued-append (deed ∷ deeds) more =
-    ap (λ (ws : List Waiting). queued_in deed ++ ws) (queued-append deeds more)
-    ∙ sym (append_assoc (queued_in deed) (queued_by deeds) (queued_by more))
+-- what is read off deeds, one list behind the other
+flat-append : {X A : Type 0} (f : X → List A) (these more : List X)
+    → flat_map f (these ++ more) ≡ flat_map f these ++ flat_map f more
+flat-append f [] more = refl
+flat-append f (x ∷ these) more =
+    ap (λ (ys : List _). f x ++ ys) (flat-append f these more)
+    ∙ sym (append_assoc (f x) (flat_map f these) (flat_map f more))
 
-taken-append : (deeds more : List Deed) → taken_by (deeds ++ more) ≡ taken_by deeds ++ taken_by more
-taken-append [] more = refl
-taken-append (deed ∷ deeds) more =
-    ap (λ (fs : List Frame). taken_in deed ++ fs) (taken-append deeds more)
-    ∙ sym (append_assoc (taken_in deed) (taken_by deeds) (taken_by more))
+-- where the first say none of it
+flat-behind : {X A : Type 0} (f : X → List A) (these more : List X) → flat_map f these ≡ []
+    → flat_map f (these ++ more) ≡ flat_map f more
+flat-behind f these more none = flat-append f these more ∙ ap (λ (ys : List _). ys ++ flat_map f more) none
+
+tell-both : (deeds more : List Deed) (events others : List Event) (did later : List (Call × Said))
+    → Tell deeds events did → Tell more others later → Tell (deeds ++ more) (events ++ others) (did ++ later)
+tell-both deeds more events others did later t u =
+    record {
+      told =
+          flat-append told_in deeds more ∙ ap (λ (es : List Event). es ++ told_by more) t.told
+          ∙ ap (λ (es : List Event). events ++ es) u.told;
+      calls =
+          flat-append done_in deeds more ∙ ap (λ (cs : List (Call × Said)). cs ++ done_by more) t.calls
+          ∙ ap (λ (cs : List (Call × Said)). did ++ cs) u.calls;
+    }
+
+tell-nothing : Tell [] [] []
+tell-nothing = record { told = refl; calls = refl }
 
 texts-append : (these more : List Waiting) → map text_of (these ++ more) ≡ map text_of these ++ map text_of more
 texts-append [] more = refl
@@ -69,6 +87,10 @@ close-deeds false close = Queues (the_frame close) ∷ []
 close-takes-none : (own : Bool) (close : Frame) → taken_by (close-deeds own close) ≡ []
 close-takes-none true close = refl
 close-takes-none false close = refl
+
+close-tells : (own : Bool) (close : Frame) → Tell (close-deeds own close) [] []
+close-tells true close = tell-nothing
+close-tells false close = record { told = refl; calls = refl }
 
 close-queues : {S : Type 0} (s : State S) (own : Bool) (close : Frame) → s.own_close ≡ own
     → with_close s close ≡ s.queue ++ queued_by (close-deeds own close)
@@ -132,41 +154,47 @@ module _ {S : Type 0} (does : Relations S) where
   done-append old mid new (deed ∷ deeds) more (next, one, others) d =
       (next, one, done-append next mid new deeds more others d)
 
-  -- sessions go on without anything that passes
+  -- sessions go on without anything that passes, is told or called
   record Went (old new : S) : Type 0 where
     deeds : List Deed
     are_done : AreDone does old deeds new
     silent : queued_by deeds ≡ []
     untaken : taken_by deeds ≡ []
-
-  went-by : (deed : Deed) (old new : S) → queued_in deed ≡ [] → taken_in deed ≡ [] → IsDeed does old deed new
-      → Went old new
-  went-by deed old new silent untaken d =
-      record {
-        deeds = deed ∷ [];
-        are_done = (new, d, refl);
-        silent = append-nil (queued_in deed) ∙ silent;
-        untaken = append-nil (taken_in deed) ∙ untaken;
-      }
+    tell : Tell deeds [] []
 
   stood : (old new : S) → new ≡ old → Went old new
-  stood old new same = record { deeds = []; are_done = same; silent = refl; untaken = refl }
+  stood old new same =
+      record { deeds = []; are_done = same; silent = refl; untaken = refl; tell = tell-nothing }
 
   went-on : (old mid new : S) → Went old mid → Went mid new → Went old new
   went-on old mid new w v =
       record {
         deeds = w.deeds ++ v.deeds;
         are_done = done-append old mid new w.deeds v.deeds w.are_done v.are_done;
-        silent =
-            queued-append w.deeds v.deeds ∙ ap (λ (ws : List Waiting). ws ++ queued_by v.deeds) w.silent ∙ v.silent;
-        untaken =
-            taken-append w.deeds v.deeds ∙ ap (λ (fs : List Frame). fs ++ taken_by v.deeds) w.untaken ∙ v.untaken;
+        silent = flat-behind queued_in w.deeds v.deeds w.silent ∙ v.silent;
+        untaken = flat-behind taken_in w.deeds v.deeds w.untaken ∙ v.untaken;
+        tell = tell-both w.deeds v.deeds [] [] [] [] w.tell v.tell;
+      }
+
+  finished : (old new : S) → does.finishes old new → Went old new
+  finished old new over =
+      record {
+        deeds = Finishes ∷ [];
+        are_done = (new, over, refl);
+        silent = refl;
+        untaken = refl;
+        tell = record { told = refl; calls = refl };
       }
 
   moves-by : (row : ConnectionState → Option ConnectionState) (old new : S) → MovesBy does row old new → Went old new
   moves-by row old new m =
-      went-by (Moves (record (does.connection old) { local_state = (does.connection new).local_state })) old new refl
-      refl (refl, m.is)
+      record {
+        deeds = Moves (record (does.connection old) { local_state = (does.connection new).local_state }) ∷ [];
+        are_done = (new, (refl, m.is), refl);
+        silent = refl;
+        untaken = refl;
+        tell = record { told = refl; calls = refl };
+      }
 
   sends-close : (own error : Bool) (old new : S) → SendsClose does own error old new → Went old new
   sends-close true error old new same = stood old new same
@@ -177,15 +205,22 @@ module _ {S : Type 0} (does : Relations S) where
       went-on old c.answered new
       (went-on old c.taken c.answered (moves-by _ old c.taken c.takes)
       (sends-close own false c.taken c.answered c.answers))
-      (went-by Finishes c.answered new refl refl c.over)
+      (finished c.answered new c.over)
 
   closes-by : (own : Bool) (old new : S) → ClosesBy does own old new → Went old new
   closes-by own old new c =
-      went-on old c.told new (sends-close own true old c.told c.tells) (went-by Finishes c.told new refl refl c.over)
+      went-on old c.told new (sends-close own true old c.told c.tells) (finished c.told new c.over)
 
   closes-own : (old new : S) → ClosesOwn does old new → Went old new
   closes-own old new c =
-      went-on old c.sent new (moves-by _ old c.sent c.sends) (went-by Closes c.sent new refl refl c.left)
+      went-on old c.sent new (moves-by _ old c.sent c.sends)
+      (record {
+        deeds = Closes ∷ [];
+        are_done = (new, c.left, refl);
+        silent = refl;
+        untaken = refl;
+        tell = record { told = refl; calls = refl };
+      })
 
   -- the frame in front is refused by the sessions, or not by them
   data Fronted (old new : S) : Type 0 where
@@ -221,82 +256,104 @@ module _ {S : Type 0} (does : Relations S) where
   front-refused Memory s left sessions r = unread s left sessions r
   front-refused e s left sessions r = stays-so r.1
 
-  -- frames are taken, and what is queued is behind what was
-  record Adds (old : State S) (frames : List Frame) (new : State S) : Type 0 where
+  -- frames are taken and these events told, and what is queued is behind what was
+  record Adds (old : State S) (frames : List Frame) (events : List Event) (new : State S) : Type 0 where
     deeds : List Deed
     are_done : AreDone does old.sessions deeds new.sessions
     queued : new.queue ≡ old.queue ++ queued_by deeds
     taken : taken_by deeds ≡ frames
+    tell : Tell deeds events []
 
-  abbrev AddsTo : State S → List Frame → State S → Type 0
-  AddsTo old frames new = Adds old frames new
+  abbrev AddsTo : State S → List Frame → List Event → State S → Type 0
+  AddsTo old frames events new = Adds old frames events new
 
-  adds-on : (old mid new : State S) (frames more : List Frame) → Adds old frames mid → Adds mid more new
-      → Adds old (frames ++ more) new
-  adds-on old mid new frames more a b =
+  adds-on : (old mid new : State S) (frames more : List Frame) (events others : List Event)
+      → Adds old frames events mid → Adds mid more others new → Adds old (frames ++ more) (events ++ others) new
+  adds-on old mid new frames more events others a b =
       record {
         deeds = a.deeds ++ b.deeds;
         are_done = done-append old.sessions mid.sessions new.sessions a.deeds b.deeds a.are_done b.are_done;
         queued =
             b.queued ∙ ap (λ (ws : List Waiting). ws ++ queued_by b.deeds) a.queued
             ∙ append_assoc old.queue (queued_by a.deeds) (queued_by b.deeds)
-            ∙ ap (λ (ws : List Waiting). old.queue ++ ws) (sym (queued-append a.deeds b.deeds));
+            ∙ ap (λ (ws : List Waiting). old.queue ++ ws) (sym (flat-append queued_in a.deeds b.deeds));
         taken =
-            taken-append a.deeds b.deeds ∙ ap (λ (fs : List Frame). fs ++ taken_by b.deeds) a.taken
+            flat-append taken_in a.deeds b.deeds ∙ ap (λ (fs : List Frame). fs ++ taken_by b.deeds) a.taken
             ∙ ap (λ (fs : List Frame). frames ++ fs) b.taken;
+        tell = tell-both a.deeds b.deeds events others [] [] a.tell b.tell;
       }
 
   close-done : (own : Bool) (close : Frame) (s : S) → AreDone does s (close-deeds own close) s
   close-done true close s = refl
   close-done false close s = (s, refl, refl)
 
+  -- a frame of the connection's own is heard
+  heard : (f : Frame) (body : FrameBody) (events : List Event) (s : S) → f.body ≡ body → (IsOfSession body → ⊥)
+      → BodyTells does body f events → IsDeed does s (Hears f events) s
+  heard f body events s is own tells = (
+    refl,
+    subst (λ (b : FrameBody). IsOfSession b → ⊥) (sym is) own,
+    subst (λ (b : FrameBody). BodyTells does b f events) (sym is) tells,
+  )
+
   takes-body : (f : Frame) (body : FrameBody) → f.body ≡ body → (old : State S) (events : List Event) (new : State S)
-      → TakesBody does old f.channel body events new → Adds old (f ∷ []) new
+      → TakesBody does old f.channel body events new → Adds old (f ∷ []) events new
   takes-body f Empty is old events new (told, same) =
-      subst (AddsTo old (f ∷ [])) (sym same)
+      subst (AddsTo old (f ∷ []) events) (sym same)
       (record {
-        deeds = Hears f ∷ [];
-        are_done = (old.sessions, refl, refl);
+        deeds = Hears f events ∷ [];
+        are_done = (old.sessions, heard f Empty events old.sessions is (λ theirs. theirs) told, refl);
         queued = sym (append-nil old.queue);
         taken = refl;
+        tell = record { told = append-nil events; calls = refl };
       })
   takes-body f (Open o) is old events new (none, least, told, moves, after) =
-      subst (AddsTo old (f ∷ [])) (sym after)
+      subst (AddsTo old (f ∷ []) events) (sym after)
       (record {
         deeds =
-            Hears f
+            Hears f events
             ∷ Moves (record (does.connection old.sessions) {
               local_state = (does.connection new.sessions).local_state;
               remote_channel_max = Some o.channel_max;
             })
             ∷ [];
-        are_done = (old.sessions, refl, (new.sessions, (refl, moves.is), refl));
+        are_done = (
+          old.sessions,
+          heard f (Open o) events old.sessions is (λ theirs. theirs) told,
+          (new.sessions, (refl, moves.is), refl),
+        );
         queued = sym (append-nil old.queue);
         taken = refl;
+        tell = record { told = append-nil events; calls = refl };
       })
   takes-body f (Close c) is old events new (told, closes, after) =
       let w = closes-both old.own_close old.sessions new.sessions closes in
       let close : List Deed = close-deeds old.own_close (own_close_with None) in
-      subst (AddsTo old (f ∷ [])) (sym after)
+      let both : Tell (w.deeds ++ close) [] [] =
+      tell-both w.deeds close [] [] [] [] w.tell (close-tells old.own_close (own_close_with None)) in
+      subst (AddsTo old (f ∷ []) events) (sym after)
       (record {
-        deeds = Hears f ∷ (w.deeds ++ close);
+        deeds = Hears f events ∷ (w.deeds ++ close);
         are_done = (
           old.sessions,
-          refl,
+          heard f (Close c) events old.sessions is (λ theirs. theirs) told,
           done-append old.sessions new.sessions new.sessions w.deeds close w.are_done
               (close-done old.own_close (own_close_with None) new.sessions),
         );
         queued =
             close-queues old old.own_close (own_close_with None) refl
-            ∙ ap (λ (ws : List Waiting). old.queue ++ ws)
-            (sym (queued-append w.deeds close ∙ ap (λ (ws : List Waiting). ws ++ queued_by close) w.silent));
+            ∙ ap (λ (ws : List Waiting). old.queue ++ ws) (sym (flat-behind queued_in w.deeds close w.silent));
         taken =
             ap (λ (fs : List Frame). f ∷ fs)
-            (taken-append w.deeds close ∙ ap (λ (fs : List Frame). fs ++ taken_by close) w.untaken
+            (flat-behind taken_in w.deeds close w.untaken
             ∙ close-takes-none old.own_close (own_close_with None));
+        tell = record {
+          told = ap (λ (es : List Event). events ++ es) both.told ∙ append-nil events;
+          calls = both.calls;
+        };
       })
   takes-body f body is old events new t =
-      subst (AddsTo old (f ∷ [])) (sym t.queued)
+      subst (AddsTo old (f ∷ []) events) (sym t.queued)
       (record {
         deeds = Takes (limit_of old.peer_limit) f t.frames events ∷ [];
         are_done = (
@@ -309,21 +366,32 @@ module _ {S : Type 0} (does : Relations S) where
         );
         queued = ap (λ (ws : List Waiting). old.queue ++ ws) (sym (append-nil (map waiting_of t.frames)));
         taken = refl;
+        tell = record { told = append-nil events; calls = refl };
       })
 
   takes-all : (old : State S) (frames : List Frame) (events : List Event) (new : State S)
-      → TakesAll does old frames events new → Adds old frames new
+      → TakesAll does old frames events new → Adds old frames events new
   takes-all old [] events new (none, same) =
-      subst (AddsTo old []) (sym same)
-      (record { deeds = []; are_done = refl; queued = sym (append-nil old.queue); taken = refl })
+      subst (λ (es : List Event). Adds old [] es new) (sym none)
+      (subst (AddsTo old [] []) (sym same)
+      (record {
+        deeds = [];
+        are_done = refl;
+        queued = sym (append-nil old.queue);
+        taken = refl;
+        tell = tell-nothing;
+      }))
   takes-all old (f ∷ fs) events new (mid, first, others, one, all, split) =
-      adds-on old mid new (f ∷ []) fs (takes-body f f.body refl old first mid one.1) (takes-all mid fs others new all)
+      subst (λ (es : List Event). Adds old (f ∷ fs) es new) (sym split)
+      (adds-on old mid new (f ∷ []) fs first others (takes-body f f.body refl old first mid one.1)
+      (takes-all mid fs others new all))
 
   -- the connection may be cut off; where it isn't, what is queued is behind what was
   record MayCut (old new : State S) : Type 0 where
     deeds : List Deed
     are_done : AreDone does old.sessions deeds new.sessions
     untaken : taken_by deeds ≡ []
+    tell : Tell deeds [] []
     over : is_unconnected new.phase ≡ false → (new.queue ≡ old.queue ++ queued_by deeds) × (new.phase ≡ Over)
 
   never : {A : Type 0} (phase : Phase) → phase ≡ Unconnected → is_unconnected phase ≡ false → A
@@ -335,6 +403,7 @@ module _ {S : Type 0} (does : Relations S) where
         deeds = Finishes ∷ [];
         are_done = (new.sessions, finishes, refl);
         untaken = refl;
+        tell = record { told = refl; calls = refl };
         over = λ up. never new.phase (ap (λ (s : State S). s.phase) after) up;
       }
 
@@ -349,13 +418,11 @@ module _ {S : Type 0} (does : Relations S) where
         are_done =
             done-append s.sessions new.sessions new.sessions w.deeds close w.are_done
             (close-done s.own_close frame new.sessions);
-        untaken =
-            taken-append w.deeds close ∙ ap (λ (fs : List Frame). fs ++ taken_by close) w.untaken
-            ∙ close-takes-none s.own_close frame;
+        untaken = flat-behind taken_in w.deeds close w.untaken ∙ close-takes-none s.own_close frame;
+        tell = tell-both w.deeds close [] [] [] [] w.tell (close-tells s.own_close frame);
         over = λ up. (
           ap (λ (t : State S). t.queue) is ∙ close-queues s s.own_close frame refl
-              ∙ ap (λ (ws : List Waiting). s.queue ++ ws)
-              (sym (queued-append w.deeds close ∙ ap (λ (ws : List Waiting). ws ++ queued_by close) w.silent)),
+              ∙ ap (λ (ws : List Waiting). s.queue ++ ws) (sym (flat-behind queued_in w.deeds close w.silent)),
           ap (λ (t : State S). t.phase) is,
         );
       }
@@ -368,6 +435,7 @@ module _ {S : Type 0} (does : Relations S) where
         deeds = c.deeds;
         are_done = subst (λ (x : S). AreDone does x c.deeds new.sessions) same c.are_done;
         untaken = c.untaken;
+        tell = c.tell;
         over = c.over;
       }
   after-front None s sessions new (bars limit f e r) (finishes, after) =
@@ -384,6 +452,7 @@ module _ {S : Type 0} (does : Relations S) where
           refl,
         );
         untaken = refl;
+        tell = record { told = refl; calls = refl };
         over = λ up. never new.phase (ap (λ (t : State S). t.phase) after) up;
       }
   after-front (Some condition) s sessions new (bars limit f e r) (closes, is) =
@@ -396,27 +465,32 @@ module _ {S : Type 0} (does : Relations S) where
           close-done s.own_close frame new.sessions,
         );
         untaken = close-takes-none s.own_close frame;
+        tell = record {
+          told = (close-tells s.own_close frame).told;
+          calls = (close-tells s.own_close frame).calls;
+        };
         over = λ up. (
           ap (λ (t : State S). t.queue) is ∙ close-queues s s.own_close frame refl,
           ap (λ (t : State S). t.phase) is,
         );
       }
 
-  -- these bytes were read, and so much was taken
-  record ReadsThem (old : State S) (all : List ℕ) (new : State S) : Type 0 where
+  -- these bytes were read and these events told, and so much was taken
+  record ReadsThem (old : State S) (all : List ℕ) (events : List Event) (new : State S) : Type 0 where
     deeds : List Deed
     are_done : AreDone does old.sessions deeds new.sessions
     queued : is_unconnected new.phase ≡ false → new.queue ≡ old.queue ++ queued_by deeds
     read :
         is_unconnected new.phase ≡ false
         → ReadNow new.phase old.settings.max_frame_size all (taken_by deeds) new.rest
+    tell : Tell deeds events []
 
   -- all was taken that comes
-  read-all : (old mid : State S) (all left : List ℕ) (frames : List Frame) (new : State S)
-      → ReadsAs (Admits old.settings.max_frame_size) all frames left → (a : Adds old frames mid)
+  read-all : (old mid : State S) (all left : List ℕ) (frames : List Frame) (events : List Event) (new : State S)
+      → ReadsAs (Admits old.settings.max_frame_size) all frames left → (a : Adds old frames events mid)
       → new.sessions ≡ mid.sessions → new.queue ≡ mid.queue
-      → ReadNow new.phase old.settings.max_frame_size all frames new.rest → ReadsThem old all new
-  read-all old mid all left frames new read a sessions queue now =
+      → ReadNow new.phase old.settings.max_frame_size all frames new.rest → ReadsThem old all events new
+  read-all old mid all left frames events new read a sessions queue now =
       record {
         deeds = a.deeds;
         are_done = subst (λ (s : S). AreDone does old.sessions a.deeds s) (sym sessions) a.are_done;
@@ -424,17 +498,18 @@ module _ {S : Type 0} (does : Relations S) where
         read = λ up.
             subst (λ (fs : List Frame). ReadNow new.phase old.settings.max_frame_size all fs new.rest) (sym a.taken)
             now;
+        tell = a.tell;
       }
 
   -- a fault stands in front of what is left
-  read-faulted : (old mid : State S) (all left : List ℕ) (frames : List Frame) (e : EndpointError) (new : State S)
-      → ReadsAs (Admits old.settings.max_frame_size) all frames left → Adds old frames mid
-      → EndsRunning does mid left (Some e) new → ReadsThem old all new
-  read-faulted old mid all left frames e new read a r =
+  read-faulted : (old mid : State S) (all left : List ℕ) (frames : List Frame) (events : List Event)
+      (e : EndpointError) (new : State S) → ReadsAs (Admits old.settings.max_frame_size) all frames left
+      → Adds old frames events mid → EndsRunning does mid left (Some e) new → ReadsThem old all events new
+  read-faulted old mid all left frames events e new read a r =
       let c =
       after-front (condition_of e) mid r.sessions new (front-refused e mid left r.sessions r.refused) r.after in
       let taken : taken_by (a.deeds ++ c.deeds) ≡ frames =
-      taken-append a.deeds c.deeds ∙ ap (λ (fs : List Frame). taken_by a.deeds ++ fs) c.untaken
+      flat-append taken_in a.deeds c.deeds ∙ ap (λ (fs : List Frame). taken_by a.deeds ++ fs) c.untaken
       ∙ append-nil (taken_by a.deeds) ∙ a.taken in
       record {
         deeds = a.deeds ++ c.deeds;
@@ -443,7 +518,7 @@ module _ {S : Type 0} (does : Relations S) where
         queued = λ up.
             (c.over up).0 ∙ ap (λ (ws : List Waiting). ws ++ queued_by c.deeds) a.queued
             ∙ append_assoc old.queue (queued_by a.deeds) (queued_by c.deeds)
-            ∙ ap (λ (ws : List Waiting). old.queue ++ ws) (sym (queued-append a.deeds c.deeds));
+            ∙ ap (λ (ws : List Waiting). old.queue ++ ws) (sym (flat-append queued_in a.deeds c.deeds));
         read = λ up.
             subst (λ (p : Phase). ReadNow p old.settings.max_frame_size all (taken_by (a.deeds ++ c.deeds)) new.rest)
             (sym (c.over up).1) (
@@ -451,31 +526,34 @@ module _ {S : Type 0} (does : Relations S) where
               subst (λ (fs : List Frame). ReadsAs (Admits old.settings.max_frame_size) all fs left) (sym taken)
                   read,
             );
+        tell =
+            subst (λ (es : List Event). Tell (a.deeds ++ c.deeds) es []) (append-nil events)
+            (tell-both a.deeds c.deeds events [] [] [] a.tell c.tell);
       }
 
-  read-ends : (phase : Phase) (old mid : State S) (all left : List ℕ) (frames : List Frame)
+  read-ends : (phase : Phase) (old mid : State S) (all left : List ℕ) (frames : List Frame) (events : List Event)
       (fault : Option EndpointError) (new : State S) → mid.phase ≡ phase
-      → ReadsAs (Admits old.settings.max_frame_size) all frames left → Adds old frames mid
-      → Ends does mid phase left fault new → ReadsThem old all new
-  read-ends Running old mid all left frames None new is read a (waits, after) =
-      subst (λ (s : State S). ReadsThem old all s) (sym after)
-      (read-all old mid all left frames (record mid { rest = left }) read a refl refl
+      → ReadsAs (Admits old.settings.max_frame_size) all frames left → Adds old frames events mid
+      → Ends does mid phase left fault new → ReadsThem old all events new
+  read-ends Running old mid all left frames events None new is read a (waits, after) =
+      subst (λ (s : State S). ReadsThem old all events s) (sym after)
+      (read-all old mid all left frames events (record mid { rest = left }) read a refl refl
       (subst (λ (p : Phase). ReadNow p old.settings.max_frame_size all frames left) (sym is) read))
-  read-ends Running old mid all left frames (Some e) new is read a r =
-      read-faulted old mid all left frames e new read a r
-  read-ends Over old mid all left frames None new is read a same =
-      subst (λ (s : State S). ReadsThem old all s) (sym same)
-      (read-all old mid all left frames mid read a refl refl
+  read-ends Running old mid all left frames events (Some e) new is read a r =
+      read-faulted old mid all left frames events e new read a r
+  read-ends Over old mid all left frames events None new is read a same =
+      subst (λ (s : State S). ReadsThem old all events s) (sym same)
+      (read-all old mid all left frames events mid read a refl refl
       (subst (λ (p : Phase). ReadNow p old.settings.max_frame_size all frames mid.rest) (sym is) (left, read)))
-  read-ends Over old mid all left frames (Some e) new is read a r = absurd r
-  read-ends phase old mid all left frames fault new is read a r = absurd r
+  read-ends Over old mid all left frames events (Some e) new is read a r = absurd r
+  read-ends phase old mid all left frames events fault new is read a r = absurd r
 
   reads-on : (old : State S) (all : List ℕ) (events : List Event) (fault : Option EndpointError) (new : State S)
-      → ReadsOn does old all events fault new → ReadsThem old all new
+      → ReadsOn does old all events fault new → ReadsThem old all events new
   reads-on old all events fault new r =
       let a = takes-all (record old { rest = [] }) r.frames events r.mid r.taken in
-      read-ends r.mid.phase old r.mid all r.left r.frames fault new refl r.read
-      (record { deeds = a.deeds; are_done = a.are_done; queued = a.queued; taken = a.taken }) r.ends
+      read-ends r.mid.phase old r.mid all r.left r.frames events fault new refl r.read
+      (record { deeds = a.deeds; are_done = a.are_done; queued = a.queued; taken = a.taken; tell = a.tell }) r.ends
 
   -- what passes in a call: so much is given of what was queued, and these bytes are fed
   record PassesOn (old : State S) (gone : List Waiting) (bytes : List ℕ) (deeds : List Deed) (new : State S) : Type 0
@@ -486,16 +564,20 @@ module _ {S : Type 0} (does : Relations S) where
           (all : List ℕ) (frames : List Frame) → AreRead old.phase old.settings.max_frame_size all frames old.rest
           → AreRead new.phase old.settings.max_frame_size (all ++ bytes) (frames ++ taken_by deeds) new.rest
 
-  record Did (old : State S) (gone : List Waiting) (bytes : List ℕ) (new : State S) : Type 0 where
+  -- what is done in a call: these events are told by it, and these calls done
+  record Did (old : State S) (gone : List Waiting) (bytes : List ℕ) (events : List Event) (did : List (Call × Said))
+      (new : State S) : Type 0 where
     deeds : List Deed
     are_done : AreDone does old.sessions deeds new.sessions
     on : is_unconnected new.phase ≡ false → PassesOn old gone bytes deeds new
+    tell : Tell deeds events did
 
   -- nothing is read by it, and the phase stays
-  plainly : (old : State S) (gone : List Waiting) (deeds : List Deed) (new : State S)
-      → AreDone does old.sessions deeds new.sessions → new.phase ≡ old.phase → new.rest ≡ old.rest
-      → old.queue ++ queued_by deeds ≡ gone ++ new.queue → taken_by deeds ≡ [] → Did old gone [] new
-  plainly old gone deeds new are_done phase rest queued untaken =
+  plainly : (old : State S) (gone : List Waiting) (deeds : List Deed) (events : List Event)
+      (did : List (Call × Said)) (new : State S) → AreDone does old.sessions deeds new.sessions
+      → new.phase ≡ old.phase → new.rest ≡ old.rest → old.queue ++ queued_by deeds ≡ gone ++ new.queue
+      → taken_by deeds ≡ [] → Tell deeds events did → Did old gone [] events did new
+  plainly old gone deeds events did new are_done phase rest queued untaken tell =
       record {
         deeds = deeds;
         are_done = are_done;
@@ -512,34 +594,46 @@ module _ {S : Type 0} (does : Relations S) where
               (sym rest)
               (same-read old.phase old.settings.max_frame_size all frames (taken_by deeds) old.rest untaken r));
         };
+        tell = tell;
       }
 
-  stays : (old new : State S) → new ≡ old → Did old [] [] new
+  -- nothing is told, and the sessions do no call
+  quietly : (old : State S) (gone : List Waiting) (deeds : List Deed) (new : State S)
+      → AreDone does old.sessions deeds new.sessions → new.phase ≡ old.phase → new.rest ≡ old.rest
+      → old.queue ++ queued_by deeds ≡ gone ++ new.queue → taken_by deeds ≡ [] → Tell deeds [] []
+      → Did old gone [] [] [] new
+  quietly old gone deeds new are_done phase rest queued untaken tell =
+      plainly old gone deeds [] [] new are_done phase rest queued untaken tell
+
+  stays : (old new : State S) → new ≡ old → Did old [] [] [] [] new
   stays old new same =
-      subst (λ (s : State S). Did old [] [] s) (sym same)
-      (plainly old [] [] old refl refl refl (append-nil old.queue) refl)
+      subst (λ (s : State S). Did old [] [] [] [] s) (sym same)
+      (quietly old [] [] old refl refl refl (append-nil old.queue) refl tell-nothing)
 
   cuts : (old : State S) (bytes : List ℕ) (deeds : List Deed) (new : State S)
-      → AreDone does old.sessions deeds new.sessions → new.phase ≡ Unconnected → Did old [] bytes new
-  cuts old bytes deeds new are_done is =
-      record { deeds = deeds; are_done = are_done; on = λ up. never new.phase is up }
+      → AreDone does old.sessions deeds new.sessions → new.phase ≡ Unconnected → Tell deeds [] []
+      → Did old [] bytes [] [] new
+  cuts old bytes deeds new are_done is tell =
+      record { deeds = deeds; are_done = are_done; on = λ up. never new.phase is up; tell = tell }
 
-  broken : (old : State S) (bytes : List ℕ) (new : State S) → Breaks does old new → Did old [] bytes new
+  broken : (old : State S) (bytes : List ℕ) (new : State S) → Breaks does old new → Did old [] bytes [] [] new
   broken old bytes new (finishes, after) =
       cuts old bytes (Finishes ∷ []) new (new.sessions, finishes, refl) (ap (λ (s : State S). s.phase) after)
+      (record { told = refl; calls = refl })
 
   broken-greeting : (old : State S) (bytes : List ℕ) (new : State S) → BreaksGreeting does old new
-      → Did old [] bytes new
+      → Did old [] bytes [] [] new
   broken-greeting old bytes new (inl b) = broken old bytes new b
   broken-greeting old bytes new (inr (finishes, after)) =
       let greeted : S = at_state does old.sessions HeaderExchange in
       cuts old bytes
       (Moves (record (does.connection old.sessions) { local_state = HeaderExchange }) ∷ Finishes ∷ []) new
       (greeted, (refl, refl), (new.sessions, finishes, refl)) (ap (λ (s : State S). s.phase) after)
+      (record { told = refl; calls = refl })
 
   -- bytes are fed while frames are read
   runs : (old : State S) (bytes : List ℕ) (events : List Event) (fault : Option EndpointError) (new : State S)
-      → old.phase ≡ Running → ReadsOn does old (old.rest ++ bytes) events fault new → Did old [] bytes new
+      → old.phase ≡ Running → ReadsOn does old (old.rest ++ bytes) events fault new → Did old [] bytes events [] new
   runs old bytes events fault new is r =
       let t = reads-on old (old.rest ++ bytes) events fault new r in
       record {
@@ -553,12 +647,13 @@ module _ {S : Type 0} (does : Relations S) where
               (subst (λ (p : Phase). AreRead p old.settings.max_frame_size all frames old.rest) is before)
               (t.read up);
         };
+        tell = t.tell;
       }
 
   -- the peer's header is whole with them
   greeted : (old : State S) (bytes : List ℕ) (events : List Event) (fault : Option EndpointError) (new : State S)
       → old.phase ≡ Greeting → take 8 (old.rest ++ bytes) ≡ protocol_header
-      → ReadsOn does (opened does old) (drop 8 (old.rest ++ bytes)) events fault new → Did old [] bytes new
+      → ReadsOn does (opened does old) (drop 8 (old.rest ++ bytes)) events fault new → Did old [] bytes events [] new
   greeted old bytes events fault new is header r =
       let t = reads-on (opened does old) (drop 8 (old.rest ++ bytes)) events fault new r in
       let first : Waiting = the_frame (own_open old.settings) in
@@ -583,12 +678,18 @@ module _ {S : Type 0} (does : Relations S) where
               ∙ ap (λ (b : List ℕ). b ++ drop 8 (old.rest ++ bytes)) header)
               (t.read up));
         };
+        tell = record { told = t.tell.told; calls = t.tell.calls };
       }
 
+  untold : (old : State S) (bytes : List ℕ) (events : List Event) (new : State S) → events ≡ []
+      → Did old [] bytes [] [] new → Did old [] bytes events [] new
+  untold old bytes events new none d = subst (λ (es : List Event). Did old [] bytes es [] new) (sym none) d
+
   greets : (old : State S) (bytes : List ℕ) (events : List Event) (fault : Option EndpointError) (new : State S)
-      → old.phase ≡ Greeting → Greets does old (old.rest ++ bytes) events fault new → Did old [] bytes new
+      → old.phase ≡ Greeting → Greets does old (old.rest ++ bytes) events fault new → Did old [] bytes events [] new
   greets old bytes events fault new is (inl (short, none, clean, after)) =
-      subst (λ (s : State S). Did old [] bytes s) (sym after)
+      untold old bytes events new none
+      (subst (λ (s : State S). Did old [] bytes [] [] s) (sym after)
       (record {
         deeds = [];
         are_done = refl;
@@ -603,19 +704,26 @@ module _ {S : Type 0} (does : Relations S) where
               AreRead p old.settings.max_frame_size (all ++ bytes) (frames ++ []) (old.rest ++ bytes))
               (sym is) (append-nil frames ∙ nothing, ap (λ (b : List ℕ). b ++ bytes) same);
         };
-      })
-  greets old bytes events fault new is (inr (inl (long, other, none, why, b))) = broken old bytes new b
+        tell = tell-nothing;
+      }))
+  greets old bytes events fault new is (inr (inl (long, other, none, why, b))) =
+      untold old bytes events new none (broken old bytes new b)
   greets old bytes events fault new is (inr (inr (inl (header, r)))) = greeted old bytes events fault new is header r
-  greets old bytes events fault new is (inr (inr (inr (none, memory, b)))) = broken-greeting old bytes new b
+  greets old bytes events fault new is (inr (inr (inr (none, memory, b)))) =
+      untold old bytes events new none (broken-greeting old bytes new b)
 
   feeds-in : (phase : Phase) (old : State S) (bytes : List ℕ) (events : List Event) (fault : Option EndpointError)
-      (new : State S) → old.phase ≡ phase → FeedsIn does phase old bytes events fault new → Did old [] bytes new
+      (new : State S) → old.phase ≡ phase → FeedsIn does phase old bytes events fault new
+      → Did old [] bytes events [] new
   feeds-in Unconnected old bytes events fault new is (none, why, same) =
-      cuts old bytes [] new (ap (λ (s : State S). s.sessions) same) (ap (λ (s : State S). s.phase) same ∙ is)
+      untold old bytes events new none
+      (cuts old bytes [] new (ap (λ (s : State S). s.sessions) same) (ap (λ (s : State S). s.phase) same ∙ is)
+      tell-nothing)
   feeds-in Greeting old bytes events fault new is g = greets old bytes events fault new is g
   feeds-in Running old bytes events fault new is r = runs old bytes events fault new is r
   feeds-in Over old bytes events fault new is (none, why, same) =
-      subst (λ (s : State S). Did old [] bytes s) (sym same)
+      untold old bytes events new none
+      (subst (λ (s : State S). Did old [] bytes [] [] s) (sym same)
       (record {
         deeds = [];
         are_done = refl;
@@ -628,214 +736,272 @@ module _ {S : Type 0} (does : Relations S) where
               (over-read old.settings.max_frame_size all bytes frames old.rest
               (subst (λ (p : Phase). AreRead p old.settings.max_frame_size all frames old.rest) is before));
         };
-      })
+        tell = tell-nothing;
+      }))
+
+  -- the sessions do a call
+  called : (old : State S) (call : Call) (answer : Said) (frames : List SessionFrame) (new : State S)
+      → does.calls old.sessions (limit_of old.peer_limit) call answer frames new.sessions
+      → new ≡ record old { sessions = new.sessions; queue = old.queue ++ map waiting_of frames }
+      → Did old [] [] (events_of answer) ((call, answer) ∷ []) new
+  called old call answer frames new c queued =
+      let did : List (Call × Said) = (call, answer) ∷ [] in
+      subst (λ (t : State S). Did old [] [] (events_of answer) did t) (sym queued)
+      (plainly old [] (Does (limit_of old.peer_limit) call answer frames ∷ []) (events_of answer) did
+      (record old { sessions = new.sessions; queue = old.queue ++ map waiting_of frames }) (new.sessions, c, refl)
+      refl refl (ap (λ (ws : List Waiting). old.queue ++ ws) (append-nil (map waiting_of frames))) refl
+      (record { told = append-nil (events_of answer); calls = refl }))
 
   does-call : (old : State S) (call : Call) (answer : Said) (new : State S) → SessionsDo does old call answer new
-      → Did old [] [] new
-  does-call old call answer new s =
-      subst (λ (t : State S). Did old [] [] t) (sym s.queued)
-      (plainly old [] (Does (limit_of old.peer_limit) call answer s.frames ∷ [])
-      (record old { sessions = new.sessions; queue = old.queue ++ map waiting_of s.frames })
-      (new.sessions, s.calls, refl) refl refl
-      (ap (λ (ws : List Waiting). old.queue ++ ws) (append-nil (map waiting_of s.frames))) refl)
+      → Did old [] [] (events_of answer) ((call, answer) ∷ []) new
+  does-call old call answer new s = called old call answer s.frames new s.calls s.queued
+
+  -- they answer one, and nothing changes
+  answers-call : (old : State S) (call : Call) (answer : Said) (new : State S) → SessionsAnswer does old call answer new
+      → Did old [] [] (events_of answer) ((call, answer) ∷ []) new
+  answers-call old call answer new s =
+      let did : List (Call × Said) = (call, answer) ∷ [] in
+      subst (λ (t : State S). Did old [] [] (events_of answer) did t) (sym s.same)
+      (called old call answer [] old s.calls
+      (ap (λ (ws : List Waiting). record old { queue = ws }) (sym (append-nil old.queue))))
 
   queues-own : (old : State S) (frame : Frame) (new : State S)
-      → new ≡ record old { queue = old.queue ++ the_frame frame ∷ [] } → Did old [] [] new
+      → new ≡ record old { queue = old.queue ++ the_frame frame ∷ [] } → Did old [] [] [] [] new
   queues-own old frame new after =
-      subst (λ (t : State S). Did old [] [] t) (sym after)
-      (plainly old [] (Queues (the_frame frame) ∷ []) (record old { queue = old.queue ++ the_frame frame ∷ [] })
-      (old.sessions, refl, refl) refl refl refl refl)
+      subst (λ (t : State S). Did old [] [] [] [] t) (sym after)
+      (quietly old [] (Queues (the_frame frame) ∷ []) (record old { queue = old.queue ++ the_frame frame ∷ [] })
+      (old.sessions, refl, refl) refl refl refl refl (record { told = refl; calls = refl }))
 
   pulls : (old : State S) (first : Waiting) (others : List Waiting) (new : State S) → old.queue ≡ first ∷ others
-      → new ≡ record old { queue = others } → Did old (first ∷ []) [] new
+      → new ≡ record old { queue = others } → Did old (first ∷ []) [] [] [] new
   pulls old first others new is after =
-      subst (λ (t : State S). Did old (first ∷ []) [] t) (sym after)
-      (plainly old (first ∷ []) [] (record old { queue = others }) refl refl refl (append-nil old.queue ∙ is) refl)
+      subst (λ (t : State S). Did old (first ∷ []) [] [] [] t) (sym after)
+      (quietly old (first ∷ []) [] (record old { queue = others }) refl refl refl (append-nil old.queue ∙ is) refl
+      tell-nothing)
 
   sends-own-close : (old new : State S) → ClosesOwn does old.sessions new.sessions
       → new ≡ record old {
         own_close = true;
         queue = old.queue ++ the_frame (own_close_with None) ∷ [];
         sessions = new.sessions;
-      } → Did old [] [] new
+      } → Did old [] [] [] [] new
   sends-own-close old new closes after =
       let w = closes-own old.sessions new.sessions closes in
       let close : List Deed = Queues (the_frame (own_close_with None)) ∷ [] in
-      subst (λ (t : State S). Did old [] [] t) (sym after)
-      (plainly old [] (w.deeds ++ close)
+      subst (λ (t : State S). Did old [] [] [] [] t) (sym after)
+      (quietly old [] (w.deeds ++ close)
       (record old {
         own_close = true;
         queue = old.queue ++ the_frame (own_close_with None) ∷ [];
         sessions = new.sessions;
       })
       (done-append old.sessions new.sessions new.sessions w.deeds close w.are_done (new.sessions, refl, refl)) refl refl
-      (ap (λ (ws : List Waiting). old.queue ++ ws)
-      (queued-append w.deeds close ∙ ap (λ (ws : List Waiting). ws ++ queued_by close) w.silent))
-      (taken-append w.deeds close ∙ ap (λ (fs : List Frame). fs ++ []) w.untaken))
+      (ap (λ (ws : List Waiting). old.queue ++ ws) (flat-behind queued_in w.deeds close w.silent))
+      (flat-behind taken_in w.deeds close w.untaken)
+      (tell-both w.deeds close [] [] [] [] w.tell (record { told = refl; calls = refl })))
 
-  abbrev Done : ℕ → S → List (List ℕ) → List ℕ → State S → Type 0
-  Done limit start given bytes s = IsDone does limit start given bytes s
+  abbrev Done : ℕ → S → List (List ℕ) → List ℕ → List Event → List (Call × Said) → List Event → List (Call × Said)
+      → State S → Type 0
+  Done limit start given bytes events did all_events all_did s =
+      IsDone does limit start given bytes events did all_events all_did s
 
-  -- so a run goes on
-  further : (start : S) (given : List (List ℕ)) (bytes more : List ℕ) (gone : List Waiting) (old new : State S)
-      → Did old gone more new → Done old.settings.max_frame_size start given bytes old
-      → Done old.settings.max_frame_size start (given ++ map text_of gone) (bytes ++ more) new
-  further start given bytes more gone old new d i =
-      record {
-        before = i.before;
-        since = i.since ++ d.deeds;
-        are_done =
-            subst (λ (ds : List Deed). AreDone does start ds new.sessions)
-            (append_assoc i.before i.since d.deeds)
-            (done-append start old.sessions new.sessions (i.before ++ i.since) d.deeds i.are_done d.are_done);
-        passes = λ up.
-            let on = d.on up in
-            let p = i.passes on.was in
-            record {
-              queued =
-                  ap (λ (ws : List Waiting). map text_of ws) (queued-append i.since d.deeds)
-                  ∙ texts-append (queued_by i.since) (queued_by d.deeds)
-                  ∙ ap (λ (ts : List (List ℕ)). ts ++ map text_of (queued_by d.deeds)) p.queued
-                  ∙ append_assoc given (map text_of old.queue) (map text_of (queued_by d.deeds))
-                  ∙ ap (λ (ts : List (List ℕ)). given ++ ts)
-                  (sym (texts-append old.queue (queued_by d.deeds))
-                  ∙ ap (λ (ws : List Waiting). map text_of ws) on.queued
-                  ∙ texts-append gone new.queue)
-                  ∙ sym (append_assoc given (map text_of gone) (map text_of new.queue));
-              read =
-                  subst
-                  (λ (fs : List Frame).
-                  AreRead new.phase old.settings.max_frame_size (bytes ++ more) fs new.rest)
-                  (sym (taken-append i.since d.deeds)) (on.read bytes (taken_by i.since) p.read);
-            };
-      }
+  -- more is told behind all that was
+  tell-more : (before since deeds : List Deed) (events others : List Event) (did later : List (Call × Said))
+      → Tell (before ++ since) events did → Tell deeds others later
+      → Tell (before ++ (since ++ deeds)) (events ++ others) (did ++ later)
+  tell-more before since deeds events others did later t u =
+      subst (λ (ds : List Deed). Tell ds (events ++ others) (did ++ later)) (append_assoc before since deeds)
+      (tell-both (before ++ since) deeds events others did later t u)
 
-  -- nothing is given or fed
-  silently : (start : S) (given : List (List ℕ)) (bytes : List ℕ) (old new : State S) → Did old [] [] new
-      → Done old.settings.max_frame_size start given bytes old
-      → Done old.settings.max_frame_size start given bytes new
-  silently start given bytes old new d i =
-      let limit : ℕ = old.settings.max_frame_size in
-      subst (λ (b : List ℕ). Done limit start given b new) (append-nil bytes)
-      (subst (λ (g : List (List ℕ)). Done limit start g (bytes ++ []) new) (append-nil given)
-      (further start given bytes [] [] old new d i))
-
-  fed-more : (start : S) (given : List (List ℕ)) (bytes more : List ℕ) (old new : State S) → Did old [] more new
-      → Done old.settings.max_frame_size start given bytes old
-      → Done old.settings.max_frame_size start given (bytes ++ more) new
-  fed-more start given bytes more old new d i =
-      subst (λ (g : List (List ℕ)). Done old.settings.max_frame_size start g (bytes ++ more) new) (append-nil given)
-      (further start given bytes more [] old new d i)
-
-  given-more : (start : S) (given : List (List ℕ)) (bytes text : List ℕ) (first : Waiting) (old new : State S)
-      → text ≡ text_of first → Did old (first ∷ []) [] new → Done old.settings.max_frame_size start given bytes old
-      → Done old.settings.max_frame_size start (given ++ text ∷ []) bytes new
-  given-more start given bytes text first old new is d i =
-      let limit : ℕ = old.settings.max_frame_size in
-      subst (λ (b : List ℕ). Done limit start (given ++ text ∷ []) b new) (append-nil bytes)
-      (subst (λ (t : List ℕ). Done limit start (given ++ t ∷ []) (bytes ++ []) new) (sym is)
-      (further start given bytes [] (first ∷ []) old new d i))
-
-  -- the connection begins anew
-  connects : (start : S) (given : List (List ℕ)) (bytes : List ℕ) (limit : ℕ) (old new : State S)
-      → new ≡ connected does old → Done limit start given bytes old → Done limit start [] [] new
-  connects start given bytes limit old new after i =
-      subst (λ (s : State S). Done limit start [] [] s) (sym after)
-      (record {
-        before = i.before ++ i.since;
-        since = Renews ∷ Queues the_header ∷ [];
-        are_done =
-            done-append start old.sessions (anew does old.sessions) (i.before ++ i.since)
-            (Renews ∷ Queues the_header ∷ []) i.are_done
-            (anew does old.sessions, refl, (anew does old.sessions, refl, refl));
-        passes = λ up. record { queued = refl; read = (refl, refl) };
-      })
-
-  module _ (start : S) (given : List (List ℕ)) (bytes : List ℕ) (old : State S) where
+  module _ (start : S) (given : List (List ℕ)) (bytes : List ℕ) (events : List Event) (did : List (Call × Said))
+      (all_events : List Event) (all_did : List (Call × Said)) (old : State S) where
     abbrev Was : Type 0
-    Was = Done old.settings.max_frame_size start given bytes old
+    Was = Done old.settings.max_frame_size start given bytes events did all_events all_did old
 
     abbrev Is : Call → Said → State S → Type 0
     Is call answer new =
-        Done old.settings.max_frame_size start (note_pulled given call answer) (note_fed bytes call answer) new
+        Done old.settings.max_frame_size start (note given_by given call answer) (note fed_by bytes call answer)
+        (note (λ (c : Call). events_of) events call answer) (note call_done did call answer)
+        (all_events ++ events_of answer) (all_did ++ call_done call answer) new
 
-    by-sessions : (call : Call) (answer : Said) (new : State S) → SessionsDo does old call answer new → Was
-        → Done old.settings.max_frame_size start given bytes new
-    by-sessions call answer new s i = silently start given bytes old new (does-call old call answer new s) i
+    -- so a run goes on
+    further : (gone : List Waiting) (more : List ℕ) (others : List Event) (later : List (Call × Said)) (new : State S)
+        → Did old gone more others later new → Was
+        → Done old.settings.max_frame_size start (given ++ map text_of gone) (bytes ++ more) (events ++ others)
+        (did ++ later) (all_events ++ others) (all_did ++ later) new
+    further gone more others later new d i =
+        record {
+          before = i.before;
+          since = i.since ++ d.deeds;
+          are_done =
+              subst (λ (ds : List Deed). AreDone does start ds new.sessions)
+              (append_assoc i.before i.since d.deeds)
+              (done-append start old.sessions new.sessions (i.before ++ i.since) d.deeds i.are_done d.are_done);
+          passes = λ up.
+              let on = d.on up in
+              let p = i.passes on.was in
+              record {
+                queued =
+                    ap (λ (ws : List Waiting). map text_of ws) (flat-append queued_in i.since d.deeds)
+                    ∙ texts-append (queued_by i.since) (queued_by d.deeds)
+                    ∙ ap (λ (ts : List (List ℕ)). ts ++ map text_of (queued_by d.deeds)) p.queued
+                    ∙ append_assoc given (map text_of old.queue) (map text_of (queued_by d.deeds))
+                    ∙ ap (λ (ts : List (List ℕ)). given ++ ts)
+                    (sym (texts-append old.queue (queued_by d.deeds))
+                    ∙ ap (λ (ws : List Waiting). map text_of ws) on.queued
+                    ∙ texts-append gone new.queue)
+                    ∙ sym (append_assoc given (map text_of gone) (map text_of new.queue));
+                read =
+                    subst
+                    (λ (fs : List Frame).
+                    AreRead new.phase old.settings.max_frame_size (bytes ++ more) fs new.rest)
+                    (sym (flat-append taken_in i.since d.deeds)) (on.read bytes (taken_by i.since) p.read);
+              };
+          latest = tell-both i.since d.deeds events others did later i.latest d.tell;
+          all = tell-more i.before i.since d.deeds all_events others all_did later i.all d.tell;
+        }
 
-    unchanged : (new : State S) → new ≡ old → Was → Done old.settings.max_frame_size start given bytes new
-    unchanged new same i = silently start given bytes old new (stays old new same) i
+    -- the connection begins anew
+    connects : (new : State S) → new ≡ connected does old → Was → Is Connect done new
+    connects new after i =
+        let anew_deeds : List Deed = Renews ∷ Queues the_header ∷ [] in
+        subst (λ (s : State S). Is Connect done s) (sym after)
+        (record {
+          before = i.before ++ i.since;
+          since = anew_deeds;
+          are_done =
+              done-append start old.sessions (anew does old.sessions) (i.before ++ i.since) anew_deeds i.are_done
+              (anew does old.sessions, refl, (anew does old.sessions, refl, refl));
+          passes = λ up. record { queued = refl; read = (refl, refl) };
+          latest = record { told = refl; calls = refl };
+          all =
+              tell-both (i.before ++ i.since) anew_deeds all_events [] all_did [] i.all
+              (record { told = refl; calls = refl });
+        })
+
+    quiet : (new : State S) → Did old [] [] [] [] new → Was
+        → Done old.settings.max_frame_size start (given ++ []) (bytes ++ []) (events ++ []) (did ++ [])
+        (all_events ++ []) (all_did ++ []) new
+    quiet new d i = further [] [] [] [] new d i
+
+    unchanged : (new : State S) → new ≡ old → Was
+        → Done old.settings.max_frame_size start (given ++ []) (bytes ++ []) (events ++ []) (did ++ [])
+        (all_events ++ []) (all_did ++ []) new
+    unchanged new same i = quiet new (stays old new same) i
+
+    by-sessions : (call : Call) (answer : Said) (new : State S)
+        → Did old [] [] (events_of answer) ((call, answer) ∷ []) new → Was
+        → Done old.settings.max_frame_size start (given ++ []) (bytes ++ []) (events ++ events_of answer)
+        (did ++ (call, answer) ∷ []) (all_events ++ events_of answer) (all_did ++ (call, answer) ∷ []) new
+    by-sessions call answer new d i = further [] [] (events_of answer) ((call, answer) ∷ []) new d i
 
     refusing : (call : Call) (e : EndpointError) (new : State S) → new ≡ old → Was → Is call (refused e) new
     refusing Connect e new same i = unchanged new same i
     refusing (Feed more) e new same i = unchanged new same i
     refusing call e new same i = unchanged new same i
 
+    does-it : (call : Call) (answer : Said) (new : State S) → SessionsDo does old call answer new → Was
+        → Done old.settings.max_frame_size start (given ++ []) (bytes ++ []) (events ++ events_of answer)
+        (did ++ (call, answer) ∷ []) (all_events ++ events_of answer) (all_did ++ (call, answer) ∷ []) new
+    does-it call answer new s i = by-sessions call answer new (does-call old call answer new s) i
+
+    answers-it : (call : Call) (answer : Said) (new : State S) → SessionsAnswer does old call answer new → Was
+        → Done old.settings.max_frame_size start (given ++ []) (bytes ++ []) (events ++ events_of answer)
+        (did ++ (call, answer) ∷ []) (all_events ++ events_of answer) (all_did ++ (call, answer) ∷ []) new
+    answers-it call answer new s i = by-sessions call answer new (answers-call old call answer new s) i
+
     step : (call : Call) (answer : Said) (new : State S) → Step does old call answer new → Was → Is call answer new
     step call (refused e) new (may, same) i = refusing call e new same i
-    step (Feed more) (fed events fault) new s i =
-        fed-more start given bytes more old new (feeds-in old.phase old more events fault new refl s) i
-    step Connect done new (may, after) i =
-        connects start given bytes old.settings.max_frame_size old new after i
+    step (Feed more) (fed told fault) new s i =
+        further [] more told [] new (feeds-in old.phase old more told fault new refl s) i
+    step Connect done new (may, after) i = connects new after i
     step Pull (pulled None) new (empty, same) i = unchanged new same i
     step Pull (pulled (Some text)) new (first, others, is, said_so, after) i =
-        given-more start given bytes text first old new said_so (pulls old first others new is after) i
+        subst
+        (λ (t : List ℕ).
+        Done old.settings.max_frame_size start (given ++ t ∷ []) (bytes ++ []) (events ++ []) (did ++ [])
+        (all_events ++ []) (all_did ++ []) new)
+        (sym said_so) (further (first ∷ []) [] [] [] new (pulls old first others new is after) i)
     step Queued (count n) new (is, same) i = unchanged new same i
     step IsIdle (truth b) new (is, same) i = unchanged new same i
-    step Heartbeat done new (none, after) i =
-        silently start given bytes old new (queues-own old heartbeat new after) i
-    step BreakOff done new b i = silently start given bytes old new (broken old [] new b) i
-    step CloseCall done new (none, closes, after) i =
-        silently start given bytes old new (sends-own-close old new closes after) i
+    step Heartbeat done new (none, after) i = quiet new (queues-own old heartbeat new after) i
+    step BreakOff done new b i = quiet new (broken old [] new b) i
+    step CloseCall done new (none, closes, after) i = quiet new (sends-own-close old new closes after) i
     step IsClosed (truth b) new (is, same) i = unchanged new same i
     step TryClose (tried_close o) new (is, after) i =
-        silently start given bytes old new
-        (subst (λ (t : State S). Did old [] [] t) (sym after)
-        (plainly old [] [] _ refl refl refl (append-nil old.queue) refl)) i
-    step Begin (session_begun n) new s i = by-sessions _ _ new s i
-    step (AcceptBegin c) (session_begun n) new s i = by-sessions _ _ new s i
-    step (End n) done new s i = by-sessions _ _ new s i
-    step (TryEnd n) (tried_end o) new s i = by-sessions _ _ new s i
-    step (AttachSender n settings) (attaching link events) new s i = by-sessions _ _ new s i
-    step (AttachReceiver n settings) (attaching link events) new s i = by-sessions _ _ new s i
-    step (Detach link) done new s i = by-sessions _ _ new s i
-    step (CloseLink link) (link_closed events) new s i = by-sessions _ _ new s i
-    step (Grant link n) (credit_is left) new s i = by-sessions _ _ new s i
-    step (Drain link) done new s i = by-sessions _ _ new s i
-    step (Send link message) (message_sent tag outcome) new s i = by-sessions _ _ new s i
-    step (Dispose link message disposal) done new s i = by-sessions _ _ new s i
-    step (DisposeAll link messages disposal) done new s i = by-sessions _ _ new s i
-    step (IsEnded n) (truth b) new s i = unchanged new s.same i
-    step (Credit link) (credit_is left) new s i = unchanged new s.same i
-    step (HeldBack n) (count m) new s i = unchanged new s.same i
-    step (WaitingCall n) (waiting turn) new s i = unchanged new s.same i
+        quiet new
+        (subst (λ (t : State S). Did old [] [] [] [] t) (sym after)
+        (quietly old [] [] _ refl refl refl (append-nil old.queue) refl tell-nothing)) i
+    step Begin (session_begun n) new s i = does-it _ _ new s i
+    step (AcceptBegin c) (session_begun n) new s i = does-it _ _ new s i
+    step (End n) done new s i = does-it _ _ new s i
+    step (TryEnd n) (tried_end o) new s i = does-it _ _ new s i
+    step (AttachSender n settings) (attaching link told) new s i = does-it _ _ new s i
+    step (AttachReceiver n settings) (attaching link told) new s i = does-it _ _ new s i
+    step (Detach link) done new s i = does-it _ _ new s i
+    step (CloseLink link) (link_closed told) new s i = does-it _ _ new s i
+    step (Grant link n) (credit_is left) new s i = does-it _ _ new s i
+    step (Drain link) done new s i = does-it _ _ new s i
+    step (Send link message) (message_sent tag outcome) new s i = does-it _ _ new s i
+    step (Dispose link message disposal) done new s i = does-it _ _ new s i
+    step (DisposeAll link messages disposal) done new s i = does-it _ _ new s i
+    step (IsEnded n) (truth b) new s i = answers-it _ _ new s i
+    step (Credit link) (credit_is left) new s i = answers-it _ _ new s i
+    step (HeldBack n) (count m) new s i = answers-it _ _ new s i
+    step (WaitingCall n) (waiting turn) new s i = answers-it _ _ new s i
     step call answer new s i = absurd s
 
-  pub run-done : (start : S) (given : List (List ℕ)) (bytes : List ℕ) (limit : ℕ) (old end : State S)
-      (calls : List Call) (told : List Told) → old.settings.max_frame_size ≡ limit → Run does old calls told end
-      → Done limit start given bytes old
-      → Done limit start (pulled_since given calls told) (fed_since bytes calls told) end
-  run-done start given bytes limit old end [] [] is same i =
-      subst (λ (s : State S). Done limit start given bytes s) (sym same) i
-  run-done start given bytes limit old end [] (t ∷ ts) is run i = absurd run
-  run-done start given bytes limit old end (call ∷ calls) [] is run i = absurd run
-  run-done start given bytes limit old end (call ∷ calls) (t ∷ ts) is (mid, one, queued, rest) i =
-      let first : Done limit start (note_pulled given call t.answer) (note_fed bytes call t.answer) mid =
+  run-done : (start : S) (given : List (List ℕ)) (bytes : List ℕ) (events : List Event) (did : List (Call × Said))
+      (all_events : List Event) (all_did : List (Call × Said)) (limit : ℕ) (old end : State S) (calls : List Call)
+      (told : List Told) → old.settings.max_frame_size ≡ limit → Run does old calls told end
+      → Done limit start given bytes events did all_events all_did old
+      → Done limit start (pulled_since given calls told) (fed_since bytes calls told) (told_since events calls told)
+      (done_since did calls told) (all_events ++ events_told told) (all_did ++ calls_done calls told) end
+  run-done start given bytes events did all_events all_did limit old end [] [] is same i =
+      subst (λ (es : List Event). Done limit start given bytes events did es (all_did ++ []) end)
+      (sym (append-nil all_events))
+      (subst (λ (cs : List (Call × Said)). Done limit start given bytes events did all_events cs end)
+      (sym (append-nil all_did))
+      (subst (λ (s : State S). Done limit start given bytes events did all_events all_did s) (sym same) i))
+  run-done start given bytes events did all_events all_did limit old end [] (t ∷ ts) is run i = absurd run
+  run-done start given bytes events did all_events all_did limit old end (call ∷ calls) [] is run i = absurd run
+  run-done start given bytes events did all_events all_did limit old end (call ∷ calls) (t ∷ ts) is
+      (mid, one, queued, rest) i =
+      let given_now : List (List ℕ) = note given_by given call t.answer in
+      let bytes_now : List ℕ = note fed_by bytes call t.answer in
+      let events_now : List Event = note (λ (c : Call). events_of) events call t.answer in
+      let did_now : List (Call × Said) = note call_done did call t.answer in
+      let seen : List Event = all_events ++ events_of t.answer in
+      let gone : List (Call × Said) = all_did ++ call_done call t.answer in
+      let first : Done limit start given_now bytes_now events_now did_now seen gone mid =
+      subst (λ (n : ℕ). Done n start given_now bytes_now events_now did_now seen gone mid) is
+      (step start given bytes events did all_events all_did old call t.answer mid one
+      (subst (λ (n : ℕ). Done n start given bytes events did all_events all_did old) (sym is) i)) in
+      let all = run-done start given_now bytes_now events_now did_now seen gone limit mid end calls ts
+      (ap (λ s. s.max_frame_size) (step-settings does old call t.answer mid one) ∙ is) rest first in
       subst
-      (λ (n : ℕ). Done n start (note_pulled given call t.answer) (note_fed bytes call t.answer) mid) is
-      (step start given bytes old call t.answer mid one
-      (subst (λ (n : ℕ). Done n start given bytes old) (sym is) i)) in
-      run-done start (note_pulled given call t.answer) (note_fed bytes call t.answer) limit mid end calls ts
-      (ap (λ s. s.max_frame_size) (step-settings does old call t.answer mid one) ∙ is) rest first
+      (λ (es : List Event).
+      Done limit start (pulled_since given_now calls ts) (fed_since bytes_now calls ts)
+      (told_since events_now calls ts) (done_since did_now calls ts) es
+      (all_did ++ (call_done call t.answer ++ calls_done calls ts)) end)
+      (append_assoc all_events (events_of t.answer) (events_told ts))
+      (subst
+      (λ (cs : List (Call × Said)).
+      Done limit start (pulled_since given_now calls ts) (fed_since bytes_now calls ts)
+      (told_since events_now calls ts) (done_since did_now calls ts) (seen ++ events_told ts) cs end)
+      (append_assoc all_did (call_done call t.answer) (calls_done calls ts)) all)
 
   pub is-done : (sessions : S) (settings : Settings) (calls : List Call) (told : List Told) (end : State S)
       → Run does (fresh settings sessions) calls told end
-      → Done settings.max_frame_size sessions (pulled_since [] calls told) (fed_since [] calls told) end
+      → Done settings.max_frame_size sessions (pulled_since [] calls told) (fed_since [] calls told)
+      (told_since [] calls told) (done_since [] calls told) (events_told told) (calls_done calls told) end
   is-done sessions settings calls told end run =
-      run-done sessions [] [] settings.max_frame_size (fresh settings sessions) end calls told refl run
+      run-done sessions [] [] [] [] [] [] settings.max_frame_size (fresh settings sessions) end calls told refl run
       (record {
         before = [];
         since = [];
         are_done = refl;
         passes = λ up. never Unconnected refl up;
+        latest = tell-nothing;
+        all = tell-nothing;
       })

@@ -35,7 +35,8 @@ use Rattle.amqp_endpoint_model.specs.Step.{EndsRunning, FeedsIn, FrontBarred, Fr
 use Rattle.amqp_endpoint_model.specs.Step.{MovesBy, MovesByOpen, ReadsOn, RefusesBody, SendsClose, Step, TakesAll}
 use Rattle.amqp_endpoint_model.specs.Step.{SessionsDo, TakesBody, at_state, condition_of, opened}
 use Rattle.amqp_endpoint_model.specs.History.{Run}
-use Rattle.amqp_endpoint_laws.specs.Telling.{events_of, events_told, tag_given, tags_given}
+use Rattle.amqp_endpoint_deeds.specs.Telling.{events_of, events_told}
+use Rattle.amqp_endpoint_laws.specs.Telling.{tag_given, tags_given}
 use Rattle.amqp_endpoint_laws.proofs.Keeping.{IsOfConnection, Keeps, KeepsSilent, MayDo}
 
 module _ {S : Type 0} (does : Relations S) (P : Phase → S → Type 0) (k : KeepsSilent does P) where

@@ -329,7 +329,7 @@ module _ (J : ℕ → Option Stood → List Passing → Option Stood → Type 0)
       (place_at new.talk.sessions n)
   deed-judges (Queues it) old new same n =
       still-judges old new n (ap (λ (s : LinkedSessions). s.talk.sessions.places) same)
-  deed-judges (Hears frame) old new same n =
+  deed-judges (Hears frame events) old new (same, own) n =
       still-judges old new n (ap (λ (s : LinkedSessions). s.talk.sessions.places) same)
   deed-judges (Takes limit f frames events) old new h n =
       (frame-heard J k f.body old new limit (record { 0 = f.channel }) frames events h.0).all n
@@ -348,7 +348,8 @@ module _ (J : ℕ → Option Stood → List Passing → Option Stood → Type 0)
 
   deed-first : (deed : Deed) (old new : LinkedSessions) → IsDeed linked old deed new → Firsts old.talk new.talk
   deed-first (Queues it) old new same = ap (λ (s : LinkedSessions). s.talk.first_transfer_number) same
-  deed-first (Hears frame) old new same = ap (λ (s : LinkedSessions). s.talk.first_transfer_number) same
+  deed-first (Hears frame events) old new (same, own) =
+      ap (λ (s : LinkedSessions). s.talk.first_transfer_number) same
   deed-first (Takes limit f frames events) old new h =
       (frame-heard J k f.body old new limit (record { 0 = f.channel }) frames events h.0).first
   deed-first (Refuses limit f error) old new e = ends-first limit f error old new e

@@ -2,24 +2,12 @@
 use Rattle.std.specs.Prelude.{ℕ, zero, suc, List, [], ◌∷◌, ◌++◌}
 use Rattle.amqp_endpoint_model.specs.declared.event.Event.{Event}
 use Rattle.amqp_endpoint_model.specs.declared.event.Event.TheVariants.{Message}
-use Rattle.amqp_endpoint_model.specs.Said.{Said, Told, attaching, fed, link_closed, message_sent}
-
--- the events that an answer tells
-abbrev pub events_of : Said → List Event
-events_of (fed events fault) = events
-events_of (attaching link events) = events
-events_of (link_closed events) = events
-events_of answer = []
+use Rattle.amqp_endpoint_model.specs.Said.{Said, Told, message_sent}
 
 -- the tag that an answer gives: that of a message which is accepted to be sent
 abbrev pub tag_given : Said → List (List ℕ)
 tag_given (message_sent tag outcome) = tag ∷ []
 tag_given answer = []
-
--- the events that a run tells, in order
-abbrev pub events_told : List Told → List Event
-events_told [] = []
-events_told (t ∷ others) = events_of t.answer ++ events_told others
 
 -- the tags of the messages that a run accepts to be sent, in order
 abbrev pub tags_given : List Told → List (List ℕ)
