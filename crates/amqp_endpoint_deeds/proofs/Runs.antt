@@ -1,9 +1,10 @@
 -- Each run of an endpoint is what is done in it, and what passes by that.
-use Rattle.std.proofs.Common.{◌≡◌, ℕ, Bool, true, false, List, [], ◌∷◌, ◌++◌, Option, Some, None, inl, inr}
+use Rattle.std.proofs.Common.{◌≡◌, ℕ, Bool, true, false, ◌||◌, List, [], ◌∷◌, ◌++◌, Option, Some, None, inl, inr}
 use Rattle.std.proofs.Common.{ap, drop, refl, sym, subst, take, ◌∙◌, take-append-drop}
-use Rattle.std.specs.Prelude.{◌⊎◌, flat_map, map}
+use Rattle.std.specs.Prelude.{◌⊎◌, All, flat_map, if◌then◌else◌, map}
 use Rattle.std.proofs.lemmas.List.{append-nil, append_assoc}
-use Rattle.amqp_session_connection.specs.declared.state.ConnectionState.{ConnectionState}
+use Rattle.std.proofs.lemmas.List.Elements.{All-nil}
+use Rattle.amqp_session_connection.specs.Table.{after_send_close}
 use Rattle.amqp_session_connection.specs.declared.state.ConnectionState.TheVariants.{HeaderExchange, OpenSent}
 use Rattle.amqp_session_frames.proofs.CuttingLaws.{reads-append}
 use Rattle.amqp_session_frames.specs.Cutting.{ReadsAs}
@@ -22,26 +23,29 @@ use Rattle.amqp_endpoint_model.specs.declared.call.Call.TheVariants.{Waiting as 
 use Rattle.amqp_endpoint_model.specs.declared.call.Call.TheVariants.{Send, Dispose, DisposeAll}
 use Rattle.amqp_endpoint_model.specs.declared.error.EndpointError.{EndpointError}
 use Rattle.amqp_endpoint_model.specs.declared.error.EndpointError.TheVariants.{PeerLimitUnder512, Memory}
-use Rattle.amqp_endpoint_model.specs.declared.error.EndpointError.TheVariants.{Connection, NumbersUsedUp, Session}
+use Rattle.amqp_endpoint_model.specs.declared.error.EndpointError.TheVariants.{Connection, IllegalState, NotConnected}
+use Rattle.amqp_endpoint_model.specs.declared.error.EndpointError.TheVariants.{NumbersUsedUp, Session}
 use Rattle.amqp_endpoint_model.specs.declared.event.Event.{Event}
 use Rattle.amqp_endpoint_model.specs.declared.phase.Phase.{Phase}
 use Rattle.amqp_endpoint_model.specs.declared.phase.Phase.TheVariants.{Unconnected, Greeting, Running, Over}
 use Rattle.amqp_endpoint_model.specs.declared.settings.Settings.{Settings}
-use Rattle.amqp_endpoint_model.specs.Relay.{IsOfSession, Relations}
+use Rattle.amqp_endpoint_model.specs.Relay.{Relations}
 use Rattle.amqp_endpoint_model.specs.Said.{Said, done, refused, fed, pulled, count, truth, tried_close, session_begun}
 use Rattle.amqp_endpoint_model.specs.Said.{tried_end, attaching, link_closed, credit_is, waiting, message_sent, Told}
-use Rattle.amqp_endpoint_model.specs.State.{State, Waiting, is_unconnected, limit_of, own_close_with, own_open}
+use Rattle.amqp_endpoint_model.specs.State.{State, Waiting, fits, frame_of, has_opened, is_unconnected, limit_of}
+use Rattle.amqp_endpoint_model.specs.State.{own_close_with, own_open}
 use Rattle.amqp_endpoint_model.specs.State.{error_of, fresh, heartbeat, protocol_header, text_of, the_frame, the_header}
 use Rattle.amqp_endpoint_model.specs.State.{waiting_of}
 use Rattle.amqp_endpoint_model.specs.Step.{Admits, AfterFault, Breaks, BreaksGreeting, ClosesBoth, ClosesBy, ClosesOwn}
-use Rattle.amqp_endpoint_model.specs.Step.{Ends, EndsRunning, FeedsIn, FrontBarred, FrontRefused, Greets, MovesBy, SessionsAnswer}
-use Rattle.amqp_endpoint_model.specs.Step.{ReadsOn, RefusesBody, SendsClose, SessionsDo, Step, TakesAll, TakesBody}
-use Rattle.amqp_endpoint_model.specs.Step.{anew, at_state, condition_of, connected, opened}
+use Rattle.amqp_endpoint_model.specs.Step.{Ends, EndsRunning, FeedsIn, FrontBarred, FrontRefused, Greets, MovesBy}
+use Rattle.amqp_endpoint_model.specs.Step.{ReadsOn, RefusesBody, SendsClose, SessionsAnswer, SessionsDo, Step}
+use Rattle.amqp_endpoint_model.specs.Step.{TakesAll, TakesBody, anew, at_state, condition_of, connected, opened}
 use Rattle.amqp_endpoint_model.specs.Step.{with_close}
-use Rattle.amqp_endpoint_model.specs.History.{BodyTells, Run}
+use Rattle.amqp_endpoint_model.specs.History.{BodyTells, Run, is_close}
 use Rattle.amqp_endpoint_model.proofs.Keeping.{step-settings}
-use Rattle.amqp_endpoint_deeds.specs.Deeds.{AreDone, AreRead, Closes, Deed, Does}
-use Rattle.amqp_endpoint_deeds.specs.Deeds.{Finishes, Hears, IsDeed, IsDone, Moves, Tell}
+use Rattle.amqp_endpoint_deeds.specs.Deeds.{AreDone, AreRead, Closes, Deed, Does, Finishes, Hears, IsDeed, IsDone}
+use Rattle.amqp_endpoint_deeds.specs.Deeds.{MayClose, MayOpen, MayWrite, Moves, MovesByFrame, Tell, Throughout}
+use Rattle.amqp_endpoint_deeds.specs.Deeds.{closed_behind, come_to, opened_behind, opened_with}
 use Rattle.amqp_endpoint_deeds.specs.Deeds.{Queues, Refuses, Renews, Takes, done_by, done_in, done_since, fed_by}
 use Rattle.amqp_endpoint_deeds.specs.Deeds.{fed_since, given_by, note, pulled_since, queued_by, queued_in, taken_by}
 use Rattle.amqp_endpoint_deeds.specs.Deeds.{taken_in, told_by, told_in, told_since}
@@ -79,6 +83,67 @@ texts-append : (these more : List Waiting) → map text_of (these ++ more) ≡ m
 texts-append [] more = refl
 texts-append (it ∷ these) more = ap (λ (ts : List (List ℕ)). text_of it ∷ ts) (texts-append these more)
 
+-- what is so throughout deeds, one list behind the other
+throughout-append : {A : Type 0} (behind : A → Deed → A) (P : A → Deed → Type 0) (deeds more : List Deed) (from : A)
+    → Throughout behind P from deeds → Throughout behind P (come_to behind from deeds) more
+    → Throughout behind P from (deeds ++ more)
+throughout-append behind P [] more from t u = u
+throughout-append behind P (deed ∷ deeds) more from (first, others) u =
+    (first, throughout-append behind P deeds more (behind from deed) others u)
+
+come-append : {A : Type 0} (behind : A → Deed → A) (deeds more : List Deed) (from : A)
+    → come_to behind from (deeds ++ more) ≡ come_to behind (come_to behind from deeds) more
+come-append behind [] more from = refl
+come-append behind (deed ∷ deeds) more from = come-append behind deeds more (behind from deed)
+
+-- it is so, and deeds come to this
+record Along {A : Type 0} (behind : A → Deed → A) (P : A → Deed → Type 0) (from : A) (deeds : List Deed) (to : A)
+    : Type 0 where
+  holds : Throughout behind P from deeds
+  comes : come_to behind from deeds ≡ to
+
+along-both : {A : Type 0} (behind : A → Deed → A) (P : A → Deed → Type 0) (from mid to : A) (deeds more : List Deed)
+    → Along behind P from deeds mid → Along behind P mid more to → Along behind P from (deeds ++ more) to
+along-both behind P from mid to deeds more a b =
+    record {
+      holds =
+          throughout-append behind P deeds more from a.holds
+          (subst (λ (m : _). Throughout behind P m more) (sym a.comes) b.holds);
+      comes = come-append behind deeds more from ∙ ap (λ (m : _). come_to behind m more) a.comes ∙ b.comes;
+    }
+
+-- the own Close goes once in deeds, where it had gone before or hadn't, and it has gone behind them or hasn't
+abbrev Closing : Bool → List Deed → Bool → Type 0
+Closing before deeds behind = Along closed_behind MayClose before deeds behind
+
+closing-both : (before mid behind : Bool) (deeds more : List Deed) → Closing before deeds mid → Closing mid more behind
+    → Closing before (deeds ++ more) behind
+closing-both before mid behind deeds more a b = along-both closed_behind MayClose before mid behind deeds more a b
+
+closing-none : (own : Bool) → Closing own [] own
+closing-none own = record { holds = tt; comes = refl }
+
+-- what is written keeps to the peer's limit, and behind deeds that is this
+abbrev Writing : Option ℕ → List Deed → Option ℕ → Type 0
+Writing before deeds behind = Along opened_behind MayWrite before deeds behind
+
+writing-both : (before mid behind : Option ℕ) (deeds more : List Deed) → Writing before deeds mid
+    → Writing mid more behind → Writing before (deeds ++ more) behind
+writing-both before mid behind deeds more a b = along-both opened_behind MayWrite before mid behind deeds more a b
+
+writing-none : (peer : Option ℕ) → Writing peer [] peer
+writing-none peer = record { holds = tt; comes = refl }
+
+not-so : {A : Type 0} → false ≡ true → A
+not-so clash = absurd cc
+
+-- close is refused where it has gone
+may-close : (opened own : Bool)
+    → (if opened then (if own then Some IllegalState else None) else Some NotConnected) ≡ None → own ≡ false
+may-close true true clash = absurd cc
+may-close true false e = refl
+may-close false own clash = absurd cc
+
 -- the own Close is queued, where it wasn't
 abbrev close-deeds : Bool → Frame → List Deed
 close-deeds true close = []
@@ -91,6 +156,14 @@ close-takes-none false close = refl
 close-tells : (own : Bool) (close : Frame) → Tell (close-deeds own close) [] []
 close-tells true close = tell-nothing
 close-tells false close = record { told = refl; calls = refl }
+
+close-closes : (own : Bool) (close : Frame) → is_close close.body ≡ true → Closing own (close-deeds own close) true
+close-closes true close is = record { holds = tt; comes = refl }
+close-closes false close is = record { holds = (λ e. refl, tt); comes = ap (λ (c : Bool). c || false) is }
+
+close-writes : (own : Bool) (close : Frame) (peer : Option ℕ) → Writing peer (close-deeds own close) peer
+close-writes true close peer = writing-none peer
+close-writes false close peer = record { holds = (tt, tt); comes = refl }
 
 close-queues : {S : Type 0} (s : State S) (own : Bool) (close : Frame) → s.own_close ≡ own
     → with_close s close ≡ s.queue ++ queued_by (close-deeds own close)
@@ -161,10 +234,20 @@ module _ {S : Type 0} (does : Relations S) where
     silent : queued_by deeds ≡ []
     untaken : taken_by deeds ≡ []
     tell : Tell deeds [] []
+    closing : (own : Bool) → Closing own deeds own
+    writing : (peer : Option ℕ) → Writing peer deeds peer
 
   stood : (old new : S) → new ≡ old → Went old new
   stood old new same =
-      record { deeds = []; are_done = same; silent = refl; untaken = refl; tell = tell-nothing }
+      record {
+        deeds = [];
+        are_done = same;
+        silent = refl;
+        untaken = refl;
+        tell = tell-nothing;
+        closing = closing-none;
+        writing = writing-none;
+      }
 
   went-on : (old mid new : S) → Went old mid → Went mid new → Went old new
   went-on old mid new w v =
@@ -174,37 +257,44 @@ module _ {S : Type 0} (does : Relations S) where
         silent = flat-behind queued_in w.deeds v.deeds w.silent ∙ v.silent;
         untaken = flat-behind taken_in w.deeds v.deeds w.untaken ∙ v.untaken;
         tell = tell-both w.deeds v.deeds [] [] [] [] w.tell v.tell;
+        closing = λ own. closing-both own own own w.deeds v.deeds (w.closing own) (v.closing own);
+        writing = λ peer. writing-both peer peer peer w.deeds v.deeds (w.writing peer) (v.writing peer);
+      }
+
+  -- by one deed, by which nothing passes
+  went-by : (deed : Deed) (old new : S) → IsDeed does old deed new → queued_in deed ≡ [] → taken_in deed ≡ []
+      → Tell (deed ∷ []) [] [] → ((own : Bool) → Closing own (deed ∷ []) own)
+      → ((peer : Option ℕ) → Writing peer (deed ∷ []) peer) → Went old new
+  went-by deed old new d silent untaken tell closing writing =
+      record {
+        deeds = deed ∷ [];
+        are_done = (new, d, refl);
+        silent = append-nil (queued_in deed) ∙ silent;
+        untaken = append-nil (taken_in deed) ∙ untaken;
+        tell = tell;
+        closing = closing;
+        writing = writing;
       }
 
   finished : (old new : S) → does.finishes old new → Went old new
   finished old new over =
-      record {
-        deeds = Finishes ∷ [];
-        are_done = (new, over, refl);
-        silent = refl;
-        untaken = refl;
-        tell = record { told = refl; calls = refl };
-      }
+      went-by Finishes old new over refl refl (record { told = refl; calls = refl })
+      (λ own. record { holds = (tt, tt); comes = refl }) (λ peer. record { holds = (tt, tt); comes = refl })
 
-  moves-by : (row : ConnectionState → Option ConnectionState) (old new : S) → MovesBy does row old new → Went old new
-  moves-by row old new m =
-      record {
-        deeds = Moves (record (does.connection old) { local_state = (does.connection new).local_state }) ∷ [];
-        are_done = (new, (refl, m.is), refl);
-        silent = refl;
-        untaken = refl;
-        tell = record { told = refl; calls = refl };
-      }
+  sends-it : (error : Bool) (old new : S) → MovesBy does (after_send_close error) old new → Went old new
+  sends-it error old new m =
+      went-by (Moves (record (does.connection old) { local_state = (does.connection new).local_state })) old new
+      (inr (error, m.to, refl), m.is) refl refl (record { told = refl; calls = refl })
+      (λ own. record { holds = (tt, tt); comes = refl }) (λ peer. record { holds = (tt, tt); comes = refl })
 
   sends-close : (own error : Bool) (old new : S) → SendsClose does own error old new → Went old new
   sends-close true error old new same = stood old new same
-  sends-close false error old new m = moves-by _ old new m
+  sends-close false error old new m = sends-it error old new m
 
-  closes-both : (own : Bool) (old new : S) → ClosesBoth does own old new → Went old new
+  -- the peer's Close is answered
+  closes-both : (own : Bool) (old new : S) (c : ClosesBoth does own old new) → Went c.taken new
   closes-both own old new c =
-      went-on old c.answered new
-      (went-on old c.taken c.answered (moves-by _ old c.taken c.takes)
-      (sends-close own false c.taken c.answered c.answers))
+      went-on c.taken c.answered new (sends-close own false c.taken c.answered c.answers)
       (finished c.answered new c.over)
 
   closes-by : (own : Bool) (old new : S) → ClosesBy does own old new → Went old new
@@ -213,42 +303,36 @@ module _ {S : Type 0} (does : Relations S) where
 
   closes-own : (old new : S) → ClosesOwn does old new → Went old new
   closes-own old new c =
-      went-on old c.sent new (moves-by _ old c.sent c.sends)
-      (record {
-        deeds = Closes ∷ [];
-        are_done = (new, c.left, refl);
-        silent = refl;
-        untaken = refl;
-        tell = record { told = refl; calls = refl };
-      })
+      went-on old c.sent new (sends-it false old c.sent c.sends)
+      (went-by Closes c.sent new c.left refl refl (record { told = refl; calls = refl })
+      (λ own. record { holds = (tt, tt); comes = refl }) (λ peer. record { holds = (tt, tt); comes = refl }))
 
   -- the frame in front is refused by the sessions, or not by them
-  data Fronted (old new : S) : Type 0 where
-    stays-so : new ≡ old → Fronted old new
-    bars : (limit : ℕ) (f : Frame) (e : EndpointError) → does.refuses old limit f.channel f.body e new
-        → Fronted old new
+  data Fronted (limit : ℕ) (old new : S) : Type 0 where
+    stays-so : new ≡ old → Fronted limit old new
+    bars : (f : Frame) (e : EndpointError) → does.refuses old limit f.channel f.body e new → Fronted limit old new
 
   refuses-body : (e : EndpointError) (f : Frame) (body : FrameBody) → f.body ≡ body → (s : State S) (sessions : S)
-      → RefusesBody does s e f.channel body sessions → Fronted s.sessions sessions
+      → RefusesBody does s e f.channel body sessions → Fronted (limit_of s.peer_limit) s.sessions sessions
   refuses-body PeerLimitUnder512 f (Open o) is s sessions (none, least, same) = stays-so same
   refuses-body (Connection OutOfOrder) f (Open o) is s sessions (some, same) = stays-so same
   refuses-body e f body is s sessions r =
-      bars (limit_of s.peer_limit) f e
+      bars f e
       (subst (λ (b : FrameBody). does.refuses s.sessions (limit_of s.peer_limit) f.channel b e sessions) (sym is)
       r.refuses)
 
   barred : (e : EndpointError) (s : State S) (left : List ℕ) (sessions : S) → FrontBarred does s left e sessions
-      → Fronted s.sessions sessions
+      → Fronted (limit_of s.peer_limit) s.sessions sessions
   barred e s left sessions b = refuses-body e b.frame b.frame.body refl s sessions b.refuses
 
   unread : (s : State S) (left : List ℕ) (sessions : S)
       → (sessions ≡ s.sessions) ⊎ ((e : EndpointError) × FrontBarred does s left e sessions)
-      → Fronted s.sessions sessions
+      → Fronted (limit_of s.peer_limit) s.sessions sessions
   unread s left sessions (inl same) = stays-so same
   unread s left sessions (inr (e, b)) = barred e s left sessions b
 
   front-refused : (e : EndpointError) (s : State S) (left : List ℕ) (sessions : S)
-      → FrontRefused does s left e sessions → Fronted s.sessions sessions
+      → FrontRefused does s left e sessions → Fronted (limit_of s.peer_limit) s.sessions sessions
   front-refused PeerLimitUnder512 s left sessions r = barred PeerLimitUnder512 s left sessions r
   front-refused (Connection e) s left sessions r = barred (Connection e) s left sessions r
   front-refused (Session e) s left sessions r = barred (Session e) s left sessions r
@@ -263,6 +347,8 @@ module _ {S : Type 0} (does : Relations S) where
     queued : new.queue ≡ old.queue ++ queued_by deeds
     taken : taken_by deeds ≡ frames
     tell : Tell deeds events []
+    closing : Closing old.own_close deeds new.own_close
+    writing : Writing old.peer_limit deeds new.peer_limit
 
   abbrev AddsTo : State S → List Frame → List Event → State S → Type 0
   AddsTo old frames events new = Adds old frames events new
@@ -281,6 +367,8 @@ module _ {S : Type 0} (does : Relations S) where
             flat-append taken_in a.deeds b.deeds ∙ ap (λ (fs : List Frame). fs ++ taken_by b.deeds) a.taken
             ∙ ap (λ (fs : List Frame). frames ++ fs) b.taken;
         tell = tell-both a.deeds b.deeds events others [] [] a.tell b.tell;
+        closing = closing-both old.own_close mid.own_close new.own_close a.deeds b.deeds a.closing b.closing;
+        writing = writing-both old.peer_limit mid.peer_limit new.peer_limit a.deeds b.deeds a.writing b.writing;
       }
 
   close-done : (own : Bool) (close : Frame) (s : S) → AreDone does s (close-deeds own close) s
@@ -288,13 +376,20 @@ module _ {S : Type 0} (does : Relations S) where
   close-done false close s = (s, refl, refl)
 
   -- a frame of the connection's own is heard
-  heard : (f : Frame) (body : FrameBody) (events : List Event) (s : S) → f.body ≡ body → (IsOfSession body → ⊥)
-      → BodyTells does body f events → IsDeed does s (Hears f events) s
-  heard f body events s is own tells = (
-    refl,
-    subst (λ (b : FrameBody). IsOfSession b → ⊥) (sym is) own,
+  heard : (f : Frame) (body : FrameBody) (events : List Event) (old new : S) → f.body ≡ body
+      → MovesByFrame does body old new → BodyTells does body f events → IsDeed does old (Hears f events) new
+  heard f body events old new is moves tells = (
+    subst (λ (b : FrameBody). MovesByFrame does b old new) (sym is) moves,
     subst (λ (b : FrameBody). BodyTells does b f events) (sym is) tells,
   )
+
+  heard-writes : (f : Frame) (body : FrameBody) (events : List Event) (peer : Option ℕ) → f.body ≡ body
+      → MayOpen peer body → Writing peer (Hears f events ∷ []) (opened_with peer body)
+  heard-writes f body events peer is may =
+      record {
+        holds = (subst (λ (b : FrameBody). MayOpen peer b) (sym is) may, tt);
+        comes = ap (λ (b : FrameBody). opened_with peer b) is;
+      }
 
   takes-body : (f : Frame) (body : FrameBody) → f.body ≡ body → (old : State S) (events : List Event) (new : State S)
       → TakesBody does old f.channel body events new → Adds old (f ∷ []) events new
@@ -302,55 +397,58 @@ module _ {S : Type 0} (does : Relations S) where
       subst (AddsTo old (f ∷ []) events) (sym same)
       (record {
         deeds = Hears f events ∷ [];
-        are_done = (old.sessions, heard f Empty events old.sessions is (λ theirs. theirs) told, refl);
+        are_done = (old.sessions, heard f Empty events old.sessions old.sessions is refl told, refl);
         queued = sym (append-nil old.queue);
         taken = refl;
         tell = record { told = append-nil events; calls = refl };
+        closing = record { holds = (tt, tt); comes = refl };
+        writing = heard-writes f Empty events old.peer_limit is tt;
       })
   takes-body f (Open o) is old events new (none, least, told, moves, after) =
       subst (AddsTo old (f ∷ []) events) (sym after)
       (record {
-        deeds =
-            Hears f events
-            ∷ Moves (record (does.connection old.sessions) {
-              local_state = (does.connection new.sessions).local_state;
-              remote_channel_max = Some o.channel_max;
-            })
-            ∷ [];
-        are_done = (
-          old.sessions,
-          heard f (Open o) events old.sessions is (λ theirs. theirs) told,
-          (new.sessions, (refl, moves.is), refl),
-        );
+        deeds = Hears f events ∷ [];
+        are_done = (new.sessions, heard f (Open o) events old.sessions new.sessions is moves told, refl);
         queued = sym (append-nil old.queue);
         taken = refl;
         tell = record { told = append-nil events; calls = refl };
+        closing = record { holds = (tt, tt); comes = refl };
+        writing = heard-writes f (Open o) events old.peer_limit is (none, least);
       })
   takes-body f (Close c) is old events new (told, closes, after) =
       let w = closes-both old.own_close old.sessions new.sessions closes in
-      let close : List Deed = close-deeds old.own_close (own_close_with None) in
+      let frame : Frame = own_close_with None in
+      let close : List Deed = close-deeds old.own_close frame in
       let both : Tell (w.deeds ++ close) [] [] =
-      tell-both w.deeds close [] [] [] [] w.tell (close-tells old.own_close (own_close_with None)) in
+      tell-both w.deeds close [] [] [] [] w.tell (close-tells old.own_close frame) in
+      let closing : Closing old.own_close (w.deeds ++ close) true =
+      closing-both old.own_close old.own_close true w.deeds close (w.closing old.own_close)
+      (close-closes old.own_close frame refl) in
       subst (AddsTo old (f ∷ []) events) (sym after)
       (record {
         deeds = Hears f events ∷ (w.deeds ++ close);
         are_done = (
-          old.sessions,
-          heard f (Close c) events old.sessions is (λ theirs. theirs) told,
-          done-append old.sessions new.sessions new.sessions w.deeds close w.are_done
-              (close-done old.own_close (own_close_with None) new.sessions),
+          closes.taken,
+          heard f (Close c) events old.sessions closes.taken is closes.takes told,
+          done-append closes.taken new.sessions new.sessions w.deeds close w.are_done
+              (close-done old.own_close frame new.sessions),
         );
         queued =
-            close-queues old old.own_close (own_close_with None) refl
+            close-queues old old.own_close frame refl
             ∙ ap (λ (ws : List Waiting). old.queue ++ ws) (sym (flat-behind queued_in w.deeds close w.silent));
         taken =
             ap (λ (fs : List Frame). f ∷ fs)
-            (flat-behind taken_in w.deeds close w.untaken
-            ∙ close-takes-none old.own_close (own_close_with None));
+            (flat-behind taken_in w.deeds close w.untaken ∙ close-takes-none old.own_close frame);
         tell = record {
           told = ap (λ (es : List Event). events ++ es) both.told ∙ append-nil events;
           calls = both.calls;
         };
+        closing = record { holds = (tt, closing.holds); comes = closing.comes };
+        writing =
+            writing-both old.peer_limit old.peer_limit old.peer_limit (Hears f events ∷ []) (w.deeds ++ close)
+            (heard-writes f (Close c) events old.peer_limit is tt)
+            (writing-both old.peer_limit old.peer_limit old.peer_limit w.deeds close (w.writing old.peer_limit)
+            (close-writes old.own_close frame old.peer_limit));
       })
   takes-body f body is old events new t =
       subst (AddsTo old (f ∷ []) events) (sym t.queued)
@@ -367,6 +465,8 @@ module _ {S : Type 0} (does : Relations S) where
         queued = ap (λ (ws : List Waiting). old.queue ++ ws) (sym (append-nil (map waiting_of t.frames)));
         taken = refl;
         tell = record { told = append-nil events; calls = refl };
+        closing = record { holds = (tt, tt); comes = refl };
+        writing = record { holds = ((refl, t.fit), tt); comes = refl };
       })
 
   takes-all : (old : State S) (frames : List Frame) (events : List Event) (new : State S)
@@ -380,6 +480,8 @@ module _ {S : Type 0} (does : Relations S) where
         queued = sym (append-nil old.queue);
         taken = refl;
         tell = tell-nothing;
+        closing = closing-none old.own_close;
+        writing = writing-none old.peer_limit;
       }))
   takes-all old (f ∷ fs) events new (mid, first, others, one, all, split) =
       subst (λ (es : List Event). Adds old (f ∷ fs) es new) (sym split)
@@ -393,6 +495,8 @@ module _ {S : Type 0} (does : Relations S) where
     untaken : taken_by deeds ≡ []
     tell : Tell deeds [] []
     over : is_unconnected new.phase ≡ false → (new.queue ≡ old.queue ++ queued_by deeds) × (new.phase ≡ Over)
+    closing : is_unconnected new.phase ≡ false → Closing old.own_close deeds new.own_close
+    writing : Writing old.peer_limit deeds new.peer_limit
 
   never : {A : Type 0} (phase : Phase) → phase ≡ Unconnected → is_unconnected phase ≡ false → A
   never phase is up = let clash : true ≡ false = sym (ap is_unconnected is) ∙ up in absurd cc
@@ -405,6 +509,8 @@ module _ {S : Type 0} (does : Relations S) where
         untaken = refl;
         tell = record { told = refl; calls = refl };
         over = λ up. never new.phase (ap (λ (s : State S). s.phase) after) up;
+        closing = λ up. never new.phase (ap (λ (s : State S). s.phase) after) up;
+        writing = record { holds = (tt, tt); comes = sym (ap (λ (s : State S). s.peer_limit) after) };
       }
 
   after-fault : (condition : Option (List ℕ)) (s new : State S) → AfterFault does condition s new → MayCut s new
@@ -425,10 +531,21 @@ module _ {S : Type 0} (does : Relations S) where
               ∙ ap (λ (ws : List Waiting). s.queue ++ ws) (sym (flat-behind queued_in w.deeds close w.silent)),
           ap (λ (t : State S). t.phase) is,
         );
+        closing = λ up.
+            subst (λ (own : Bool). Closing s.own_close (w.deeds ++ close) own)
+            (sym (ap (λ (t : State S). t.own_close) is))
+            (closing-both s.own_close s.own_close true w.deeds close (w.closing s.own_close)
+            (close-closes s.own_close frame refl));
+        writing =
+            subst (λ (peer : Option ℕ). Writing s.peer_limit (w.deeds ++ close) peer)
+            (sym (ap (λ (t : State S). t.peer_limit) is))
+            (writing-both s.peer_limit s.peer_limit s.peer_limit w.deeds close (w.writing s.peer_limit)
+            (close-writes s.own_close frame s.peer_limit));
       }
 
   after-front : (condition : Option (List ℕ)) (s : State S) (sessions : S) (new : State S)
-      → Fronted s.sessions sessions → AfterFault does condition (record s { sessions = sessions }) new → MayCut s new
+      → Fronted (limit_of s.peer_limit) s.sessions sessions
+      → AfterFault does condition (record s { sessions = sessions }) new → MayCut s new
   after-front condition s sessions new (stays-so same) a =
       let c = after-fault condition (record s { sessions = sessions }) new a in
       record {
@@ -437,16 +554,17 @@ module _ {S : Type 0} (does : Relations S) where
         untaken = c.untaken;
         tell = c.tell;
         over = c.over;
+        closing = c.closing;
+        writing = c.writing;
       }
-  after-front None s sessions new (bars limit f e r) (finishes, after) =
+  after-front None s sessions new (bars f e r) (finishes, after) =
       record {
-        deeds = Refuses limit f e ∷ [];
+        deeds = Refuses (limit_of s.peer_limit) f e true ∷ [];
         are_done = (
           new.sessions,
           record {
             refused = sessions;
             refuses = r;
-            own_close = true;
             closes = record { told = sessions; tells = refl; over = finishes };
           },
           refl,
@@ -454,14 +572,16 @@ module _ {S : Type 0} (does : Relations S) where
         untaken = refl;
         tell = record { told = refl; calls = refl };
         over = λ up. never new.phase (ap (λ (t : State S). t.phase) after) up;
+        closing = λ up. never new.phase (ap (λ (t : State S). t.phase) after) up;
+        writing = record { holds = (refl, tt); comes = sym (ap (λ (t : State S). t.peer_limit) after) };
       }
-  after-front (Some condition) s sessions new (bars limit f e r) (closes, is) =
+  after-front (Some condition) s sessions new (bars f e r) (closes, is) =
       let frame : Frame = own_close_with (Some (error_of condition)) in
       record {
-        deeds = Refuses limit f e ∷ close-deeds s.own_close frame;
+        deeds = Refuses (limit_of s.peer_limit) f e s.own_close ∷ close-deeds s.own_close frame;
         are_done = (
           new.sessions,
-          record { refused = sessions; refuses = r; own_close = s.own_close; closes = closes },
+          record { refused = sessions; refuses = r; closes = closes },
           close-done s.own_close frame new.sessions,
         );
         untaken = close-takes-none s.own_close frame;
@@ -473,6 +593,15 @@ module _ {S : Type 0} (does : Relations S) where
           ap (λ (t : State S). t.queue) is ∙ close-queues s s.own_close frame refl,
           ap (λ (t : State S). t.phase) is,
         );
+        closing = λ up. record {
+          holds = (refl, (close-closes s.own_close frame refl).holds);
+          comes = (close-closes s.own_close frame refl).comes ∙ sym (ap (λ (t : State S). t.own_close) is);
+        };
+        writing = record {
+          holds = (refl, (close-writes s.own_close frame s.peer_limit).holds);
+          comes =
+              (close-writes s.own_close frame s.peer_limit).comes ∙ sym (ap (λ (t : State S). t.peer_limit) is);
+        };
       }
 
   -- these bytes were read and these events told, and so much was taken
@@ -484,13 +613,16 @@ module _ {S : Type 0} (does : Relations S) where
         is_unconnected new.phase ≡ false
         → ReadNow new.phase old.settings.max_frame_size all (taken_by deeds) new.rest
     tell : Tell deeds events []
+    closing : is_unconnected new.phase ≡ false → Closing old.own_close deeds new.own_close
+    writing : Writing old.peer_limit deeds new.peer_limit
 
   -- all was taken that comes
   read-all : (old mid : State S) (all left : List ℕ) (frames : List Frame) (events : List Event) (new : State S)
       → ReadsAs (Admits old.settings.max_frame_size) all frames left → (a : Adds old frames events mid)
-      → new.sessions ≡ mid.sessions → new.queue ≡ mid.queue
-      → ReadNow new.phase old.settings.max_frame_size all frames new.rest → ReadsThem old all events new
-  read-all old mid all left frames events new read a sessions queue now =
+      → new.sessions ≡ mid.sessions → new.queue ≡ mid.queue → new.own_close ≡ mid.own_close
+      → new.peer_limit ≡ mid.peer_limit → ReadNow new.phase old.settings.max_frame_size all frames new.rest
+      → ReadsThem old all events new
+  read-all old mid all left frames events new read a sessions queue own peer now =
       record {
         deeds = a.deeds;
         are_done = subst (λ (s : S). AreDone does old.sessions a.deeds s) (sym sessions) a.are_done;
@@ -499,6 +631,8 @@ module _ {S : Type 0} (does : Relations S) where
             subst (λ (fs : List Frame). ReadNow new.phase old.settings.max_frame_size all fs new.rest) (sym a.taken)
             now;
         tell = a.tell;
+        closing = λ up. subst (λ (c : Bool). Closing old.own_close a.deeds c) (sym own) a.closing;
+        writing = subst (λ (p : Option ℕ). Writing old.peer_limit a.deeds p) (sym peer) a.writing;
       }
 
   -- a fault stands in front of what is left
@@ -529,6 +663,9 @@ module _ {S : Type 0} (does : Relations S) where
         tell =
             subst (λ (es : List Event). Tell (a.deeds ++ c.deeds) es []) (append-nil events)
             (tell-both a.deeds c.deeds events [] [] [] a.tell c.tell);
+        closing = λ up.
+            closing-both old.own_close mid.own_close new.own_close a.deeds c.deeds a.closing (c.closing up);
+        writing = writing-both old.peer_limit mid.peer_limit new.peer_limit a.deeds c.deeds a.writing c.writing;
       }
 
   read-ends : (phase : Phase) (old mid : State S) (all left : List ℕ) (frames : List Frame) (events : List Event)
@@ -537,13 +674,13 @@ module _ {S : Type 0} (does : Relations S) where
       → Ends does mid phase left fault new → ReadsThem old all events new
   read-ends Running old mid all left frames events None new is read a (waits, after) =
       subst (λ (s : State S). ReadsThem old all events s) (sym after)
-      (read-all old mid all left frames events (record mid { rest = left }) read a refl refl
+      (read-all old mid all left frames events (record mid { rest = left }) read a refl refl refl refl
       (subst (λ (p : Phase). ReadNow p old.settings.max_frame_size all frames left) (sym is) read))
   read-ends Running old mid all left frames events (Some e) new is read a r =
       read-faulted old mid all left frames events e new read a r
   read-ends Over old mid all left frames events None new is read a same =
       subst (λ (s : State S). ReadsThem old all events s) (sym same)
-      (read-all old mid all left frames events mid read a refl refl
+      (read-all old mid all left frames events mid read a refl refl refl refl
       (subst (λ (p : Phase). ReadNow p old.settings.max_frame_size all frames mid.rest) (sym is) (left, read)))
   read-ends Over old mid all left frames events (Some e) new is read a r = absurd r
   read-ends phase old mid all left frames events fault new is read a r = absurd r
@@ -553,7 +690,15 @@ module _ {S : Type 0} (does : Relations S) where
   reads-on old all events fault new r =
       let a = takes-all (record old { rest = [] }) r.frames events r.mid r.taken in
       read-ends r.mid.phase old r.mid all r.left r.frames events fault new refl r.read
-      (record { deeds = a.deeds; are_done = a.are_done; queued = a.queued; taken = a.taken; tell = a.tell }) r.ends
+      (record {
+        deeds = a.deeds;
+        are_done = a.are_done;
+        queued = a.queued;
+        taken = a.taken;
+        tell = a.tell;
+        closing = a.closing;
+        writing = a.writing;
+      }) r.ends
 
   -- what passes in a call: so much is given of what was queued, and these bytes are fed
   record PassesOn (old : State S) (gone : List Waiting) (bytes : List ℕ) (deeds : List Deed) (new : State S) : Type 0
@@ -563,6 +708,7 @@ module _ {S : Type 0} (does : Relations S) where
       read :
           (all : List ℕ) (frames : List Frame) → AreRead old.phase old.settings.max_frame_size all frames old.rest
           → AreRead new.phase old.settings.max_frame_size (all ++ bytes) (frames ++ taken_by deeds) new.rest
+      closing : Closing old.own_close deeds new.own_close
 
   -- what is done in a call: these events are told by it, and these calls done
   record Did (old : State S) (gone : List Waiting) (bytes : List ℕ) (events : List Event) (did : List (Call × Said))
@@ -571,13 +717,15 @@ module _ {S : Type 0} (does : Relations S) where
     are_done : AreDone does old.sessions deeds new.sessions
     on : is_unconnected new.phase ≡ false → PassesOn old gone bytes deeds new
     tell : Tell deeds events did
+    writing : Writing old.peer_limit deeds new.peer_limit
 
   -- nothing is read by it, and the phase stays
   plainly : (old : State S) (gone : List Waiting) (deeds : List Deed) (events : List Event)
       (did : List (Call × Said)) (new : State S) → AreDone does old.sessions deeds new.sessions
       → new.phase ≡ old.phase → new.rest ≡ old.rest → old.queue ++ queued_by deeds ≡ gone ++ new.queue
-      → taken_by deeds ≡ [] → Tell deeds events did → Did old gone [] events did new
-  plainly old gone deeds events did new are_done phase rest queued untaken tell =
+      → taken_by deeds ≡ [] → Tell deeds events did → Closing old.own_close deeds new.own_close
+      → Writing old.peer_limit deeds new.peer_limit → Did old gone [] events did new
+  plainly old gone deeds events did new are_done phase rest queued untaken tell closing writing =
       record {
         deeds = deeds;
         are_done = are_done;
@@ -593,33 +741,44 @@ module _ {S : Type 0} (does : Relations S) where
               AreRead old.phase old.settings.max_frame_size (all ++ []) (frames ++ taken_by deeds) b)
               (sym rest)
               (same-read old.phase old.settings.max_frame_size all frames (taken_by deeds) old.rest untaken r));
+          closing = closing;
         };
         tell = tell;
+        writing = writing;
       }
 
   -- nothing is told, and the sessions do no call
   quietly : (old : State S) (gone : List Waiting) (deeds : List Deed) (new : State S)
       → AreDone does old.sessions deeds new.sessions → new.phase ≡ old.phase → new.rest ≡ old.rest
       → old.queue ++ queued_by deeds ≡ gone ++ new.queue → taken_by deeds ≡ [] → Tell deeds [] []
+      → Closing old.own_close deeds new.own_close → Writing old.peer_limit deeds new.peer_limit
       → Did old gone [] [] [] new
-  quietly old gone deeds new are_done phase rest queued untaken tell =
-      plainly old gone deeds [] [] new are_done phase rest queued untaken tell
+  quietly old gone deeds new are_done phase rest queued untaken tell closing writing =
+      plainly old gone deeds [] [] new are_done phase rest queued untaken tell closing writing
 
   stays : (old new : State S) → new ≡ old → Did old [] [] [] [] new
   stays old new same =
       subst (λ (s : State S). Did old [] [] [] [] s) (sym same)
-      (quietly old [] [] old refl refl refl (append-nil old.queue) refl tell-nothing)
+      (quietly old [] [] old refl refl refl (append-nil old.queue) refl tell-nothing (closing-none old.own_close)
+      (writing-none old.peer_limit))
 
   cuts : (old : State S) (bytes : List ℕ) (deeds : List Deed) (new : State S)
       → AreDone does old.sessions deeds new.sessions → new.phase ≡ Unconnected → Tell deeds [] []
-      → Did old [] bytes [] [] new
-  cuts old bytes deeds new are_done is tell =
-      record { deeds = deeds; are_done = are_done; on = λ up. never new.phase is up; tell = tell }
+      → Writing old.peer_limit deeds new.peer_limit → Did old [] bytes [] [] new
+  cuts old bytes deeds new are_done is tell writing =
+      record {
+        deeds = deeds;
+        are_done = are_done;
+        on = λ up. never new.phase is up;
+        tell = tell;
+        writing = writing;
+      }
 
   broken : (old : State S) (bytes : List ℕ) (new : State S) → Breaks does old new → Did old [] bytes [] [] new
   broken old bytes new (finishes, after) =
       cuts old bytes (Finishes ∷ []) new (new.sessions, finishes, refl) (ap (λ (s : State S). s.phase) after)
       (record { told = refl; calls = refl })
+      (record { holds = (tt, tt); comes = sym (ap (λ (s : State S). s.peer_limit) after) })
 
   broken-greeting : (old : State S) (bytes : List ℕ) (new : State S) → BreaksGreeting does old new
       → Did old [] bytes [] [] new
@@ -628,8 +787,9 @@ module _ {S : Type 0} (does : Relations S) where
       let greeted : S = at_state does old.sessions HeaderExchange in
       cuts old bytes
       (Moves (record (does.connection old.sessions) { local_state = HeaderExchange }) ∷ Finishes ∷ []) new
-      (greeted, (refl, refl), (new.sessions, finishes, refl)) (ap (λ (s : State S). s.phase) after)
+      (greeted, (inl (inr refl), refl), (new.sessions, finishes, refl)) (ap (λ (s : State S). s.phase) after)
       (record { told = refl; calls = refl })
+      (record { holds = (tt, (tt, tt)); comes = sym (ap (λ (s : State S). s.peer_limit) after) })
 
   -- bytes are fed while frames are read
   runs : (old : State S) (bytes : List ℕ) (events : List Event) (fault : Option EndpointError) (new : State S)
@@ -646,8 +806,10 @@ module _ {S : Type 0} (does : Relations S) where
               more-read new.phase old.settings.max_frame_size all bytes frames (taken_by t.deeds) old.rest new.rest
               (subst (λ (p : Phase). AreRead p old.settings.max_frame_size all frames old.rest) is before)
               (t.read up);
+          closing = t.closing up;
         };
         tell = t.tell;
+        writing = t.writing;
       }
 
   -- the peer's header is whole with them
@@ -661,7 +823,7 @@ module _ {S : Type 0} (does : Relations S) where
       record {
         deeds =
             Moves (record (does.connection old.sessions) { local_state = OpenSent }) ∷ Queues first ∷ t.deeds;
-        are_done = (begun, (refl, refl), (begun, refl, t.are_done));
+        are_done = (begun, (inl (inl refl), refl), (begun, refl, t.are_done));
         on = λ up. record {
           was = ap is_unconnected is;
           queued = sym (t.queued up ∙ append_assoc old.queue (first ∷ []) (queued_by t.deeds));
@@ -677,8 +839,10 @@ module _ {S : Type 0} (does : Relations S) where
               (ap (λ (b : List ℕ). b ++ bytes) same ∙ sym (take-append-drop 8 (old.rest ++ bytes))
               ∙ ap (λ (b : List ℕ). b ++ drop 8 (old.rest ++ bytes)) header)
               (t.read up));
+          closing = record { holds = (tt, (not-so, (t.closing up).holds)); comes = (t.closing up).comes };
         };
         tell = record { told = t.tell.told; calls = t.tell.calls };
+        writing = record { holds = (tt, (tt, t.writing.holds)); comes = t.writing.comes };
       }
 
   untold : (old : State S) (bytes : List ℕ) (events : List Event) (new : State S) → events ≡ []
@@ -703,8 +867,10 @@ module _ {S : Type 0} (does : Relations S) where
               (λ (p : Phase).
               AreRead p old.settings.max_frame_size (all ++ bytes) (frames ++ []) (old.rest ++ bytes))
               (sym is) (append-nil frames ∙ nothing, ap (λ (b : List ℕ). b ++ bytes) same);
+          closing = closing-none old.own_close;
         };
         tell = tell-nothing;
+        writing = writing-none old.peer_limit;
       }))
   greets old bytes events fault new is (inr (inl (long, other, none, why, b))) =
       untold old bytes events new none (broken old bytes new b)
@@ -718,7 +884,7 @@ module _ {S : Type 0} (does : Relations S) where
   feeds-in Unconnected old bytes events fault new is (none, why, same) =
       untold old bytes events new none
       (cuts old bytes [] new (ap (λ (s : State S). s.sessions) same) (ap (λ (s : State S). s.phase) same ∙ is)
-      tell-nothing)
+      tell-nothing (record { holds = tt; comes = sym (ap (λ (s : State S). s.peer_limit) same) }))
   feeds-in Greeting old bytes events fault new is g = greets old bytes events fault new is g
   feeds-in Running old bytes events fault new is r = runs old bytes events fault new is r
   feeds-in Over old bytes events fault new is (none, why, same) =
@@ -735,26 +901,30 @@ module _ {S : Type 0} (does : Relations S) where
               (sym is)
               (over-read old.settings.max_frame_size all bytes frames old.rest
               (subst (λ (p : Phase). AreRead p old.settings.max_frame_size all frames old.rest) is before));
+          closing = closing-none old.own_close;
         };
         tell = tell-nothing;
+        writing = writing-none old.peer_limit;
       }))
 
   -- the sessions do a call
   called : (old : State S) (call : Call) (answer : Said) (frames : List SessionFrame) (new : State S)
       → does.calls old.sessions (limit_of old.peer_limit) call answer frames new.sessions
+      → All (λ (f : SessionFrame). fits (limit_of old.peer_limit) (frame_of f) ≡ true) frames
       → new ≡ record old { sessions = new.sessions; queue = old.queue ++ map waiting_of frames }
       → Did old [] [] (events_of answer) ((call, answer) ∷ []) new
-  called old call answer frames new c queued =
+  called old call answer frames new c fit queued =
       let did : List (Call × Said) = (call, answer) ∷ [] in
       subst (λ (t : State S). Did old [] [] (events_of answer) did t) (sym queued)
       (plainly old [] (Does (limit_of old.peer_limit) call answer frames ∷ []) (events_of answer) did
       (record old { sessions = new.sessions; queue = old.queue ++ map waiting_of frames }) (new.sessions, c, refl)
       refl refl (ap (λ (ws : List Waiting). old.queue ++ ws) (append-nil (map waiting_of frames))) refl
-      (record { told = append-nil (events_of answer); calls = refl }))
+      (record { told = append-nil (events_of answer); calls = refl }) (record { holds = (tt, tt); comes = refl })
+      (record { holds = ((refl, fit), tt); comes = refl }))
 
   does-call : (old : State S) (call : Call) (answer : Said) (new : State S) → SessionsDo does old call answer new
       → Did old [] [] (events_of answer) ((call, answer) ∷ []) new
-  does-call old call answer new s = called old call answer s.frames new s.calls s.queued
+  does-call old call answer new s = called old call answer s.frames new s.calls s.fit s.queued
 
   -- they answer one, and nothing changes
   answers-call : (old : State S) (call : Call) (answer : Said) (new : State S) → SessionsAnswer does old call answer new
@@ -763,29 +933,31 @@ module _ {S : Type 0} (does : Relations S) where
       let did : List (Call × Said) = (call, answer) ∷ [] in
       subst (λ (t : State S). Did old [] [] (events_of answer) did t) (sym s.same)
       (called old call answer [] old s.calls
+      (All-nil (λ (f : SessionFrame). fits (limit_of old.peer_limit) (frame_of f) ≡ true))
       (ap (λ (ws : List Waiting). record old { queue = ws }) (sym (append-nil old.queue))))
 
-  queues-own : (old : State S) (frame : Frame) (new : State S)
-      → new ≡ record old { queue = old.queue ++ the_frame frame ∷ [] } → Did old [] [] [] [] new
-  queues-own old frame new after =
+  beats : (old new : State S) → new ≡ record old { queue = old.queue ++ the_frame heartbeat ∷ [] }
+      → Did old [] [] [] [] new
+  beats old new after =
       subst (λ (t : State S). Did old [] [] [] [] t) (sym after)
-      (quietly old [] (Queues (the_frame frame) ∷ []) (record old { queue = old.queue ++ the_frame frame ∷ [] })
-      (old.sessions, refl, refl) refl refl refl refl (record { told = refl; calls = refl }))
+      (quietly old [] (Queues (the_frame heartbeat) ∷ []) (record old { queue = old.queue ++ the_frame heartbeat ∷ [] })
+      (old.sessions, refl, refl) refl refl refl refl (record { told = refl; calls = refl })
+      (record { holds = (not-so, tt); comes = refl }) (record { holds = (tt, tt); comes = refl }))
 
   pulls : (old : State S) (first : Waiting) (others : List Waiting) (new : State S) → old.queue ≡ first ∷ others
       → new ≡ record old { queue = others } → Did old (first ∷ []) [] [] [] new
   pulls old first others new is after =
       subst (λ (t : State S). Did old (first ∷ []) [] [] [] t) (sym after)
       (quietly old (first ∷ []) [] (record old { queue = others }) refl refl refl (append-nil old.queue ∙ is) refl
-      tell-nothing)
+      tell-nothing (closing-none old.own_close) (writing-none old.peer_limit))
 
-  sends-own-close : (old new : State S) → ClosesOwn does old.sessions new.sessions
+  sends-own-close : (old new : State S) → old.own_close ≡ false → ClosesOwn does old.sessions new.sessions
       → new ≡ record old {
         own_close = true;
         queue = old.queue ++ the_frame (own_close_with None) ∷ [];
         sessions = new.sessions;
       } → Did old [] [] [] [] new
-  sends-own-close old new closes after =
+  sends-own-close old new unsent closes after =
       let w = closes-own old.sessions new.sessions closes in
       let close : List Deed = Queues (the_frame (own_close_with None)) ∷ [] in
       subst (λ (t : State S). Did old [] [] [] [] t) (sym after)
@@ -798,7 +970,11 @@ module _ {S : Type 0} (does : Relations S) where
       (done-append old.sessions new.sessions new.sessions w.deeds close w.are_done (new.sessions, refl, refl)) refl refl
       (ap (λ (ws : List Waiting). old.queue ++ ws) (flat-behind queued_in w.deeds close w.silent))
       (flat-behind taken_in w.deeds close w.untaken)
-      (tell-both w.deeds close [] [] [] [] w.tell (record { told = refl; calls = refl })))
+      (tell-both w.deeds close [] [] [] [] w.tell (record { told = refl; calls = refl }))
+      (closing-both old.own_close old.own_close true w.deeds close (w.closing old.own_close)
+      (record { holds = (λ e. unsent, tt); comes = refl }))
+      (writing-both old.peer_limit old.peer_limit old.peer_limit w.deeds close (w.writing old.peer_limit)
+      (record { holds = (tt, tt); comes = refl })))
 
   abbrev Done : ℕ → S → List (List ℕ) → List ℕ → List Event → List (Call × Said) → List Event → List (Call × Said)
       → State S → Type 0
@@ -830,6 +1006,10 @@ module _ {S : Type 0} (does : Relations S) where
         → Done old.settings.max_frame_size start (given ++ map text_of gone) (bytes ++ more) (events ++ others)
         (did ++ later) (all_events ++ others) (all_did ++ later) new
     further gone more others later new d i =
+        let writing : Writing None (i.before ++ (i.since ++ d.deeds)) new.peer_limit =
+        subst (λ (ds : List Deed). Writing None ds new.peer_limit) (append_assoc i.before i.since d.deeds)
+        (writing-both None old.peer_limit new.peer_limit (i.before ++ i.since) d.deeds
+        (record { holds = i.within; comes = i.peer }) d.writing) in
         record {
           before = i.before;
           since = i.since ++ d.deeds;
@@ -840,6 +1020,9 @@ module _ {S : Type 0} (does : Relations S) where
           passes = λ up.
               let on = d.on up in
               let p = i.passes on.was in
+              let closing : Closing false (i.since ++ d.deeds) new.own_close =
+              closing-both false old.own_close new.own_close i.since d.deeds
+              (record { holds = p.once; comes = p.closed }) on.closing in
               record {
                 queued =
                     ap (λ (ws : List Waiting). map text_of ws) (flat-append queued_in i.since d.deeds)
@@ -856,15 +1039,22 @@ module _ {S : Type 0} (does : Relations S) where
                     (λ (fs : List Frame).
                     AreRead new.phase old.settings.max_frame_size (bytes ++ more) fs new.rest)
                     (sym (flat-append taken_in i.since d.deeds)) (on.read bytes (taken_by i.since) p.read);
+                once = closing.holds;
+                closed = closing.comes;
               };
           latest = tell-both i.since d.deeds events others did later i.latest d.tell;
           all = tell-more i.before i.since d.deeds all_events others all_did later i.all d.tell;
+          within = writing.holds;
+          peer = writing.comes;
         }
 
     -- the connection begins anew
     connects : (new : State S) → new ≡ connected does old → Was → Is Connect done new
     connects new after i =
         let anew_deeds : List Deed = Renews ∷ Queues the_header ∷ [] in
+        let writing : Writing None ((i.before ++ i.since) ++ anew_deeds) None =
+        writing-both None old.peer_limit None (i.before ++ i.since) anew_deeds
+        (record { holds = i.within; comes = i.peer }) (record { holds = (tt, (tt, tt)); comes = refl }) in
         subst (λ (s : State S). Is Connect done s) (sym after)
         (record {
           before = i.before ++ i.since;
@@ -872,11 +1062,18 @@ module _ {S : Type 0} (does : Relations S) where
           are_done =
               done-append start old.sessions (anew does old.sessions) (i.before ++ i.since) anew_deeds i.are_done
               (anew does old.sessions, refl, (anew does old.sessions, refl, refl));
-          passes = λ up. record { queued = refl; read = (refl, refl) };
+          passes = λ up. record {
+            queued = refl;
+            read = (refl, refl);
+            once = (tt, (λ e. refl, tt));
+            closed = refl;
+          };
           latest = record { told = refl; calls = refl };
           all =
               tell-both (i.before ++ i.since) anew_deeds all_events [] all_did [] i.all
               (record { told = refl; calls = refl });
+          within = writing.holds;
+          peer = writing.comes;
         })
 
     quiet : (new : State S) → Did old [] [] [] [] new → Was
@@ -924,14 +1121,16 @@ module _ {S : Type 0} (does : Relations S) where
         (sym said_so) (further (first ∷ []) [] [] [] new (pulls old first others new is after) i)
     step Queued (count n) new (is, same) i = unchanged new same i
     step IsIdle (truth b) new (is, same) i = unchanged new same i
-    step Heartbeat done new (none, after) i = quiet new (queues-own old heartbeat new after) i
+    step Heartbeat done new (none, after) i = quiet new (beats old new after) i
     step BreakOff done new b i = quiet new (broken old [] new b) i
-    step CloseCall done new (none, closes, after) i = quiet new (sends-own-close old new closes after) i
+    step CloseCall done new (none, closes, after) i =
+        quiet new (sends-own-close old new (may-close (has_opened old.phase) old.own_close none) closes after) i
     step IsClosed (truth b) new (is, same) i = unchanged new same i
     step TryClose (tried_close o) new (is, after) i =
         quiet new
         (subst (λ (t : State S). Did old [] [] [] [] t) (sym after)
-        (quietly old [] [] _ refl refl refl (append-nil old.queue) refl tell-nothing)) i
+        (quietly old [] [] _ refl refl refl (append-nil old.queue) refl tell-nothing
+        (closing-none old.own_close) (writing-none old.peer_limit))) i
     step Begin (session_begun n) new s i = does-it _ _ new s i
     step (AcceptBegin c) (session_begun n) new s i = does-it _ _ new s i
     step (End n) done new s i = does-it _ _ new s i
@@ -1004,4 +1203,6 @@ module _ {S : Type 0} (does : Relations S) where
         passes = λ up. never Unconnected refl up;
         latest = tell-nothing;
         all = tell-nothing;
+        within = tt;
+        peer = refl;
       })

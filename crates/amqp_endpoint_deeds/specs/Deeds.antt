@@ -1,35 +1,42 @@
 -- What is done in a run of an endpoint, and what passes between it and its peer by that (part 2, 2.2, 2.4, 2.5).
-use Rattle.std.specs.Prelude.{◌≡◌, ℕ, List, [], ◌∷◌, ◌++◌, Bool, false, flat_map, map, Some}
+use Rattle.std.specs.Prelude.{◌≡◌, ◌⊎◌, ◌||◌, ◌≤◌, ℕ, List, [], ◌∷◌, ◌++◌, Bool, true, false, Option, Some, None}
+use Rattle.std.specs.Prelude.{All, flat_map, map}
 use Rattle.amqp_session_connection.specs.State as channels
+use Rattle.amqp_session_connection.specs.Table.{after_incoming_close, after_send_close}
+use Rattle.amqp_session_connection.specs.declared.state.ConnectionState.TheVariants.{HeaderExchange, OpenSent}
 use Rattle.amqp_session_performatives.specs.declared.session_frame.SessionFrame.{SessionFrame}
 use Rattle.amqp_session_frames.specs.Cutting.{ReadsAs}
 use Rattle.amqp_session_frames.specs.declared.frame.Frame.{Frame}
+use Rattle.amqp_session_frames.specs.declared.frame.FrameBody.{FrameBody}
+use Rattle.amqp_session_frames.specs.declared.frame.FrameBody.TheVariants.{Close, Empty, Open}
 use Rattle.amqp_endpoint_model.specs.declared.call.Call.{Call}
 use Rattle.amqp_endpoint_model.specs.declared.call.Call.TheVariants.{Connect, Feed}
 use Rattle.amqp_endpoint_model.specs.declared.error.EndpointError.{EndpointError}
 use Rattle.amqp_endpoint_model.specs.declared.event.Event.{Event}
 use Rattle.amqp_endpoint_model.specs.declared.phase.Phase.{Phase}
 use Rattle.amqp_endpoint_model.specs.declared.phase.Phase.TheVariants.{Unconnected, Greeting, Running, Over}
-use Rattle.amqp_endpoint_model.specs.History.{FrameTells}
-use Rattle.amqp_endpoint_model.specs.Relay.{IsOfSession, Relations}
+use Rattle.amqp_endpoint_model.specs.History.{FrameTells, is_close}
+use Rattle.amqp_endpoint_model.specs.Relay.{Relations}
 use Rattle.amqp_endpoint_model.specs.Said.{Said, Told, done, fed, pulled}
-use Rattle.amqp_endpoint_model.specs.State.{State, Waiting, is_unconnected, protocol_header, text_of, waiting_of}
-use Rattle.amqp_endpoint_model.specs.Step.{Admits, ClosesBy, anew}
+use Rattle.amqp_endpoint_model.specs.State.{State, Waiting, fits, frame_of, is_unconnected, limit_of, protocol_header}
+use Rattle.amqp_endpoint_model.specs.State.{text_of, the_frame, the_header, waiting_of}
+use Rattle.amqp_endpoint_model.specs.Step.{Admits, ClosesBy, MovesBy, MovesByOpen, anew}
 use Rattle.amqp_endpoint_deeds.specs.Telling.{call_done, events_of}
 
 -- one thing that is done
 pub data Deed : Type 0 where
   -- the connection's own header, Open or Close is queued, or an empty frame
   Queues : (it : Waiting) → Deed
-  -- a frame of the peer's is taken that is the connection's, and these events are told
+  -- a frame of the peer's is taken that is the connection's, which goes on by it, and these events are told
   Hears : (frame : Frame) (events : List Event) → Deed
   -- the sessions take one, where written frames have a limit: these frames are queued, and these events are told
   Takes : (limit : ℕ) (frame : Frame) (frames : List SessionFrame) (events : List Event) → Deed
-  -- they refuse one, and the connection is over by that
-  Refuses : (limit : ℕ) (frame : Frame) (error : EndpointError) → Deed
+  -- they refuse one, and the connection is over by that, behind its own Close. None is sent by it where one had gone
+  -- before, or where the connection is broken off
+  Refuses : (limit : ℕ) (frame : Frame) (error : EndpointError) (own_close : Bool) → Deed
   -- they do what they are called for: it is answered so, and these frames are queued
   Does : (limit : ℕ) (call : Call) (answer : Said) (frames : List SessionFrame) → Deed
-  -- their connection goes on, and no channel is given or taken back by that
+  -- their connection takes the peer's header, or sends its own Open or Close
   Moves : (connection : channels.State) → Deed
   -- it begins anew
   Renews : Deed
@@ -75,24 +82,43 @@ done_in deed = []
 abbrev pub done_by : List Deed → List (Call × Said)
 done_by deeds = flat_map done_in deeds
 
+-- the peer's header comes, and the own Open is sent behind it; or the header alone, where there is no memory for that
+-- (part 2, 2.2, 2.4.1)
+abbrev pub HeaderComes : channels.State → channels.State → Type 0
+HeaderComes old new =
+    (new ≡ record old { local_state = OpenSent }) ⊎ (new ≡ record old { local_state = HeaderExchange })
+
+-- the own Close is sent, with an error or without (part 2, 2.4.3, 2.4.6)
+abbrev pub OwnCloseGoes : channels.State → channels.State → Type 0
+OwnCloseGoes old new =
+    (error : Bool) × (after_send_close error old.local_state ≡ Some new.local_state)
+    × (new ≡ record old { local_state = new.local_state })
+
 module _ {S : Type 0} (does : Relations S) where
   -- a frame is refused, and the connection is over, behind the own Close where that hadn't gone
-  pub record EndsBy (old : S) (limit : ℕ) (frame : Frame) (error : EndpointError) (new : S) : Type 0 where
-    pub refused : S
-    pub refuses : does.refuses old limit frame.channel frame.body error refused
-    pub own_close : Bool
-    pub closes : ClosesBy does own_close refused new
+  pub record EndsBy (old : S) (limit : ℕ) (frame : Frame) (error : EndpointError) (own_close : Bool) (new : S) : Type 0
+    where
+      pub refused : S
+      pub refuses : does.refuses old limit frame.channel frame.body error refused
+      pub closes : ClosesBy does own_close refused new
+
+  -- the peer's Open or Close moves its connection on, and an empty frame doesn't (part 2, 2.4.1, 2.4.3, 2.4.5)
+  abbrev pub MovesByFrame : FrameBody → S → S → Type 0
+  MovesByFrame Empty old new = new ≡ old
+  MovesByFrame (Open peer) old new = MovesByOpen does peer old new
+  MovesByFrame (Close close) old new = MovesBy does after_incoming_close old new
+  MovesByFrame body old new = ⊥
 
   -- the sessions around it
   abbrev pub IsDeed : S → Deed → S → Type 0
   IsDeed old (Queues it) new = new ≡ old
-  IsDeed old (Hears frame events) new =
-      (new ≡ old) × (IsOfSession frame.body → ⊥) × FrameTells does frame events
+  IsDeed old (Hears frame events) new = MovesByFrame frame.body old new × FrameTells does frame events
   IsDeed old (Takes limit frame frames events) new = does.takes old limit frame.channel frame.body frames events new
-  IsDeed old (Refuses limit frame error) new = EndsBy old limit frame error new
+  IsDeed old (Refuses limit frame error own_close) new = EndsBy old limit frame error own_close new
   IsDeed old (Does limit call answer frames) new = does.calls old limit call answer frames new
   IsDeed old (Moves connection) new =
-      (connection.live ≡ (does.connection old).live) × (new ≡ does.moved old connection)
+      (HeaderComes (does.connection old) connection ⊎ OwnCloseGoes (does.connection old) connection)
+      × (new ≡ does.moved old connection)
   IsDeed old Renews new = new ≡ anew does old
   IsDeed old Closes new = does.closes old new
   IsDeed old Finishes new = does.finishes old new
@@ -145,20 +171,76 @@ AreRead Running limit bytes frames rest =
 AreRead Over limit bytes frames rest =
     (body : List ℕ) × (left : List ℕ) × (bytes ≡ protocol_header ++ body) × ReadsAs (Admits limit) body frames left
 
+-- of each deed this is so, by what those before it came to
+abbrev pub Throughout : {A : Type 0} → (A → Deed → A) → (A → Deed → Type 0) → A → List Deed → Type 0
+Throughout behind P from [] = Unit {0}
+Throughout behind P from (deed ∷ deeds) = P from deed × Throughout behind P (behind from deed) deeds
+
+-- what deeds came to
+abbrev pub come_to : {A : Type 0} → (A → Deed → A) → A → List Deed → A
+come_to behind from [] = from
+come_to behind from (deed ∷ deeds) = come_to behind (behind from deed) deeds
+
+-- the own Close waits to be pulled
+abbrev pub is_own_close : Waiting → Bool
+is_own_close the_header = false
+is_own_close (the_frame frame) = is_close frame.body
+
+-- whether it was queued since the latest connect, behind a deed, where it was so before it or wasn't
+abbrev pub closed_behind : Bool → Deed → Bool
+closed_behind closed (Queues it) = is_own_close it || closed
+closed_behind closed Renews = false
+closed_behind closed deed = closed
+
+-- it is queued once, and a refusal sends it where it wasn't sent before (part 2, 2.4.3)
+abbrev pub MayClose : Bool → Deed → Type 0
+MayClose closed (Queues it) = is_own_close it ≡ true → closed ≡ false
+MayClose closed (Refuses limit frame error own_close) = own_close ≡ closed
+MayClose closed deed = Unit {0}
+
+-- the max-frame-size of the peer's Open since the latest connect, behind a deed, where it was so before (part 2, 2.7.1)
+abbrev pub opened_with : Option ℕ → FrameBody → Option ℕ
+opened_with peer (Open it) = Some it.max_frame_size
+opened_with peer it = peer
+
+abbrev pub opened_behind : Option ℕ → Deed → Option ℕ
+opened_behind peer (Hears frame events) = opened_with peer frame.body
+opened_behind peer Renews = None
+opened_behind peer deed = peer
+
+-- the peer's Open comes once, and allows 512 bytes at least (part 2, 2.7.1)
+abbrev pub MayOpen : Option ℕ → FrameBody → Type 0
+MayOpen peer (Open it) = (peer ≡ None) × (512 ≤ it.max_frame_size)
+MayOpen peer it = Unit {0}
+
+-- written frames have the limit that the peer allows, and what the sessions send fits it (part 2, 2.4.1)
+abbrev pub IsWithin : ℕ → ℕ → List SessionFrame → Type 0
+IsWithin allowed limit frames = (limit ≡ allowed) × All (λ f. fits limit (frame_of f) ≡ true) frames
+
+abbrev pub MayWrite : Option ℕ → Deed → Type 0
+MayWrite peer (Hears frame events) = MayOpen peer frame.body
+MayWrite peer (Takes limit frame frames events) = IsWithin (limit_of peer) limit frames
+MayWrite peer (Refuses limit frame error own_close) = limit ≡ limit_of peer
+MayWrite peer (Does limit call answer frames) = IsWithin (limit_of peer) limit frames
+MayWrite peer deed = Unit {0}
+
 -- what passes on a connection that isn't cut off: what pull gave and what is queued still are what these deeds queue,
--- and the frames that they take are what is read of the bytes fed
+-- and the frames that they take are what is read of the bytes fed. The own Close goes once
 pub record Passes {S : Type 0} (limit : ℕ) (deeds : List Deed) (given : List (List ℕ)) (bytes : List ℕ) (s : State S)
     : Type 0 where
   pub queued : map text_of (queued_by deeds) ≡ given ++ map text_of s.queue
   pub read : AreRead s.phase limit bytes (taken_by deeds) s.rest
+  pub once : Throughout closed_behind MayClose false deeds
+  pub closed : come_to closed_behind false deeds ≡ s.own_close
 
 -- these events are told by deeds, and these calls done
 pub record Tell (deeds : List Deed) (events : List Event) (did : List (Call × Said)) : Type 0 where
   pub told : told_by deeds ≡ events
   pub calls : done_by deeds ≡ did
 
--- sessions stand as these deeds leave them, up to the latest connect and since, where pull gave so much since then, these
--- bytes were fed, these events told and these calls done; and so many were told and done in all
+-- sessions stand as these deeds leave them, up to the latest connect and since, where pull gave so much since then,
+-- these bytes were fed, these events told and these calls done, and so many were told and done in all; and what they
+-- write keeps to the peer's limit
 pub record IsDone {S : Type 0} (does : Relations S) (limit : ℕ) (start : S) (given : List (List ℕ)) (bytes : List ℕ)
     (events : List Event) (did : List (Call × Said)) (all_events : List Event) (all_did : List (Call × Said))
     (s : State S) : Type 0 where
@@ -168,3 +250,5 @@ pub record IsDone {S : Type 0} (does : Relations S) (limit : ℕ) (start : S) (g
   pub passes : is_unconnected s.phase ≡ false → Passes limit since given bytes s
   pub latest : Tell since events did
   pub all : Tell (before ++ since) all_events all_did
+  pub within : Throughout opened_behind MayWrite None (before ++ since)
+  pub peer : come_to opened_behind None (before ++ since) ≡ s.peer_limit

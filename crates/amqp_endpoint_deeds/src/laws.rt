@@ -10,12 +10,17 @@ ghost use Rattle.amqp_endpoint_deeds.specs.Telling.{calls_done, events_told};
 
 use amqp_endpoint_model::SessionRelay;
 
-/// A run of an endpoint is what is done in it: its sessions stand as these deeds leave them. As long as the connection
-/// isn't cut off, what pull gave since the latest connect, and then what is queued, is what the deeds since then queue,
-/// in order; and the frames that they take are what is read of the bytes fed since then (part 2, 2.2, 2.3, 2.4). The
-/// events that the run tells are those that its deeds tell, and the calls that its sessions do, with their answers, are
-/// those that they do in its deeds, each in order: in all, and since the latest connect. So what deeds keep each run
-/// keeps, and what is said of the frames, events and calls of deeds is said of the bytes, answers and calls of a run.
+/// A run of an endpoint is what is done in it: its sessions stand as these deeds leave them. The events that the run
+/// tells are those that its deeds tell, and the calls that its sessions do, with their answers, are those that they do
+/// in its deeds, each in order: in all, and since the latest connect. What they send fits the limit of written frames,
+/// which is 512 bytes up to the peer's Open and then its max-frame-size; and that Open comes once (part 2, 2.4.1,
+/// 2.7.1).
+///
+/// As long as the connection isn't cut off, what pull gave since the latest connect, and then what is queued, is what
+/// the deeds since then queue, in order; the frames that they take are what is read of the bytes fed since then; and
+/// the own Close goes once, with the refusal of a frame where it hadn't gone (part 2, 2.2, 2.3, 2.4). So what deeds
+/// keep each run keeps, and what is said of the frames, events and calls of deeds is said of the bytes, answers and
+/// calls of a run.
 pub fn runs_are_deeds<S: SessionRelay>()
     ensures { (sessions : S) (settings : Settings) (calls : List Call) (told : List Told) (end : State S) →
         Run S.does (fresh settings sessions) calls told end →

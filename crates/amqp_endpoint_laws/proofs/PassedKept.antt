@@ -25,8 +25,8 @@ use Rattle.amqp_endpoint_conversation.specs.declared.beginning.BeginRefusal.TheV
 use Rattle.amqp_endpoint_conversation.specs.declared.hearing.HearRefusal.TheVariants as refused
 use Rattle.amqp_endpoint_conversation.specs.declared.hearing.Heard.TheVariants as heard
 use Rattle.amqp_endpoint_links.specs.declared.hearing.LinkPerformative.{LinkPerformative}
-use Rattle.amqp_endpoint_deeds.specs.Deeds.{AreDone, Closes, Deed, Does, EndsBy, Finishes, Hears, IsDeed, Moves, Queues}
-use Rattle.amqp_endpoint_deeds.specs.Deeds.{Refuses, Renews, Takes}
+use Rattle.amqp_endpoint_deeds.specs.Deeds.{AreDone, Closes, Deed, Does, EndsBy, Finishes, Hears, IsDeed, Moves}
+use Rattle.amqp_endpoint_deeds.specs.Deeds.{MovesByFrame, Queues, Refuses, Renews, Takes}
 use Rattle.amqp_endpoint_link_hearing.specs.Saying.{LinkHeard, LinkRefusal, RefusesSaid}
 use Rattle.amqp_endpoint_linked.specs.Does.{linked}
 use Rattle.amqp_endpoint_linked.specs.Hearing.{RefusesBody}
@@ -265,17 +265,21 @@ first-body (body.End end) old new links given limit channel e (inl b) =
 first-body (body.End end) old new links given limit channel e (inr u) = first-same old new u.1
 first-body it old new links given limit channel e r = absurd r
 
--- the connection is over behind a frame that was refused
-closed-same : (own : Bool) (old told : LinkedSessions) → SendsClose linked own true old told
-    → (told.talk.sessions.places ≡ old.talk.sessions.places) × Firsts old.talk told.talk
-closed-same true old told same = (
-  ap (λ (s : LinkedSessions). s.talk.sessions.places) same,
-  ap (λ (s : LinkedSessions). s.talk.first_transfer_number) same,
-)
-closed-same false old told m = (
-  ap (λ (s : LinkedSessions). s.talk.sessions.places) m.is,
-  ap (λ (s : LinkedSessions). s.talk.first_transfer_number) m.is,
-)
+-- the connection alone goes on
+abbrev AreStill : LinkedSessions → LinkedSessions → Type 0
+AreStill old new = (new.talk.sessions.places ≡ old.talk.sessions.places) × Firsts old.talk new.talk
+
+-- as a frame of its own says
+by-frame-still : (it : FrameBody) (old new : LinkedSessions) → MovesByFrame linked it old new → AreStill old new
+by-frame-still body.Empty old new same = subst (AreStill old) (sym same) (refl, refl)
+by-frame-still (body.Open peer) old new m = subst (AreStill old) (sym m.is) (refl, refl)
+by-frame-still (body.Close close) old new m = subst (AreStill old) (sym m.is) (refl, refl)
+by-frame-still it old new m = absurd m
+
+-- it is over behind a frame that was refused
+closed-still : (own : Bool) (old told : LinkedSessions) → SendsClose linked own true old told → AreStill old told
+closed-still true old told same = subst (AreStill old) (sym same) (refl, refl)
+closed-still false old told m = subst (AreStill old) (sym m.is) (refl, refl)
 
 module _ (J : ℕ → Option Stood → List Passing → Option Stood → Type 0) (k : Keeping J) where
   judges-wane : (first : ℕ) (old new : Sessions) (n : ℕ) → Wanes old new n
@@ -294,13 +298,13 @@ module _ (J : ℕ → Option Stood → List Passing → Option Stood → Type 0)
       sym (ap (λ (ps : List Stood). slice_get ps n) places) ∙ sym same ∙ none in
       k.still first (place_at old n) (place_at new n) (none ∙ sym (never-there old refused g n before))
 
-  module _ (limit : ℕ) (f : Frame) (error : EndpointError) (old new : LinkedSessions)
-      (e : EndsBy linked old limit f error new) where
+  module _ (limit : ℕ) (f : Frame) (error : EndpointError) (own_close : Bool) (old new : LinkedSessions)
+      (e : EndsBy linked old limit f error own_close new) where
     ends-judges : (n : ℕ)
         → J old.talk.first_transfer_number (place_at old.talk.sessions n) [] (place_at new.talk.sessions n)
     ends-judges n =
         let told = e.closes.told in
-        let (places, first) = closed-same e.own_close e.refused told e.closes.tells in
+        let (places, first) = closed-still own_close e.refused told e.closes.tells in
         let over = ((e.closes.over).0).each in
         over-judges old.talk.first_transfer_number old.talk.sessions e.refused.talk.sessions told.talk.sessions
         new.talk.sessions n
@@ -315,7 +319,7 @@ module _ (J : ℕ → Option Stood → List Passing → Option Stood → Type 0)
     ends-first : Firsts old.talk new.talk
     ends-first =
         let told = e.closes.told in
-        let (places, first) = closed-same e.own_close e.refused told e.closes.tells in
+        let (places, first) = closed-still own_close e.refused told e.closes.tells in
         first-rest told.talk new.talk ((e.closes.over).0).rest ∙ first
         ∙ first-body f.body old.talk e.refused.talk old.links old.given limit (record { 0 = f.channel }) error
         ((e.refuses).0).refuses
@@ -329,11 +333,11 @@ module _ (J : ℕ → Option Stood → List Passing → Option Stood → Type 0)
       (place_at new.talk.sessions n)
   deed-judges (Queues it) old new same n =
       still-judges old new n (ap (λ (s : LinkedSessions). s.talk.sessions.places) same)
-  deed-judges (Hears frame events) old new (same, own) n =
-      still-judges old new n (ap (λ (s : LinkedSessions). s.talk.sessions.places) same)
+  deed-judges (Hears frame events) old new (moves, told) n =
+      still-judges old new n (by-frame-still frame.body old new moves).0
   deed-judges (Takes limit f frames events) old new h n =
       (frame-heard J k f.body old new limit (record { 0 = f.channel }) frames events h.0).all n
-  deed-judges (Refuses limit f error) old new e n = ends-judges limit f error old new e n
+  deed-judges (Refuses limit f error own_close) old new e n = ends-judges limit f error own_close old new e n
   deed-judges (Does limit it answer frames) old new c n = (called J k it answer old new limit frames c.0).all n
   deed-judges (Moves connection) old new m n =
       still-judges old new n (ap (λ (s : LinkedSessions). s.talk.sessions.places) m.1)
@@ -348,11 +352,10 @@ module _ (J : ℕ → Option Stood → List Passing → Option Stood → Type 0)
 
   deed-first : (deed : Deed) (old new : LinkedSessions) → IsDeed linked old deed new → Firsts old.talk new.talk
   deed-first (Queues it) old new same = ap (λ (s : LinkedSessions). s.talk.first_transfer_number) same
-  deed-first (Hears frame events) old new (same, own) =
-      ap (λ (s : LinkedSessions). s.talk.first_transfer_number) same
+  deed-first (Hears frame events) old new (moves, told) = (by-frame-still frame.body old new moves).1
   deed-first (Takes limit f frames events) old new h =
       (frame-heard J k f.body old new limit (record { 0 = f.channel }) frames events h.0).first
-  deed-first (Refuses limit f error) old new e = ends-first limit f error old new e
+  deed-first (Refuses limit f error own_close) old new e = ends-first limit f error own_close old new e
   deed-first (Does limit it answer frames) old new c = (called J k it answer old new limit frames c.0).first
   deed-first (Moves connection) old new m = ap (λ (s : LinkedSessions). s.talk.first_transfer_number) m.1
   deed-first Renews old new is = ap (λ (s : LinkedSessions). s.talk.first_transfer_number) is
