@@ -12,6 +12,7 @@ use Rattle.amqp_session_frames.specs.declared.frame.Frame.{Frame}
 use Rattle.amqp_session_frames.specs.declared.frame.FrameBody.{FrameBody}
 use Rattle.amqp_session_frames.specs.declared.frame.FrameBody.TheVariants.{Empty, Open, Close}
 use Rattle.amqp_session_performatives.specs.declared.session_frame.SessionFrame.{SessionFrame}
+use Rattle.amqp_session_types.specs.declared.error.Error.{Error}
 use Rattle.amqp_session_types.specs.declared.refusals.ConnectionError.TheVariants.{IllegalState as OutOfOrder}
 use Rattle.amqp_endpoint_model.specs.declared.call.Call.{Call}
 use Rattle.amqp_endpoint_model.specs.declared.call.Call.TheVariants.{Connect, Feed, Pull, Queued, IsIdle, Heartbeat}
@@ -29,7 +30,7 @@ use Rattle.amqp_endpoint_model.specs.declared.event.Event.{Event}
 use Rattle.amqp_endpoint_model.specs.declared.phase.Phase.{Phase}
 use Rattle.amqp_endpoint_model.specs.declared.phase.Phase.TheVariants.{Unconnected, Greeting, Running, Over}
 use Rattle.amqp_endpoint_model.specs.declared.settings.Settings.{Settings}
-use Rattle.amqp_endpoint_model.specs.Relay.{Relations}
+use Rattle.amqp_endpoint_model.specs.Relay.{IsOfSession, IsSessionFault, Relations}
 use Rattle.amqp_endpoint_model.specs.Said.{Said, done, refused, fed, pulled, count, truth, tried_close, session_begun}
 use Rattle.amqp_endpoint_model.specs.Said.{tried_end, attaching, link_closed, credit_is, waiting, message_sent, Told}
 use Rattle.amqp_endpoint_model.specs.State.{State, Waiting, fits, frame_of, has_opened, is_unconnected, limit_of}
@@ -44,7 +45,7 @@ use Rattle.amqp_endpoint_model.specs.Step.{with_close}
 use Rattle.amqp_endpoint_model.specs.History.{BodyTells, Run, is_close}
 use Rattle.amqp_endpoint_model.proofs.Keeping.{step-settings}
 use Rattle.amqp_endpoint_deeds.specs.Deeds.{AreDone, AreRead, Closes, Deed, Does, Finishes, Hears, IsDeed, IsDone}
-use Rattle.amqp_endpoint_deeds.specs.Deeds.{MayClose, MayOpen, MayWrite, Moves, MovesByFrame, Tell, Throughout}
+use Rattle.amqp_endpoint_deeds.specs.Deeds.{IsInOrder, MayClose, MayOpen, Moves, MovesByFrame, Tell, Throughout}
 use Rattle.amqp_endpoint_deeds.specs.Deeds.{closed_behind, come_to, opened_behind, opened_with}
 use Rattle.amqp_endpoint_deeds.specs.Deeds.{Queues, Refuses, Renews, Takes, done_by, done_in, done_since, fed_by}
 use Rattle.amqp_endpoint_deeds.specs.Deeds.{fed_since, given_by, note, pulled_since, queued_by, queued_in, taken_by}
@@ -123,13 +124,13 @@ closing-both before mid behind deeds more a b = along-both closed_behind MayClos
 closing-none : (own : Bool) → Closing own [] own
 closing-none own = record { holds = tt; comes = refl }
 
--- what is written keeps to the peer's limit, and behind deeds that is this
+-- deeds are in order behind an Open that allows this, and behind them that is this
 abbrev Writing : Option ℕ → List Deed → Option ℕ → Type 0
-Writing before deeds behind = Along opened_behind MayWrite before deeds behind
+Writing before deeds behind = Along opened_behind IsInOrder before deeds behind
 
 writing-both : (before mid behind : Option ℕ) (deeds more : List Deed) → Writing before deeds mid
     → Writing mid more behind → Writing before (deeds ++ more) behind
-writing-both before mid behind deeds more a b = along-both opened_behind MayWrite before mid behind deeds more a b
+writing-both before mid behind deeds more a b = along-both opened_behind IsInOrder before mid behind deeds more a b
 
 writing-none : (peer : Option ℕ) → Writing peer [] peer
 writing-none peer = record { holds = tt; comes = refl }
@@ -161,9 +162,10 @@ close-closes : (own : Bool) (close : Frame) → is_close close.body ≡ true →
 close-closes true close is = record { holds = tt; comes = refl }
 close-closes false close is = record { holds = (λ e. refl, tt); comes = ap (λ (c : Bool). c || false) is }
 
-close-writes : (own : Bool) (close : Frame) (peer : Option ℕ) → Writing peer (close-deeds own close) peer
-close-writes true close peer = writing-none peer
-close-writes false close peer = record { holds = (tt, tt); comes = refl }
+close-writes : (own : Bool) (error : Option Error) (peer : Option ℕ)
+    → Writing peer (close-deeds own (own_close_with error)) peer
+close-writes true error peer = writing-none peer
+close-writes false error peer = record { holds = (λ theirs. theirs, tt); comes = refl }
 
 close-queues : {S : Type 0} (s : State S) (own : Bool) (close : Frame) → s.own_close ≡ own
     → with_close s close ≡ s.queue ++ queued_by (close-deeds own close)
@@ -310,14 +312,15 @@ module _ {S : Type 0} (does : Relations S) where
   -- the frame in front is refused by the sessions, or not by them
   data Fronted (limit : ℕ) (old new : S) : Type 0 where
     stays-so : new ≡ old → Fronted limit old new
-    bars : (f : Frame) (e : EndpointError) → does.refuses old limit f.channel f.body e new → Fronted limit old new
+    bars : (f : Frame) (e : EndpointError) → IsOfSession f.body → IsSessionFault e
+        → does.refuses old limit f.channel f.body e new → Fronted limit old new
 
   refuses-body : (e : EndpointError) (f : Frame) (body : FrameBody) → f.body ≡ body → (s : State S) (sessions : S)
       → RefusesBody does s e f.channel body sessions → Fronted (limit_of s.peer_limit) s.sessions sessions
   refuses-body PeerLimitUnder512 f (Open o) is s sessions (none, least, same) = stays-so same
   refuses-body (Connection OutOfOrder) f (Open o) is s sessions (some, same) = stays-so same
   refuses-body e f body is s sessions r =
-      bars f e
+      bars f e (subst (λ (b : FrameBody). IsOfSession b) (sym is) r.theirs) r.ends
       (subst (λ (b : FrameBody). does.refuses s.sessions (limit_of s.peer_limit) f.channel b e sessions) (sym is)
       r.refuses)
 
@@ -448,7 +451,7 @@ module _ {S : Type 0} (does : Relations S) where
             writing-both old.peer_limit old.peer_limit old.peer_limit (Hears f events ∷ []) (w.deeds ++ close)
             (heard-writes f (Close c) events old.peer_limit is tt)
             (writing-both old.peer_limit old.peer_limit old.peer_limit w.deeds close (w.writing old.peer_limit)
-            (close-writes old.own_close frame old.peer_limit));
+            (close-writes old.own_close None old.peer_limit));
       })
   takes-body f body is old events new t =
       subst (AddsTo old (f ∷ []) events) (sym t.queued)
@@ -466,7 +469,10 @@ module _ {S : Type 0} (does : Relations S) where
         taken = refl;
         tell = record { told = append-nil events; calls = refl };
         closing = record { holds = (tt, tt); comes = refl };
-        writing = record { holds = ((refl, t.fit), tt); comes = refl };
+        writing = record {
+          holds = ((subst (λ (b : FrameBody). IsOfSession b) (sym is) t.theirs, (refl, t.fit)), tt);
+          comes = refl;
+        };
       })
 
   takes-all : (old : State S) (frames : List Frame) (events : List Event) (new : State S)
@@ -540,7 +546,7 @@ module _ {S : Type 0} (does : Relations S) where
             subst (λ (peer : Option ℕ). Writing s.peer_limit (w.deeds ++ close) peer)
             (sym (ap (λ (t : State S). t.peer_limit) is))
             (writing-both s.peer_limit s.peer_limit s.peer_limit w.deeds close (w.writing s.peer_limit)
-            (close-writes s.own_close frame s.peer_limit));
+            (close-writes s.own_close (Some (error_of condition)) s.peer_limit));
       }
 
   after-front : (condition : Option (List ℕ)) (s : State S) (sessions : S) (new : State S)
@@ -557,7 +563,7 @@ module _ {S : Type 0} (does : Relations S) where
         closing = c.closing;
         writing = c.writing;
       }
-  after-front None s sessions new (bars f e r) (finishes, after) =
+  after-front None s sessions new (bars f e theirs ends r) (finishes, after) =
       record {
         deeds = Refuses (limit_of s.peer_limit) f e true ∷ [];
         are_done = (
@@ -573,10 +579,14 @@ module _ {S : Type 0} (does : Relations S) where
         tell = record { told = refl; calls = refl };
         over = λ up. never new.phase (ap (λ (t : State S). t.phase) after) up;
         closing = λ up. never new.phase (ap (λ (t : State S). t.phase) after) up;
-        writing = record { holds = (refl, tt); comes = sym (ap (λ (t : State S). t.peer_limit) after) };
+        writing = record {
+          holds = ((theirs, ends, refl), tt);
+          comes = sym (ap (λ (t : State S). t.peer_limit) after);
+        };
       }
-  after-front (Some condition) s sessions new (bars f e r) (closes, is) =
+  after-front (Some condition) s sessions new (bars f e theirs ends r) (closes, is) =
       let frame : Frame = own_close_with (Some (error_of condition)) in
+      let close = close-writes s.own_close (Some (error_of condition)) s.peer_limit in
       record {
         deeds = Refuses (limit_of s.peer_limit) f e s.own_close ∷ close-deeds s.own_close frame;
         are_done = (
@@ -598,9 +608,8 @@ module _ {S : Type 0} (does : Relations S) where
           comes = (close-closes s.own_close frame refl).comes ∙ sym (ap (λ (t : State S). t.own_close) is);
         };
         writing = record {
-          holds = (refl, (close-writes s.own_close frame s.peer_limit).holds);
-          comes =
-              (close-writes s.own_close frame s.peer_limit).comes ∙ sym (ap (λ (t : State S). t.peer_limit) is);
+          holds = ((theirs, ends, refl), close.holds);
+          comes = close.comes ∙ sym (ap (λ (t : State S). t.peer_limit) is);
         };
       }
 
@@ -842,7 +851,7 @@ module _ {S : Type 0} (does : Relations S) where
           closing = record { holds = (tt, (not-so, (t.closing up).holds)); comes = (t.closing up).comes };
         };
         tell = record { told = t.tell.told; calls = t.tell.calls };
-        writing = record { holds = (tt, (tt, t.writing.holds)); comes = t.writing.comes };
+        writing = record { holds = (tt, (λ theirs. theirs, t.writing.holds)); comes = t.writing.comes };
       }
 
   untold : (old : State S) (bytes : List ℕ) (events : List Event) (new : State S) → events ≡ []
@@ -942,7 +951,7 @@ module _ {S : Type 0} (does : Relations S) where
       subst (λ (t : State S). Did old [] [] [] [] t) (sym after)
       (quietly old [] (Queues (the_frame heartbeat) ∷ []) (record old { queue = old.queue ++ the_frame heartbeat ∷ [] })
       (old.sessions, refl, refl) refl refl refl refl (record { told = refl; calls = refl })
-      (record { holds = (not-so, tt); comes = refl }) (record { holds = (tt, tt); comes = refl }))
+      (record { holds = (not-so, tt); comes = refl }) (record { holds = (λ theirs. theirs, tt); comes = refl }))
 
   pulls : (old : State S) (first : Waiting) (others : List Waiting) (new : State S) → old.queue ≡ first ∷ others
       → new ≡ record old { queue = others } → Did old (first ∷ []) [] [] [] new
@@ -974,7 +983,7 @@ module _ {S : Type 0} (does : Relations S) where
       (closing-both old.own_close old.own_close true w.deeds close (w.closing old.own_close)
       (record { holds = (λ e. unsent, tt); comes = refl }))
       (writing-both old.peer_limit old.peer_limit old.peer_limit w.deeds close (w.writing old.peer_limit)
-      (record { holds = (tt, tt); comes = refl })))
+      (record { holds = (λ theirs. theirs, tt); comes = refl })))
 
   abbrev Done : ℕ → S → List (List ℕ) → List ℕ → List Event → List (Call × Said) → List Event → List (Call × Said)
       → State S → Type 0
@@ -1009,7 +1018,7 @@ module _ {S : Type 0} (does : Relations S) where
         let writing : Writing None (i.before ++ (i.since ++ d.deeds)) new.peer_limit =
         subst (λ (ds : List Deed). Writing None ds new.peer_limit) (append_assoc i.before i.since d.deeds)
         (writing-both None old.peer_limit new.peer_limit (i.before ++ i.since) d.deeds
-        (record { holds = i.within; comes = i.peer }) d.writing) in
+        (record { holds = i.in_order; comes = i.peer }) d.writing) in
         record {
           before = i.before;
           since = i.since ++ d.deeds;
@@ -1044,7 +1053,7 @@ module _ {S : Type 0} (does : Relations S) where
               };
           latest = tell-both i.since d.deeds events others did later i.latest d.tell;
           all = tell-more i.before i.since d.deeds all_events others all_did later i.all d.tell;
-          within = writing.holds;
+          in_order = writing.holds;
           peer = writing.comes;
         }
 
@@ -1054,7 +1063,7 @@ module _ {S : Type 0} (does : Relations S) where
         let anew_deeds : List Deed = Renews ∷ Queues the_header ∷ [] in
         let writing : Writing None ((i.before ++ i.since) ++ anew_deeds) None =
         writing-both None old.peer_limit None (i.before ++ i.since) anew_deeds
-        (record { holds = i.within; comes = i.peer }) (record { holds = (tt, (tt, tt)); comes = refl }) in
+        (record { holds = i.in_order; comes = i.peer }) (record { holds = (tt, (tt, tt)); comes = refl }) in
         subst (λ (s : State S). Is Connect done s) (sym after)
         (record {
           before = i.before ++ i.since;
@@ -1072,7 +1081,7 @@ module _ {S : Type 0} (does : Relations S) where
           all =
               tell-both (i.before ++ i.since) anew_deeds all_events [] all_did [] i.all
               (record { told = refl; calls = refl });
-          within = writing.holds;
+          in_order = writing.holds;
           peer = writing.comes;
         })
 
@@ -1203,6 +1212,6 @@ module _ {S : Type 0} (does : Relations S) where
         passes = λ up. never Unconnected refl up;
         latest = tell-nothing;
         all = tell-nothing;
-        within = tt;
+        in_order = tt;
         peer = refl;
       })

@@ -16,7 +16,7 @@ use Rattle.amqp_endpoint_model.specs.declared.event.Event.{Event}
 use Rattle.amqp_endpoint_model.specs.declared.phase.Phase.{Phase}
 use Rattle.amqp_endpoint_model.specs.declared.phase.Phase.TheVariants.{Unconnected, Greeting, Running, Over}
 use Rattle.amqp_endpoint_model.specs.History.{FrameTells, is_close}
-use Rattle.amqp_endpoint_model.specs.Relay.{Relations}
+use Rattle.amqp_endpoint_model.specs.Relay.{IsOfSession, IsSessionFault, Relations}
 use Rattle.amqp_endpoint_model.specs.Said.{Said, Told, done, fed, pulled}
 use Rattle.amqp_endpoint_model.specs.State.{State, Waiting, fits, frame_of, is_unconnected, limit_of, protocol_header}
 use Rattle.amqp_endpoint_model.specs.State.{text_of, the_frame, the_header, waiting_of}
@@ -217,12 +217,20 @@ MayOpen peer it = Unit {0}
 abbrev pub IsWithin : ℕ → ℕ → List SessionFrame → Type 0
 IsWithin allowed limit frames = (limit ≡ allowed) × All (λ f. fits limit (frame_of f) ≡ true) frames
 
-abbrev pub MayWrite : Option ℕ → Deed → Type 0
-MayWrite peer (Hears frame events) = MayOpen peer frame.body
-MayWrite peer (Takes limit frame frames events) = IsWithin (limit_of peer) limit frames
-MayWrite peer (Refuses limit frame error own_close) = limit ≡ limit_of peer
-MayWrite peer (Does limit call answer frames) = IsWithin (limit_of peer) limit frames
-MayWrite peer deed = Unit {0}
+-- what the connection queues of itself is its header, or no frame of a session (part 2, 2.2, 2.4)
+abbrev pub IsOwn : Waiting → Type 0
+IsOwn the_header = Unit {0}
+IsOwn (the_frame frame) = IsOfSession frame.body → ⊥
+
+-- a deed is in order, behind an Open that allows this
+abbrev pub IsInOrder : Option ℕ → Deed → Type 0
+IsInOrder peer (Queues it) = IsOwn it
+IsInOrder peer (Hears frame events) = MayOpen peer frame.body
+IsInOrder peer (Takes limit frame frames events) = IsOfSession frame.body × IsWithin (limit_of peer) limit frames
+IsInOrder peer (Refuses limit frame error own_close) =
+    IsOfSession frame.body × IsSessionFault error × (limit ≡ limit_of peer)
+IsInOrder peer (Does limit call answer frames) = IsWithin (limit_of peer) limit frames
+IsInOrder peer deed = Unit {0}
 
 -- what passes on a connection that isn't cut off: what pull gave and what is queued still are what these deeds queue,
 -- and the frames that they take are what is read of the bytes fed. The own Close goes once
@@ -250,5 +258,5 @@ pub record IsDone {S : Type 0} (does : Relations S) (limit : ℕ) (start : S) (g
   pub passes : is_unconnected s.phase ≡ false → Passes limit since given bytes s
   pub latest : Tell since events did
   pub all : Tell (before ++ since) all_events all_did
-  pub within : Throughout opened_behind MayWrite None (before ++ since)
+  pub in_order : Throughout opened_behind IsInOrder None (before ++ since)
   pub peer : come_to opened_behind None (before ++ since) ≡ s.peer_limit
