@@ -1,7 +1,7 @@
 -- What passes in a session as its peer says something in it.
 use Rattle.std.proofs.Common.{◌≡◌, ◌≢◌, inl, inr, ℕ, Bool, true, false, List, [], ◌∷◌, ◌++◌, Option, Some, None}
 use Rattle.std.proofs.Common.{Ok, Err, ap, append-nil, refl, sym, subst, ◌∙◌}
-use Rattle.std.specs.Prelude.{IsSome, Result, if◌then◌else◌, option_to_list}
+use Rattle.std.specs.Prelude.{IsSome, Result, if◌then◌else◌, option_map, option_to_list}
 use Rattle.std.specs.Global.{Box}
 use Rattle.std.proofs.lemmas.Option.{none-some, same_Some}
 use Rattle.amqp_session_types.specs.declared.channels.IncomingChannel.{IncomingChannel}
@@ -77,7 +77,7 @@ use Rattle.amqp_endpoint_linked.specs.declared.linked.LinkedSessions.{LinkedSess
 use Rattle.amqp_endpoint_talk.specs.Inside.{DoneInside, transfers_in}
 use Rattle.amqp_endpoint_talk.specs.Windows.{Came, Passing, body_said, went}
 use Rattle.amqp_endpoint_talk.proofs.Windows.{went-append}
-use Rattle.amqp_endpoint_laws.specs.Passed.{begun_by, live_only, sent_in, taken_in, when_live}
+use Rattle.amqp_endpoint_laws.specs.Passed.{begun_by, live_only, sent_in, session_taking}
 use Rattle.amqp_endpoint_laws.proofs.PassedPlaces.{AllPassed, GoesBy, IsGone, Keeping, Passed, all-passed, asked-passed}
 use Rattle.amqp_endpoint_laws.proofs.PassedPlaces.{by-step, eq-same, free-passed, hears, inside-passed, judged-at}
 use Rattle.amqp_endpoint_laws.proofs.PassedPlaces.{live-passed, none-passed, opens, passed-on}
@@ -560,14 +560,14 @@ module _ (J : ℕ → Option Stood → List Passing → Option Stood → Type 0)
         → live_at mid number ≡ Some before → begun_by old.sessions begin.remote_channel ≡ Some number
     live-begun number mid before l live =
         begun-takes old channel begin number mid l
-        ∙ ap (λ (o : Option Session). when_live number o)
+        ∙ ap (λ (o : Option Session). option_map (λ (session : Session). number) o)
         (ap live_of (sym (led-same old channel begin number mid l number)) ∙ live)
 
     dead-begun : (number : ℕ) (mid : Sessions) → Leads gives old channel begin number mid → live_at mid number ≡ None
         → begun_by old.sessions begin.remote_channel ≡ None
     dead-begun number mid l live =
         begun-takes old channel begin number mid l
-        ∙ ap (λ (o : Option Session). when_live number o)
+        ∙ ap (λ (o : Option Session). option_map (λ (session : Session). number) o)
         (ap live_of (sym (led-same old channel begin number mid l number)) ∙ live)
 
     begin-ok : (h : BeginHeard) → BeginAnswered gives old [] channel begin (Ok h) new frames
@@ -647,7 +647,7 @@ module _ (J : ℕ → Option Stood → List Passing → Option Stood → Type 0)
   pub frame-heard : (it : FrameBody) (old new : LinkedSessions) (limit : ℕ) (channel : IncomingChannel)
       (frames : List SessionFrame) (events : List Event)
       → HearsFrame old.talk old.links old.given limit channel it frames events new.talk new.links new.given
-      → TakenIn (taken_in old channel.0 it) it frames old.talk new.talk
+      → TakenIn (session_taking old channel.0 it) it frames old.talk new.talk
   frame-heard (body.Begin begin) old new limit channel frames events (b, g) =
       begin-heard old.talk channel begin frames new.talk old.links new.links events b
   frame-heard (body.Attach attach) old new limit channel frames events (a, g) =

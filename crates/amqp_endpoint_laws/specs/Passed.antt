@@ -1,5 +1,6 @@
 -- What passes in each session of an endpoint by what is done (part 2, 2.5).
-use Rattle.std.specs.Prelude.{◌≡◌, ◌==◌, ℕ, Bool, false, List, [], ◌∷◌, ◌++◌, length, Option, Some, None, if◌then◌else◌}
+use Rattle.std.specs.Prelude.{◌≡◌, ◌==◌, ℕ, Bool, false, List, [], ◌∷◌, ◌++◌, length, Option, Some, None}
+use Rattle.std.specs.Prelude.{if◌then◌else◌, option_and_then, option_map}
 use Rattle.amqp_session_types.specs.declared.channels.OutgoingChannel.{OutgoingChannel}
 use Rattle.amqp_link_base.specs.declared.detached.Detached.{Detached}
 use Rattle.amqp_link_ends.specs.declared.end.End.{End}
@@ -17,7 +18,7 @@ use Rattle.amqp_endpoint_linked.specs.Does.{linked}
 use Rattle.amqp_endpoint_linked.specs.declared.linked.LinkedSessions.{LinkedSessions}
 use Rattle.amqp_endpoint_attached.specs.Linked.{gives}
 use Rattle.amqp_endpoint_fitting.specs.Handed.{handed_of}
-use Rattle.amqp_endpoint_linking.specs.Linking.{Link, Session, Sessions}
+use Rattle.amqp_endpoint_linking.specs.Linking.{Link, Sessions}
 use Rattle.amqp_endpoint_model.specs.declared.call.Call.{Call}
 use Rattle.amqp_endpoint_model.specs.declared.call.Call.TheVariants as call
 use Rattle.amqp_endpoint_model.specs.Said.{Said, session_begun}
@@ -28,14 +29,9 @@ use Rattle.amqp_endpoint_sessions.specs.State.{live_at, reached}
 use Rattle.amqp_endpoint_talk.specs.Inside.{transfers_in}
 use Rattle.amqp_endpoint_talk.specs.Windows.{Came, Passing, Went, went}
 
--- a session that has begun, by its number
-abbrev pub when_live : ℕ → Option Session → Option ℕ
-when_live number None = None
-when_live number (Some session) = Some number
-
+-- the number of a session, where that has begun
 abbrev pub live_only : Sessions → Option ℕ → Option ℕ
-live_only s None = None
-live_only s (Some number) = when_live number (live_at s number)
+live_only s numbered = option_and_then (λ number. option_map (λ session. number) (live_at s number)) numbered
 
 -- the session that takes a Begin of the peer's: where it names no channel the next one, for which it asks; and else the
 -- one that has the channel, if its own side goes on
@@ -44,9 +40,9 @@ begun_by s None = Some (length s.places)
 begun_by s (Some channel) = live_only s (named_session s.connection (Some channel))
 
 -- the session that takes a frame of the peer's: any other than a Begin is for the one that its channel reaches
-abbrev pub taken_in : LinkedSessions → ℕ → FrameBody → Option ℕ
-taken_in s channel (body.Begin begin) = begun_by s.talk.sessions begin.remote_channel
-taken_in s channel it = reached s.talk.sessions channel
+abbrev pub session_taking : LinkedSessions → ℕ → FrameBody → Option ℕ
+session_taking s channel (body.Begin begin) = begun_by s.talk.sessions begin.remote_channel
+session_taking s channel it = reached s.talk.sessions channel
 
 -- the session that holds a link
 abbrev pub holder : Option (LinkPlace End) → Option ℕ
@@ -83,7 +79,7 @@ sent_in (Went frame ∷ passings) = frame ∷ sent_in passings
 -- what passes in the session with this number by one deed
 abbrev pub passes_in : ℕ → LinkedSessions → Deed → List Passing
 passes_in number s (Takes limit frame frames events) =
-    if is_it (taken_in s frame.channel frame.body) number then Came frame.body ∷ went frames else []
+    if is_it (session_taking s frame.channel frame.body) number then Came frame.body ∷ went frames else []
 passes_in number s (Does limit it answer frames) =
     if is_it (called_in s it answer) number then went frames else []
 passes_in number s deed = []
