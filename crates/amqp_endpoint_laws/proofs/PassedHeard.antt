@@ -74,7 +74,7 @@ use Rattle.amqp_endpoint_link_hearing.proofs.Inside.{closes-inside, leave-inside
 use Rattle.amqp_endpoint_link_hearing.proofs.Inside.{tells-parts-inside}
 use Rattle.amqp_endpoint_linked.specs.Hearing.{Hears as HearsFrame}
 use Rattle.amqp_endpoint_linked.specs.declared.linked.LinkedSessions.{LinkedSessions}
-use Rattle.amqp_endpoint_talk.specs.Inside.{DoneInside, transfers_in}
+use Rattle.amqp_endpoint_talk.specs.Inside.{DoneInside, said_in}
 use Rattle.amqp_endpoint_talk.specs.Windows.{Came, Passing, body_said, went}
 use Rattle.amqp_endpoint_talk.proofs.Windows.{went-append}
 use Rattle.amqp_endpoint_laws.specs.Passed.{begun_by, live_only, sent_in, session_taking}
@@ -139,23 +139,23 @@ number_of (heard.Dropped n) = n
 no-memory : {X : Type 0} (t : X) → Ok t ≢ Err Memory
 no-memory t is = let clash = is in absurd cc
 
--- a Flow that is due is no transfer
+-- a Flow that is due is of no link
 due-none : (due : Bool) (f : SessionFields) (number : ℕ)
-    → transfers_in (option_to_list (if due then Some (session_flow f number) else None)) ≡ []
+    → said_in (option_to_list (if due then Some (session_flow f number) else None)) ≡ []
 due-none true f number = refl
 due-none false f number = refl
 
 -- the Flow of a session that a Transfer makes due
 due-at-link : (it : Transfer) (payload : List ℕ) (o : Option ℕ) (before after : Linked) (t : TransferTaken Told)
-    → TransferAt gives before.session it payload o (Ok t) after.session → transfers_in (option_to_list t.flow) ≡ []
+    → TransferAt gives before.session it payload o (Ok t) after.session → said_in (option_to_list t.flow) ≡ []
 due-at-link it payload None before after t h = absurd h
 due-at-link it payload (Some handle) before after t h =
-    ap (λ (f : Option SessionFrame). transfers_in (option_to_list f)) ((h.stepped).2).told ∙ due-none _ _ _
+    ap (λ (f : Option SessionFrame). said_in (option_to_list f)) ((h.stepped).2).told ∙ due-none _ _ _
 
 due-live : (it : Transfer) (payload : List ℕ) (old : Talk) (number n : ℕ) (before : Session) (t : TransferTaken Told)
     (frames : List SessionFrame) (new : Talk)
     → LiveAnswered gives old [] number before (said.Transfer it payload) (Ok (heard.Live n (taken.Transfer t))) new
-    frames → transfers_in (option_to_list t.flow) ≡ []
+    frames → said_in (option_to_list t.flow) ≡ []
 due-live it payload old number n before t frames new (same, l) =
     due-at-link it payload (link_reached before.value.session it.handle.0) before.value l.after.value t
     (((l.hears).heard).0).0
@@ -163,7 +163,7 @@ due-live it payload old number n before t frames new (same, l) =
 due-at : (asked : Option (Box AskedSession)) (live : Option Session) (it : Transfer) (payload : List ℕ) (old : Talk)
     (number n : ℕ) (t : TransferTaken Told) (frames : List SessionFrame) (new : Talk)
     → AnsweredAt gives asked live old [] number (said.Transfer it payload) (Ok (heard.Live n (taken.Transfer t))) new
-    frames → transfers_in (option_to_list t.flow) ≡ []
+    frames → said_in (option_to_list t.flow) ≡ []
 due-at (Some asked) live it payload old number n t frames new a = absurd a.0
 due-at None (Some before) it payload old number n t frames new a =
     due-live it payload old number n before t frames new a
@@ -172,21 +172,21 @@ due-at None None it payload old number n t frames new (is, same, none) = let cla
 due-in : (number : Option ℕ) (it : Transfer) (payload : List ℕ) (old : Talk) (n : ℕ) (t : TransferTaken Told)
     (frames : List SessionFrame) (new : Talk)
     → AnsweredIn gives number old [] (said.Transfer it payload) (Ok (heard.Live n (taken.Transfer t))) new frames
-    → transfers_in (option_to_list t.flow) ≡ []
+    → said_in (option_to_list t.flow) ≡ []
 due-in None it payload old n t frames new (wrong, same, none) = let clash = wrong in absurd cc
 due-in (Some number) it payload old n t frames new a = due-at _ _ it payload old number n t frames new a
 
--- the answer to the peer's End is no transfer
+-- the answer to the peer's End is of no link
 end-free : (stood : Stood) (ended : Option Session) (frames : List SessionFrame) → EndReply stood ended [] frames
-    → transfers_in (sent_in (went frames)) ≡ []
+    → said_in (sent_in (went frames)) ≡ []
 end-free (Live channel s) ended frames (is, sent) =
-    ap (λ (fs : List SessionFrame). transfers_in (sent_in (went fs))) sent
+    ap (λ (fs : List SessionFrame). said_in (sent_in (went fs))) sent
 end-free (Asked channel a) ended frames (is, none) =
-    ap (λ (fs : List SessionFrame). transfers_in (sent_in (went fs))) none
+    ap (λ (fs : List SessionFrame). said_in (sent_in (went fs))) none
 end-free (Ending channel) ended frames (is, none) =
-    ap (λ (fs : List SessionFrame). transfers_in (sent_in (went fs))) none
+    ap (λ (fs : List SessionFrame). said_in (sent_in (went fs))) none
 end-free (Over peer_end complete) ended frames (is, none) =
-    ap (λ (fs : List SessionFrame). transfers_in (sent_in (went fs))) none
+    ap (λ (fs : List SessionFrame). said_in (sent_in (went fs))) none
 
 end-gone : (stood : Stood) → IsGone (Some (ended_place stood))
 end-gone (Asked channel a) = tt
@@ -204,7 +204,7 @@ module _ (J : ℕ → Option Stood → List Passing → Option Stood → Type 0)
 
   -- a session's own side ends
   ends-passed : (number : ℕ) (error : Option Error) (session : Session) (ps : List Passing) (old new : Talk)
-      (out out_new : List SessionFrame) → transfers_in (sent_in ps) ≡ []
+      (out out_new : List SessionFrame) → said_in (sent_in ps) ≡ []
       → EndsHere old out number error session new out_new → Passed J k number ps old new
   ends-passed number error session ps old new out out_new all e =
       let (was, is) =

@@ -31,7 +31,7 @@ use Rattle.amqp_endpoint_sessions.specs.State.{asked_of, live_of, place_at, with
 use Rattle.amqp_endpoint_sessions.specs.Steps.{ChangesAsked, ChangesLive, Steps as SessionsSteps}
 use Rattle.amqp_endpoint_sessions.specs.declared.place.Place.TheVariants.{Asked, Live, Ending, Over}
 use Rattle.amqp_endpoint_sessions.proofs.Owning.{at, same_number}
-use Rattle.amqp_endpoint_talk.specs.Inside.{DoneInside, transfers_in}
+use Rattle.amqp_endpoint_talk.specs.Inside.{DoneInside, said_in}
 use Rattle.amqp_endpoint_talk.specs.Windows.{Came, Passing, body_said, went}
 use Rattle.amqp_endpoint_laws.specs.Conversing.{SessionsStep}
 use Rattle.amqp_endpoint_laws.specs.Passed.{is_it, sent_in}
@@ -58,11 +58,11 @@ pub record Keeping (J : ℕ → Option Stood → List Passing → Option Stood �
   pub still : (first : ℕ) (old new : Option Stood) → new ≡ old → J first old [] new
   pub on : (first : ℕ) (a b d : Option Stood) (ps qs : List Passing) → J first a ps b → J first b qs d
       → J first a (ps ++ qs) d
-  -- its own side is over, and no transfer passes any more
-  pub gone : (first : ℕ) (old new : Option Stood) (ps : List Passing) → IsGone new → transfers_in (sent_in ps) ≡ []
+  -- its own side is over, and no link says anything any more
+  pub gone : (first : ℕ) (old new : Option Stood) (ps : List Passing) → IsGone new → said_in (sent_in ps) ≡ []
       → J first old ps new
-  -- frames pass by which nothing changes
-  pub free : (first : ℕ) (stood : Option Stood) (frames : List SessionFrame) → transfers_in frames ≡ []
+  -- frames of no link pass, by which nothing changes
+  pub free : (first : ℕ) (stood : Option Stood) (frames : List SessionFrame) → said_in frames ≡ []
       → J first stood (went frames) stood
   pub live : (first : ℕ) (stood : Stood) (before after : Session) (ps : List Passing)
       → live_of (Some stood) ≡ Some before → GoesBy before.value.session after.value.session ps
@@ -120,8 +120,8 @@ module _ (J : ℕ → Option Stood → List Passing → Option Stood → Type 0)
         first = ap (λ (t : Talk). t.first_transfer_number) same;
       }
 
-  -- frames pass by which nothing changes
-  pub free-passed : (m : ℕ) (frames : List SessionFrame) (talk : Talk) → transfers_in frames ≡ []
+  -- frames of no link pass, by which nothing changes
+  pub free-passed : (m : ℕ) (frames : List SessionFrame) (talk : Talk) → said_in frames ≡ []
       → Passed m (went frames) talk talk
   free-passed m frames talk free =
       record { here = k.free _ _ frames free; others = λ n e. k.still _ _ _ refl; first = refl }

@@ -1,5 +1,5 @@
--- Whatever is done, a session that has begun came about by steps of its own, and these handed out the transfers that
--- passed.
+-- Whatever is done, a session that has begun came about by steps of its own, and these handed out what its links said
+-- among what passed.
 use Rattle.std.proofs.Common.{◌≡◌, ◌≢◌, ℕ, Bool, true, false, List, [], ◌∷◌, ◌++◌, Option, Some, None, Result, Ok, Err}
 use Rattle.std.proofs.Common.{ap, append-nil, append_assoc, refl, sym, subst, ◌∙◌}
 use Rattle.std.specs.Prelude.{if◌then◌else◌, option_to_list, ⊤}
@@ -55,9 +55,9 @@ use Rattle.amqp_endpoint_model.specs.Relay.{IsNew}
 use Rattle.amqp_endpoint_model.specs.declared.settings.Settings.{Settings}
 use Rattle.amqp_endpoint_sessions.specs.State.{asked_of, live_at, live_of, place_at, with_asked, with_live}
 use Rattle.amqp_endpoint_sessions.specs.declared.place.Place.TheVariants.{Asked, Live, Ending, Over}
-use Rattle.amqp_endpoint_talk.specs.Inside.{transfers_in}
+use Rattle.amqp_endpoint_talk.specs.Inside.{said_in}
 use Rattle.amqp_endpoint_talk.specs.Windows.{Came, Passing, Went, body_said, went}
-use Rattle.amqp_endpoint_talk.proofs.Inside.{handed-both, history-both, transfers-both}
+use Rattle.amqp_endpoint_talk.proofs.Inside.{handed-both, history-both, said-both}
 use Rattle.amqp_endpoint_laws.specs.Passed.{HasCome, PassesIn, sent_in}
 use Rattle.amqp_endpoint_laws.proofs.PassedKept.{new-judges}
 use Rattle.amqp_endpoint_laws.proofs.PassedPlaces.{GoesBy, IsGone, Keeping, by-steps, hears, opens}
@@ -75,32 +75,32 @@ sent-append (Came it ∷ ps) qs = sent-append ps qs
 sent-append (Went f ∷ ps) qs = ap (λ (gs : List SessionFrame). f ∷ gs) (sent-append ps qs)
 
 more-sent : (ps qs : List Passing)
-    → transfers_in (sent_in (ps ++ qs)) ≡ transfers_in (sent_in ps) ++ transfers_in (sent_in qs)
-more-sent ps qs = ap transfers_in (sent-append ps qs) ∙ transfers-both (sent_in ps) (sent_in qs)
+    → said_in (sent_in (ps ++ qs)) ≡ said_in (sent_in ps) ++ said_in (sent_in qs)
+more-sent ps qs = ap said_in (sent-append ps qs) ∙ said-both (sent_in ps) (sent_in qs)
 
--- what passes is what these steps hand out, as far as transfers go
+-- what links say among what passes is what these steps hand out of it
 record Did (old : State Link) (ps : List Passing) (new : State Link) : Type 0 where
   steps : List LinkStep
   history : History gives old steps new
-  transfers : transfers_in (sent_in ps) ≡ transfers_in (handed_of steps)
+  says : said_in (sent_in ps) ≡ said_in (handed_of steps)
 
 one-did : (step : LinkStep) (old new : State Link) (ps : List Passing) → Steps gives old step new
-    → transfers_in (sent_in ps) ≡ transfers_in (handed_of (step ∷ [])) → Did old ps new
-one-did step old new ps s is = record { steps = step ∷ []; history = (new, s, refl); transfers = is }
+    → said_in (sent_in ps) ≡ said_in (handed_of (step ∷ [])) → Did old ps new
+one-did step old new ps s is = record { steps = step ∷ []; history = (new, s, refl); says = is }
 
 flow-taken : (flow said_so : Flow) (frames : List SessionFrame) (answer : Result ⊤ SessionError) (old new : State Link)
     → FlowTaken gives old [] flow answer new frames → Did old (Came (body.Flow said_so) ∷ went frames) new
 flow-taken flow said_so frames answer old new f =
     one-did (TakesFlow flow f.told f.reply f.base f.left f.frames) old new (Came (body.Flow said_so) ∷ went frames)
     f.stepped
-    (ap transfers_in (sent-went frames ∙ f.added ∙ sym (append-nil f.frames)))
+    (ap said_in (sent-went frames ∙ f.added ∙ sym (append-nil f.frames)))
 
 flow-in : (attached : Bool) (flow : Flow) (frames : List SessionFrame) (answer : Result ⊤ SessionError)
     (old new : State Link) → answer ≢ Err Memory → FlowInSession gives attached old [] flow answer new frames
     → Did old (Came (body.Flow flow) ∷ went frames) new
 flow-in false flow frames answer old new fault f =
     one-did (SetsWindow flow f.base) old new (Came (body.Flow flow) ∷ went frames) f.stepped
-    (ap (λ (fs : List SessionFrame). transfers_in (sent_in (went fs))) f.same)
+    (ap (λ (fs : List SessionFrame). said_in (sent_in (went fs))) f.same)
 flow-in true flow frames (Ok ok) old new fault f = flow-taken flow flow frames _ old new f
 flow-in true flow frames (Err Memory) old new fault f = absurd (fault refl)
 flow-in true flow frames (Err UnattachedHandle) old new fault f = flow-taken flow flow frames _ old new f
@@ -123,48 +123,48 @@ flow-at true flow frames (Ok ok) old new fault f =
     flow-taken _ flow frames _ old.session new.session f.0
 flow-at true flow frames (Err e) old new fault f = absurd (fault (ap Err f.0))
 
--- no transfer is handed out by what else is heard
+-- links say nothing as something else is heard
 due-none : (due : Bool) (f : SessionFields) (number : ℕ)
-    → transfers_in (option_to_list (if due then Some (session_flow f number) else None) ++ []) ≡ []
+    → said_in (option_to_list (if due then Some (session_flow f number) else None) ++ []) ≡ []
 due-none true f number = refl
 due-none false f number = refl
 
 transfer-none : (handle : ℕ) (it : Transfer) (payload : List ℕ) (told : Result (TransferAnswer Told) RelayError)
     (due : Option SessionFrame) (old new : State Link) → Steps gives old (TakesTransfer handle it payload told due) new
-    → transfers_in (handed_of {R = Link} {A = AttachTold} {T = Told} {D = Detached} (TakesTransfer handle it payload
+    → said_in (handed_of {R = Link} {A = AttachTold} {T = Told} {D = Detached} (TakesTransfer handle it payload
     told due ∷ []))
     ≡ []
 transfer-none handle it payload (Ok told) due old new s =
-    ap (λ (f : Option SessionFrame). transfers_in (option_to_list f ++ [])) (s.2).told ∙ due-none _ _ _
+    ap (λ (f : Option SessionFrame). said_in (option_to_list f ++ [])) (s.2).told ∙ due-none _ _ _
 transfer-none handle it payload (Err e) due old new s =
-    ap (λ (f : Option SessionFrame). transfers_in (option_to_list f ++ [])) s.2
+    ap (λ (f : Option SessionFrame). said_in (option_to_list f ++ [])) s.2
 
-one-none : (Is : LinkStep → Type 0) → ((step : LinkStep) → Is step → transfers_in (handed_of (step ∷ [])) ≡ [])
-    → (steps : List LinkStep) → AtMostOne Is steps → transfers_in (handed_of steps) ≡ []
+one-none : (Is : LinkStep → Type 0) → ((step : LinkStep) → Is step → said_in (handed_of (step ∷ [])) ≡ [])
+    → (steps : List LinkStep) → AtMostOne Is steps → said_in (handed_of steps) ≡ []
 one-none Is by [] are = refl
 one-none Is by (step ∷ []) are = by step are
 one-none Is by (step ∷ next ∷ steps) are = absurd are
 
 step-none : (it : LinkPerformative) (step : AskingStep Link AttachTold Told Detached) (old new : Linked)
     → IsHearing it step → ((flow : Flow) → it ≢ said.Flow flow) → (w : Within gives step old new)
-    → transfers_in (handed_of w.steps) ≡ []
+    → said_in (handed_of w.steps) ≡ []
 step-none (said.Attach attach named) step old new (result, is) other w =
     one-none (IsAttach attach named)
-    (λ s i. ap (λ (x : LinkStep). transfers_in (handed_of (x ∷ []))) i.is) w.steps
+    (λ s i. ap (λ (x : LinkStep). said_in (handed_of (x ∷ []))) i.is) w.steps
     (subst (λ (x : AskingStep Link AttachTold Told Detached). IsDoneBy x w.steps) is w.are)
 step-none (said.Flow flow) step old new is other w = absurd (other flow refl)
 step-none (said.Transfer transfer payload) step old new (handle, told, due, is) other w =
     let done : w.steps ≡ TakesTransfer handle transfer payload told due ∷ [] =
     subst (λ (x : AskingStep Link AttachTold Told Detached). IsDoneBy x w.steps) is w.are in
     let run = subst (λ (ss : List LinkStep). History gives old.session ss new.session) done w.run in
-    ap (λ (ss : List LinkStep). transfers_in (handed_of ss)) done
+    ap (λ (ss : List LinkStep). said_in (handed_of ss)) done
     ∙ transfer-none handle transfer payload told due old.session run.0 run.1
 step-none (said.Disposition disposition) step old new (walk, echoes, is) other w =
-    ap (λ (ss : List LinkStep). transfers_in (handed_of ss))
+    ap (λ (ss : List LinkStep). said_in (handed_of ss))
     (subst (λ (x : AskingStep Link AttachTold Told Detached). IsDoneBy x w.steps) is w.are)
 step-none (said.Detach detach) step old new (result, is) other w =
     one-none (IsDetach detach)
-    (λ s i. ap (λ (x : LinkStep). transfers_in (handed_of (x ∷ []))) i.is) w.steps
+    (λ s i. ap (λ (x : LinkStep). said_in (handed_of (x ∷ []))) i.is) w.steps
     (subst (λ (x : AskingStep Link AttachTold Told Detached). IsDoneBy x w.steps) is w.are)
 
 heard-did : (it : LinkPerformative) (steps : List (AskingStep Link AttachTold Told Detached))
@@ -174,7 +174,7 @@ heard-did it [] frames old new are other none same =
     record {
       steps = [];
       history = ap (λ (t : Linked). t.session) same;
-      transfers = ap (λ (fs : List SessionFrame). transfers_in (sent_in (went fs))) none;
+      says = ap (λ (fs : List SessionFrame). said_in (sent_in (went fs))) none;
     }
 heard-did it (step ∷ []) frames old new are other none (mid, stepped, same) =
     let w = step-within gives step old mid stepped in
@@ -182,8 +182,8 @@ heard-did it (step ∷ []) frames old new are other none (mid, stepped, same) =
       steps = w.steps;
       history =
           subst (λ (t : Linked). History gives old.session w.steps t.session) (sym same) w.run;
-      transfers =
-          ap (λ (fs : List SessionFrame). transfers_in (sent_in (went fs))) none
+      says =
+          ap (λ (fs : List SessionFrame). said_in (sent_in (went fs))) none
           ∙ sym (step-none it step old mid are other w);
     }
 heard-did it (step ∷ next ∷ steps) frames old new are other none h = absurd are
@@ -219,8 +219,8 @@ goes-did old new ps (by-steps frames d is) =
     record {
       steps = d.steps;
       history = d.history;
-      transfers = ap (λ (qs : List Passing). transfers_in (sent_in qs)) is ∙ ap transfers_in (sent-went frames)
-          ∙ d.transfers;
+      says = ap (λ (qs : List Passing). said_in (sent_in qs)) is ∙ ap said_in (sent-went frames)
+          ∙ d.says;
     }
 goes-did old new ps (hears it told frames before after memory h was becomes is) =
     subst (λ (qs : List Passing). Did old qs new) (sym is)
@@ -230,12 +230,12 @@ goes-did old new ps (hears it told frames before after memory h was becomes is) 
 goes-did old new ps (opens channel begin base left frames s is) =
     subst (λ (qs : List Passing). Did old qs new) (sym is)
     (one-did (TakesBegin channel begin base left frames) old new (Came (body.Begin begin) ∷ went frames) s
-    (ap transfers_in (sent-went frames ∙ sym (append-nil frames))))
+    (ap said_in (sent-went frames ∙ sym (append-nil frames))))
 
 -- where a session stands, and what passed in it so far
 abbrev Come : ℕ → Option Stood → List Passing → Type 0
-Come first None qs = transfers_in (sent_in qs) ≡ []
-Come first (Some (Asked channel a)) qs = transfers_in (sent_in qs) ≡ []
+Come first None qs = said_in (sent_in qs) ≡ []
+Come first (Some (Asked channel a)) qs = said_in (sent_in qs) ≡ []
 Come first (Some (Live channel s)) qs = HasCome first qs s.value.session
 Come first (Some (Ending channel)) qs = Unit {0}
 Come first (Some (Over peer_end complete)) qs = Unit {0}
@@ -266,17 +266,17 @@ gone-comes (Some (Asked channel a)) gone first qs = absurd gone
 gone-comes (Some (Live channel s)) gone first qs = absurd gone
 gone-comes None gone first qs = absurd gone
 
-comes-gone : (first : ℕ) (old new : Option Stood) (ps : List Passing) → IsGone new → transfers_in (sent_in ps) ≡ []
+comes-gone : (first : ℕ) (old new : Option Stood) (ps : List Passing) → IsGone new → said_in (sent_in ps) ≡ []
     → Comes first old ps new
 comes-gone first old new ps gone none = record { by = λ qs c. gone-comes new gone first (qs ++ ps) }
 
-no-more : (qs ps : List Passing) → transfers_in (sent_in ps) ≡ []
-    → transfers_in (sent_in (qs ++ ps)) ≡ transfers_in (sent_in qs)
+no-more : (qs ps : List Passing) → said_in (sent_in ps) ≡ []
+    → said_in (sent_in (qs ++ ps)) ≡ said_in (sent_in qs)
 no-more qs ps none =
-    more-sent qs ps ∙ ap (λ (fs : List SessionFrame). transfers_in (sent_in qs) ++ fs) none
-    ∙ append-nil (transfers_in (sent_in qs))
+    more-sent qs ps ∙ ap (λ (fs : List SessionFrame). said_in (sent_in qs) ++ fs) none
+    ∙ append-nil (said_in (sent_in qs))
 
-come-free : (o : Option Stood) (first : ℕ) (qs ps : List Passing) → transfers_in (sent_in ps) ≡ [] → Come first o qs
+come-free : (o : Option Stood) (first : ℕ) (qs ps : List Passing) → said_in (sent_in ps) ≡ [] → Come first o qs
     → Come first o (qs ++ ps)
 come-free None first qs ps none c = no-more qs ps none ∙ c
 come-free (Some (Asked channel a)) first qs ps none c = no-more qs ps none ∙ c
@@ -286,16 +286,16 @@ come-free (Some (Live channel s)) first qs ps none c =
       window = c.window;
       steps = c.steps;
       history = c.history;
-      transfers = no-more qs ps none ∙ c.transfers;
+      says = no-more qs ps none ∙ c.says;
     }
 come-free (Some (Ending channel)) first qs ps none c = tt
 come-free (Some (Over peer_end complete)) first qs ps none c = tt
 
-comes-free : (first : ℕ) (stood : Option Stood) (frames : List SessionFrame) → transfers_in frames ≡ []
+comes-free : (first : ℕ) (stood : Option Stood) (frames : List SessionFrame) → said_in frames ≡ []
     → Comes first stood (went frames) stood
 comes-free first stood frames none =
     record {
-      by = λ qs c. come-free stood first qs (went frames) (ap transfers_in (sent-went frames) ∙ none) c;
+      by = λ qs c. come-free stood first qs (went frames) (ap said_in (sent-went frames) ∙ none) c;
     }
 
 more-come : (first : ℕ) (qs ps : List Passing) (old new : State Link) → Did old ps new → HasCome first qs old
@@ -306,11 +306,11 @@ more-come first qs ps old new d c =
       window = c.window;
       steps = c.steps ++ d.steps;
       history = history-both gives c.steps d.steps _ old new c.history d.history;
-      transfers =
-          more-sent qs ps ∙ ap (λ (fs : List SessionFrame). fs ++ transfers_in (sent_in ps)) c.transfers
-          ∙ ap (λ (fs : List SessionFrame). transfers_in (handed_of c.steps) ++ fs) d.transfers
-          ∙ sym (transfers-both (handed_of c.steps) (handed_of d.steps))
-          ∙ ap transfers_in (sym (handed-both c.steps d.steps));
+      says =
+          more-sent qs ps ∙ ap (λ (fs : List SessionFrame). fs ++ said_in (sent_in ps)) c.says
+          ∙ ap (λ (fs : List SessionFrame). said_in (handed_of c.steps) ++ fs) d.says
+          ∙ sym (said-both (handed_of c.steps) (handed_of d.steps))
+          ∙ ap said_in (sym (handed-both c.steps d.steps));
     }
 
 comes-live : (first : ℕ) (stood : Stood) (before after : Session) (ps : List Passing)
@@ -341,10 +341,10 @@ comes-asks : (first : ℕ) (channel : IncomingChannel) (asked : Box AskedSession
 comes-asks first channel asked begin is =
     record { by = λ qs c. no-more qs (Came (body.Begin begin) ∷ []) refl ∙ c }
 
-first-sent : (qs : List Passing) (frame : SessionFrame) → transfers_in (sent_in qs) ≡ []
-    → transfers_in (sent_in (qs ++ went (frame ∷ []))) ≡ transfers_in (frame ∷ [])
+first-sent : (qs : List Passing) (frame : SessionFrame) → said_in (sent_in qs) ≡ []
+    → said_in (sent_in (qs ++ went (frame ∷ []))) ≡ said_in (frame ∷ [])
 first-sent qs frame none =
-    more-sent qs (went (frame ∷ [])) ∙ ap (λ (fs : List SessionFrame). fs ++ transfers_in (frame ∷ [])) none
+    more-sent qs (went (frame ∷ [])) ∙ ap (λ (fs : List SessionFrame). fs ++ said_in (frame ∷ [])) none
 
 comes-begins : (first window : ℕ) (channel : OutgoingChannel) (session : Session) (frame : SessionFrame)
     → Begun gives channel first window frame session.value
@@ -356,7 +356,7 @@ comes-begins first window channel session frame b =
         window = window;
         steps = SendsBegin frame ∷ [];
         history = b.history;
-        transfers = first-sent qs frame c;
+        says = first-sent qs frame c;
       };
     }
 
@@ -378,9 +378,9 @@ comes-accepts first window incoming channel asked outgoing session frame a =
         window = window;
         steps = accept_steps first channel asked.value.begin asked.value.flow frame;
         history = a.history;
-        transfers =
+        says =
             first-sent qs frame c
-            ∙ ap transfers_in (sym (accepted-hands first channel asked.value.begin asked.value.flow frame));
+            ∙ ap said_in (sym (accepted-hands first channel asked.value.begin asked.value.flow frame));
       };
     }
 

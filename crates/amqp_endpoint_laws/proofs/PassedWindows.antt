@@ -31,10 +31,11 @@ use Rattle.amqp_endpoint_model.specs.Relay.{IsNew}
 use Rattle.amqp_endpoint_model.specs.declared.settings.Settings.{Settings}
 use Rattle.amqp_endpoint_sessions.specs.State.{asked_of, live_of, with_asked, with_live}
 use Rattle.amqp_endpoint_sessions.specs.declared.place.Place.TheVariants.{Asked, Live, Ending, Over}
-use Rattle.amqp_endpoint_talk.specs.Inside.{is_transfer, transfers_in}
+use Rattle.amqp_endpoint_talk.specs.Inside.{is_transfer, said_in, transfers_in}
 use Rattle.amqp_endpoint_talk.specs.Windows.{Came, Count, IsAllowed, Keeps, KeepsWindow, Passing, Went, base_by}
 use Rattle.amqp_endpoint_talk.specs.Windows.{begins_with, body_said, count_behind, counted, sent_by, told_by, went}
 use Rattle.amqp_endpoint_talk.proofs.HeardWindows.{hears-keep}
+use Rattle.amqp_endpoint_talk.proofs.Inside.{same-transfers}
 use Rattle.amqp_endpoint_talk.proofs.Windows.{begin-keeps, counts-append, each-append, inside-keeps, keeps-still}
 use Rattle.amqp_endpoint_talk.proofs.Windows.{with-others}
 use Rattle.amqp_endpoint_laws.specs.Passed.{PassesIn, sent_in}
@@ -108,20 +109,21 @@ free-keeps (Went f ∷ ps) c none =
     let (allowed, rest) = none-passes f.body f (sent_in ps) refl none in
     (allowed c, free-keeps ps (sent_by f.body c) rest)
 
-judges-gone : (first : ℕ) (old new : Option Stood) (ps : List Passing) → IsGone new → transfers_in (sent_in ps) ≡ []
+judges-gone : (first : ℕ) (old new : Option Stood) (ps : List Passing) → IsGone new → said_in (sent_in ps) ≡ []
     → Judges first old ps new
 judges-gone first old new ps gone none =
     record {
-      each = λ c is. free-keeps ps c none;
+      each = λ c is. free-keeps ps c (same-transfers (sent_in ps) [] none);
       behind = λ c is. gone-counts new gone first (count_behind c ps);
     }
 
-judges-free : (first : ℕ) (stood : Option Stood) (frames : List SessionFrame) → transfers_in frames ≡ []
+judges-free : (first : ℕ) (stood : Option Stood) (frames : List SessionFrame) → said_in frames ≡ []
     → Judges first stood (went frames) stood
 judges-free first stood frames none =
     let free : (c : Count) → Keeps c (went frames) c =
     λ c. with-others c frames c
-    (subst (λ (fs : List SessionFrame). Keeps c (went fs) c) (sym none) (keeps-still c c refl)) in
+    (subst (λ (fs : List SessionFrame). Keeps c (went fs) c) (sym (same-transfers frames [] none))
+    (keeps-still c c refl)) in
     record {
       each = λ c is. (free c).each;
       behind = λ c is. subst (λ (x : Count). Counts first stood x) (sym (free c).counts) is;

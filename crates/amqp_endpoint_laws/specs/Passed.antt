@@ -26,7 +26,7 @@ use Rattle.amqp_endpoint_names.specs.State.{place_at}
 use Rattle.amqp_endpoint_names.specs.declared.place.LinkPlace.{LinkPlace}
 use Rattle.amqp_endpoint_names.specs.declared.place.LinkPlace.TheVariants.{AtRest, Held}
 use Rattle.amqp_endpoint_sessions.specs.State.{live_at, reached}
-use Rattle.amqp_endpoint_talk.specs.Inside.{transfers_in}
+use Rattle.amqp_endpoint_talk.specs.Inside.{said_in}
 use Rattle.amqp_endpoint_talk.specs.Windows.{Came, Passing, Went, went}
 
 -- the number of a session, where that has begun
@@ -91,11 +91,11 @@ PassesIn number old (deed ∷ deeds) new passings =
     (mid : LinkedSessions) × (later : List Passing) × IsDeed linked old deed mid × PassesIn number mid deeds new later
     × (passings ≡ passes_in number old deed ++ later)
 
--- a session came about by steps of its own since it was new, with the number of its first transfer, and the transfers
--- that passed are those that these steps handed out
+-- a session came about by steps of its own since it was new, with the number of its first transfer, and what its links
+-- said among what passed is what these steps handed out of it
 pub record HasCome (first : ℕ) (passings : List Passing) (s : SessionState Link) : Type 0 where
   pub channel : OutgoingChannel
   pub window : ℕ
   pub steps : List (Step Link AttachTold Told Detached)
   pub history : History gives (fresh channel first window) steps s
-  pub transfers : transfers_in (sent_in passings) ≡ transfers_in (handed_of steps)
+  pub says : said_in (sent_in passings) ≡ said_in (handed_of steps)

@@ -113,10 +113,11 @@ pub fn transfers_stay_in_the_window()
         (passings : List Passing) × PassesIn number old deeds new passings }
 {}
 
-/// A session that goes on came about by steps of its own since it was new, whatever its endpoint did, and the transfers
-/// that passed in it are those that these steps handed out, in order. So what `amqp_session_core::laws` and
-/// `amqp_session_outgoing::laws` say of all histories of a session holds of what an endpoint sends: each link in order,
-/// links in turn, each transfer and each delivery with its number (part 2, 2.5.6, 2.6.12).
+/// A session that goes on came about by steps of its own since it was new, whatever its endpoint did, and what its links
+/// said in it, in their transfers, Flows and Detaches, is what these steps handed out of it, in order. So what
+/// `amqp_session_core::laws` and `amqp_session_outgoing::laws` say of all histories of a session holds of what an
+/// endpoint sends: within an attachment each link's transfers, Flows and Detaches are queued in the order in which the
+/// link made them, links have turns, and each transfer and each delivery has its number (part 2, 2.5.6, 2.6.12).
 pub fn sessions_come_about_by_their_own_steps()
     ensures { (sessions end : LinkedSessions) (settings : Settings) (deeds : List Deed) (number : ℕ)
         (passings : List Passing) (session : Session) → IsNew linked settings sessions →

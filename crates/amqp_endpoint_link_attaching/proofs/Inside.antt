@@ -8,7 +8,7 @@ use Rattle.amqp_session_core.specs.declared.batch.BehindFrame.TheVariants as beh
 use Rattle.amqp_session_core.specs.Steps.{Allocates}
 use Rattle.amqp_link_attach.specs.declared.exchange.AttachExchange.{AttachExchange}
 use Rattle.amqp_link_ends.specs.declared.end.End.{End}
-use Rattle.amqp_endpoint_talk.specs.Inside.{DoneInside, transfers_in}
+use Rattle.amqp_endpoint_talk.specs.Inside.{DoneInside, said_in}
 use Rattle.amqp_endpoint_talk.proofs.Inside.{alike-inside, none-inside, one-inside, said-inside, step-inside}
 use Rattle.amqp_endpoint_attached.specs.Answering.{Replies}
 use Rattle.amqp_endpoint_attached.specs.Linked.{Linked, gives}
@@ -26,10 +26,10 @@ module _ (before after : Linked) (limit : ℕ) (link : End) (placed : Placed) (f
         → Replies gives placed.handle reply a.mid (attach_frame before.session a.attach ∷ []) after.session frames
         → DoneInside gives a.mid frames after.session
     reply-inside None r =
-        alike-inside gives a.mid after.session [] frames (ap transfers_in r.1)
+        alike-inside gives a.mid after.session [] frames (ap said_in r.1)
         (none-inside gives a.mid after.session r.0)
     reply-inside (Some flow) r =
-        alike-inside gives a.mid after.session (option_to_list r.frame) frames (ap transfers_in r.handed)
+        alike-inside gives a.mid after.session (option_to_list r.frame) frames (ap said_in r.handed)
         (said-inside gives a.mid after.session placed.handle
         (behind.Flow (record flow { handle = record { 0 = (placed.handle).0 } })) (r.sent).left r.frame
         (option_to_list r.frame) (r.sent).stepped refl)
@@ -44,7 +44,7 @@ module _ (before after : Linked) (limit : ℕ) (link : End) (placed : Placed) (f
       → AttachedBy input exchange before [] limit link placed after frames
       → DoneInside gives before.session frames after.session
   attached-inside None None (a, aborts) =
-      alike-inside gives before.session after.session [] frames (ap transfers_in a.handed)
+      alike-inside gives before.session after.session [] frames (ap said_in a.handed)
       (one-inside gives before.session after.session
       (Allocates (placed.handle).0 (with_number placed.link a.attaching) None) a.allocates tt)
   attached-inside None (Some exchange) a = absurd a

@@ -11,8 +11,8 @@ use Rattle.amqp_session_core.specs.declared.batch.BehindFrame.TheVariants as beh
 use Rattle.amqp_session_core.specs.declared.dispositions.Touched.{Touched}
 use Rattle.amqp_endpoint_links.specs.History.{AskingHistory}
 use Rattle.amqp_endpoint_model.specs.declared.event.Event.{Event}
-use Rattle.amqp_endpoint_talk.specs.Inside.{DoneInside, transfers_in}
-use Rattle.amqp_endpoint_talk.proofs.Inside.{alike-inside, both-inside, changed-inside, no-transfers, none-inside}
+use Rattle.amqp_endpoint_talk.specs.Inside.{DoneInside, said_in}
+use Rattle.amqp_endpoint_talk.proofs.Inside.{alike-inside, both-inside, changed-inside, none-said, none-inside}
 use Rattle.amqp_endpoint_talk.proofs.Inside.{one-inside, said-inside, same-inside, silent-behind, step-inside}
 use Rattle.amqp_endpoint_attached.specs.Detaching.{DetachGiven, is_there, own_detach}
 use Rattle.amqp_endpoint_attached.specs.Linked.{Linked, LinksIn, end_at, gives}
@@ -126,8 +126,8 @@ tells-echoes-inside deliveries state runs frames events old new t =
     let e = t.echoes in
     let mid : LinksIn = behind_reached old.session deliveries in
     alike-inside gives old.session new.session [] frames
-    (ap transfers_in e.frames_are
-    ∙ no-transfers (said_by mid.fields) (λ (it : Disposition). refl) (echoes_of state runs))
+    (ap said_in e.frames_are
+    ∙ none-said (said_by mid.fields) (λ (it : Disposition). refl) (echoes_of state runs))
     (reached-inside old.session deliveries [] new.session (each-inside mid (echoes_of state runs) new.session e.sends))
 
 -- a link remembers the number of a message, and nothing is handed out

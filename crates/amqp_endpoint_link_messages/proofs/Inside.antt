@@ -7,8 +7,8 @@ use Rattle.amqp_session_core.specs.Steps.{Changes, SendsDisposition, SendsTransf
 use Rattle.amqp_link_sender.specs.Sends.{entry_unless, sent, with_room}
 use Rattle.amqp_endpoint_model.specs.declared.call.Disposal.{Disposal}
 use Rattle.amqp_endpoint_model.specs.declared.call.Sending.{Sending}
-use Rattle.amqp_endpoint_talk.specs.Inside.{DoneInside, transfers_in}
-use Rattle.amqp_endpoint_talk.proofs.Inside.{alike-inside, changed-inside, no-transfers, none-inside, one-inside}
+use Rattle.amqp_endpoint_talk.specs.Inside.{DoneInside, said_in}
+use Rattle.amqp_endpoint_talk.proofs.Inside.{alike-inside, changed-inside, none-said, none-inside, one-inside}
 use Rattle.amqp_endpoint_talk.proofs.Inside.{same-inside, step-inside}
 use Rattle.amqp_endpoint_attached.specs.Linked.{Linked, LinksIn, end_at, gives}
 use Rattle.amqp_endpoint_disposing.specs.Disposing.{DisposesOfAll, DisposesOfOne}
@@ -56,7 +56,7 @@ disposed-inside : (handle : OutputHandle) (Disposes : LinksIn → List Dispositi
 disposed-inside handle Disposes change limit before after frames d =
     let l : ChangesLink handle before.session d.mid = change before.session d.told d.mid d.disposes in
     alike-inside gives before.session after.session [] frames
-    (ap transfers_in d.added ∙ no-transfers (said_by (before.session).fields) (λ (it : Disposition). refl) d.told)
+    (ap said_in d.added ∙ none-said (said_by (before.session).fields) (λ (it : Disposition). refl) d.told)
     (changed-inside gives before.session d.mid after.session handle.0 l.stood l.stands [] l.changed
     (each-inside d.mid d.told after.session d.sends))
 

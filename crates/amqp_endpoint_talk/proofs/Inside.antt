@@ -1,16 +1,21 @@
 -- What is done inside of a session, one step after another.
 use Rattle.std.proofs.Common.{◌≡◌, ℕ, Bool, true, false, List, [], ◌∷◌, ◌++◌, Option, refl, sym, ap, subst, ◌∙◌}
 use Rattle.std.proofs.Common.{append-nil, append_assoc}
-use Rattle.std.specs.Prelude.{if◌then◌else◌, map, option_to_list}
+use Rattle.std.specs.Prelude.{if◌then◌else◌, is_some, map, option_to_list}
 use Rattle.amqp_session_types.specs.declared.handles.OutputHandle.{OutputHandle}
 use Rattle.amqp_session_performatives.specs.declared.session_frame.SessionFrame.{SessionFrame}
+use Rattle.amqp_session_performatives.specs.declared.session_frame.SessionFrameBody.{SessionFrameBody}
+use Rattle.amqp_session_performatives.specs.declared.session_frame.SessionFrameBody.TheVariants.{Attach, Begin, Detach}
+use Rattle.amqp_session_performatives.specs.declared.session_frame.SessionFrameBody.TheVariants.{Disposition, End, Flow}
+use Rattle.amqp_session_performatives.specs.declared.session_frame.SessionFrameBody.TheVariants.{Transfer}
 use Rattle.amqp_session_core.specs.History.{History}
 use Rattle.amqp_session_core.specs.Relay.{Relations}
 use Rattle.amqp_session_core.specs.State.{State}
 use Rattle.amqp_session_core.specs.Steps.{Changes, SendsBehind, Step, Steps}
 use Rattle.amqp_session_core.specs.declared.batch.BehindFrame.{BehindFrame}
 use Rattle.amqp_endpoint_fitting.specs.Handed.{handed, handed_of}
-use Rattle.amqp_endpoint_talk.specs.Inside.{DoneInside, SetNoWindow, SetsNoWindow, is_transfer, transfers_in}
+use Rattle.amqp_endpoint_talk.specs.Inside.{DoneInside, SetNoWindow, SetsNoWindow, is_of_link, is_transfer}
+use Rattle.amqp_endpoint_talk.specs.Inside.{said_in, transfers_in}
 
 -- a frame before others is one before those to which others are added
 one-more : (counts : Bool) (frame : SessionFrame) (all first later : List SessionFrame) → all ≡ first ++ later
@@ -18,22 +23,50 @@ one-more : (counts : Bool) (frame : SessionFrame) (all first later : List Sessio
 one-more true frame all first later is = ap (λ (fs : List SessionFrame). frame ∷ fs) is
 one-more false frame all first later is = is
 
--- the transfers among two lists of frames
-pub transfers-both : (first later : List SessionFrame)
-    → transfers_in (first ++ later) ≡ transfers_in first ++ transfers_in later
-transfers-both [] later = refl
-transfers-both (frame ∷ first) later =
-    one-more (is_transfer frame.body) frame (transfers_in (first ++ later)) (transfers_in first) (transfers_in later)
-    (transfers-both first later)
+-- what links say among two lists of frames
+pub said-both : (first later : List SessionFrame) → said_in (first ++ later) ≡ said_in first ++ said_in later
+said-both [] later = refl
+said-both (frame ∷ first) later =
+    one-more (is_of_link frame.body) frame (said_in (first ++ later)) (said_in first) (said_in later)
+    (said-both first later)
 
--- none are among frames that are no transfers
-pub no-transfers : {X : Type 0} (said : X → SessionFrame) → ((x : X) → is_transfer (said x).body ≡ false)
-    → (xs : List X) → transfers_in (map said xs) ≡ []
-no-transfers said none [] = refl
-no-transfers said none (x ∷ xs) =
-    ap
-    (λ (counts : Bool). if counts then said x ∷ transfers_in (map said xs) else transfers_in (map said xs)) (none x)
-    ∙ no-transfers said none xs
+-- nothing among frames that are of no link
+pub none-said : {X : Type 0} (said : X → SessionFrame) → ((x : X) → is_of_link (said x).body ≡ false)
+    → (xs : List X) → said_in (map said xs) ≡ []
+none-said said none [] = refl
+none-said said none (x ∷ xs) =
+    ap (λ (counts : Bool). if counts then said x ∷ said_in (map said xs) else said_in (map said xs)) (none x)
+    ∙ none-said said none xs
+
+-- all transfers are among what links say
+one-said : (b : SessionFrameBody) (frame : SessionFrame) → frame.body ≡ b → (said all : List SessionFrame)
+    → transfers_in said ≡ all
+    → transfers_in (if is_of_link b then frame ∷ said else said) ≡ (if is_transfer b then frame ∷ all else all)
+one-said (Transfer transfer payload) frame is said all rest =
+    ap (λ (c : SessionFrameBody). if is_transfer c then frame ∷ transfers_in said else transfers_in said) is
+    ∙ ap (λ (fs : List SessionFrame). frame ∷ fs) rest
+one-said (Detach detach) frame is said all rest =
+    ap (λ (c : SessionFrameBody). if is_transfer c then frame ∷ transfers_in said else transfers_in said) is ∙ rest
+one-said (Flow flow) frame is said all rest = by (is_some flow.handle)
+  where
+    by : (named : Bool) → transfers_in (if named then frame ∷ said else said) ≡ all
+    by true =
+        ap (λ (c : SessionFrameBody). if is_transfer c then frame ∷ transfers_in said else transfers_in said) is
+        ∙ rest
+    by false = rest
+one-said (Begin begin) frame is said all rest = rest
+one-said (Attach attach) frame is said all rest = rest
+one-said (Disposition disposition) frame is said all rest = rest
+one-said (End end) frame is said all rest = rest
+
+transfers-said : (frames : List SessionFrame) → transfers_in (said_in frames) ≡ transfers_in frames
+transfers-said [] = refl
+transfers-said (frame ∷ frames) =
+    one-said frame.body frame refl (said_in frames) (transfers_in frames) (transfers-said frames)
+
+pub same-transfers : (frames others : List SessionFrame) → said_in frames ≡ said_in others
+    → transfers_in frames ≡ transfers_in others
+same-transfers frames others same = sym (transfers-said frames) ∙ ap transfers_in same ∙ transfers-said others
 
 module _ {R A T D : Type 0} where
   -- what is handed out by two lists of steps
@@ -58,7 +91,7 @@ module _ {R A T D : Type 0} (gives : Relations R A T D) where
 
   -- nothing is done
   pub none-inside : (old new : State R) → new ≡ old → DoneInside gives old [] new
-  none-inside old new is = record { steps = []; history = is; still = tt; transfers = refl }
+  none-inside old new is = record { steps = []; history = is; still = tt; says = refl }
 
   -- a step, and what is done behind it
   pub step-inside : (old mid new : State R) (step : Step R A T D) (frames : List SessionFrame)
@@ -69,10 +102,10 @@ module _ {R A T D : Type 0} (gives : Relations R A T D) where
         steps = step ∷ d.steps;
         history = (mid, stepped, d.history);
         still = (still, d.still);
-        transfers =
-            transfers-both (handed step) frames
-            ∙ ap (λ (fs : List SessionFrame). transfers_in (handed step) ++ fs) d.transfers
-            ∙ sym (transfers-both (handed step) (handed_of d.steps));
+        says =
+            said-both (handed step) frames
+            ∙ ap (λ (fs : List SessionFrame). said_in (handed step) ++ fs) d.says
+            ∙ sym (said-both (handed step) (handed_of d.steps));
       }
 
   -- one step alone
@@ -83,7 +116,7 @@ module _ {R A T D : Type 0} (gives : Relations R A T D) where
         steps = step ∷ [];
         history = (new, stepped, refl);
         still = (still, tt);
-        transfers = ap transfers_in (sym (append-nil (handed step)));
+        says = ap said_in (sym (append-nil (handed step)));
       }
 
   -- one after another
@@ -94,23 +127,23 @@ module _ {R A T D : Type 0} (gives : Relations R A T D) where
         steps = d.steps ++ e.steps;
         history = history-both d.steps e.steps old mid new d.history e.history;
         still = still-both d.steps e.steps d.still e.still;
-        transfers =
-            transfers-both first later
-            ∙ ap (λ (fs : List SessionFrame). fs ++ transfers_in later) d.transfers
-            ∙ ap (λ (fs : List SessionFrame). transfers_in (handed_of d.steps) ++ fs) e.transfers
-            ∙ sym (transfers-both (handed_of d.steps) (handed_of e.steps))
-            ∙ ap transfers_in (sym (handed-both d.steps e.steps));
+        says =
+            said-both first later
+            ∙ ap (λ (fs : List SessionFrame). fs ++ said_in later) d.says
+            ∙ ap (λ (fs : List SessionFrame). said_in (handed_of d.steps) ++ fs) e.says
+            ∙ sym (said-both (handed_of d.steps) (handed_of e.steps))
+            ∙ ap said_in (sym (handed-both d.steps e.steps));
       }
 
-  -- other frames are handed out, among which are the same transfers
+  -- other frames are handed out, among which links say the same
   pub alike-inside : (old new : State R) (frames others : List SessionFrame)
-      → transfers_in others ≡ transfers_in frames → DoneInside gives old frames new → DoneInside gives old others new
+      → said_in others ≡ said_in frames → DoneInside gives old frames new → DoneInside gives old others new
   alike-inside old new frames others same d =
-      record { steps = d.steps; history = d.history; still = d.still; transfers = same ∙ d.transfers }
+      record { steps = d.steps; history = d.history; still = d.still; says = same ∙ d.says }
 
   pub same-inside : (old new : State R) (frames others : List SessionFrame) → others ≡ frames
       → DoneInside gives old frames new → DoneInside gives old others new
-  same-inside old new frames others is d = alike-inside old new frames others (ap transfers_in is) d
+  same-inside old new frames others is d = alike-inside old new frames others (ap said_in is) d
 
   -- nothing is handed out behind
   pub silent-behind : (old mid new : State R) (frames : List SessionFrame) → DoneInside gives old frames mid

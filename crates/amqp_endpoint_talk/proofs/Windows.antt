@@ -34,6 +34,7 @@ use Rattle.amqp_endpoint_fitting.specs.Handed.{handed, handed_of}
 use Rattle.amqp_endpoint_talk.specs.Inside.{DoneInside, SetNoWindow, SetsNoWindow, is_transfer, transfers_in}
 use Rattle.amqp_endpoint_talk.specs.Windows.{Came, Count, IsAllowed, KeepsWindow, Passing, Went, base_by, count_behind}
 use Rattle.amqp_endpoint_talk.specs.Windows.{Keeps, Sending, counted, sent_by, told_by, went}
+use Rattle.amqp_endpoint_talk.proofs.Inside.{same-transfers}
 
 pub keeps-still : (old new : Count) → new ≡ old → Keeps old [] new
 keeps-still old new same = record { each = tt; counts = sym same }
@@ -251,7 +252,8 @@ module _ {R A T D : Type 0} (gives : Relations R A T D) where
   pub inside-keeps : (frames : List SessionFrame) (old new : State R) → DoneInside gives old frames new
       → Keeps (counted old.outgoing) (went frames) (counted new.outgoing)
   inside-keeps frames old new d =
-      with-same frames (handed_of d.steps) (counted old.outgoing) (counted new.outgoing) d.transfers
+      with-same frames (handed_of d.steps) (counted old.outgoing) (counted new.outgoing)
+      (same-transfers frames (handed_of d.steps) d.says)
       (history-keeps d.steps old new d.still d.history)
 
   -- the peer's Begin is taken

@@ -1,8 +1,8 @@
--- What is done inside of a session that has begun, and which transfers are handed out by it (part 2, 2.5.6).
-use Rattle.std.specs.Prelude.{◌≡◌, List, [], ◌∷◌, Bool, true, false, if◌then◌else◌}
+-- What is done inside of a session that has begun, and which frames of its links are handed out by it (part 2, 2.5.6).
+use Rattle.std.specs.Prelude.{◌≡◌, List, [], ◌∷◌, Bool, true, false, if◌then◌else◌, is_some}
 use Rattle.amqp_session_performatives.specs.declared.session_frame.SessionFrame.{SessionFrame}
 use Rattle.amqp_session_performatives.specs.declared.session_frame.SessionFrameBody.{SessionFrameBody}
-use Rattle.amqp_session_performatives.specs.declared.session_frame.SessionFrameBody.TheVariants.{Transfer}
+use Rattle.amqp_session_performatives.specs.declared.session_frame.SessionFrameBody.TheVariants.{Detach, Flow, Transfer}
 use Rattle.amqp_session_core.specs.History.{History}
 use Rattle.amqp_session_core.specs.Relay.{Relations}
 use Rattle.amqp_session_core.specs.State.{State}
@@ -18,6 +18,19 @@ abbrev pub transfers_in : List SessionFrame → List SessionFrame
 transfers_in [] = []
 transfers_in (frame ∷ frames) = if is_transfer frame.body then frame ∷ transfers_in frames else transfers_in frames
 
+-- a frame by which a link says something behind all that it said before: a transfer, its Flow or its Detach. A Flow that
+-- names no link is the session's, and an Attach and a Disposition leave at once (part 2, 2.7.4)
+abbrev pub is_of_link : SessionFrameBody → Bool
+is_of_link (Transfer transfer payload) = true
+is_of_link (Flow flow) = is_some flow.handle
+is_of_link (Detach detach) = true
+is_of_link body = false
+
+-- what links say so among frames, in order
+abbrev pub said_in : List SessionFrame → List SessionFrame
+said_in [] = []
+said_in (frame ∷ frames) = if is_of_link frame.body then frame ∷ said_in frames else said_in frames
+
 module _ {R A T D : Type 0} where
   -- a step by which the peer's window stays as it is
   abbrev pub SetsNoWindow : Step R A T D → Type 0
@@ -31,10 +44,10 @@ module _ {R A T D : Type 0} where
   SetNoWindow (step ∷ steps) = SetsNoWindow step × SetNoWindow steps
 
 module _ {R A T D : Type 0} (gives : Relations R A T D) where
-  -- a session goes on by steps of its own, by which its peer's window stays as it is, and the transfers among what is
-  -- handed out are theirs
+  -- a session goes on by steps of its own, by which its peer's window stays as it is, and what links say among what is
+  -- handed out is theirs
   pub record DoneInside (old : State R) (frames : List SessionFrame) (new : State R) : Type 0 where
     pub steps : List (Step R A T D)
     pub history : History gives old steps new
     pub still : SetNoWindow steps
-    pub transfers : transfers_in frames ≡ transfers_in (handed_of steps)
+    pub says : said_in frames ≡ said_in (handed_of steps)
