@@ -1,9 +1,11 @@
 -- What is done in a run of an endpoint, and what passes between it and its peer by that (part 2, 2.2, 2.4, 2.5).
-use Rattle.std.specs.Prelude.{◌≡◌, ℕ, List, [], ◌∷◌, ◌++◌, Bool, false, map, Some}
+use Rattle.std.specs.Prelude.{◌≡◌, ℕ, List, [], ◌∷◌, ◌++◌, Bool, true, false, map, Some}
 use Rattle.amqp_session_connection.specs.State as channels
 use Rattle.amqp_session_performatives.specs.declared.session_frame.SessionFrame.{SessionFrame}
 use Rattle.amqp_session_frames.specs.Cutting.{ReadsAs}
 use Rattle.amqp_session_frames.specs.declared.frame.Frame.{Frame}
+use Rattle.amqp_session_frames.specs.declared.frame.FrameBody.{FrameBody}
+use Rattle.amqp_session_frames.specs.declared.frame.FrameBody.TheVariants.{Close, Empty, Open}
 use Rattle.amqp_endpoint_model.specs.declared.call.Call.{Call}
 use Rattle.amqp_endpoint_model.specs.declared.call.Call.TheVariants.{Connect, Feed}
 use Rattle.amqp_endpoint_model.specs.declared.error.EndpointError.{EndpointError}
@@ -12,7 +14,8 @@ use Rattle.amqp_endpoint_model.specs.declared.phase.Phase.{Phase}
 use Rattle.amqp_endpoint_model.specs.declared.phase.Phase.TheVariants.{Unconnected, Greeting, Running, Over}
 use Rattle.amqp_endpoint_model.specs.Relay.{Relations}
 use Rattle.amqp_endpoint_model.specs.Said.{Said, Told, done, fed, pulled}
-use Rattle.amqp_endpoint_model.specs.State.{State, Waiting, is_unconnected, protocol_header, text_of, waiting_of}
+use Rattle.amqp_endpoint_model.specs.State.{State, Waiting, is_unconnected, protocol_header, text_of, the_frame}
+use Rattle.amqp_endpoint_model.specs.State.{the_header, waiting_of}
 use Rattle.amqp_endpoint_model.specs.Step.{Admits, ClosesBy, anew}
 
 -- one thing that is done
@@ -27,7 +30,7 @@ pub data Deed : Type 0 where
   Refuses : (limit : ℕ) (frame : Frame) (error : EndpointError) → Deed
   -- they do what they are called for: it is answered so, and these frames are queued
   Does : (limit : ℕ) (call : Call) (answer : Said) (frames : List SessionFrame) → Deed
-  -- their connection goes on, and no channel is given or taken back by that
+  -- their connection goes on, and no channel is given, taken back or led by that
   Moves : (connection : channels.State) → Deed
   -- it begins anew
   Renews : Deed
@@ -57,6 +60,69 @@ abbrev pub taken_by : List Deed → List Frame
 taken_by [] = []
 taken_by (deed ∷ deeds) = taken_in deed ++ taken_by deeds
 
+-- what is the connection's own: the header, an Open, a Close, or an empty frame (part 2, 2.2, 2.4)
+abbrev pub IsOfConnection : FrameBody → Type 0
+IsOfConnection Empty = Unit {0}
+IsOfConnection (Open opening) = Unit {0}
+IsOfConnection (Close closing) = Unit {0}
+IsOfConnection it = ⊥
+
+abbrev pub IsOwn : Waiting → Type 0
+IsOwn the_header = Unit {0}
+IsOwn (the_frame frame) = IsOfConnection frame.body
+
+-- a connection is up, or it is none, or over: then its sessions queue nothing
+abbrev pub IsUp : Bool → Type 0
+IsUp true = Unit {0}
+IsUp false = ⊥
+
+abbrev pub IsDown : Bool → Type 0
+IsDown true = ⊥
+IsDown false = Unit {0}
+
+abbrev pub IsSilent : Bool → List SessionFrame → Type 0
+IsSilent true frames = Unit {0}
+IsSilent false frames = frames ≡ []
+
+-- whether it is up behind deeds
+abbrev pub up_behind : Bool → List Deed → Bool
+up_behind up [] = up
+up_behind up (Refuses limit frame error ∷ later) = up_behind false later
+up_behind up (Renews ∷ later) = up_behind true later
+up_behind up (Finishes ∷ later) = up_behind false later
+up_behind up (deed ∷ later) = up_behind up later
+
+-- deeds come in order: what the connection takes and queues for itself is its own, its sessions take frames as long as
+-- it is up, and it begins anew where it may
+module _ (MayRenew : Bool → Type 0) where
+  abbrev pub AreInOrder : Bool → List Deed → Type 0
+  AreInOrder up [] = Unit {0}
+  AreInOrder up (Queues it ∷ later) = IsOwn it × AreInOrder up later
+  AreInOrder up (Hears frame ∷ later) = IsOfConnection frame.body × AreInOrder up later
+  AreInOrder up (Takes limit frame frames events ∷ later) = IsUp up × AreInOrder up later
+  AreInOrder up (Refuses limit frame error ∷ later) = IsUp up × AreInOrder false later
+  AreInOrder up (Does limit call answer frames ∷ later) = IsSilent up frames × AreInOrder up later
+  AreInOrder up (Moves connection ∷ later) = AreInOrder up later
+  AreInOrder up (Renews ∷ later) = MayRenew up × AreInOrder true later
+  AreInOrder up (Closes ∷ later) = AreInOrder up later
+  AreInOrder up (Finishes ∷ later) = AreInOrder false later
+
+-- it never does
+abbrev pub Never : Bool → Type 0
+Never up = ⊥
+
+-- deeds of one connection, from the moment on when it begins anew
+pub record AreOfOne (deeds : List Deed) : Type 0 where
+  pub later : List Deed
+  pub is : deeds ≡ Renews ∷ later
+  pub in_order : AreInOrder Never true later
+
+-- whether frames are read, or the peer's header is awaited
+abbrev pub is_up : Phase → Bool
+is_up Greeting = true
+is_up Running = true
+is_up phase = false
+
 module _ {S : Type 0} (does : Relations S) where
   -- a frame is refused, and the connection is over, behind the own Close where that hadn't gone
   pub record EndsBy (old : S) (limit : ℕ) (frame : Frame) (error : EndpointError) (new : S) : Type 0 where
@@ -73,7 +139,8 @@ module _ {S : Type 0} (does : Relations S) where
   IsDeed old (Refuses limit frame error) new = EndsBy old limit frame error new
   IsDeed old (Does limit call answer frames) new = does.calls old limit call answer frames new
   IsDeed old (Moves connection) new =
-      (connection.live ≡ (does.connection old).live) × (new ≡ does.moved old connection)
+      ((connection.live ≡ (does.connection old).live) × (connection.routes ≡ (does.connection old).routes))
+      × (new ≡ does.moved old connection)
   IsDeed old Renews new = new ≡ anew does old
   IsDeed old Closes new = does.closes old new
   IsDeed old Finishes new = does.finishes old new
@@ -121,10 +188,13 @@ pub record Passes {S : Type 0} (limit : ℕ) (deeds : List Deed) (given : List (
   pub read : AreRead s.phase limit bytes (taken_by deeds) s.rest
 
 -- sessions stand as these deeds leave them, up to the latest connect and since, where pull gave so much since then, and
--- these bytes were fed
+-- these bytes were fed. As long as the connection isn't cut off, those since then are of one connection
 pub record IsDone {S : Type 0} (does : Relations S) (limit : ℕ) (start : S) (given : List (List ℕ)) (bytes : List ℕ)
     (s : State S) : Type 0 where
   pub before : List Deed
   pub since : List Deed
   pub are_done : AreDone does start (before ++ since) s.sessions
+  pub in_order : AreInOrder IsDown false (before ++ since)
+  pub up : up_behind false (before ++ since) ≡ is_up s.phase
+  pub of_one : is_unconnected s.phase ≡ false → AreOfOne since
   pub passes : is_unconnected s.phase ≡ false → Passes limit since given bytes s
