@@ -1,5 +1,6 @@
 -- As a connection goes on, the sessions on its channels are those that are read.
-use Rattle.std.proofs.Common.{◌≡◌, ◌≢◌, ◌⊎◌, inl, inr, ℕ, suc, ◌+◌, ◌==◌, Bool, true, false, cond, List, [], ◌∷◌, ◌++◌}
+use Rattle.std.proofs.Common.{◌≡◌, ◌≢◌, ◌⊎◌, inl, inr, ℕ, suc, ◌+◌, ◌==◌, Bool, true, false, cond, List, [], ◌∷◌}
+use Rattle.std.proofs.Common.{◌++◌}
 use Rattle.std.proofs.Common.{Option, Some, None, ap, length, refl, slice_set, sym, subst, ◌∙◌}
 use Rattle.std.specs.FinMap as map
 use Rattle.std.proofs.lemmas.Bool.Decides.{eqb_tells}
@@ -15,19 +16,25 @@ use Rattle.amqp_session_connection.specs.Steps.{DeallocateSession, named_session
 use Rattle.amqp_endpoint_sessions.specs.declared.place.Place.{Place}
 use Rattle.amqp_endpoint_sessions.specs.declared.place.Place.TheVariants.{Asked, Live, Ending, Over}
 use Rattle.amqp_endpoint_sessions.specs.State.{State, asked_in, asked_on, ended_place, first_of, place_at, reached}
-use Rattle.amqp_endpoint_sessions.specs.State.{routed, routed_in, told_place, when_asked, with_asked, with_channel, with_live}
+use Rattle.amqp_endpoint_sessions.specs.State.{routed, routed_in, told_place, when_asked, with_asked, with_channel}
+use Rattle.amqp_endpoint_sessions.specs.State.{with_live}
 use Rattle.amqp_endpoint_sessions.specs.Steps.{Step, Steps, History, ChangesConnection, Begins, Asks, Accepts}
-use Rattle.amqp_endpoint_sessions.specs.Steps.{TakesBegin, TakesEnd, Ends, Finishes, TellsEnd, ChangesAsked, ChangesLive}
+use Rattle.amqp_endpoint_sessions.specs.Steps.{TakesBegin, TakesEnd, Ends, Finishes, TellsEnd, ChangesAsked}
+use Rattle.amqp_endpoint_sessions.specs.Steps.{ChangesLive}
 use Rattle.amqp_endpoint_sessions.specs.Steps.{TakesChannelBack}
 use Rattle.amqp_endpoint_sessions.proofs.Apart.{split}
 use Rattle.amqp_endpoint_sessions.proofs.Owning.{at}
 use Rattle.amqp_endpoint_sessions.proofs.Places.{get-put, get-take}
-use Rattle.amqp_endpoint_reading.specs.Agreeing.{Agrees, AskedOn, GoesOn, Gone, Has, Nowhere, Role, Stands, behind_step}
+use Rattle.amqp_endpoint_reading.specs.Agreeing.{Agrees, AskedOn, OnConnection, Gone, Has, Nowhere, Role, InTables}
+use Rattle.amqp_endpoint_reading.specs.Agreeing.{behind_step}
 use Rattle.amqp_endpoint_reading.specs.Agreeing.{behind_steps, from, role_at, role_of}
 use Rattle.amqp_endpoint_reading.specs.Reading.{Reader, peer_begins, peer_ends, reaches, unless_it}
-use Rattle.amqp_endpoint_reading.proofs.Views.{Agree, Cut, Found, IsPut, Stand, View, accepted-agree, accepted-stand, apart}
-use Rattle.amqp_endpoint_reading.proofs.Views.{asked-agree, asked-stand, begun-agree, begun-stand, cut, first-read, found}
-use Rattle.amqp_endpoint_reading.proofs.Views.{here, led-agree, led-stand, over-agree, over-stand, still-agree, still-stand}
+use Rattle.amqp_endpoint_reading.proofs.Views.{Agree, Cut, Found, IsPut, Stand, View, accepted-agree}
+use Rattle.amqp_endpoint_reading.proofs.Views.{accepted-stand, apart}
+use Rattle.amqp_endpoint_reading.proofs.Views.{asked-agree, asked-stand, begun-agree, begun-stand, cut, first-read}
+use Rattle.amqp_endpoint_reading.proofs.Views.{found}
+use Rattle.amqp_endpoint_reading.proofs.Views.{here, led-agree, led-stand, over-agree, over-stand, still-agree}
+use Rattle.amqp_endpoint_reading.proofs.Views.{still-stand}
 use Rattle.amqp_endpoint_reading.proofs.Views.{stays, unless-other, unless-same, via, when_asks, when_has}
 use Rattle.amqp_endpoint_reading.proofs.Views as views
 
@@ -44,13 +51,13 @@ pushed [] x = refl
 pushed (y ∷ ys) x = ap suc (pushed ys x)
 
 -- an entry of a table is put or taken
-put-at : (old new : Table) (key other value : ℕ) → key ≡ other → new ≡ map.insert old key value
+pub put-at : (old new : Table) (key other value : ℕ) → key ≡ other → new ≡ map.insert old key value
     → IsPut (λ c. map.get old c) other (Some value) (λ c. map.get new c)
 put-at old new key other value same is c =
     ap (λ (t : Table). map.get t c) is ∙ get-put old key c value
     ∙ ap (λ (k : ℕ). cond (c == k) (Some value) (map.get old c)) same
 
-take-at : (old new : Table) (key : ℕ) → new ≡ map.remove old key
+pub take-at : (old new : Table) (key : ℕ) → new ≡ map.remove old key
     → IsPut (λ c. map.get old c) key None (λ c. map.get new c)
 take-at old new key is c = ap (λ (t : Table). map.get t c) is ∙ get-take old key c
 
@@ -97,7 +104,7 @@ module _ {A S : Type 0} where
       by None = refl
       by (Some n) = asks-of n (place_at s n)
 
-  to-stand : (s : State A S) → Stands s → Stand (view s)
+  to-stand : (s : State A S) → InTables s → Stand (view s)
   to-stand s t =
       record {
         has = t.has;
@@ -108,7 +115,7 @@ module _ {A S : Type 0} where
         asked_there = t.asked_there;
       }
 
-  of-stand : (s : State A S) → Stand (view s) → Stands s
+  of-stand : (s : State A S) → Stand (view s) → InTables s
   of-stand s t =
       record {
         has = t.has;
@@ -175,6 +182,9 @@ module _ {A S : Type 0} where
       (base : ℕ) (r : Reader) → Stand (view old) → Agree base r (view old)
       → Stand (view new) × Agree base (reads r) (view new)
 
+  abbrev Behind : Step A S → Reader → Reader
+  Behind step r = behind_step r step
+
   still : (old new : State A S) → length new.places ≡ length old.places
       → new.connection.live ≡ old.connection.live → new.connection.routes ≡ old.connection.routes
       → new.asked ≡ old.asked → ((m : ℕ) → role_at new m ≡ role_at old m) → Keeps old (λ r. r) new
@@ -186,7 +196,8 @@ module _ {A S : Type 0} where
   )
 
   -- another place stands in the list, and no role changes
-  replaced : (old new : State A S) (n : ℕ) (place : Place A S) → new ≡ record old { places = slice_set old.places n place }
+  replaced : (old new : State A S) (n : ℕ) (place : Place A S)
+      → new ≡ record old { places = slice_set old.places n place }
       → ((m : ℕ) → role_at new m ≡ role_at old m) → Keeps old (λ r. r) new
   replaced old new n place is role =
       still old new (ap (λ (t : State A S). length t.places) is ∙ length-set old.places n place)
@@ -194,7 +205,7 @@ module _ {A S : Type 0} where
       (ap (λ (t : State A S). t.asked) is) role
 
   begun : (old new : State A S) (n : ℕ) (channel : OutgoingChannel) (session : S)
-      → Steps old (Begins n channel session) new → Keeps old (λ r. behind_step {A = A} {S = S} r (Begins n channel session)) new
+      → Steps old (Begins n channel session) new → Keeps old (Behind (Begins n channel session)) new
   begun old new n channel session s base r stands agrees =
       let step : Step A S = Begins n channel session in
       let allocated = s.0 in
@@ -219,7 +230,7 @@ module _ {A S : Type 0} where
       )
 
   asked-for : (old new : State A S) (n : ℕ) (channel : IncomingChannel) (wanted : A)
-      → Steps old (Asks n channel wanted) new → Keeps old (λ r. behind_step {A = A} {S = S} r (Asks n channel wanted)) new
+      → Steps old (Asks n channel wanted) new → Keeps old (Behind (Asks n channel wanted)) new
   asked-for old new n channel wanted s base r stands agrees =
       let step : Step A S = Asks n channel wanted in
       let is_new : role_at old n ≡ Nowhere = ap role_of ((at n old step new s).about (itself n)).0 in
@@ -243,7 +254,7 @@ module _ {A S : Type 0} where
 
   accepted : (old new : State A S) (n : ℕ) (incoming : IncomingChannel) (wanted : A) (outgoing : OutgoingChannel)
       (session : S) → Steps old (Accepts n incoming wanted outgoing session) new
-      → Keeps old (λ r. behind_step {A = A} {S = S} r (Accepts n incoming wanted outgoing session)) new
+      → Keeps old (Behind (Accepts n incoming wanted outgoing session)) new
   accepted old new n incoming wanted outgoing session s base r stands agrees =
       let step : Step A S = Accepts n incoming wanted outgoing session in
       let mid = (s.1).mid in
@@ -274,7 +285,7 @@ module _ {A S : Type 0} where
       )
 
   taken : (old new : State A S) (n : ℕ) (channel : IncomingChannel) (begin : Begin)
-      → Steps old (TakesBegin n channel begin) new → Keeps old (λ r. behind_step {A = A} {S = S} r (TakesBegin n channel begin)) new
+      → Steps old (TakesBegin n channel begin) new → Keeps old (Behind (TakesBegin n channel begin)) new
   taken old new n channel begin s base r stands agrees = by begin.remote_channel refl
     where
       by : (o : Option ℕ) → begin.remote_channel ≡ o
@@ -309,7 +320,7 @@ module _ {A S : Type 0} where
   over-role (Over p c) = refl
 
   ended : (old new : State A S) (n : ℕ) (channel : IncomingChannel) (end : End) (stood : Place A S)
-      → Steps old (TakesEnd n channel end stood) new → Keeps old (λ r. behind_step {A = A} {S = S} r (TakesEnd n channel end stood)) new
+      → Steps old (TakesEnd n channel end stood) new → Keeps old (Behind (TakesEnd n channel end stood)) new
   ended old new n channel end stood s base r stands agrees = by stood s (reaches r channel.0) refl
     where
       -- the session that was read
@@ -446,8 +457,8 @@ module _ {A S : Type 0} where
           let (stand, agree) = at_stood stood s k (same_Some n (base + k) (is_read stood s (Some k) e)) in
           (stand, subst (λ (o : Option ℕ). Agree base (peer_ends o r) (view new)) (sym e) agree)
 
-  step-keeps : (step : Step A S) (old new : State A S) → GoesOn (step ∷ []) → Steps old step new
-      → Keeps old (λ r. behind_step {A = A} {S = S} r step) new
+  step-keeps : (step : Step A S) (old new : State A S) → OnConnection (step ∷ []) → Steps old step new
+      → Keeps old (Behind step) new
   step-keeps (ChangesConnection before after) old new (live, routes, on) s =
       still old new (ap (λ (t : State A S). length t.places) s.1)
       (ap (λ (t : State A S). t.connection.live) s.1 ∙ live ∙ ap (λ (c : channels.State). c.live) s.0)
@@ -491,8 +502,8 @@ module _ {A S : Type 0} where
       (λ m e. (at m old (ChangesLive n before after) new s).other e))
 
   -- of a list of steps, the first and the others
-  first-on : (step : Step A S) (steps : List (Step A S)) → GoesOn (step ∷ steps)
-      → GoesOn (step ∷ []) × GoesOn steps
+  first-on : (step : Step A S) (steps : List (Step A S)) → OnConnection (step ∷ steps)
+      → OnConnection (step ∷ []) × OnConnection steps
   first-on (ChangesConnection before after) steps (live, routes, on) = ((live, routes, tt), on)
   first-on (Begins number channel session) steps on = (tt, on)
   first-on (Asks number channel asked) steps on = (tt, on)
@@ -506,7 +517,7 @@ module _ {A S : Type 0} where
   first-on (ChangesLive number before after) steps on = (tt, on)
 
   steps-keep : (steps : List (Step A S)) (base : ℕ) (r : Reader) (old new : State A S) → History old steps new
-      → GoesOn steps → Stand (view old) → Agree base r (view old)
+      → OnConnection steps → Stand (view old) → Agree base r (view old)
       → Stand (view new) × Agree base (behind_steps r steps) (view new)
   steps-keep [] base r old new same on stands agrees = (
     subst (λ (t : State A S). Stand (view t)) (sym same) stands,
@@ -526,8 +537,8 @@ module _ {A S : Type 0} where
       ∙ first-read base (r.led channel) (r.asked channel)
 
   pub channels-tell : (base : ℕ) (r : Reader) (start end : State A S) (steps : List (Step A S))
-      → History start steps end → GoesOn steps → Stands start → Agrees base r start
-      → Stands end × Agrees base (behind_steps r steps) end
+      → History start steps end → OnConnection steps → InTables start → Agrees base r start
+      → InTables end × Agrees base (behind_steps r steps) end
   channels-tell base r start end steps h on stands agrees =
       let (stand, agree) =
       steps-keep steps base r start end h on (to-stand start stands) (to-agree base r start agrees) in

@@ -1,19 +1,14 @@
 -- What a conversation does is read off the frames that pass by that.
 use Rattle.std.proofs.Common.{◌≡◌, inl, inr, ℕ, Bool, true, false, List, [], ◌∷◌, ◌++◌, Option, Some, None}
 use Rattle.std.proofs.Common.{Result, Ok, Err, ap, refl, sym, subst, ◌∙◌}
-use Rattle.std.specs.Prelude.{⊤}
 use Rattle.std.specs.FinMap as map
 use Rattle.std.specs.Global.{Box}
 use Rattle.std.proofs.lemmas.Option.{none-some, same_Some}
 use Rattle.amqp_session_types.specs.declared.channels.IncomingChannel.{IncomingChannel}
 use Rattle.amqp_session_types.specs.declared.error.Error.{Error}
 use Rattle.amqp_session_types.specs.declared.refusals.SessionError.{SessionError}
-use Rattle.amqp_session_types.specs.declared.refusals.SessionError.TheVariants.{UnattachedHandle, HandleInUse, Memory}
-use Rattle.amqp_session_types.specs.declared.refusals.SessionError.TheVariants.{RemoteAttachingLinkNameNotFound}
-use Rattle.amqp_session_types.specs.declared.refusals.SessionError.TheVariants.{IllegalState, ConnectionStopped}
-use Rattle.amqp_session_types.specs.declared.refusals.SessionError.TheVariants.{TransferFrameToSender, RemoteEnded}
-use Rattle.amqp_session_types.specs.declared.refusals.SessionError.TheVariants.{RemoteEndedWithError, NumberInUse}
-use Rattle.amqp_session_types.specs.declared.refusals.SessionError.TheVariants.{HandleMaxReached}
+use Rattle.amqp_session_types.specs.declared.refusals.SessionError.TheVariants.{Memory}
+use Rattle.amqp_session_types.specs.declared.refusals.SessionError.TheVariants.{IllegalState}
 use Rattle.amqp_session_performatives.specs.declared.begin.Begin.{Begin}
 use Rattle.amqp_session_performatives.specs.declared.end.End.{End}
 use Rattle.amqp_session_performatives.specs.declared.flow.Flow.{Flow}
@@ -22,28 +17,19 @@ use Rattle.amqp_session_performatives.specs.declared.session_frame.SessionFrameB
 use Rattle.amqp_session_performatives.specs.declared.session_frame.SessionFrameBody.TheVariants as session
 use Rattle.amqp_session_frames.specs.declared.frame.FrameBody.{FrameBody}
 use Rattle.amqp_session_frames.specs.declared.frame.FrameBody.TheVariants as body
-use Rattle.amqp_session_core.specs.declared.batch.BehindFrame.{BehindFrame}
-use Rattle.amqp_session_core.specs.declared.batch.BehindFrame.TheVariants as behind_transfer
-use Rattle.amqp_session_core.specs.declared.fields.SessionFields.{SessionFields}
-use Rattle.amqp_session_core.specs.Frames.{Left, behind_frame, frames_behind, frames_left}
 use Rattle.amqp_session_core.specs.Relay.{Relations}
-use Rattle.amqp_session_core.specs.State.{State as SessionState, leads}
-use Rattle.amqp_session_core.specs.Steps.{Reply, NoReply, OfSession, OfLink, reply_frames}
-use Rattle.amqp_session_core.specs.Told.{FlowTaken}
-use Rattle.amqp_endpoint_asked.specs.Asked.{is_asked}
+use Rattle.amqp_session_core.specs.Steps as session_steps
 use Rattle.amqp_endpoint_asked.specs.declared.session.AskedSession.{AskedSession}
-use Rattle.amqp_endpoint_links.specs.Asking.{FlowAt, FlowInSession}
 use Rattle.amqp_endpoint_links.specs.Hearing.{Hears}
 use Rattle.amqp_endpoint_links.specs.declared.asking.AskingSession.{AskingSession}
 use Rattle.amqp_endpoint_links.specs.declared.hearing.LinkPerformative.{LinkPerformative}
-use Rattle.amqp_endpoint_links.specs.declared.hearing.LinkPerformative.TheVariants as said
 use Rattle.amqp_endpoint_links.specs.declared.hearing.PerformativeTaken.{PerformativeTaken}
-use Rattle.amqp_endpoint_links.specs.declared.hearing.PerformativeTaken.TheVariants as taken
 use Rattle.amqp_endpoint_links.proofs.Standing.{accepted-stands, begun-stands}
 use Rattle.amqp_endpoint_sessions.specs.declared.place.Place.{Place}
 use Rattle.amqp_endpoint_sessions.specs.declared.place.Place.TheVariants.{Asked, Live, Ending, Over}
 use Rattle.amqp_endpoint_sessions.specs.State.{State, asked_at, asked_in, live_at, place_at, reached, when_asked}
-use Rattle.amqp_endpoint_sessions.specs.Steps.{Step, Steps, History, ChangesConnection, Begins, Asks, Accepts, TakesBegin}
+use Rattle.amqp_endpoint_sessions.specs.Steps.{Step, Steps, History, ChangesConnection, Begins, Asks, Accepts}
+use Rattle.amqp_endpoint_sessions.specs.Steps.{TakesBegin}
 use Rattle.amqp_endpoint_sessions.specs.Steps.{TakesEnd, Ends, Finishes, TellsEnd, ChangesAsked, ChangesLive}
 use Rattle.amqp_endpoint_conversation.specs.declared.beginning.BeginHeard.{BeginHeard}
 use Rattle.amqp_endpoint_conversation.specs.declared.beginning.BeginHeard.TheVariants as begin_heard
@@ -58,11 +44,12 @@ use Rattle.amqp_endpoint_conversation.specs.Beginning.{AcceptsHere, BeginAnswere
 use Rattle.amqp_endpoint_conversation.specs.Ending.{EndAnswered, EndReply, EndsHere, end_frame}
 use Rattle.amqp_endpoint_conversation.specs.Hearing.{Answered, AnsweredAt, AnsweredIn, AskedAnswered, FlowTold}
 use Rattle.amqp_endpoint_conversation.specs.Hearing.{LiveAnswered, TellsAt, TellsIf}
-use Rattle.amqp_endpoint_reading.specs.Agreeing.{Agrees, GoesOn, Stands, behind_step, behind_steps, role_of}
+use Rattle.amqp_endpoint_reading.specs.Agreeing.{Agrees, OnConnection, InTables, behind_step, behind_steps, role_of}
 use Rattle.amqp_endpoint_reading.specs.Following.{Follows, IsNoBegin, IsWithin, NoBegins, comes, goes}
-use Rattle.amqp_endpoint_reading.specs.Reading.{Reader, Wired, behind, behind_all, behind_coming, behind_going, own_begins}
-use Rattle.amqp_endpoint_reading.specs.Reading.{peer_begins}
+use Rattle.amqp_endpoint_reading.specs.Reading.{Reader, Wired, behind, behind_all, behind_coming, behind_going}
+use Rattle.amqp_endpoint_reading.specs.Reading.{own_begins, peer_begins}
 use Rattle.amqp_endpoint_reading.proofs.Agreeing.{channels-tell}
+use Rattle.amqp_endpoint_reading.proofs.Handing.{hears-of, plain-of, step-of}
 
 -- frames without a Begin among them leave the reader where he stands
 going-same : (channel : ℕ) (it : SessionFrameBody) → IsNoBegin it → (r : Reader) → behind_going channel it r ≡ r
@@ -96,25 +83,6 @@ none-both : (first later : List SessionFrame) → NoBegins first → NoBegins la
 none-both [] later plain more = more
 none-both (frame ∷ first) later plain more = (plain.0, none-both first later plain.1 more)
 
--- what a session hands out by itself
-behind-none : (f : SessionFields) (number : ℕ) (it : BehindFrame) → IsNoBegin (behind_frame f number it).body
-behind-none f number (behind_transfer.Flow link) = tt
-behind-none f number (behind_transfer.Detach detach) = tt
-
-all-behind-none : (f : SessionFields) (number : ℕ) (its : List BehindFrame) → NoBegins (frames_behind f number its)
-all-behind-none f number [] = tt
-all-behind-none f number (it ∷ its) = (behind-none f number it, all-behind-none f number its)
-
-pub left-none : (f : SessionFields) (left : Left) → NoBegins (frames_left f left)
-left-none f [] = tt
-left-none f (s ∷ left) = (tt, none-both _ (frames_left f left) (all-behind-none f _ s.behind) (left-none f left))
-
-reply-none : (f : SessionFields) (number : ℕ) (reply : Reply) → NoBegins (reply_frames f number reply)
-reply-none f number NoReply = tt
-reply-none f number OfSession = (tt, tt)
-reply-none f number (OfLink handle flow None) = tt
-reply-none f number (OfLink handle flow (Some it)) = (behind-none f number it, tt)
-
 same-none : (frames others : List SessionFrame) → frames ≡ others → NoBegins others → NoBegins frames
 same-none frames others is plain = subst NoBegins (sym is) plain
 
@@ -125,7 +93,8 @@ heard-read channel it frames is plain r =
     ap (λ (s : Reader). behind_all s (goes frames)) (within-read channel it is r) ∙ none-read frames plain r
 
 -- one list behind the other
-read-on : (frames more : List Wired) (r : Reader) → behind_all r (frames ++ more) ≡ behind_all (behind_all r frames) more
+read-on : (frames more : List Wired) (r : Reader)
+    → behind_all r (frames ++ more) ≡ behind_all (behind_all r frames) more
 read-on [] more r = refl
 read-on (it ∷ frames) more r = read-on frames more (behind r it)
 
@@ -140,7 +109,7 @@ module _ {A S : Type 0} where
   joined old mid new [] more same h = subst (λ (s : State A S). History s more new) same h
   joined old mid new (step ∷ steps) more (next, one, rest) h = (next, one, joined next mid new steps more rest h)
 
-  both-go : (steps more : List (Step A S)) → GoesOn steps → GoesOn more → GoesOn (steps ++ more)
+  both-go : (steps more : List (Step A S)) → OnConnection steps → OnConnection more → OnConnection (steps ++ more)
   both-go [] more on later = later
   both-go (ChangesConnection before after ∷ steps) more (live, routes, on) later =
       (live, routes, both-go steps more on later)
@@ -168,7 +137,7 @@ module _ {A S : Type 0} where
       }
 
   -- by one step, or by none
-  by-one : (old new : State A S) (frames : List Wired) (step : Step A S) → Steps old step new → GoesOn (step ∷ [])
+  by-one : (old new : State A S) (frames : List Wired) (step : Step A S) → Steps old step new → OnConnection (step ∷ [])
       → ((r : Reader) → behind_all r frames ≡ behind_step r step) → Follows frames old new
   by-one old new frames step s on reads =
       record { steps = step ∷ []; history = (new, s, refl); goes_on = on; reads = reads }
@@ -185,7 +154,7 @@ module _ {A S : Type 0} where
 
   -- what the reader has is kept
   pub follows-keeps : (base : ℕ) (r : Reader) (old new : State A S) (frames : List Wired) → Follows frames old new
-      → Stands old → Agrees base r old → Stands new × Agrees base (behind_all r frames) new
+      → InTables old → Agrees base r old → InTables new × Agrees base (behind_all r frames) new
   follows-keeps base r old new frames f stands agrees =
       let (stand, agree) = channels-tell base r old new f.steps f.history f.goes_on stands agrees in
       (stand, subst (λ (s : Reader). Agrees base s new) (sym (f.reads r)) agree)
@@ -215,7 +184,7 @@ module _ {R X T D : Type 0} (gives : Relations R X T D) where
 
   -- or one that the peer asked for, on the channel on which it did
   pub accepts-follow : (old new : Conversation R) (channel : IncomingChannel) (number : ℕ) (frames : List SessionFrame)
-      → AcceptsHere gives old [] channel number new frames → Stands old.sessions
+      → AcceptsHere gives old [] channel number new frames → InTables old.sessions
       → Follows (goes frames) old.sessions new.sessions
   accepts-follow old new channel number frames a stands =
       let (session, says) =
@@ -248,9 +217,10 @@ module _ {R X T D : Type 0} (gives : Relations R X T D) where
   begin-follows old new channel begin (begin_heard.Begun number) frames b =
       let t = b.takes in
       let took = (t.taken).0 in
+      let step : session_steps.Step R X T D = session_steps.TakesBegin channel begin took.base took.left took.frames in
       let plain : NoBegins frames =
-      same-none frames (frames_left (t.after.value.session).fields took.left) (took.added ∙ (took.stepped).3)
-      (left-none (t.after.value.session).fields took.left) in
+      same-none frames took.frames took.added
+      (plain-of _ took.frames (step-of gives step t.before.value.session t.after.value.session took.stepped)) in
       record {
         steps = TakesBegin number channel begin ∷ ChangesLive number t.before t.after ∷ [];
         history = (b.mid, (b.led).stepped, (new.sessions, t.stepped, refl));
@@ -271,52 +241,6 @@ module _ {R X T D : Type 0} (gives : Relations R X T D) where
       (TakesBegin number channel begin) (b.led).stepped tt
       (λ r. ap (λ (fs : List SessionFrame). behind_all r (comes channel.0 (body.Begin begin) ∷ goes fs)) none)
   begin-barred old new channel begin number fault frames b = absurd b
-
-  -- a session takes a Flow
-  flow-none : (old new : SessionState R) (flow : Flow) (answer : Result ⊤ SessionError) (frames : List SessionFrame)
-      → FlowTaken gives old [] flow answer new frames → NoBegins frames
-  flow-none old new flow answer frames f =
-      same-none frames _ (f.added ∙ (f.stepped).frames_are)
-      (none-both _ _ (reply-none new.fields _ f.reply) (left-none new.fields f.left))
-
-  flow-in : (attached : Bool) (old new : SessionState R) (flow : Flow) (answer : Result ⊤ SessionError)
-      (frames : List SessionFrame) → FlowInSession gives attached old [] flow answer new frames → NoBegins frames
-  flow-in false old new flow answer frames f = same-none frames [] f.same tt
-  flow-in true old new flow (Ok done) frames f = flow-none old new flow _ frames f
-  flow-in true old new flow (Err Memory) frames f = same-none frames [] f.1 tt
-  flow-in true old new flow (Err UnattachedHandle) frames f = flow-none old new flow _ frames f
-  flow-in true old new flow (Err HandleInUse) frames f = flow-none old new flow _ frames f
-  flow-in true old new flow (Err RemoteAttachingLinkNameNotFound) frames f = flow-none old new flow _ frames f
-  flow-in true old new flow (Err IllegalState) frames f = flow-none old new flow _ frames f
-  flow-in true old new flow (Err ConnectionStopped) frames f = flow-none old new flow _ frames f
-  flow-in true old new flow (Err TransferFrameToSender) frames f = flow-none old new flow _ frames f
-  flow-in true old new flow (Err RemoteEnded) frames f = flow-none old new flow _ frames f
-  flow-in true old new flow (Err (RemoteEndedWithError e)) frames f = flow-none old new flow _ frames f
-  flow-in true old new flow (Err NumberInUse) frames f = flow-none old new flow _ frames f
-  flow-in true old new flow (Err HandleMaxReached) frames f = flow-none old new flow _ frames f
-
-  flow-at : (asked : Bool) (old new : AskingSession R) (flow : Flow) (answer : Result ⊤ SessionError)
-      (frames : List SessionFrame) → FlowAt gives asked old [] flow answer new frames → NoBegins frames
-  flow-at false old new flow answer frames f =
-      flow-in (leads old.session flow.handle) old.session new.session flow answer frames f.0
-  flow-at true old new flow (Ok done) frames f = flow-none old.session new.session _ _ frames f.0
-  flow-at true old new flow (Err e) frames f = same-none frames [] f.2 tt
-
-  hears-none : (it : LinkPerformative) (told : Result (PerformativeTaken X T D) SessionError)
-      (old new : AskingSession R) (frames : List SessionFrame) → Hears gives old [] it told new frames
-      → NoBegins frames
-  hears-none (said.Attach attach named) told old new frames h = same-none frames [] h.1 tt
-  hears-none (said.Transfer transfer payload) told old new frames h = same-none frames [] h.1 tt
-  hears-none (said.Disposition disposition) told old new frames h = same-none frames [] h.1 tt
-  hears-none (said.Detach detach) told old new frames h = same-none frames [] h.1 tt
-  hears-none (said.Flow flow) (Ok taken.Flow) old new frames h =
-      flow-at (is_asked old.asked flow.handle) old new flow (Ok tt) frames h
-  hears-none (said.Flow flow) (Ok (taken.Attach it)) old new frames h = absurd h
-  hears-none (said.Flow flow) (Ok (taken.Transfer it)) old new frames h = absurd h
-  hears-none (said.Flow flow) (Ok (taken.Disposition back runs)) old new frames h = absurd h
-  hears-none (said.Flow flow) (Ok (taken.Detach it)) old new frames h = absurd h
-  hears-none (said.Flow flow) (Err e) old new frames h =
-      flow-at (is_asked old.asked flow.handle) old new flow (Err e) frames h
 
 module _ {R : Type 0} where
   -- a session ends here
@@ -352,13 +276,14 @@ module _ {R X T D : Type 0} (gives : Relations R X T D) (channel : ℕ) (it : Fr
       by-none old.sessions new.sessions (comes channel it ∷ goes frames) (ap (λ (t : Conversation R). t.sessions) same)
       (heard-read channel it frames is (same-none frames [] none tt))
 
-  live-hears : (old new : Conversation R) (number : ℕ) (before after : Box (AskingSession R)) (said_so : LinkPerformative)
-      (told : Result (PerformativeTaken X T D) SessionError) (frames : List SessionFrame)
+  live-hears : (old new : Conversation R) (number : ℕ) (before after : Box (AskingSession R))
+      (said_so : LinkPerformative) (told : Result (PerformativeTaken X T D) SessionError) (frames : List SessionFrame)
       → Hears gives before.value [] said_so told after.value frames
       → Steps old.sessions (ChangesLive number before after) new.sessions → Hearing old frames new
   live-hears old new number before after said_so told frames h s =
       by-one old.sessions new.sessions (comes channel it ∷ goes frames) (ChangesLive number before after) s tt
-      (heard-read channel it frames is (hears-none gives said_so told before.value after.value frames h))
+      (heard-read channel it frames is
+      (plain-of _ frames (hears-of gives said_so told before.value after.value frames h)))
 
   asked-answers : (old new : Conversation R) (number : ℕ) (before : Box AskedSession) (said_so : LinkPerformative)
       (result : Result (Heard X T D) (HearRefusal R)) (frames : List SessionFrame) → frames ≡ []
@@ -376,7 +301,8 @@ module _ {R X T D : Type 0} (gives : Relations R X T D) (channel : ℕ) (it : Fr
       (result : Result (Heard X T D) (HearRefusal R)) (frames : List SessionFrame)
       → LiveAnswered gives old [] number before said_so result new frames → Hearing old frames new
   live-answers old new number before said_so (Ok (heard.Live n taken_so)) frames a =
-      live-hears old new number before (a.1).after said_so (Ok taken_so) frames ((a.1).hears).heard ((a.1).hears).stepped
+      live-hears old new number before (a.1).after said_so (Ok taken_so) frames ((a.1).hears).heard
+      ((a.1).hears).stepped
   live-answers old new number before said_so (Ok other) frames a = absurd a
   live-answers old new number before said_so (Err refused.Memory) frames (inl a) = stays-so old new frames a.1 a.2
   live-answers old new number before said_so (Err refused.Memory) frames (inr a) =
@@ -387,7 +313,7 @@ module _ {R X T D : Type 0} (gives : Relations R X T D) (channel : ℕ) (it : Fr
       let h = (f.refuses).hears in
       let e = f.ends in
       let plain : NoBegins f.out_mid =
-      hears-none gives said_so (Err fault) before.value session.value f.out_mid h.heard in
+      plain-of _ f.out_mid (hears-of gives said_so (Err fault) before.value session.value f.out_mid h.heard) in
       record {
         steps = ChangesLive number before session ∷ Ends number e.channel session ∷ [];
         history = (f.mid.sessions, h.stepped, (new.sessions, e.stepped, refl));

@@ -48,7 +48,8 @@ module _ (told : Flow) (carried : Transfer) (payload : List ℕ) where
   abbrev pub transfer : ℕ → Wired
   transfer channel = goes channel (session.Transfer carried payload)
 
-  -- this end asks for a session on channel 0, and the peer answers on 5. It asks for a second on 1, which isn't answered
+  -- this end asks for a session on channel 0, and the peer answers on 5. It asks for a second on 1, which is never
+  -- answered
   abbrev pub asked_here : List Wired
   asked_here =
       own_begins 0 None ∷ own_begins 1 None ∷ begins 5 (Some 0) ∷ flow 5 ∷ transfer 0 ∷ []
@@ -60,8 +61,8 @@ module _ (told : Flow) (carried : Transfer) (payload : List ℕ) where
   pub second-asked : read_of 1 asked_here ≡ own_begins 1 None ∷ []
   second-asked = refl
 
-  -- the peer asks for one on channel 5, and tells its window before it is answered on channel 1. This end asked for one on
-  -- 0 meanwhile. Behind the peer's End its channel is nobody's
+  -- the peer asks for one on channel 5, and tells its window before it is answered on channel 1. Meanwhile this end
+  -- asked for one on 0. Behind the peer's End its channel is nobody's
   abbrev pub asked_there : List Wired
   asked_there =
       begins 5 None ∷ own_begins 0 None ∷ flow 5 ∷ own_begins 1 (Some 5)

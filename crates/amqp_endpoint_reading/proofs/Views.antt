@@ -1,12 +1,14 @@
 -- Tables of sessions by channel, of which one entry is new, beside those that are read.
-use Rattle.std.proofs.Common.{◌≡◌, ◌≢◌, ◌⊎◌, inl, inr, ℕ, suc, ◌+◌, ◌==◌, Bool, true, false, cond, Option, Some, None}
+use Rattle.std.proofs.Common.{◌≡◌, ◌≢◌, ◌⊎◌, inl, inr, ℕ, suc, ◌+◌, ◌==◌, Bool, true, false, cond, Option, Some}
+use Rattle.std.proofs.Common.{None}
 use Rattle.std.proofs.Common.{ap, arith, refl, sym, subst, ◌∙◌}
 use Rattle.std.specs.Prelude.{if◌then◌else◌}
 use Rattle.std.proofs.lemmas.Bool.Decides.{eqb_tells}
 use Rattle.std.proofs.lemmas.Option.{none-some, same_Some}
 use Rattle.amqp_endpoint_sessions.specs.State.{first_of}
 use Rattle.amqp_endpoint_reading.specs.Agreeing.{Role, Nowhere, AskedOn, Has, Gone, IsLed, from}
-use Rattle.amqp_endpoint_reading.specs.Reading.{ByChannel, Reader, own_begins, peer_begins, peer_ends, unless_it, with_at}
+use Rattle.amqp_endpoint_reading.specs.Reading.{ByChannel, Reader, own_begins, peer_begins, peer_ends, unless_it}
+use Rattle.amqp_endpoint_reading.specs.Reading.{with_at}
 use Rattle.amqp_endpoint_reading.specs.Reading.{without}
 
 module _ {X : Type 0} where
@@ -588,7 +590,8 @@ module _ (v w : View) (n channel named : ℕ) (is_named : v.live named ≡ Some 
         had = λ m c e. role m ∙ s.had m c (sym (live c) ∙ e);
         asks = λ m c e. asked c ∙ s.asks m c (sym (role m) ∙ e);
         asked = λ m c other a e. s.asked m c other (sym (asked c) ∙ a) (sym (role m) ∙ e);
-        led_there = λ m c a. subst IsLed (sym (role m)) (there m c a (found v.routes channel (Some n) w.routes routes c));
+        led_there = λ m c a.
+            subst IsLed (sym (role m)) (there m c a (found v.routes channel (Some n) w.routes routes c));
         asked_there = λ m c a e. s.asked_there m c (sym (asked c) ∙ a) (sym (role m) ∙ e);
       }
     where
@@ -602,7 +605,7 @@ pub data Cut (n : ℕ) (told old new : Option ℕ) : Type 0 where
   stays : new ≡ old → Cut n told old new
   cut : told ≡ Some n → new ≡ None → Cut n told old new
 
-unless-some : (n m : ℕ) (o : Option ℕ) → unless_it n o ≡ Some m → (o ≡ Some m) × (m ≢ n)
+pub unless-some : (n m : ℕ) (o : Option ℕ) → unless_it n o ≡ Some m → (o ≡ Some m) × (m ≢ n)
 unless-some n m None e = absurd (none-some m e)
 unless-some n m (Some k) e = by (eqb_tells k n)
   where

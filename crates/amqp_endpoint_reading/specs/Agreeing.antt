@@ -21,6 +21,12 @@ IsLed (Has channel) = Unit {0}
 IsLed Gone = Unit {0}
 IsLed role = ⊥
 
+-- it has no channel
+abbrev pub IsOff : Role → Type 0
+IsOff Nowhere = Unit {0}
+IsOff Gone = Unit {0}
+IsOff role = ⊥
+
 -- a session that is read, by the number that it has here, where there were so many before
 abbrev pub from : ℕ → Option ℕ → Option ℕ
 from base None = None
@@ -38,7 +44,7 @@ module _ {A S : Type 0} where
   role_at s number = role_of (place_at s number)
 
   -- each channel in a table is the channel of the session there, and no table has the number of a session that is none
-  pub record Stands (s : State A S) : Type 0 where
+  pub record InTables (s : State A S) : Type 0 where
     pub has : (number channel : ℕ) → role_at s number ≡ Has channel
         → map.get s.connection.live channel ≡ Some number
     pub had : (number channel : ℕ) → map.get s.connection.live channel ≡ Some number
@@ -49,6 +55,10 @@ module _ {A S : Type 0} where
     pub led_there : (number channel : ℕ) → map.get s.connection.routes channel ≡ Some number
         → IsLed (role_at s number)
     pub asked_there : (number channel : ℕ) → map.get s.asked channel ≡ Some number → role_at s number ≡ Nowhere → ⊥
+
+  -- no session that is none stands in the table of those for which the peer asks
+  pub record Known (s : State A S) : Type 0 where
+    pub there : (number channel : ℕ) → map.get s.asked channel ≡ Some number → role_at s number ≡ Nowhere → ⊥
 
   -- the sessions on the channels are those that were read, where there were so many before the connection
   pub record Agrees (base : ℕ) (r : Reader) (s : State A S) : Type 0 where
@@ -70,10 +80,10 @@ module _ {A S : Type 0} where
   behind_steps r [] = r
   behind_steps r (step ∷ steps) = behind_steps (behind_step r step) steps
 
-  -- the connection goes on: its owner gives and takes no channel of its, and leads none
-  abbrev pub GoesOn : List (Step A S) → Type 0
-  GoesOn [] = Unit {0}
-  GoesOn (ChangesConnection before after ∷ steps) =
-      (after.live ≡ before.live) × (after.routes ≡ before.routes) × GoesOn steps
-  GoesOn (Finishes number stood ∷ steps) = ⊥
-  GoesOn (step ∷ steps) = GoesOn steps
+  -- steps on one connection, which isn't over: its owner gives and takes no channel of its, and leads none
+  abbrev pub OnConnection : List (Step A S) → Type 0
+  OnConnection [] = Unit {0}
+  OnConnection (ChangesConnection before after ∷ steps) =
+      (after.live ≡ before.live) × (after.routes ≡ before.routes) × OnConnection steps
+  OnConnection (Finishes number stood ∷ steps) = ⊥
+  OnConnection (step ∷ steps) = OnConnection steps

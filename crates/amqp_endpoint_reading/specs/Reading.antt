@@ -1,6 +1,6 @@
 -- What one who reads the frames that pass on a connection finds of its sessions, by their channels and by what Begins
 -- and Ends say alone (part 2, 2.5.1, 2.5.2, 2.7.2, 2.7.8).
-use Rattle.std.specs.Prelude.{ℕ, suc, ◌==◌, List, [], ◌∷◌, ◌++◌, Bool, false, Option, Some, None, if◌then◌else◌}
+use Rattle.std.specs.Prelude.{◌≡◌, ℕ, suc, ◌==◌, List, [], ◌∷◌, ◌++◌, Bool, false, Option, Some, None, if◌then◌else◌}
 use Rattle.amqp_session_frames.specs.declared.frame.Frame.{Frame}
 use Rattle.amqp_session_frames.specs.declared.frame.FrameBody.{FrameBody}
 use Rattle.amqp_session_frames.specs.declared.frame.FrameBody.TheVariants as body
@@ -145,3 +145,7 @@ read_on number r (it ∷ later) =
 -- those of all frames of a connection
 abbrev pub read_of : ℕ → List Wired → List Wired
 read_of number frames = read_on number nothing_read frames
+
+-- a session that has an own channel is the one that speaks on it
+abbrev pub Speaks : Reader → Type 0
+Speaks r = (channel number : ℕ) → r.own channel ≡ Some number → r.speaks channel ≡ Some number

@@ -1,5 +1,6 @@
 use Rattle.amqp_endpoint_reading.proofs.Following.{accepts-follow, answer-follows, begin-barred, begin-follows}
-use Rattle.amqp_endpoint_reading.proofs.Following.{begins-follow, end-follows, ends-follow, flow-follows, inside-follows}
+use Rattle.amqp_endpoint_reading.proofs.Following.{begins-follow, end-follows, ends-follow, flow-follows}
+use Rattle.amqp_endpoint_reading.proofs.Following.{inside-follows}
 use Rattle.amqp_endpoint_reading.proofs.laws.what_is_done_is_read.Goals as goal
 
 pub returns-clause-begins : goal.returns-clause-begins
