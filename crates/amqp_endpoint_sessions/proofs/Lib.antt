@@ -1,3 +1,3 @@
 pub mod Apart
 pub mod Owning
-mod Places
+pub mod Places
