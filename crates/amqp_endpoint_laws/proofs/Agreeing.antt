@@ -1,11 +1,11 @@
 -- Links stand where they are held, whatever becomes of them.
-use Rattle.std.proofs.Common.{◌≡◌, ◌≢◌, ◌==◌, ◌⊎◌, inl, inr, ℕ, Bool, true, false, Option, Some, None, ap, refl}
+use Rattle.std.proofs.Common.{◌≡◌, ◌==◌, ◌⊎◌, inl, inr, ℕ, Bool, true, false, Some, None, ap, refl}
 use Rattle.std.proofs.Common.{subst, sym, ◌∙◌}
 use Rattle.std.proofs.lemmas.Option.{none-some, same_Some}
 use Rattle.amqp_session_types.specs.declared.handles.OutputHandle.{OutputHandle}
 use Rattle.amqp_endpoint_names.specs.Own.{slot_at}
 use Rattle.amqp_endpoint_names.specs.State.{State, held_at}
-use Rattle.amqp_endpoint_names.proofs.Owning.{other_number, same_number}
+use Rattle.amqp_endpoint_names.proofs.Owning.{same_number}
 use Rattle.amqp_endpoint_laws.specs.Held.{Agrees, IsHeldThere, Numbers}
 use Rattle.amqp_endpoint_laws.proofs.Parted.{Entered, Parted, Shut, holder}
 

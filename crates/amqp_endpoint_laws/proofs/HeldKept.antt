@@ -25,7 +25,7 @@ use Rattle.amqp_endpoint_model.specs.Step.{SendsClose}
 use Rattle.amqp_endpoint_model.specs.declared.call.Call.{Call}
 use Rattle.amqp_endpoint_model.specs.declared.error.EndpointError.{EndpointError}
 use Rattle.amqp_endpoint_model.specs.declared.settings.Settings.{Settings}
-use Rattle.amqp_endpoint_names.specs.State.{held_at, held_of, place_at as link_place}
+use Rattle.amqp_endpoint_names.specs.State.{held_of, place_at as link_place}
 use Rattle.amqp_endpoint_names.specs.declared.place.LinkPlace.{LinkPlace}
 use Rattle.amqp_endpoint_names.specs.declared.place.LinkPlace.TheVariants.{Held}
 use Rattle.amqp_endpoint_sessions.specs.State.{finished_place, live_at, live_of}
@@ -34,8 +34,8 @@ use Rattle.amqp_endpoint_sessions.specs.declared.place.Place.TheVariants.{Asked,
 use Rattle.amqp_endpoint_sessions.proofs.Owning.{at}
 use Rattle.amqp_endpoint_laws.specs.Agreeing.{Agree}
 use Rattle.amqp_endpoint_laws.specs.Conversing.{SessionsStep}
-use Rattle.amqp_endpoint_laws.specs.Held.{Agrees, IsHeldThere, number_at, number_in, number_live}
-use Rattle.amqp_endpoint_laws.proofs.Agreeing.{Same, stay}
+use Rattle.amqp_endpoint_laws.specs.Held.{Agrees, number_at, number_in, number_live}
+use Rattle.amqp_endpoint_laws.proofs.Agreeing.{stay}
 use Rattle.amqp_endpoint_laws.proofs.HeldCalled.{Stands, called}
 use Rattle.amqp_endpoint_laws.proofs.HeldHeard.{frame-held, refused-same}
 use Rattle.amqp_endpoint_laws.proofs.HeldParting.{session-back}

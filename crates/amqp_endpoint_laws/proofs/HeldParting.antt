@@ -1,12 +1,11 @@
 -- Links of an endpoint that are given back, or leave their session, are held no longer.
-use Rattle.std.proofs.Common.{◌≡◌, ◌==◌, ℕ, Bool, true, false, List, [], ◌∷◌, Option, Some, None, ap, refl, ◌∙◌}
-use Rattle.std.specs.Prelude.{if◌then◌else◌}
+use Rattle.std.proofs.Common.{◌≡◌, ◌==◌, ℕ, Bool, true, false, List, [], ◌∷◌, Option, Some, None, ap, ◌∙◌}
 use Rattle.amqp_session_types.specs.declared.handles.OutputHandle.{OutputHandle}
 use Rattle.amqp_link_ends.specs.declared.end.End.{End}
 use Rattle.amqp_endpoint_attached.specs.Ends.{broken, is_closed_end}
 use Rattle.amqp_endpoint_attached.specs.Linked.{Linked, end_gives}
 use Rattle.amqp_endpoint_attached.specs.TakenOut.{TakenOut}
-use Rattle.amqp_endpoint_linking.specs.GivingBack.{AllGivenBack, GivenBack, IsAtRest, IsClosed, StandsAs}
+use Rattle.amqp_endpoint_linking.specs.GivingBack.{AllGivenBack, IsAtRest, IsClosed, StandsAs}
 use Rattle.amqp_endpoint_linking.specs.Linking.{Link, Links, Session, Sessions, links_of}
 use Rattle.amqp_endpoint_link_hearing.specs.Leaving.{IsLeft}
 use Rattle.amqp_endpoint_names.specs.Own.{slot_at}

@@ -1,8 +1,8 @@
 -- The numbers of a session's links stay by what is done in it, but where a link comes to stand in it, or leaves it.
 use Rattle.std.proofs.Common.{◌≡◌, inl, inr, ◌==◌, ℕ, zero, suc, Bool, true, false, List, [], ◌∷◌, Option, Some, None}
 use Rattle.std.proofs.Common.{Result, Ok, Err, refl, sym, ap, subst, ◌∙◌, if◌then◌else◌}
-use Rattle.std.specs.Prelude.{⊤, slice_index_or, slice_set}
-use Rattle.std.proofs.lemmas.Option.{none-some, same_Some}
+use Rattle.std.specs.Prelude.{slice_index_or, slice_set}
+use Rattle.std.proofs.lemmas.Option.{none-some}
 use Rattle.amqp_session_types.specs.declared.handles.Handle.{Handle}
 use Rattle.amqp_session_types.specs.declared.modes.Role.{Role}
 use Rattle.amqp_session_types.specs.declared.modes.Role.TheVariants.{Sender, Receiver}
@@ -23,10 +23,8 @@ use Rattle.amqp_session_core.specs.Steps.{TakesEnd, TakesFlow, TakesTransfer, Te
 use Rattle.amqp_session_core.specs.Tables.{RouteTable}
 use Rattle.amqp_endpoint_asked.specs.AskedSession.{session_part}
 use Rattle.amqp_endpoint_links.specs.Hearing.{Hears}
-use Rattle.amqp_endpoint_links.specs.History.{AreHearing, AskingHistory, AskingStep, AtMostOne, InSession, IsAttach}
+use Rattle.amqp_endpoint_links.specs.History.{AreHearing, AskingHistory, AskingStep, AtMostOne, IsAttach}
 use Rattle.amqp_endpoint_links.specs.History.{IsDetach, IsDoneBy, IsFlow, IsHearing, IsTaken}
-use Rattle.amqp_endpoint_links.specs.History.{TakesAttach as AttachTaken, TakesDetach as DetachTaken}
-use Rattle.amqp_endpoint_links.specs.History.{TakesFlow as FlowTaken}
 use Rattle.amqp_endpoint_links.specs.Numbering.{numbered}
 use Rattle.amqp_endpoint_links.specs.declared.asking.AskingSession.{AskingSession}
 use Rattle.amqp_endpoint_links.specs.declared.hearing.LinkPerformative.{LinkPerformative}
