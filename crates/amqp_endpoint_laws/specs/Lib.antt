@@ -2,3 +2,5 @@ pub mod Linking
 pub mod Telling
 pub mod Conversing
 pub mod Passed
+pub mod Held
+pub mod Agreeing
