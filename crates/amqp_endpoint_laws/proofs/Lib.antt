@@ -15,3 +15,12 @@ mod PassedCalled
 mod PassedKept
 mod PassedWindows
 mod PassedSteps
+mod HoldingEnds
+mod HoldingInside
+mod HoldingDone
+mod HoldingTalk
+mod HoldingDeeds
+mod HandedOut
+mod HandedBy
+mod HandedOn
+mod HandedRuns
