@@ -103,6 +103,31 @@ closed-unnumbered (Some (Held session handle)) number events old new links links
     ∙ first-unnumbered (open_count (end_at c.done.before.value handle)) None
     (link_at c.done.did.mid.session handle.0)
 
+-- what a call is answered tells of no message
+pub answer-unnumbered : (by_call : Call) (answer : Said) (old new : LinkedSessions) (limit : ℕ)
+    (frames : List SessionFrame) → Calls old limit by_call answer frames new → Unnumbered (events_of answer)
+answer-unnumbered (call.AttachSender n settings) (attaching link events) old new limit frames c =
+    ap (λ (es : List Event). numbers_told es) c.told ∙ exchange-unnumbered c.placed.link c.placed.exchange
+answer-unnumbered (call.AttachReceiver n settings) (attaching link events) old new limit frames c =
+    ap (λ (es : List Event). numbers_told es) c.told ∙ exchange-unnumbered c.placed.link c.placed.exchange
+answer-unnumbered (call.CloseLink link) (link_closed events) old new limit frames c =
+    closed-unnumbered (place_at old.links link) link events old.talk new.talk old.links new.links frames c
+answer-unnumbered call.Begin (session_begun n) old new limit frames c = refl
+answer-unnumbered (call.AcceptBegin channel) (session_begun n) old new limit frames c = refl
+answer-unnumbered (call.End n) done old new limit frames c = refl
+answer-unnumbered (call.IsEnded n) (truth b) old new limit frames c = refl
+answer-unnumbered (call.TryEnd n) (tried_end o) old new limit frames c = refl
+answer-unnumbered (call.Detach link) done old new limit frames c = refl
+answer-unnumbered (call.Grant link n) (credit_is left) old new limit frames c = refl
+answer-unnumbered (call.Drain link) done old new limit frames c = refl
+answer-unnumbered (call.Send link message) (message_sent tag outcome) old new limit frames c = refl
+answer-unnumbered (call.Dispose link message disposal) done old new limit frames c = refl
+answer-unnumbered (call.DisposeAll link messages disposal) done old new limit frames c = refl
+answer-unnumbered (call.Credit link) (credit_is left) old new limit frames c = refl
+answer-unnumbered (call.HeldBack n) (count m) old new limit frames c = refl
+answer-unnumbered (call.Waiting n) (waiting turn) old new limit frames c = refl
+answer-unnumbered it answer old new limit frames c = absurd c
+
 called : (seen : List Event) (tags : List (List ℕ)) (by_call : Call) (answer : Said) (old new : LinkedSessions)
     (limit : ℕ) (frames : List SessionFrame) → Calls old limit by_call answer frames new → Counted by_call old new
     → Counts seen tags old → Counts (seen ++ events_of answer) (tags ++ tag_given answer) new
@@ -117,14 +142,14 @@ called seen tags (call.TryEnd n) (tried_end o) old new limit frames c same s =
     called-plain seen [] tags old new refl same s
 called seen tags (call.AttachSender n settings) (attaching link events) old new limit frames c same s =
     called-plain seen events tags old new
-    (ap (λ (es : List Event). numbers_told es) c.told ∙ exchange-unnumbered c.placed.link c.placed.exchange) same s
+    (answer-unnumbered (call.AttachSender n settings) (attaching link events) old new limit frames c) same s
 called seen tags (call.AttachReceiver n settings) (attaching link events) old new limit frames c same s =
     called-plain seen events tags old new
-    (ap (λ (es : List Event). numbers_told es) c.told ∙ exchange-unnumbered c.placed.link c.placed.exchange) same s
+    (answer-unnumbered (call.AttachReceiver n settings) (attaching link events) old new limit frames c) same s
 called seen tags (call.Detach link) done old new limit frames c same s = called-plain seen [] tags old new refl same s
 called seen tags (call.CloseLink link) (link_closed events) old new limit frames c same s =
     called-plain seen events tags old new
-    (closed-unnumbered (place_at old.links link) link events old.talk new.talk old.links new.links frames c) same s
+    (answer-unnumbered (call.CloseLink link) (link_closed events) old new limit frames c) same s
 called seen tags (call.Grant link n) (credit_is left) old new limit frames c same s =
     called-plain seen [] tags old new refl same s
 called seen tags (call.Drain link) done old new limit frames c same s = called-plain seen [] tags old new refl same s

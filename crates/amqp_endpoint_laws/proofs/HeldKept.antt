@@ -8,9 +8,11 @@ use Rattle.amqp_session_connection.specs.declared.state.ConnectionState.TheVaria
 use Rattle.amqp_session_types.specs.declared.channels.OutgoingChannel.{OutgoingChannel}
 use Rattle.amqp_session_types.specs.declared.handles.OutputHandle.{OutputHandle}
 use Rattle.amqp_session_frames.specs.declared.frame.Frame.{Frame}
+use Rattle.amqp_session_frames.specs.declared.frame.FrameBody.{FrameBody}
+use Rattle.amqp_session_frames.specs.declared.frame.FrameBody.TheVariants as body
 use Rattle.amqp_link_ends.specs.declared.end.End.{End}
-use Rattle.amqp_endpoint_deeds.specs.Deeds.{AreDone, Closes, Deed, Does, EndsBy, Finishes, Hears, IsDeed, Moves, Queues}
-use Rattle.amqp_endpoint_deeds.specs.Deeds.{Refuses, Renews, Takes}
+use Rattle.amqp_endpoint_deeds.specs.Deeds.{AreDone, Closes, Deed, Does, EndsBy, Finishes, Hears, IsDeed, Moves}
+use Rattle.amqp_endpoint_deeds.specs.Deeds.{MovesByFrame, Queues, Refuses, Renews, Takes}
 use Rattle.amqp_endpoint_deeds.proofs.Runs.{is-done}
 use Rattle.amqp_endpoint_linked.specs.Does.{linked}
 use Rattle.amqp_endpoint_linked.specs.declared.linked.LinkedSessions.{LinkedSessions}
@@ -113,6 +115,22 @@ moved-agree s connection a =
     stay (number_at s.talk.sessions) (number_at (record s.talk.sessions { connection = connection })) s.links s.links
     (λ n handle. refl) refl a
 
+-- by a frame of its own the connection alone goes on
+moves-agree : (it : FrameBody) (old new : LinkedSessions) → MovesByFrame linked it old new → Agree old → Agree new
+moves-agree body.Empty old new same a = subst Agree (sym same) a
+moves-agree (body.Open peer) old new m a =
+    subst Agree (sym m.is)
+    (moved-agree old
+    (record old.talk.sessions.connection {
+      local_state = new.talk.sessions.connection.local_state;
+      remote_channel_max = Some peer.channel_max;
+    }) a)
+moves-agree (body.Close close) old new m a =
+    subst Agree (sym m.is)
+    (moved-agree old
+    (record old.talk.sessions.connection { local_state = new.talk.sessions.connection.local_state }) a)
+moves-agree it old new m a = absurd m
+
 -- the connection is over behind a frame that was refused
 told-close : (own : Bool) (old told : LinkedSessions) → SendsClose linked own true old told → Agree old → Agree told
 told-close true old told same a = subst Agree (sym same) a
@@ -121,9 +139,9 @@ told-close false old told m a =
     (moved-agree old
     (record old.talk.sessions.connection { local_state = told.talk.sessions.connection.local_state }) a)
 
-ends : (limit : ℕ) (f : Frame) (error : EndpointError) (old new : LinkedSessions) → EndsBy linked old limit f error new
-    → Agree old → Agree new
-ends limit f error old new e a =
+ends : (limit : ℕ) (f : Frame) (error : EndpointError) (own_close : Bool) (old new : LinkedSessions)
+    → EndsBy linked old limit f error own_close new → Agree old → Agree new
+ends limit f error own_close old new e a =
     let told = e.closes.told in
     let refused : Agree e.refused =
     stay (number_at old.talk.sessions) (number_at e.refused.talk.sessions) old.links e.refused.links
@@ -131,7 +149,7 @@ ends limit f error old new e a =
     ((e.refuses).0).refuses)
     ((e.refuses).0).same a in
     over-first (length told.talk.sessions.places) told.talk.sessions new.talk.sessions told.links new.links
-    ((e.closes.over).0).each (told-close e.own_close e.refused told e.closes.tells refused)
+    ((e.closes.over).0).each (told-close own_close e.refused told e.closes.tells refused)
 
 -- new sessions have no links
 pub agree-new : (settings : Settings) (sessions : LinkedSessions) → IsNew linked settings sessions → Agree sessions
@@ -145,11 +163,11 @@ agree-new settings sessions new =
 -- whatever is done
 pub agree-kept : (old new : LinkedSessions) (deed : Deed) → IsDeed linked old deed new → Agree old → Agree new
 agree-kept old new (Queues it) same a = subst Agree (sym same) a
-agree-kept old new (Hears frame) same a = subst Agree (sym same) a
+agree-kept old new (Hears frame events) (moves, told) a = moves-agree frame.body old new moves a
 agree-kept old new (Takes limit f frames events) h a =
     frame-held f.body old.talk new.talk old.links new.links old.given new.given limit (record { 0 = f.channel }) frames
     events h.0 a
-agree-kept old new (Refuses limit f error) e a = ends limit f error old new e a
+agree-kept old new (Refuses limit f error own_close) e a = ends limit f error own_close old new e a
 agree-kept old new (Does limit it answer frames) c a = called it answer old new limit frames c.0 a
 agree-kept old new (Moves connection) m a = subst Agree (sym m.1) (moved-agree old connection a)
 agree-kept old new Renews is a =

@@ -24,3 +24,12 @@ mod HeldParting
 mod HeldCalled
 mod HeldHeard
 mod HeldKept
+mod HoldingEnds
+mod HoldingInside
+mod HoldingDone
+mod HoldingTalk
+mod HoldingDeeds
+mod HandedOut
+mod HandedBy
+mod HandedOn
+mod HandedRuns

@@ -62,7 +62,7 @@ finished-gone (Ending channel) = tt
 finished-gone (Over peer_end complete) = tt
 
 -- a session stays, or is ending or over then
-abbrev Wanes : Sessions → Sessions → ℕ → Type 0
+abbrev pub Wanes : Sessions → Sessions → ℕ → Type 0
 Wanes old new n = (place_at new n ≡ place_at old n) ⊎ IsGone (place_at new n)
 
 wanes-on : (old mid new : Sessions) (n : ℕ) → Wanes old mid n → Wanes mid new n → Wanes old new n
@@ -87,7 +87,7 @@ end-sent old new number (Some given) e n =
     by-about number old new n (λ other. (at n old (Ends number given.0 given.1) new e).other other)
     (subst IsGone (sym is) tt)
 
-left-first : (count : ℕ) (old new : Sessions) (links links_new : Links) → LeavesFirst count old links new links_new
+pub left-first : (count : ℕ) (old new : Sessions) (links links_new : Links) → LeavesFirst count old links new links_new
     → (n : ℕ) → Wanes old new n
 left-first zero old new links links_new l n = inl (ap (λ (s : Sessions). place_at s n) l.0)
 left-first (suc count) old new links links_new (mid, links_mid, first, one) n =
@@ -102,7 +102,7 @@ finished old new number (Some stood) f n =
     by-about number old new n (λ other. (at n old (FinishesStep number stood) new f).other other)
     (subst IsGone (sym is) (finished-gone stood))
 
-finished-first : (count : ℕ) (old new : Sessions) (links links_new : Links)
+pub finished-first : (count : ℕ) (old new : Sessions) (links links_new : Links)
     → FinishesFirst count old links new links_new → (n : ℕ) → Wanes old new n
 finished-first zero old new links links_new f n = inl (ap (λ (s : Sessions). place_at s n) f.0)
 finished-first (suc count) old new links links_new (mid, links_mid, first, one) n =
@@ -110,7 +110,7 @@ finished-first (suc count) old new links links_new (mid, links_mid, first, one) 
     (finished mid new count one.stood one.finished n)
 
 -- once the connection of each session is over none goes on
-abbrev IsOver : Sessions → ℕ → Type 0
+abbrev pub IsOver : Sessions → ℕ → Type 0
 IsOver s n = IsGone (place_at s n) ⊎ (place_at s n ≡ None)
 
 over-on : (old new : Sessions) (n : ℕ) → IsOver old n → Wanes old new n → IsOver new n
@@ -141,7 +141,7 @@ all-over zero old new links links_new f n below = absurd (omega (arith, below))
 all-over (suc count) old new links links_new (mid, links_mid, first, one) n below =
     over-step count n mid new one.stood one.finished (all-over count old mid links links_mid first n) below
 
-over-at : (o : Option Stood) (old new : Sessions) (links links_new : Links) (n : ℕ) → place_at old n ≡ o
+pub over-at : (o : Option Stood) (old new : Sessions) (links links_new : Links) (n : ℕ) → place_at old n ≡ o
     → FinishesFirst (length old.places) old links new links_new → IsOver new n
 over-at (Some stood) old new links links_new n e f =
     all-over (length old.places) old new links links_new f n (slice_get_within old.places n stood e)
@@ -266,11 +266,11 @@ first-body (body.End end) old new links given limit channel e (inr u) = first-sa
 first-body it old new links given limit channel e r = absurd r
 
 -- the connection alone goes on
-abbrev AreStill : LinkedSessions → LinkedSessions → Type 0
+abbrev pub AreStill : LinkedSessions → LinkedSessions → Type 0
 AreStill old new = (new.talk.sessions.places ≡ old.talk.sessions.places) × Firsts old.talk new.talk
 
 -- as a frame of its own says
-by-frame-still : (it : FrameBody) (old new : LinkedSessions) → MovesByFrame linked it old new → AreStill old new
+pub by-frame-still : (it : FrameBody) (old new : LinkedSessions) → MovesByFrame linked it old new → AreStill old new
 by-frame-still body.Empty old new same = subst (AreStill old) (sym same) (refl, refl)
 by-frame-still (body.Open peer) old new m = subst (AreStill old) (sym m.is) (refl, refl)
 by-frame-still (body.Close close) old new m = subst (AreStill old) (sym m.is) (refl, refl)

@@ -4,3 +4,4 @@ pub mod Conversing
 pub mod Passed
 pub mod Held
 pub mod Agreeing
+pub mod Handed

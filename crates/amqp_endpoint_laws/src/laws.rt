@@ -1,7 +1,10 @@
 //! The laws. A function here does nothing but name the laws that it rests on: its contract is the law.
-ghost use Rattle.std.specs.Prelude.{◌≡◌, ℕ, List, map, slice_get, Some};
+ghost use Rattle.std.specs.Prelude.{◌≡◌, ℕ, List, map, slice_get, Option, Some};
 ghost use Rattle.amqp_session_types.specs.declared.channels.OutgoingChannel.{OutgoingChannel};
 ghost use Rattle.amqp_session_types.specs.declared.handles.OutputHandle.{OutputHandle};
+ghost use Rattle.amqp_link_place.specs.Readings.{Piece, nothing, readings};
+ghost use Rattle.amqp_link_place.specs.Said.{Said};
+ghost use Rattle.amqp_link_receiving.specs.Readings.{held_said};
 ghost use Rattle.amqp_endpoint_names.specs.State.{AreApart, place_at};
 ghost use Rattle.amqp_endpoint_names.specs.declared.place.LinkPlace.TheVariants.{Held};
 ghost use Rattle.amqp_endpoint_linking.specs.Linking.{Session};
@@ -15,10 +18,12 @@ ghost use Rattle.amqp_endpoint_model.specs.declared.settings.Settings.{Settings}
 ghost use Rattle.amqp_endpoint_linked.specs.Does.{linked};
 ghost use Rattle.amqp_endpoint_linked.specs.Sending.{tag_of};
 ghost use Rattle.amqp_endpoint_linked.specs.declared.linked.LinkedSessions.{LinkedSessions};
-ghost use Rattle.amqp_endpoint_deeds.specs.Deeds.{AreDone, Deed};
+ghost use Rattle.amqp_endpoint_deeds.specs.Deeds.{AreDone, Deed, told_by};
 ghost use Rattle.amqp_endpoint_deeds.specs.Telling.{events_told};
 ghost use Rattle.amqp_endpoint_talk.specs.Windows.{KeepsWindow, Passing, begins_with};
 ghost use Rattle.amqp_endpoint_laws.specs.Conversing.{SessionsGoOn};
+ghost use Rattle.amqp_endpoint_laws.specs.Handed.{IsReceiving, NoneResumes, PassesOn, ReachIn, handed_as};
+ghost use Rattle.amqp_endpoint_laws.specs.Handed.{handed_by, pieces_on};
 ghost use Rattle.amqp_endpoint_laws.specs.Held.{IsHeldThere, number_at};
 ghost use Rattle.amqp_endpoint_laws.specs.Linking.{HaveCome};
 ghost use Rattle.amqp_endpoint_laws.specs.Passed.{HasCome, PassesIn};
@@ -166,4 +171,23 @@ pub fn links_of_sessions_are_held()
         Run linked (fresh settings sessions) calls told end →
         number_at end.sessions.talk.sessions session handle ≡ Some link →
         IsHeldThere end.sessions.links link session handle }
+{}
+
+/// As long as a receiving link stays attached, the messages that its endpoint hands out by it are those that the
+/// transfers say which reach the link, in order, and what it holds of a message then is what these leave open (part 2,
+/// 2.6.14): so it is from whichever moment on, and whichever deeds the endpoint's run consists of, where none of the
+/// transfers resumes a delivery of an earlier attachment. A link that refuses a transfer is attached no longer. The
+/// transfers that reach it are those that come in its session on the one handle of the peer's that leads to it.
+pub fn what_is_handed_out_is_what_was_said()
+    ensures as_said { (sessions start end : LinkedSessions) (settings : Settings) (before since : List Deed)
+        (link session : ℕ) (own : OutputHandle) (held : Option Said) (pieces : List Piece) →
+        IsNew linked settings sessions → AreDone linked sessions before start →
+        IsReceiving start link session own (held_said held) →
+        ReachIn link session own start since end pieces → NoneResumes pieces →
+        let read = readings (record nothing { held = held }) pieces in
+        (handed_by link (told_by since) ≡ map (handed_as own) read.messages)
+        × IsReceiving end link session own (held_said read.held) }
+    ensures on_a_handle { (start end : LinkedSessions) (since : List Deed) (link session : ℕ) (own : OutputHandle)
+        (theirs : ℕ) (passings : List Passing) → PassesOn link session own theirs start since end passings →
+        ReachIn link session own start since end (pieces_on theirs passings) }
 {}

@@ -74,7 +74,7 @@ module _ (old : Talk) (channel : IncomingChannel) (out : List SessionFrame) (it 
   taken-in t = within (sessions.reached old.sessions channel.0) refl t
 
 -- a link that takes a step is there behind it
-stepped-there : (Does : Link → Link → Type 0) (s : State Link) (handle : ℕ) (new : State Link)
+pub stepped-there : (Does : Link → Link → Type 0) (s : State Link) (handle : ℕ) (new : State Link)
     → (st : StepsAt Does s.links handle new.links) → link_at new handle ≡ Some st.after
 stepped-there Does s handle new st =
     ap (λ (ls : List (Option Link)). slice_index_or ls handle None) st.others

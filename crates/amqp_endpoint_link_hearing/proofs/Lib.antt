@@ -4,7 +4,7 @@ mod Lending
 mod Flows
 mod Releases
 mod Doing
-mod Heard
+pub mod Heard
 mod Attaches
 mod Detaches
 mod Sizes

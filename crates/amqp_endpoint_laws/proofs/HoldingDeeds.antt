@@ -1,0 +1,420 @@
+-- What links hold of their messages, whatever an endpoint does but that it takes a Transfer.
+use Rattle.std.proofs.Common.{◌≡◌, inl, inr, ℕ, Bool, false, List, [], ◌∷◌, Option, Some, None}
+use Rattle.std.proofs.Common.{Ok, Err, ap, refl, slice_get, ◌∙◌}
+use Rattle.std.specs.Prelude.{Result, ⊤}
+use Rattle.amqp_session_types.specs.declared.channels.IncomingChannel.{IncomingChannel}
+use Rattle.amqp_session_types.specs.declared.handles.OutputHandle.{OutputHandle}
+use Rattle.amqp_session_types.specs.declared.refusals.SessionError.{SessionError}
+use Rattle.amqp_session_types.specs.declared.refusals.SessionError.TheVariants.{IllegalState}
+use Rattle.amqp_session_types.specs.declared.refusals.TryEndError.{TryEndError}
+use Rattle.amqp_session_performatives.specs.declared.attach.Attach.{Attach}
+use Rattle.amqp_session_performatives.specs.declared.begin.Begin.{Begin}
+use Rattle.amqp_session_performatives.specs.declared.detach.Detach.{Detach}
+use Rattle.amqp_session_performatives.specs.declared.disposition.Disposition.{Disposition}
+use Rattle.amqp_session_performatives.specs.declared.end.End.{End as EndFrame}
+use Rattle.amqp_session_performatives.specs.declared.session_frame.SessionFrame.{SessionFrame}
+use Rattle.amqp_session_frames.specs.declared.frame.Frame.{Frame}
+use Rattle.amqp_session_frames.specs.declared.frame.FrameBody.{FrameBody}
+use Rattle.amqp_session_frames.specs.declared.frame.FrameBody.TheVariants as body
+use Rattle.amqp_session_core.specs.Steps.{TakesBegin as SessionTakesBegin}
+use Rattle.amqp_link_base.specs.declared.detached.Detached.{Detached}
+use Rattle.amqp_link_ends.specs.declared.end.End.{End}
+use Rattle.amqp_link_sender.specs.declared.attaching.Attaching.{Attaching}
+use Rattle.amqp_link_types.specs.declared.link_error.LinkError.{LinkError}
+use Rattle.std.specs.Global.{Vec}
+use Rattle.amqp_endpoint_attached.specs.Linked.{gives}
+use Rattle.amqp_endpoint_conversation.specs.Beginning.{AcceptsHere, BeginAnswered, BeginsHere, Leads, with_links}
+use Rattle.amqp_endpoint_conversation.specs.declared.beginning.BeginHeard.{BeginHeard}
+use Rattle.amqp_endpoint_conversation.specs.declared.beginning.BeginHeard.TheVariants as begin_heard
+use Rattle.amqp_endpoint_conversation.specs.declared.beginning.BeginRefusal.TheVariants as begin_refused
+use Rattle.amqp_endpoint_conversation.specs.declared.hearing.Heard.TheVariants as heard
+use Rattle.amqp_endpoint_deeds.specs.Deeds.{Closes, Deed, Does, EndsBy, Finishes, Hears, IsDeed, Moves, Queues}
+use Rattle.amqp_endpoint_deeds.specs.Deeds.{Refuses, Renews, Takes}
+use Rattle.amqp_endpoint_link_calls.specs.Calling.{Does as DoesTo, DoneAt, DoneIn, detaches, gives_credit, wants_drain}
+use Rattle.amqp_endpoint_link_calls.specs.Closing.{ClosedAt, closes}
+use Rattle.amqp_endpoint_link_calls.specs.Places.{LinksBy, Where}
+use Rattle.amqp_endpoint_link_hearing.specs.Attaching as link_attaching
+use Rattle.amqp_endpoint_link_hearing.specs.Attaching.{LinkTakes}
+use Rattle.amqp_endpoint_link_hearing.specs.Detaching as detaching
+use Rattle.amqp_endpoint_link_hearing.specs.Disposing as disposing
+use Rattle.amqp_endpoint_link_hearing.specs.Disposing.{runs_of}
+use Rattle.amqp_endpoint_link_hearing.specs.Flowing.{LetsGo}
+use Rattle.amqp_endpoint_link_hearing.specs.Heard.{attach_of, detach_of, session_of}
+use Rattle.amqp_endpoint_link_hearing.specs.Saying.{LinkHeard}
+use Rattle.amqp_endpoint_link_hearing.specs.declared.attaching.LinkAttached.{LinkAttached as Left}
+use Rattle.amqp_endpoint_link_messages.specs.Disposing.{DisposedAt, disposes_of_all, disposes_of_one}
+use Rattle.amqp_endpoint_link_messages.specs.Sending.{sends}
+use Rattle.amqp_endpoint_linked.specs.Attaching.{LinkAttached}
+use Rattle.amqp_endpoint_linked.specs.Calling.{Calls, answer_of}
+use Rattle.amqp_endpoint_linked.specs.Does.{linked}
+use Rattle.amqp_endpoint_linked.specs.Hearing.{Hears as HearsFrame}
+use Rattle.amqp_endpoint_linked.specs.Sending.{tag_of}
+use Rattle.amqp_endpoint_linked.specs.declared.linked.LinkedSessions.{LinkedSessions}
+use Rattle.amqp_endpoint_linking.specs.Hearing.{HearsBegin, TakesEnd as EndTaken}
+use Rattle.amqp_endpoint_linking.specs.Linking.{Link, Links, Session, Sessions, Stood, Talk}
+use Rattle.amqp_endpoint_links.specs.declared.asking.AttachTaken.TheVariants as answer
+use Rattle.amqp_endpoint_links.specs.declared.asking.NamedLink.{NamedLink}
+use Rattle.amqp_endpoint_links.specs.declared.asking.NamedLink.TheVariants.{Waiting}
+use Rattle.amqp_endpoint_links.specs.declared.hearing.LinkPerformative.TheVariants as said
+use Rattle.amqp_endpoint_links.specs.declared.hearing.PerformativeTaken.TheVariants as taken
+use Rattle.amqp_endpoint_model.specs.Said.{Said, attaching, count, credit_is, done, link_closed, message_sent}
+use Rattle.amqp_endpoint_model.specs.Said.{session_begun, tried_end, truth, waiting}
+use Rattle.amqp_endpoint_model.specs.declared.call.Call.{Call}
+use Rattle.amqp_endpoint_model.specs.declared.call.Call.TheVariants as call
+use Rattle.amqp_endpoint_model.specs.declared.call.Disposal.{Disposal}
+use Rattle.amqp_endpoint_model.specs.declared.error.EndpointError.{EndpointError}
+use Rattle.amqp_endpoint_model.specs.declared.event.Event.{Event}
+use Rattle.amqp_endpoint_names.specs.State.{place_at as link_place}
+use Rattle.amqp_endpoint_names.specs.declared.place.LinkPlace.TheVariants.{AtRest, Held}
+use Rattle.amqp_endpoint_sessions.specs.State.{ended_place, live_at, live_of, peer_end_of, place_at, told_place}
+use Rattle.amqp_endpoint_sessions.specs.Steps.{Accepts, Asks, Begins, EndTold, TakesBegin, TakesEnd}
+use Rattle.amqp_endpoint_sessions.specs.Steps.{TellsEnd}
+use Rattle.amqp_endpoint_sessions.specs.declared.place.PeerEnd.TheVariants.{Missing, Received}
+use Rattle.amqp_endpoint_sessions.specs.declared.place.Place.TheVariants.{Asked, Live, Ending, Over}
+use Rattle.amqp_endpoint_sessions.proofs.Owning.{at}
+use Rattle.amqp_endpoint_laws.proofs.HoldingDone.{StaysBy, attached-goes, closes-stays, closing-stays, detaches-stay}
+use Rattle.amqp_endpoint_laws.proofs.HoldingDone.{disposes-all, disposes-one, drains-stays, echoes-stay, gives-stays}
+use Rattle.amqp_endpoint_laws.proofs.HoldingDone.{leave-stay, parts-stay, sends-stays}
+use Rattle.amqp_endpoint_laws.proofs.HoldingEnds.{Goes, Stays, stays-on}
+use Rattle.amqp_endpoint_laws.proofs.HoldingInside.{all-same, calm-stays}
+use Rattle.amqp_endpoint_laws.proofs.HoldingTalk.{EachOf, born-goes, dead-stays, each-goes-on, ends-stays}
+use Rattle.amqp_endpoint_laws.proofs.HoldingTalk.{fails-stay, goes-on-stays, heard-goes, held_in, inside-goes}
+use Rattle.amqp_endpoint_laws.proofs.HoldingTalk.{inside-stays, places-same, sessions-same, stays-go}
+use Rattle.amqp_endpoint_laws.proofs.PassedKept.{IsOver, Wanes, by-frame-still, finished-first, left-first, over-at}
+use Rattle.amqp_endpoint_laws.proofs.PassedPlaces.{IsGone, eq-same}
+
+each-stays-on : (old mid new : Sessions) → EachOf Stays old mid → EachOf Stays mid new → EachOf Stays old new
+each-stays-on old mid new first later n h =
+    stays-on (held_in (live_at old n) h) (held_in (live_at mid n) h) (held_in (live_at new n) h) (first n h) (later n h)
+
+pub talk-same : (old new : Talk) → new ≡ old → EachOf Stays old.sessions new.sessions
+talk-same old new same = sessions-same old.sessions new.sessions (ap (λ (t : Talk). t.sessions) same)
+
+-- the peer's Begin
+led-stays : (old : Talk) (channel : IncomingChannel) (begin : Begin) (number : ℕ) (mid : Sessions)
+    → Leads gives old channel begin number mid → EachOf Stays old.sessions mid
+led-stays old channel begin number mid l =
+    places-same old.sessions mid (λ n. (at n old.sessions (TakesBegin number channel begin) mid l.stepped).other refl)
+
+begin-taken : (h : BeginHeard) (old : Talk) (channel : IncomingChannel) (begin : Begin) (frames : List SessionFrame)
+    (new : Talk) → BeginAnswered gives old [] channel begin (Ok h) new frames → EachOf Goes old.sessions new.sessions
+begin-taken (begin_heard.Asked number) old channel begin frames new (a, none) =
+    let (was, is) =
+    (at number old.sessions (Asks number channel a.asked) new.sessions a.stepped).about (eq-same number) in
+    born-goes number (Asks number channel a.asked) old.sessions new.sessions (λ n e. e) a.stepped (ap live_of was)
+begin-taken (begin_heard.Begun number) old channel begin frames new b =
+    let t = b.takes in
+    let taken_so = t.taken.0 in
+    stays-go old.sessions new.sessions
+    (each-stays-on old.sessions b.mid new.sessions (led-stays old channel begin number b.mid b.led)
+    (inside-stays number t.before t.after b.mid new.sessions t.stepped
+    (calm-stays (SessionTakesBegin channel begin taken_so.base taken_so.left taken_so.frames)
+    t.before.value.session t.after.value.session taken_so.stepped tt)))
+begin-taken begin_heard.Dropped old channel begin frames new (d, none) =
+    stays-go old.sessions new.sessions (led-stays old channel begin d.number new.sessions d.led)
+
+begin-goes : (old : Talk) (links : Links) (channel : IncomingChannel) (begin : Begin) (frames : List SessionFrame)
+    (events : List Event) (new : Talk) (links_new : Links)
+    → HearsBegin old links channel begin frames events new links_new → EachOf Goes old.sessions new.sessions
+begin-goes old links channel begin frames events new links_new (inl t) =
+    begin-taken t.heard old channel begin frames new t.answered
+begin-goes old links channel begin frames events new links_new (inr f) = by f.fault f.refused
+  where
+    by : (fault : SessionError)
+        → BeginAnswered gives old [] channel begin (Err (begin_refused.Session f.number fault)) f.mid []
+        → EachOf Goes old.sessions new.sessions
+    by IllegalState (b, none) =
+        stays-go old.sessions new.sessions
+        (each-stays-on old.sessions f.mid.sessions new.sessions
+        (led-stays old channel begin f.number f.mid.sessions b.led)
+        (ends-stays f.number _ f.fails.session f.mid new [] frames f.fails.ends))
+    by e r = absurd r
+
+-- what comes of an Attach, a Flow, a Disposition and a Detach
+attach-taken : (outcome : Result Attaching LinkError) (old new : Talk) (session : ℕ) (handle : OutputHandle)
+    (link : Link) (left : Option Left) (frames : List SessionFrame) (events : List Event)
+    → LinkTakes outcome old session handle link left frames events new → EachOf Stays old.sessions new.sessions
+attach-taken (Ok made) old new session handle link left frames events t = talk-same old new t.3
+attach-taken (Err error) old new session handle link left frames events t =
+    goes-on-stays _ old session new (λ a b c. closes-stays _ handle frames a b c) t.1
+
+attach-comes : (it : LinkHeard) (named : NamedLink) (old new : Talk) (attach : Attach) (left : Option Left)
+    (frames : List SessionFrame) (events : List Event)
+    → link_attaching.Becomes (attach_of it) named old attach left frames events new
+    → EachOf Stays old.sessions new.sessions
+attach-comes (heard.Asked session) named old new attach left frames events b = talk-same old new b.3
+attach-comes (heard.Live session (taken.Attach answer.Asked)) named old new attach left frames events b =
+    talk-same old new b.3
+attach-comes (heard.Live session (taken.Attach (answer.ByLink by_link))) (Waiting handle) old new attach left frames
+    events b =
+    attach-taken (link_attaching.outcome_of by_link) old new session handle b.link left frames events b.takes
+attach-comes it named old new attach left frames events b = talk-same old new b.3
+
+flow-comes : (o : Option ℕ) (frames : List SessionFrame) (old new : Talk) (links links_new : Links)
+    → LetsGo o frames old links new links_new → EachOf Stays old.sessions new.sessions
+flow-comes None frames old new links links_new l = talk-same old new l.0
+flow-comes (Some session) frames old new links links_new g =
+    goes-on-stays _ old session new (λ a b l. leave-stay frames a links b links_new l) g
+
+disposition-comes : (o : Option (ℕ × Vec (ℕ × ℕ))) (limit : ℕ) (old mid new : Talk) (it : Disposition)
+    (frames : List SessionFrame) (events : List Event) → disposing.Follows o limit old it mid frames events new
+    → EachOf Stays mid.sessions new.sessions
+disposition-comes (Some (session, runs)) limit old mid new it frames events d =
+    goes-on-stays _ mid session new (λ a b t. echoes-stay d.deliveries _ runs.items frames events a b t) d.done
+disposition-comes None limit old mid new it frames events r = talk-same mid new r.stays
+
+detach-comes : (o : Option (ℕ × Detached)) (old mid new : Talk) (links links_new : Links) (it : Detach)
+    (frames : List SessionFrame) (events : List Event)
+    → detaching.Becomes o old links it mid frames events new links_new → EachOf Stays mid.sessions new.sessions
+detach-comes (Some (session, told)) old mid new links links_new it frames events b =
+    goes-on-stays _ mid session new
+    (λ a c t. parts-stay _ b.handle told.answer it.closed _ b.left frames a c t) b.parts
+detach-comes None old mid new links links_new it frames events w = talk-same mid new w.stays
+
+-- the peer's End
+ended-dead : (stood : Stood) → live_of (Some (ended_place stood)) ≡ None
+ended-dead (Asked channel a) = refl
+ended-dead (Live channel s) = refl
+ended-dead (Ending channel) = refl
+ended-dead (Over peer_end complete) = refl
+
+end-goes : (old : Talk) (links : Links) (channel : IncomingChannel) (end : EndFrame) (frames : List SessionFrame)
+    (events : List Event) (new : Talk) (links_new : Links)
+    → EndTaken old links channel end frames events new links_new → EachOf Stays old.sessions new.sessions
+end-goes old links channel end frames events new links_new t =
+    let a = t.answered in
+    let number : ℕ = t.heard.number in
+    let (was, is) =
+    (at number old.sessions (TakesEnd number channel end a.stood) new.sessions a.stepped).about (eq-same number) in
+    dead-stays number (TakesEnd number channel end a.stood) old.sessions new.sessions (λ n e. e) a.stepped
+    (ap live_of is ∙ ended-dead a.stood)
+
+-- a frame that is no Transfer
+abbrev pub IsNotTransfer : FrameBody → Type 0
+IsNotTransfer (body.Transfer transfer payload) = ⊥
+IsNotTransfer it = Unit {0}
+
+frame-goes : (it : FrameBody) → IsNotTransfer it → (old new : LinkedSessions) (limit : ℕ) (channel : IncomingChannel)
+    (frames : List SessionFrame) (events : List Event)
+    → HearsFrame old.talk old.links old.given limit channel it frames events new.talk new.links new.given
+    → EachOf Goes old.talk.sessions new.talk.sessions
+frame-goes (body.Begin begin) other old new limit channel frames events (b, g) =
+    begin-goes old.talk old.links channel begin frames events new.talk new.links b
+frame-goes (body.Attach attach) other old new limit channel frames events (a, g) =
+    elim a.hears [
+      | inl t ↦ each-goes-on old.talk.sessions t.mid.sessions new.talk.sessions
+          (heard-goes (said.Attach attach t.named) tt old.talk channel t.heard [] t.mid t.answered)
+          (attach-comes t.heard t.named t.mid new.talk attach a.left frames events t.becomes)
+      | inr f ↦ stays-go old.talk.sessions new.talk.sessions
+          (fails-stay (said.Attach attach f.named) old.talk new.talk f.fails.number f.fails.fault f.fails.session frames
+          channel f.fails.answered)
+    ]
+frame-goes (body.Flow flow) other old new limit channel frames events (inl t, g) =
+    each-goes-on old.talk.sessions t.mid.sessions new.talk.sessions
+    (heard-goes (said.Flow flow) tt old.talk channel t.heard frames t.mid t.answered)
+    (flow-comes (session_of t.heard) frames t.mid new.talk old.links new.links t.leave)
+frame-goes (body.Flow flow) other old new limit channel frames events (inr f, g) =
+    stays-go old.talk.sessions new.talk.sessions
+    (fails-stay (said.Flow flow) old.talk new.talk f.number f.fault f.session frames channel f.answered)
+frame-goes (body.Transfer transfer payload) other old new limit channel frames events h = absurd other
+frame-goes (body.Disposition disposition) other old new limit channel frames events (inl t, g) =
+    each-goes-on old.talk.sessions t.mid.sessions new.talk.sessions
+    (heard-goes (said.Disposition disposition) tt old.talk channel t.heard [] t.mid t.answered)
+    (disposition-comes (runs_of t.heard) limit old.talk t.mid new.talk disposition frames events t.follows)
+frame-goes (body.Disposition disposition) other old new limit channel frames events (inr f, g) =
+    stays-go old.talk.sessions new.talk.sessions
+    (fails-stay (said.Disposition disposition) old.talk new.talk f.number f.fault f.session frames channel f.answered)
+frame-goes (body.Detach detach) other old new limit channel frames events (inl t, g) =
+    each-goes-on old.talk.sessions t.mid.sessions new.talk.sessions
+    (heard-goes (said.Detach detach) tt old.talk channel t.heard [] t.mid t.answered)
+    (detach-comes (detach_of t.heard) old.talk t.mid new.talk old.links new.links detach frames events t.becomes)
+frame-goes (body.Detach detach) other old new limit channel frames events (inr f, g) =
+    stays-go old.talk.sessions new.talk.sessions
+    (fails-stay (said.Detach detach) old.talk new.talk f.number f.fault f.session frames channel f.answered)
+frame-goes (body.End end) other old new limit channel frames events (t, g) =
+    stays-go old.talk.sessions new.talk.sessions
+    (end-goes old.talk old.links channel end frames events new.talk new.links t)
+frame-goes it other old new limit channel frames events h = absurd h
+
+-- what a call does in the session that holds its link
+done-in : (does : DoesTo) (session : ℕ) (handle : OutputHandle) (old new : Talk) (frames : List SessionFrame)
+    → StaysBy does → DoneIn does session handle old [] new frames → EachOf Goes old.sessions new.sessions
+done-in does session handle old new frames stays d =
+    stays-go old.sessions new.sessions
+    (inside-stays session d.before d.after old.sessions new.sessions d.stepped
+    (stays handle d.before.value d.after.value d.frames d.did))
+
+done-at : (does : DoesTo) (place : Where) (old new : Talk) (frames : List SessionFrame) → StaysBy does
+    → DoneAt does place old [] new frames → EachOf Goes old.sessions new.sessions
+done-at does None old new frames stays d = absurd d
+done-at does (Some (AtRest end)) old new frames stays d = absurd d
+done-at does (Some (Held session handle)) old new frames stays d =
+    done-in does session handle old new frames stays d
+
+disposed-at : (limit : ℕ) (place : Where) (messages : List ℕ) (disposal : Disposal) (old new : Talk)
+    (frames : List SessionFrame) → DisposedAt limit place messages disposal old [] new frames
+    → EachOf Goes old.sessions new.sessions
+disposed-at limit place [] disposal old new frames (same, none) =
+    stays-go old.sessions new.sessions (talk-same old new same)
+disposed-at limit place (message ∷ messages) disposal old new frames d =
+    done-at (disposes_of_all limit (message ∷ messages) disposal) place old new frames
+    (disposes-all limit (message ∷ messages) disposal) d
+
+closed-at : (place : Where) (number : ℕ) (events : List Event) (old new : Talk) (links links_new : LinksBy)
+    (frames : List SessionFrame) → ClosedAt place old links number [] events new links_new frames
+    → EachOf Goes old.sessions new.sessions
+closed-at None number events old new links links_new frames c = absurd c
+closed-at (Some (AtRest end)) number events old new links links_new frames c =
+    stays-go old.sessions new.sessions (talk-same old new c.same)
+closed-at (Some (Held session handle)) number events old new links links_new frames c =
+    done-in (closes events) session handle old new frames (closing-stays events) c.done
+
+attached : (old new : Talk) (links links_new : LinksBy) (limit session : ℕ) (link : End) (number : ℕ)
+    (events : List Event) (frames : List SessionFrame)
+    → LinkAttached old links limit session link number events frames new links_new
+    → EachOf Goes old.sessions new.sessions
+attached old new links links_new limit session link number events frames a =
+    let l = a.attaches in
+    let i = l.attaches in
+    let one = i.attached in
+    inside-goes session i.before i.after old.sessions new.sessions i.stepped
+    (attached-goes i.before.value i.after.value limit link a.placed l.frames one.input a.placed.exchange one.attached)
+
+-- a session begins, and ends
+begun : (old new : Talk) (number : ℕ) (frames : List SessionFrame) → BeginsHere gives old [] number new frames
+    → EachOf Goes old.sessions new.sessions
+begun old new number frames b =
+    let (was, is) =
+    (at number old.sessions (Begins number b.channel b.session) new.sessions b.stepped).about (eq-same number) in
+    born-goes number (Begins number b.channel b.session) old.sessions new.sessions (λ n e. e) b.stepped (ap live_of was)
+
+accepted : (old new : Talk) (channel : IncomingChannel) (number : ℕ) (frames : List SessionFrame)
+    → AcceptsHere gives old [] channel number new frames → EachOf Goes old.sessions new.sessions
+accepted old new channel number frames a =
+    let step = Accepts number a.incoming a.wanted a.outgoing a.session in
+    let (was, is) = (at number old.sessions step a.mid a.stepped).about (eq-same number) in
+    each-goes-on old.sessions a.mid new.sessions
+    (born-goes number step old.sessions a.mid (λ n e. e) a.stepped (ap live_of was))
+    (inside-stays number a.session (with_links a.session a.wanted.value.links) a.mid new.sessions a.taken_over
+    (all-same a.session.value.session a.session.value.session refl))
+
+told-live : (stood : Stood) → peer_end_of (Some stood) ≡ Received → live_of (Some (told_place stood)) ≡ None
+told-live (Over peer_end complete) is = refl
+told-live (Asked channel a) is = refl
+told-live (Live channel s) is = let clash : Missing ≡ Received = is in absurd cc
+told-live (Ending channel) is = refl
+
+end-told : (old new : Sessions) (number : ℕ) (result : Result ⊤ TryEndError) → EndTold old number result new
+    → EachOf Stays old new
+end-told old new number (Ok ok) t =
+    let (stood, was, came, is) = (at number old (TellsEnd number) new t).about (eq-same number) in
+    dead-stays number (TellsEnd number) old new (λ n e. e) t (ap live_of is ∙ told-live stood came)
+end-told old new number (Err e) t = sessions-same old new t.1
+
+told-alone : (old new : LinkedSessions) → new ≡ old → EachOf Goes old.talk.sessions new.talk.sessions
+told-alone old new same =
+    stays-go old.talk.sessions new.talk.sessions
+    (sessions-same old.talk.sessions new.talk.sessions (ap (λ (s : LinkedSessions). s.talk.sessions) same))
+
+call-goes : (it : Call) (answer : Said) (old new : LinkedSessions) (limit : ℕ) (frames : List SessionFrame)
+    → Calls old limit it answer frames new → EachOf Goes old.talk.sessions new.talk.sessions
+call-goes call.Begin (session_begun n) old new limit frames c = begun old.talk new.talk n frames c.begins
+call-goes (call.AcceptBegin channel) (session_begun n) old new limit frames c =
+    accepted old.talk new.talk channel n frames c.accepts
+call-goes (call.End n) done old new limit frames c =
+    stays-go old.talk.sessions new.talk.sessions (ends-stays n None c.session old.talk new.talk [] frames c.ends)
+call-goes (call.IsEnded n) (truth b) old new limit frames c = told-alone old new c.same
+call-goes (call.TryEnd n) (tried_end o) old new limit frames c =
+    stays-go old.talk.sessions new.talk.sessions
+    (end-told old.talk.sessions new.talk.sessions n (answer_of o) c.tells)
+call-goes (call.AttachSender n settings) (attaching link events) old new limit frames c =
+    attached old.talk new.talk old.links new.links limit n _ link events frames c
+call-goes (call.AttachReceiver n settings) (attaching link events) old new limit frames c =
+    attached old.talk new.talk old.links new.links limit n _ link events frames c
+call-goes (call.Detach link) done old new limit frames c =
+    done-at (detaches false) (link_place old.links link) old.talk new.talk frames (detaches-stay false) c.is_done
+call-goes (call.CloseLink link) (link_closed events) old new limit frames c =
+    closed-at (link_place old.links link) link events old.talk new.talk old.links new.links frames c
+call-goes (call.Grant link n) (credit_is left) old new limit frames c =
+    done-at (gives_credit n left) (link_place old.links link) old.talk new.talk frames (gives-stays n left) c.is_done
+call-goes (call.Drain link) done old new limit frames c =
+    done-at wants_drain (link_place old.links link) old.talk new.talk frames drains-stays c.is_done
+call-goes (call.Send link message) (message_sent tag outcome) old new limit frames c =
+    done-at (sends limit (tag_of old.sent) message c.sends.settled) (link_place old.links link) old.talk new.talk frames
+    (sends-stays limit (tag_of old.sent) message c.sends.settled) c.sends.sent
+call-goes (call.Dispose link message disposal) done old new limit frames c =
+    done-at (disposes_of_one limit message disposal) (link_place old.links link) old.talk new.talk frames
+    (disposes-one limit message disposal) c.disposes
+call-goes (call.DisposeAll link messages disposal) done old new limit frames c =
+    disposed-at limit (link_place old.links link) messages disposal old.talk new.talk frames c.disposes
+call-goes (call.Credit link) (credit_is left) old new limit frames c = told-alone old new c.same
+call-goes (call.HeldBack n) (count m) old new limit frames c = told-alone old new c.same
+call-goes (call.Waiting n) (waiting turn) old new limit frames c = told-alone old new c.same
+call-goes it answer old new limit frames c = absurd c
+
+-- what the connection's own deeds do
+gone-dead : (o : Option Stood) → IsGone o → live_of o ≡ None
+gone-dead (Some (Ending channel)) gone = refl
+gone-dead (Some (Over peer_end complete)) gone = refl
+gone-dead (Some (Asked channel a)) gone = absurd gone
+gone-dead (Some (Live channel s)) gone = absurd gone
+gone-dead None gone = absurd gone
+
+dead-holds : (o : Option Stood) (h : ℕ) → live_of o ≡ None → held_in (live_of o) h ≡ None
+dead-holds o h dead = ap (λ (x : Option Session). held_in x h) dead
+
+wanes-stays : (old new : Sessions) → ((n : ℕ) → Wanes old new n) → EachOf Stays old new
+wanes-stays old new wanes n h = by (wanes n)
+  where
+    by : Wanes old new n → Stays (held_in (live_at old n) h) (held_in (live_at new n) h)
+    by (inl same) = inl (ap (λ (o : Option Stood). held_in (live_of o) h) same)
+    by (inr gone) = inr (dead-holds (place_at new n) h (gone-dead (place_at new n) gone))
+
+over-stays : (old new : Sessions) → ((n : ℕ) → IsOver new n) → EachOf Stays old new
+over-stays old new over n h = by (over n)
+  where
+    by : IsOver new n → Stays (held_in (live_at old n) h) (held_in (live_at new n) h)
+    by (inl gone) = inr (dead-holds (place_at new n) h (gone-dead (place_at new n) gone))
+    by (inr none) = inr (ap (λ (o : Option Stood). held_in (live_of o) h) none)
+
+refused-stays : (old new : LinkedSessions) (limit : ℕ) (f : Frame) (error : EndpointError) (own_close : Bool)
+    → EndsBy linked old limit f error own_close new → EachOf Stays old.talk.sessions new.talk.sessions
+refused-stays old new limit f error own_close e =
+    let told = e.closes.told in
+    over-stays old.talk.sessions new.talk.sessions
+    (λ n. over-at (place_at told.talk.sessions n) told.talk.sessions new.talk.sessions told.links new.links n refl
+    e.closes.over.0.each)
+
+places-stay : (old new : LinkedSessions) → new.talk.sessions.places ≡ old.talk.sessions.places
+    → EachOf Goes old.talk.sessions new.talk.sessions
+places-stay old new same =
+    stays-go old.talk.sessions new.talk.sessions
+    (places-same old.talk.sessions new.talk.sessions (λ n. ap (λ (ps : List Stood). slice_get ps n) same))
+
+-- whatever is done
+abbrev pub TakesNoTransfer : Deed → Type 0
+TakesNoTransfer (Takes limit f frames events) = IsNotTransfer f.body
+TakesNoTransfer deed = Unit {0}
+
+pub deed-goes : (deed : Deed) → TakesNoTransfer deed → (old new : LinkedSessions) → IsDeed linked old deed new
+    → EachOf Goes old.talk.sessions new.talk.sessions
+deed-goes (Queues it) other old new same = told-alone old new same
+deed-goes (Hears frame events) other old new (moves, told) =
+    places-stay old new (by-frame-still frame.body old new moves).0
+deed-goes (Takes limit f frames events) other old new h =
+    frame-goes f.body other old new limit (record { 0 = f.channel }) frames events h.0
+deed-goes (Refuses limit f error own_close) other old new e =
+    stays-go old.talk.sessions new.talk.sessions (refused-stays old new limit f error own_close e)
+deed-goes (Does limit it answer frames) other old new c = call-goes it answer old new limit frames c.0
+deed-goes (Moves connection) other old new m =
+    places-stay old new (ap (λ (s : LinkedSessions). s.talk.sessions.places) m.1)
+deed-goes Renews other old new is =
+    places-stay old new (ap (λ (s : LinkedSessions). s.talk.sessions.places) is)
+deed-goes Closes other old new l =
+    stays-go old.talk.sessions new.talk.sessions
+    (wanes-stays old.talk.sessions new.talk.sessions
+    (left-first _ old.talk.sessions new.talk.sessions old.links new.links l.0.each))
+deed-goes Finishes other old new f =
+    stays-go old.talk.sessions new.talk.sessions
+    (wanes-stays old.talk.sessions new.talk.sessions
+    (finished-first _ old.talk.sessions new.talk.sessions old.links new.links f.0.each))
