@@ -1,6 +1,8 @@
 mod Keeping
 mod Kept
+mod DeedsKept
 mod LinksKept
+mod LinksStay
 mod Serials
 mod Unnumbered
 mod Numbered
@@ -15,3 +17,8 @@ mod PassedCalled
 mod PassedKept
 mod PassedWindows
 mod PassedSteps
+mod QueuedSaid
+mod QueuedOrder
+mod QueuedKept
+mod QueuedSince
+mod QueuedAttached
