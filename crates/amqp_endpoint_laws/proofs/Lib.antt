@@ -17,6 +17,15 @@ mod PassedCalled
 mod PassedKept
 mod PassedWindows
 mod PassedSteps
+mod Parted
+mod Agreeing
+mod Numbers
+mod HeldSessions
+mod NumbersInside
+mod HeldParting
+mod HeldCalled
+mod HeldHeard
+mod HeldKept
 mod QueuedSaid
 mod QueuedOrder
 mod QueuedKept

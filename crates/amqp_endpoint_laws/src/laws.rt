@@ -22,6 +22,7 @@ ghost use Rattle.amqp_endpoint_deeds.specs.Deeds.{AreDone, Deed, Does, IsDeed};
 ghost use Rattle.amqp_endpoint_settings.specs.declared.link.LinkSettings.{LinkSettings};
 ghost use Rattle.amqp_endpoint_talk.specs.Windows.{KeepsWindow, Passing, begins_with};
 ghost use Rattle.amqp_endpoint_laws.specs.Conversing.{SessionsGoOn};
+ghost use Rattle.amqp_endpoint_laws.specs.Held.{IsHeldThere, number_at};
 ghost use Rattle.amqp_endpoint_laws.specs.Linking.{HaveCome};
 ghost use Rattle.amqp_endpoint_laws.specs.Passed.{HasCome, PassesIn};
 ghost use Rattle.amqp_endpoint_laws.specs.Queued.{AttachesFirst, SayMessages, messages_by, queued};
@@ -129,6 +130,46 @@ pub fn sessions_come_about_by_their_own_steps()
         (passings : List Passing) (session : Session) → IsNew linked settings sessions →
         PassesIn number sessions deeds end passings → live_at end.talk.sessions number ≡ Some session →
         HasCome settings.first_transfer_number passings session.value.session }
+{}
+
+/// Where an endpoint's table of links says that a session holds a link, the link stands: that session goes on, and the
+/// link that has the own handle there bears this number (part 2, 2.6.2). This is so whichever deeds an endpoint's run
+/// consists of, and behind each run.
+pub fn held_links_stand_in_their_sessions()
+    ensures by_deeds { (sessions end : LinkedSessions) (settings : Settings) (deeds : List Deed) (link session : ℕ)
+        (handle : OutputHandle) → IsNew linked settings sessions → AreDone linked sessions deeds end →
+        place_at end.links link ≡ Some (Held session handle) →
+        number_at end.talk.sessions session handle.0 ≡ Some link }
+    ensures by_calls { (sessions : LinkedSessions) (settings : Settings) (calls : List Call) (told : List Told)
+        (end : State LinkedSessions) (link session : ℕ) (handle : OutputHandle) → IsNew linked settings sessions →
+        Run linked (fresh settings sessions) calls told end →
+        place_at end.sessions.links link ≡ Some (Held session handle) →
+        number_at end.sessions.talk.sessions session handle.0 ≡ Some link }
+{}
+
+/// No two links are held by one session under one own handle (part 2, 2.6.2).
+pub fn no_two_links_share_a_handle()
+    ensures by_deeds { (sessions end : LinkedSessions) (settings : Settings) (deeds : List Deed) (m n session : ℕ)
+        (handle : OutputHandle) → IsNew linked settings sessions → AreDone linked sessions deeds end →
+        place_at end.links m ≡ Some (Held session handle) → place_at end.links n ≡ Some (Held session handle) → m ≡ n }
+    ensures by_calls { (sessions : LinkedSessions) (settings : Settings) (calls : List Call) (told : List Told)
+        (end : State LinkedSessions) (m n session : ℕ) (handle : OutputHandle) → IsNew linked settings sessions →
+        Run linked (fresh settings sessions) calls told end →
+        place_at end.sessions.links m ≡ Some (Held session handle) →
+        place_at end.sessions.links n ≡ Some (Held session handle) → m ≡ n }
+{}
+
+/// A link that stands in a session that goes on is held there: the endpoint's table says so by its number; or the link
+/// was closed, by either end, and stands in its session only as long as frames of it wait there (part 2, 2.6.2, 2.6.6).
+pub fn links_of_sessions_are_held()
+    ensures by_deeds { (sessions end : LinkedSessions) (settings : Settings) (deeds : List Deed)
+        (link session handle : ℕ) → IsNew linked settings sessions → AreDone linked sessions deeds end →
+        number_at end.talk.sessions session handle ≡ Some link → IsHeldThere end.links link session handle }
+    ensures by_calls { (sessions : LinkedSessions) (settings : Settings) (calls : List Call) (told : List Told)
+        (end : State LinkedSessions) (link session handle : ℕ) → IsNew linked settings sessions →
+        Run linked (fresh settings sessions) calls told end →
+        number_at end.sessions.talk.sessions session handle ≡ Some link →
+        IsHeldThere end.sessions.links link session handle }
 {}
 
 /// What a sending link is given to send is queued in order. Its Attach is the first frame of the call by which it
