@@ -70,7 +70,7 @@ module _ {S : Type 0} (does : Relations S) (P : Phase → S → Type 0) (k : Kee
       k.finished phase to c.answered new c.over
       (sends-close phase own false c.taken c.answered c.answers (moves-by phase _ old c.taken c.takes p))
 
-  closes-by : (phase to : Phase) (own : Bool) (old new : S) → ClosesBy does own old new → P phase old → P to new
+  pub closes-by : (phase to : Phase) (own : Bool) (old new : S) → ClosesBy does own old new → P phase old → P to new
   closes-by phase to own old new c p =
       k.finished phase to c.told new c.over (sends-close phase own true old c.told c.tells p)
 

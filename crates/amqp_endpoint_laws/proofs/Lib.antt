@@ -1,6 +1,8 @@
 mod Keeping
 mod Kept
+mod DeedsKept
 mod LinksKept
+mod LinksStay
 mod Serials
 mod Unnumbered
 mod Numbered
@@ -33,3 +35,8 @@ mod HandedOut
 mod HandedBy
 mod HandedOn
 mod HandedRuns
+mod QueuedSaid
+mod QueuedOrder
+mod QueuedKept
+mod QueuedSince
+mod QueuedAttached

@@ -1,7 +1,8 @@
 -- The links of an endpoint go on by steps of their own.
 use Rattle.std.proofs.Common.{◌≡◌, inl, inr, ℕ, Bool, true, false, List, [], ◌∷◌, ◌++◌, Option, Some, None, Ok, Err}
 use Rattle.std.proofs.Common.{refl, sym, ap, subst}
-use Rattle.std.specs.Prelude.{Result, ⊤}
+use Rattle.std.specs.Prelude.{All, Result, ⊤}
+use Rattle.std.proofs.lemmas.List.Elements.{All-head, All-tail}
 use Rattle.amqp_session_types.specs.declared.channels.IncomingChannel.{IncomingChannel}
 use Rattle.amqp_session_types.specs.declared.handles.OutputHandle.{OutputHandle}
 use Rattle.amqp_session_performatives.specs.declared.session_frame.SessionFrame.{SessionFrame}
@@ -15,12 +16,12 @@ use Rattle.amqp_link_ends.specs.declared.end.End.{End}
 use Rattle.amqp_endpoint_names.specs.declared.place.LinkPlace.{LinkPlace}
 use Rattle.amqp_endpoint_names.specs.declared.place.LinkPlace.TheVariants.{AtRest, Held}
 use Rattle.amqp_endpoint_names.specs.State.{AreApart, fresh, place_at}
-use Rattle.amqp_endpoint_names.specs.Steps.{Closed, Closes, Enters, History, MakesRoom, Rested, Rests, Step}
+use Rattle.amqp_endpoint_names.specs.Steps.{Closed, Closes, Enters, History, Holds, MakesRoom, Rested, Rests, Step}
+use Rattle.amqp_endpoint_names.specs.Steps.{Steps}
 use Rattle.amqp_endpoint_names.proofs.Apart.{none_apart, stay_apart}
 use Rattle.amqp_endpoint_model.specs.declared.call.Call.{Call}
 use Rattle.amqp_endpoint_model.specs.declared.call.Call.TheVariants as call
 use Rattle.amqp_endpoint_model.specs.declared.event.Event.{Event}
-use Rattle.amqp_endpoint_model.specs.declared.phase.Phase.{Phase}
 use Rattle.amqp_endpoint_model.specs.declared.settings.Settings.{Settings}
 use Rattle.amqp_endpoint_model.specs.History.{Run}
 use Rattle.amqp_endpoint_model.specs.Relay.{IsNew}
@@ -29,7 +30,7 @@ use Rattle.amqp_endpoint_model.specs.Said.{message_sent, tried_end, truth, waiti
 use Rattle.amqp_endpoint_model.specs.State.{State, fresh as fresh_endpoint}
 use Rattle.amqp_endpoint_attached.specs.Linked.{Linked}
 use Rattle.amqp_endpoint_linking.specs.Linking.{Link, Links, Session, Talk}
-use Rattle.amqp_endpoint_linking.specs.GivingBack.{AllGivenBack, GoOn, SessionGivenBack}
+use Rattle.amqp_endpoint_linking.specs.GivingBack.{AllGivenBack, GoOn, IsGivenBack, SessionGivenBack}
 use Rattle.amqp_endpoint_linking.specs.Ending.{Finishes, Leaves}
 use Rattle.amqp_endpoint_link_attaching.specs.Attaching.{with_room}
 use Rattle.amqp_endpoint_link_calls.specs.Closing.{ClosedAt}
@@ -53,202 +54,233 @@ more start mid end [] others same h = subst (λ (l : Links). History l others en
 more start mid end (step ∷ steps) others (next, one, rest) h = (next, one, more next mid end steps others rest h)
 
 -- links that are given back go on by steps of their own
-abbrev BackGoesOn : Type 0
+abbrev pub BackGoesOn : Type 0
 BackGoesOn = (old new : Links) (left : List Link) → AllGivenBack old left new → GoOn old new
 
-abbrev LeftGoesOn : Type 0
+abbrev pub LeftGoesOn : Type 0
 LeftGoesOn = (old new : Talk) (links links_new : Links) → Leaves old links new links_new → GoOn links links_new
 
-abbrev FinishedGoesOn : Type 0
+abbrev pub FinishedGoesOn : Type 0
 FinishedGoesOn = (old new : Talk) (links links_new : Links) → Finishes old links new links_new → GoOn links links_new
 
--- from links that came so, by further steps
-module _ (back_on : BackGoesOn) (old new : Links) (came : HaveCome old) where
-  by : (steps : List (Step End)) → History old steps new → HaveCome new
-  by steps h =
-      record { steps = came.steps ++ steps; history = more fresh old new came.steps steps came.history h }
+-- a step by which no link attaches again
+abbrev pub HoldsNone : Step End → Type 0
+HoldsNone (Holds number session handle link) = ⊥
+HoldsNone step = Unit {0}
 
-  same : new ≡ old → HaveCome new
-  same is = subst HaveCome (sym is) came
+-- each of them
+abbrev AllHoldNone : List (Step End) → Type 0
+AllHoldNone [] = Unit {0}
+AllHoldNone (step ∷ steps) = HoldsNone step × AllHoldNone steps
 
-  goes-on : GoOn old new → HaveCome new
-  goes-on g = by g.steps g.history
+given-holds-none : (step : Step End) → IsGivenBack step → HoldsNone step
+given-holds-none (Holds number session handle link) back = absurd back
+given-holds-none step back = tt
 
-  back : (left : List Link) → AllGivenBack old left new → HaveCome new
-  back left given = goes-on (back_on old new left given)
+hold-none : (steps : List (Step End)) → All IsGivenBack steps → AllHoldNone steps
+hold-none [] given = tt
+hold-none (step ∷ steps) given =
+    (given-holds-none step (All-head IsGivenBack step steps given), hold-none steps (All-tail IsGivenBack step steps given))
 
-  session-back : (session : Option Session) → SessionGivenBack old session new → HaveCome new
-  session-back None is = same is
-  session-back (Some session) given = back _ given
+-- what each such step keeps is kept by all that an endpoint does
+module _ (P : Links → Type 0)
+    (kept : (step : Step End) (old new : Links) → HoldsNone step → Steps old step new → P old → P new)
+    (back_on : BackGoesOn) where
+  all-kept : (steps : List (Step End)) (old new : Links) → AllHoldNone steps → History old steps new → P old → P new
+  all-kept [] old new none same p = subst P (sym same) p
+  all-kept (step ∷ steps) old new (one, others) (mid, stepped, rest) p =
+      all-kept steps mid new others rest (kept step old mid one stepped p)
 
-  closed : (number : ℕ) (place : Option (LinkPlace End)) → Closed old number place new → HaveCome new
-  closed number None t = same t.1
-  closed number (Some place) t = by (Closes number place ∷ []) (new, t, refl)
+  -- by further steps
+  module _ (old new : Links) (came : P old) where
+    by : (steps : List (Step End)) → AllHoldNone steps → History old steps new → P new
+    by steps none h = all-kept steps old new none h came
 
-  rested : (number : ℕ) (link : End) (left : Result ⊤ End) → Rested old number link left new → HaveCome new
-  rested number link (Err given) t = same t.2
-  rested number link (Ok given) t = by (Rests number link ∷ []) (new, t, refl)
+    same : new ≡ old → P new
+    same is = subst P (sym is) came
 
-  left-so : (is_closed : Bool) (number : ℕ) (left : Option Link) → IsLeft is_closed old number left new → HaveCome new
-  left-so true number left c = closed number c.place c.closed
-  left-so false number None is = same is
-  left-so false number (Some link) r = rested number link.link r.back r.rested
+    goes-on : GoOn old new → P new
+    goes-on g = by g.steps (hold-none g.steps g.given_back) g.history
 
-  attached : (old_talk new_talk : Talk) (limit session : ℕ) (link : End) (number : ℕ) (events : List Event)
-      (frames : List SessionFrame)
-      → LinkAttached old_talk old limit session link number events frames new_talk new → HaveCome new
-  attached old_talk new_talk limit session link number events frames a =
-      by (MakesRoom _ ∷ Enters _ _ _ _ ∷ [])
-      (with_room old, (a.attaches.entered.0, refl), (new, a.attaches.entered, refl))
+    back : (left : List Link) → AllGivenBack old left new → P new
+    back left given = goes-on (back_on old new left given)
 
-  closed-at : (place : Where) (number : ℕ) (events : List Event) (old_talk new_talk : Talk)
-      (frames : List SessionFrame) → place_at old number ≡ place
-      → ClosedAt place old_talk old number [] events new_talk new frames → HaveCome new
-  closed-at None number events old_talk new_talk frames is c = absurd c
-  closed-at (Some (AtRest end)) number events old_talk new_talk frames is c =
-      by (Closes number (AtRest end) ∷ []) (new, (is, c.forgets.forgotten), refl)
-  closed-at (Some (Held session handle)) number events old_talk new_talk frames is c = same c.kept
+    session-back : (session : Option Session) → SessionGivenBack old session new → P new
+    session-back None is = same is
+    session-back (Some session) given = back _ given
 
-heard-detach : (back_on : BackGoesOn) (took : Option (ℕ × Detached)) (old mid new : Talk) (links links_new : Links)
-    (frames : List SessionFrame) (events : List Event) (it : _)
-    → Becomes took old links it mid frames events new links_new → HaveCome links → HaveCome links_new
-heard-detach back_on (Some (session, told)) old mid new links links_new frames events it b came =
-    left-so back_on links links_new came told.closed b.link.number b.left b.is_left
-heard-detach back_on None old mid new links links_new frames events it b came = same back_on links links_new came b.same
+    closed : (number : ℕ) (place : Option (LinkPlace End)) → Closed old number place new → P new
+    closed number None t = same t.1
+    closed number (Some place) t = by (Closes number place ∷ []) (tt, tt) (new, t, refl)
 
--- a link that leaves by a Flow comes to rest, or is closed
-once : (back_on : BackGoesOn) (it : Option (ℕ × Bool)) (handle : OutputHandle) (old new : Linked)
-    (links links_new : Links) → LeavesOnce it handle old links new links_new → HaveCome links → HaveCome links_new
-once back_on None handle old new links links_new l came = same back_on links links_new came l.1
-once back_on (Some (number, is_closed)) handle old new links links_new l came =
-    left-so back_on links links_new came is_closed number l.left l.is_left
+    rested : (number : ℕ) (link : End) (left : Result ⊤ End) → Rested old number link left new → P new
+    rested number link (Err given) t = same t.2
+    rested number link (Ok given) t = by (Rests number link ∷ []) (tt, tt) (new, t, refl)
 
-with-frame : (back_on : BackGoesOn) (frame : SessionFrameBody) (old new : Linked) (links links_new : Links)
-    → LeavesWith frame old links new links_new → HaveCome links → HaveCome links_new
-with-frame back_on (session_body.Detach detach) old new links links_new l came =
-    once back_on (ended_link (link_at old.session detach.handle.0)) (record { 0 = detach.handle.0 }) old new links
-    links_new l came
-with-frame back_on frame old new links links_new l came = same back_on links links_new came l.1
+    left-so : (is_closed : Bool) (number : ℕ) (left : Option Link) → IsLeft is_closed old number left new → P new
+    left-so true number left c = closed number c.place c.closed
+    left-so false number None is = same is
+    left-so false number (Some link) r = rested number link.link r.back r.rested
 
-with-each : (back_on : BackGoesOn) (frames : List SessionFrame) (old new : Linked) (links links_new : Links)
-    → LeaveWith frames old links new links_new → HaveCome links → HaveCome links_new
-with-each back_on [] old new links links_new l came = same back_on links links_new came l.1
-with-each back_on (frame ∷ frames) old new links links_new (mid, links_mid, one, others) came =
-    with-each back_on frames mid new links_mid links_new others
-    (with-frame back_on frame.body old mid links links_mid one came)
+    attached : (old_talk new_talk : Talk) (limit session : ℕ) (link : End) (number : ℕ) (events : List Event)
+        (frames : List SessionFrame)
+        → LinkAttached old_talk old limit session link number events frames new_talk new → P new
+    attached old_talk new_talk limit session link number events frames a =
+        by (MakesRoom _ ∷ Enters _ _ _ _ ∷ []) (tt, (tt, tt))
+        (with_room old, (a.attaches.entered.0, refl), (new, a.attaches.entered, refl))
 
-heard-flow : (back_on : BackGoesOn) (took : Option ℕ) (frames : List SessionFrame) (mid new : Talk)
-    (links links_new : Links) → LetsGo took frames mid links new links_new → HaveCome links → HaveCome links_new
-heard-flow back_on None frames mid new links links_new l came = same back_on links links_new came l.1
-heard-flow back_on (Some session) frames mid new links links_new g came =
-    with-each back_on frames g.before.value g.after.value links links_new g.done came
+    closed-at : (place : Where) (number : ℕ) (events : List Event) (old_talk new_talk : Talk)
+        (frames : List SessionFrame) → place_at old number ≡ place
+        → ClosedAt place old_talk old number [] events new_talk new frames → P new
+    closed-at None number events old_talk new_talk frames is c = absurd c
+    closed-at (Some (AtRest end)) number events old_talk new_talk frames is c =
+        by (Closes number (AtRest end) ∷ []) (tt, tt) (new, (is, c.forgets.forgotten), refl)
+    closed-at (Some (Held session handle)) number events old_talk new_talk frames is c = same c.kept
 
-heard : (back_on : BackGoesOn) (said : FrameBody) (old new : Talk) (links links_new : Links) (given given_new limit : ℕ)
-    (channel : IncomingChannel) (frames : List SessionFrame) (events : List Event)
-    → Hears old links given limit channel said frames events new links_new given_new → HaveCome links
-    → HaveCome links_new
-heard back_on (body.Begin begin) old new links links_new given given_new limit channel frames events (inl t, g) came =
-    same back_on links links_new came t.same
-heard back_on (body.Begin begin) old new links links_new given given_new limit channel frames events (inr f, g) came =
-    back back_on links links_new came _ f.fails.back
-heard back_on (body.Attach attach) old new links links_new given given_new limit channel frames events (a, g) came =
-    elim a.hears
-    [ inl t ↦ same back_on links links_new came t.same | inr f ↦ back back_on links links_new came _ f.fails.back ]
-heard back_on (body.Flow flow) old new links links_new given given_new limit channel frames events (inl t, g) came =
-    heard-flow back_on (session_of t.heard) frames t.mid new links links_new t.leave came
-heard back_on (body.Flow flow) old new links links_new given given_new limit channel frames events (inr f, g) came =
-    back back_on links links_new came _ f.back
-heard back_on (body.Transfer transfer payload) old new links links_new given given_new limit channel frames events
-    (left, inl t) came =
-    same back_on links links_new came t.same
-heard back_on (body.Transfer transfer payload) old new links links_new given given_new limit channel frames events
-    (left, inr f) came =
-    back back_on links links_new came _ f.fails.back
-heard back_on (body.Disposition disposition) old new links links_new given given_new limit channel frames events
-    (inl t, g) came =
-    same back_on links links_new came t.same
-heard back_on (body.Disposition disposition) old new links links_new given given_new limit channel frames events
-    (inr f, g) came =
-    back back_on links links_new came _ f.back
-heard back_on (body.Detach detach) old new links links_new given given_new limit channel frames events (inl t, g) came =
-    heard-detach back_on _ old t.mid new links links_new frames events detach t.becomes came
-heard back_on (body.Detach detach) old new links links_new given given_new limit channel frames events (inr f, g) came =
-    back back_on links links_new came _ f.back
-heard back_on (body.End end) old new links links_new given given_new limit channel frames events (t, g) came =
-    session-back back_on links links_new came t.heard.ended t.back
-heard back_on said old new links links_new given given_new limit channel frames events h came = absurd h
+  heard-detach : (took : Option (ℕ × Detached)) (old mid new : Talk) (links links_new : Links)
+      (frames : List SessionFrame) (events : List Event) (it : _)
+      → Becomes took old links it mid frames events new links_new → P links → P links_new
+  heard-detach (Some (session, told)) old mid new links links_new frames events it b came =
+      left-so links links_new came told.closed b.link.number b.left b.is_left
+  heard-detach None old mid new links links_new frames events it b came = same links links_new came b.same
 
-called : (back_on : BackGoesOn) (by_call : Call) (answer : Said) (old new : LinkedSessions) (limit : ℕ)
-    (frames : List SessionFrame) → Calls old limit by_call answer frames new → HaveCome old.links → HaveCome new.links
-called back_on call.Begin (session_begun n) old new limit frames c came = same back_on old.links new.links came c.same
-called back_on (call.AcceptBegin channel) (session_begun n) old new limit frames c came =
-    same back_on old.links new.links came c.same
-called back_on (call.End n) done old new limit frames c came = back back_on old.links new.links came _ c.back
-called back_on (call.IsEnded n) (truth b) old new limit frames c came =
-    same back_on old.links new.links came (ap (λ (s : LinkedSessions). s.links) c.same)
-called back_on (call.TryEnd n) (tried_end o) old new limit frames c came =
-    same back_on old.links new.links came (ap (λ (s : LinkedSessions). s.links) c.rest)
-called back_on (call.AttachSender n settings) (attaching link events) old new limit frames c came =
-    attached back_on old.links new.links came old.talk new.talk limit n _ link events frames c
-called back_on (call.AttachReceiver n settings) (attaching link events) old new limit frames c came =
-    attached back_on old.links new.links came old.talk new.talk limit n _ link events frames c
-called back_on (call.Detach link) done old new limit frames c came = same back_on old.links new.links came c.same
-called back_on (call.CloseLink link) (link_closed events) old new limit frames c came =
-    closed-at back_on old.links new.links came _ link events old.talk new.talk frames refl c
-called back_on (call.Grant link n) (credit_is left) old new limit frames c came =
-    same back_on old.links new.links came c.same
-called back_on (call.Drain link) done old new limit frames c came = same back_on old.links new.links came c.same
-called back_on (call.Send link message) (message_sent tag outcome) old new limit frames c came =
-    same back_on old.links new.links came c.same
-called back_on (call.Dispose link message disposal) done old new limit frames c came =
-    same back_on old.links new.links came c.same
-called back_on (call.DisposeAll link messages disposal) done old new limit frames c came =
-    same back_on old.links new.links came c.same
-called back_on (call.Credit link) (credit_is left) old new limit frames c came =
-    same back_on old.links new.links came (ap (λ (s : LinkedSessions). s.links) c.same)
-called back_on (call.HeldBack n) (count m) old new limit frames c came =
-    same back_on old.links new.links came (ap (λ (s : LinkedSessions). s.links) c.same)
-called back_on (call.Waiting n) (waiting turn) old new limit frames c came =
-    same back_on old.links new.links came (ap (λ (s : LinkedSessions). s.links) c.same)
-called back_on by_call answer old new limit frames c came = absurd c
+  -- a link that leaves by a Flow comes to rest, or is closed
+  once : (it : Option (ℕ × Bool)) (handle : OutputHandle) (old new : Linked)
+      (links links_new : Links) → LeavesOnce it handle old links new links_new → P links → P links_new
+  once None handle old new links links_new l came = same links links_new came l.1
+  once (Some (number, is_closed)) handle old new links links_new l came =
+      left-so links links_new came is_closed number l.left l.is_left
 
-module _ (back_on : BackGoesOn) (left_on : LeftGoesOn) (finished_on : FinishedGoesOn) where
-  abbrev LinksHaveCome : Phase → LinkedSessions → Type 0
-  LinksHaveCome phase s = HaveCome s.links
+  with-frame : (frame : SessionFrameBody) (old new : Linked) (links links_new : Links)
+      → LeavesWith frame old links new links_new → P links → P links_new
+  with-frame (session_body.Detach detach) old new links links_new l came =
+      once (ended_link (link_at old.session detach.handle.0)) (record { 0 = detach.handle.0 }) old new links
+      links_new l came
+  with-frame frame old new links links_new l came = same links links_new came l.1
 
-  links-keep-silent : KeepsSilent linked LinksHaveCome
-  links-keep-silent =
-      record {
-        moved = λ phase s connection live came. came;
-        renewed = λ s came. came;
-        runs = λ phase s came. came;
-        refused = λ phase old new limit channel said e r came.
-            same back_on old.links new.links came r.0.same;
-        closed = λ phase old new c came.
-            goes-on back_on old.links new.links came (left_on old.talk new.talk old.links new.links c.0);
-        finished = λ phase to old new f came.
-            goes-on back_on old.links new.links came (finished_on old.talk new.talk old.links new.links f.0);
-      }
+  with-each : (frames : List SessionFrame) (old new : Linked) (links links_new : Links)
+      → LeaveWith frames old links new links_new → P links → P links_new
+  with-each [] old new links links_new l came = same links links_new came l.1
+  with-each (frame ∷ frames) old new links links_new (mid, links_mid, one, others) came =
+      with-each frames mid new links_mid links_new others
+      (with-frame frame.body old mid links links_mid one came)
 
-  links-keep : Keeps linked (λ seen tags phase s. LinksHaveCome phase s)
-  links-keep =
-      record {
-        silent = λ seen tags. links-keep-silent;
-        told = λ seen tags event phase s theirs came. came;
-        taken = λ seen tags phase old new limit channel said frames events h came.
-            heard back_on said old.talk new.talk old.links new.links old.given new.given limit
-            (record { 0 = channel }) frames events h.0 came;
-        called = λ seen tags phase old new limit by_call answer frames may c came.
-            called back_on by_call answer old new limit frames c.0 came;
-      }
+  heard-flow : (took : Option ℕ) (frames : List SessionFrame) (mid new : Talk)
+      (links links_new : Links) → LetsGo took frames mid links new links_new → P links → P links_new
+  heard-flow None frames mid new links links_new l came = same links links_new came l.1
+  heard-flow (Some session) frames mid new links links_new g came =
+      with-each frames g.before.value g.after.value links links_new g.done came
 
-  pub have-come : (sessions : LinkedSessions) (settings : Settings) (calls : List Call) (told : List Told)
-      (end : State LinkedSessions) → IsNew linked settings sessions
-      → Run linked (fresh_endpoint settings sessions) calls told end → HaveCome end.sessions.links
-  have-come sessions settings calls told end new run =
-      run-keeps linked (λ seen tags phase s. LinksHaveCome phase s) links-keep [] []
-      (fresh_endpoint settings sessions) end calls told run
-      (record { steps = []; history = ap (λ (s : LinkedSessions). s.links) new.is })
+  heard : (said : FrameBody) (old new : Talk) (links links_new : Links) (given given_new limit : ℕ)
+      (channel : IncomingChannel) (frames : List SessionFrame) (events : List Event)
+      → Hears old links given limit channel said frames events new links_new given_new → P links
+      → P links_new
+  heard (body.Begin begin) old new links links_new given given_new limit channel frames events (inl t, g) came =
+      same links links_new came t.same
+  heard (body.Begin begin) old new links links_new given given_new limit channel frames events (inr f, g) came =
+      back links links_new came _ f.fails.back
+  heard (body.Attach attach) old new links links_new given given_new limit channel frames events (a, g) came =
+      elim a.hears
+      [ inl t ↦ same links links_new came t.same | inr f ↦ back links links_new came _ f.fails.back ]
+  heard (body.Flow flow) old new links links_new given given_new limit channel frames events (inl t, g) came =
+      heard-flow (session_of t.heard) frames t.mid new links links_new t.leave came
+  heard (body.Flow flow) old new links links_new given given_new limit channel frames events (inr f, g) came =
+      back links links_new came _ f.back
+  heard (body.Transfer transfer payload) old new links links_new given given_new limit channel frames events
+      (left, inl t) came =
+      same links links_new came t.same
+  heard (body.Transfer transfer payload) old new links links_new given given_new limit channel frames events
+      (left, inr f) came =
+      back links links_new came _ f.fails.back
+  heard (body.Disposition disposition) old new links links_new given given_new limit channel frames events
+      (inl t, g) came =
+      same links links_new came t.same
+  heard (body.Disposition disposition) old new links links_new given given_new limit channel frames events
+      (inr f, g) came =
+      back links links_new came _ f.back
+  heard (body.Detach detach) old new links links_new given given_new limit channel frames events (inl t, g) came =
+      heard-detach _ old t.mid new links links_new frames events detach t.becomes came
+  heard (body.Detach detach) old new links links_new given given_new limit channel frames events (inr f, g) came =
+      back links links_new came _ f.back
+  heard (body.End end) old new links links_new given given_new limit channel frames events (t, g) came =
+      session-back links links_new came t.heard.ended t.back
+  heard said old new links links_new given given_new limit channel frames events h came = absurd h
+
+  called : (by_call : Call) (answer : Said) (old new : LinkedSessions) (limit : ℕ)
+      (frames : List SessionFrame) → Calls old limit by_call answer frames new → P old.links → P new.links
+  called call.Begin (session_begun n) old new limit frames c came = same old.links new.links came c.same
+  called (call.AcceptBegin channel) (session_begun n) old new limit frames c came =
+      same old.links new.links came c.same
+  called (call.End n) done old new limit frames c came = back old.links new.links came _ c.back
+  called (call.IsEnded n) (truth b) old new limit frames c came =
+      same old.links new.links came (ap (λ (s : LinkedSessions). s.links) c.same)
+  called (call.TryEnd n) (tried_end o) old new limit frames c came =
+      same old.links new.links came (ap (λ (s : LinkedSessions). s.links) c.rest)
+  called (call.AttachSender n settings) (attaching link events) old new limit frames c came =
+      attached old.links new.links came old.talk new.talk limit n _ link events frames c
+  called (call.AttachReceiver n settings) (attaching link events) old new limit frames c came =
+      attached old.links new.links came old.talk new.talk limit n _ link events frames c
+  called (call.Detach link) done old new limit frames c came = same old.links new.links came c.same
+  called (call.CloseLink link) (link_closed events) old new limit frames c came =
+      closed-at old.links new.links came _ link events old.talk new.talk frames refl c
+  called (call.Grant link n) (credit_is left) old new limit frames c came =
+      same old.links new.links came c.same
+  called (call.Drain link) done old new limit frames c came = same old.links new.links came c.same
+  called (call.Send link message) (message_sent tag outcome) old new limit frames c came =
+      same old.links new.links came c.same
+  called (call.Dispose link message disposal) done old new limit frames c came =
+      same old.links new.links came c.same
+  called (call.DisposeAll link messages disposal) done old new limit frames c came =
+      same old.links new.links came c.same
+  called (call.Credit link) (credit_is left) old new limit frames c came =
+      same old.links new.links came (ap (λ (s : LinkedSessions). s.links) c.same)
+  called (call.HeldBack n) (count m) old new limit frames c came =
+      same old.links new.links came (ap (λ (s : LinkedSessions). s.links) c.same)
+  called (call.Waiting n) (waiting turn) old new limit frames c came =
+      same old.links new.links came (ap (λ (s : LinkedSessions). s.links) c.same)
+  called by_call answer old new limit frames c came = absurd c
+
+  module _ (left_on : LeftGoesOn) (finished_on : FinishedGoesOn) where
+    links-keep-silent : KeepsSilent linked (λ phase s. P s.links)
+    links-keep-silent =
+        record {
+          moved = λ phase s connection live came. came;
+          renewed = λ s came. came;
+          runs = λ phase s came. came;
+          refused = λ phase old new limit channel said e r came. same old.links new.links came r.0.same;
+          closed = λ phase old new c came.
+              goes-on old.links new.links came (left_on old.talk new.talk old.links new.links c.0);
+          finished = λ phase to old new f came.
+              goes-on old.links new.links came (finished_on old.talk new.talk old.links new.links f.0);
+        }
+
+    pub links-keep : Keeps linked (λ seen tags phase s. P s.links)
+    links-keep =
+        record {
+          silent = λ seen tags. links-keep-silent;
+          told = λ seen tags event phase s theirs came. came;
+          taken = λ seen tags phase old new limit channel said frames events h came.
+              heard said old.talk new.talk old.links new.links old.given new.given limit
+              (record { 0 = channel }) frames events h.0 came;
+          called = λ seen tags phase old new limit by_call answer frames may c came.
+              called by_call answer old new limit frames c.0 came;
+        }
+
+come-on : (step : Step End) (old new : Links) → HoldsNone step → Steps old step new → HaveCome old → HaveCome new
+come-on step old new none stepped came =
+    record {
+      steps = came.steps ++ step ∷ [];
+      history = more fresh old new came.steps (step ∷ []) came.history (new, stepped, refl);
+    }
+
+pub have-come : (back_on : BackGoesOn) (left_on : LeftGoesOn) (finished_on : FinishedGoesOn)
+    (sessions : LinkedSessions) (settings : Settings) (calls : List Call) (told : List Told)
+    (end : State LinkedSessions) → IsNew linked settings sessions
+    → Run linked (fresh_endpoint settings sessions) calls told end → HaveCome end.sessions.links
+have-come back_on left_on finished_on sessions settings calls told end new run =
+    run-keeps linked (λ seen tags phase s. HaveCome s.links) (links-keep HaveCome come-on back_on left_on finished_on) []
+    [] (fresh_endpoint settings sessions) end calls told run
+    (record { steps = []; history = ap (λ (s : LinkedSessions). s.links) new.is })
 
 pub are-apart : (links : Links) → HaveCome links → AreApart links.links
 are-apart links came = stay_apart fresh links came.steps (none_apart End) came.history

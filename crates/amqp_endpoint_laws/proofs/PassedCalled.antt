@@ -19,6 +19,7 @@ use Rattle.amqp_endpoint_conversation.specs.Ending.{EndsHere, end_frame}
 use Rattle.amqp_endpoint_model.specs.declared.call.Call.{Call}
 use Rattle.amqp_endpoint_model.specs.declared.call.Call.TheVariants as call
 use Rattle.amqp_endpoint_model.specs.declared.call.Disposal.{Disposal}
+use Rattle.amqp_endpoint_model.specs.declared.call.Sending.{Sending}
 use Rattle.amqp_endpoint_model.specs.declared.event.Event.{Event}
 use Rattle.amqp_endpoint_model.specs.Said.{Said, attaching, count, credit_is, done, link_closed, message_sent}
 use Rattle.amqp_endpoint_model.specs.Said.{session_begun, tried_end, truth, waiting}
@@ -36,10 +37,12 @@ use Rattle.amqp_endpoint_linked.specs.Attaching.{LinkAttached}
 use Rattle.amqp_endpoint_linked.specs.Calling.{Calls, answer_of}
 use Rattle.amqp_endpoint_linked.specs.Sending.{tag_of}
 use Rattle.amqp_endpoint_linked.specs.declared.linked.LinkedSessions.{LinkedSessions}
+use Rattle.amqp_endpoint_talk.specs.Inside.{Batches}
 use Rattle.amqp_endpoint_talk.specs.Windows.{Passing, went}
 use Rattle.amqp_endpoint_talk.proofs.Inside.{none-inside}
 use Rattle.amqp_endpoint_laws.specs.Passed.{called_in, holder}
 use Rattle.amqp_endpoint_laws.proofs.PassedPlaces.{AllPassed, IsGone, Keeping, Passed, all-passed, by-step, eq-same}
+use Rattle.amqp_endpoint_laws.proofs.PassedPlaces.{going-passed}
 use Rattle.amqp_endpoint_laws.proofs.PassedPlaces.{by-steps, inside-passed, judged-at, live-passed, none-at-all}
 use Rattle.amqp_endpoint_laws.proofs.PassedPlaces.{passed-on, same-at-all}
 
@@ -50,7 +53,13 @@ told-gone (Asked channel a) is = let clash : Missing ≡ Received = is in absurd
 told-gone (Live channel s) is = let clash : Missing ≡ Received = is in absurd cc
 told-gone (Ending channel) is = tt
 
-module _ (J : ℕ → Option Stood → List Passing → Option Stood → Type 0) (k : Keeping J) where
+-- a call that sends a message
+abbrev pub IsSend : Call → Type 0
+IsSend (call.Send link message) = Unit {0}
+IsSend it = ⊥
+
+module _ {Allows : Batches → Type 0} (J : ℕ → Option Stood → List Passing → Option Stood → Type 0)
+    (k : Keeping Allows J) where
   -- what a call does in the session that holds its link
   done-in : (does : Does) (session : ℕ) (handle : _) (old new : Talk) (frames : List SessionFrame) → StaysInside does
       → DoneIn does session handle old [] new frames → Passed J k session (went frames) old new
@@ -65,6 +74,19 @@ module _ (J : ℕ → Option Stood → List Passing → Option Stood → Type 0)
   done-at does (Some (AtRest end)) old new frames inside d = absurd d
   done-at does (Some (Held session handle)) old new frames inside d =
       all-passed J k session (went frames) old new (done-in does session handle old new frames inside d)
+
+  sent-at : (limit : ℕ) (tag : List ℕ) (message : Sending) (settled : Bool) (place : Where) (old new : Talk)
+      (frames : List SessionFrame) → ((accepted : Batches) → Allows accepted)
+      → DoneAt (sends limit tag message settled) place old [] new frames
+      → AllPassed J k (holder place) (went frames) old new
+  sent-at limit tag message settled None old new frames may d = absurd d
+  sent-at limit tag message settled (Some (AtRest end)) old new frames may d = absurd d
+  sent-at limit tag message settled (Some (Held session handle)) old new frames may d =
+      let s = sends-inside limit tag message settled handle d.before.value d.after.value d.frames d.did in
+      all-passed J k session (went frames) old new
+      (subst (λ (fs : List SessionFrame). Passed J k session (went fs) old new) (sym d.queued)
+      (going-passed J k session ((handle.0, d.did.transfers) ∷ []) d.before d.after old new (went d.frames) (may _)
+      d.stepped d.rest (by-steps d.frames s refl)))
 
   disposed-at : (limit : ℕ) (place : Where) (messages : List ℕ) (disposal : Disposal) (old new : Talk)
       (frames : List SessionFrame) → DisposedAt limit place messages disposal old [] new frames
@@ -183,41 +205,40 @@ module _ (J : ℕ → Option Stood → List Passing → Option Stood → Type 0)
       same-at-all J k o (went frames) old.talk new.talk (ap (λ (s : LinkedSessions). s.talk) same) (ap went none)
 
   pub called : (it : Call) (answer : Said) (old new : LinkedSessions) (limit : ℕ) (frames : List SessionFrame)
-      → Calls old limit it answer frames new → AllPassed J k (called_in old it answer) (went frames) old.talk new.talk
-  called call.Begin (session_begun n) old new limit frames c =
+      → (IsSend it → (accepted : Batches) → Allows accepted) → Calls old limit it answer frames new → AllPassed J k (called_in old it answer) (went frames) old.talk new.talk
+  called call.Begin (session_begun n) old new limit frames may c =
       all-passed J k n (went frames) old.talk new.talk (begun old.talk new.talk n frames c.begins)
-  called (call.AcceptBegin channel) (session_begun n) old new limit frames c =
+  called (call.AcceptBegin channel) (session_begun n) old new limit frames may c =
       all-passed J k n (went frames) old.talk new.talk (accepted old.talk new.talk channel n frames c.accepts)
-  called (call.End n) done old new limit frames c =
+  called (call.End n) done old new limit frames may c =
       all-passed J k n (went frames) old.talk new.talk (ended old.talk new.talk n None c.session frames c.ends)
-  called (call.IsEnded n) (truth b) old new limit frames c = told-alone _ frames old new c.silent c.same
-  called (call.TryEnd n) (tried_end o) old new limit frames c =
+  called (call.IsEnded n) (truth b) old new limit frames may c = told-alone _ frames old new c.silent c.same
+  called (call.TryEnd n) (tried_end o) old new limit frames may c =
       let p : Passed J k n [] old.talk new.talk =
       end-told old new n (answer_of o) c.tells (ap (λ (s : LinkedSessions). s.talk) c.rest) in
       subst (λ (fs : List SessionFrame). AllPassed J k None (went fs) old.talk new.talk) (sym c.silent)
       (none-at-all J k None old.talk new.talk (passed-each n old.talk new.talk p) p.first)
-  called (call.AttachSender n settings) (attaching link events) old new limit frames c =
+  called (call.AttachSender n settings) (attaching link events) old new limit frames may c =
       attached old.talk new.talk old.links new.links limit n _ link events frames c
-  called (call.AttachReceiver n settings) (attaching link events) old new limit frames c =
+  called (call.AttachReceiver n settings) (attaching link events) old new limit frames may c =
       attached old.talk new.talk old.links new.links limit n _ link events frames c
-  called (call.Detach link) done old new limit frames c =
+  called (call.Detach link) done old new limit frames may c =
       done-at (detaches false) (link_place old.links link) old.talk new.talk frames (detaches-inside false) c.is_done
-  called (call.CloseLink link) (link_closed events) old new limit frames c =
+  called (call.CloseLink link) (link_closed events) old new limit frames may c =
       closed-at (link_place old.links link) link events old.talk new.talk old.links new.links frames c
-  called (call.Grant link n) (credit_is left) old new limit frames c =
+  called (call.Grant link n) (credit_is left) old new limit frames may c =
       done-at (gives_credit n left) (link_place old.links link) old.talk new.talk frames (gives-inside n left) c.is_done
-  called (call.Drain link) done old new limit frames c =
+  called (call.Drain link) done old new limit frames may c =
       done-at wants_drain (link_place old.links link) old.talk new.talk frames drains-inside c.is_done
-  called (call.Send link message) (message_sent tag outcome) old new limit frames c =
-      done-at (sends limit (tag_of old.sent) message c.sends.settled) (link_place old.links link) old.talk new.talk
-      frames
-      (sends-inside limit (tag_of old.sent) message c.sends.settled) c.sends.sent
-  called (call.Dispose link message disposal) done old new limit frames c =
+  called (call.Send link message) (message_sent tag outcome) old new limit frames may c =
+      sent-at limit (tag_of old.sent) message c.sends.settled (link_place old.links link) old.talk new.talk frames
+      (may tt) c.sends.sent
+  called (call.Dispose link message disposal) done old new limit frames may c =
       done-at (disposes_of_one limit message disposal) (link_place old.links link) old.talk new.talk frames
       (disposes-one-inside limit message disposal) c.disposes
-  called (call.DisposeAll link messages disposal) done old new limit frames c =
+  called (call.DisposeAll link messages disposal) done old new limit frames may c =
       disposed-at limit (link_place old.links link) messages disposal old.talk new.talk frames c.disposes
-  called (call.Credit link) (credit_is left) old new limit frames c = told-alone _ frames old new c.silent c.same
-  called (call.HeldBack n) (count m) old new limit frames c = told-alone _ frames old new c.silent c.same
-  called (call.Waiting n) (waiting turn) old new limit frames c = told-alone _ frames old new c.silent c.same
-  called it answer old new limit frames c = absurd c
+  called (call.Credit link) (credit_is left) old new limit frames may c = told-alone _ frames old new c.silent c.same
+  called (call.HeldBack n) (count m) old new limit frames may c = told-alone _ frames old new c.silent c.same
+  called (call.Waiting n) (waiting turn) old new limit frames may c = told-alone _ frames old new c.silent c.same
+  called it answer old new limit frames may c = absurd c

@@ -74,7 +74,7 @@ use Rattle.amqp_endpoint_link_hearing.proofs.Inside.{closes-inside, leave-inside
 use Rattle.amqp_endpoint_link_hearing.proofs.Inside.{tells-parts-inside}
 use Rattle.amqp_endpoint_linked.specs.Hearing.{Hears as HearsFrame}
 use Rattle.amqp_endpoint_linked.specs.declared.linked.LinkedSessions.{LinkedSessions}
-use Rattle.amqp_endpoint_talk.specs.Inside.{DoneInside, said_in}
+use Rattle.amqp_endpoint_talk.specs.Inside.{Batches, DoneInside, said_in}
 use Rattle.amqp_endpoint_talk.specs.Windows.{Came, Passing, body_said, went}
 use Rattle.amqp_endpoint_talk.proofs.Windows.{went-append}
 use Rattle.amqp_endpoint_laws.specs.Passed.{begun_by, live_only, sent_in, session_taking}
@@ -194,7 +194,8 @@ end-gone (Live channel s) = tt
 end-gone (Ending channel) = tt
 end-gone (Over peer_end complete) = tt
 
-module _ (J : ℕ → Option Stood → List Passing → Option Stood → Type 0) (k : Keeping J) where
+module _ {Allows : Batches → Type 0} (J : ℕ → Option Stood → List Passing → Option Stood → Type 0)
+    (k : Keeping Allows J) where
   -- what the session that a channel reaches hears passes there
   pub record HeardThere (old : Talk) (channel : ℕ) (it : FrameBody) (session : ℕ) (frames : List SessionFrame)
       (new : Talk)
@@ -223,7 +224,7 @@ module _ (J : ℕ → Option Stood → List Passing → Option Stood → Type 0)
         → new ≡ record old { sessions = new.sessions } → Passed J k number (Came (body_said it) ∷ went frames) old new
     live-hears number before after result frames new memory h rest =
         live-passed J k number before after old new (Came (body_said it) ∷ went frames) h.stepped rest
-        (hears it result frames before.value after.value memory h.heard refl refl refl)
+        (hears refl it result frames before.value after.value memory h.heard refl refl refl)
 
     silently : (number : ℕ) (frames : List SessionFrame) (new : Talk) → frames ≡ []
         → Passed J k number (Came (body_said it) ∷ []) old new
@@ -587,8 +588,8 @@ module _ (J : ℕ → Option Stood → List Passing → Option Stood → Type 0)
     begin-ok (begin_heard.Begun number) b =
         let t = b.takes in
         let taken_so = (t.taken).0 in
-        let g : GoesBy t.before.value.session t.after.value.session (Came beginning ∷ went frames) =
-        opens channel begin taken_so.base taken_so.left taken_so.frames taken_so.stepped
+        let g : GoesBy [] t.before.value.session t.after.value.session (Came beginning ∷ went frames) =
+        opens refl channel begin taken_so.base taken_so.left taken_so.frames taken_so.stepped
         (ap (λ (fs : List SessionFrame). Came beginning ∷ went fs) taken_so.added) in
         let there : Talk = record old { sessions = b.mid } in
         let p : Passed J k number (Came beginning ∷ went frames) there new =

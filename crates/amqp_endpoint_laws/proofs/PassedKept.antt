@@ -46,10 +46,11 @@ use Rattle.amqp_endpoint_sessions.specs.Steps.{EndSent, Finished, Finishes as Fi
 use Rattle.amqp_endpoint_sessions.specs.Steps.{TellsEnd}
 use Rattle.amqp_endpoint_sessions.specs.declared.place.Place.TheVariants.{Asked, Live, Ending, Over}
 use Rattle.amqp_endpoint_sessions.proofs.Owning.{at, other_number, own, same_number}
+use Rattle.amqp_endpoint_talk.specs.Inside.{Batches}
 use Rattle.amqp_endpoint_talk.specs.Windows.{Passing}
 use Rattle.amqp_endpoint_laws.specs.Conversing.{SessionsStep}
 use Rattle.amqp_endpoint_laws.specs.Passed.{PassesIn, passes_in}
-use Rattle.amqp_endpoint_laws.proofs.PassedCalled.{called}
+use Rattle.amqp_endpoint_laws.proofs.PassedCalled.{IsSend, called}
 use Rattle.amqp_endpoint_laws.proofs.PassedHeard.{frame-heard}
 use Rattle.amqp_endpoint_laws.proofs.PassedPlaces.{IsGone, Keeping, eq-same}
 use Rattle.amqp_endpoint_laws.proofs.SessionsGoing.{Go}
@@ -281,7 +282,13 @@ closed-still : (own : Bool) (old told : LinkedSessions) → SendsClose linked ow
 closed-still true old told same = subst (AreStill old) (sym same) (refl, refl)
 closed-still false old told m = subst (AreStill old) (sym m.is) (refl, refl)
 
-module _ (J : ℕ → Option Stood → List Passing → Option Stood → Type 0) (k : Keeping J) where
+-- a deed by which a message is sent
+abbrev pub IsSending : Deed → Type 0
+IsSending (Does limit it answer frames) = IsSend it
+IsSending deed = ⊥
+
+module _ {Allows : Batches → Type 0} (J : ℕ → Option Stood → List Passing → Option Stood → Type 0)
+    (k : Keeping Allows J) where
   judges-wane : (first : ℕ) (old new : Sessions) (n : ℕ) → Wanes old new n
       → J first (place_at old n) [] (place_at new n)
   judges-wane first old new n (inl same) = k.still first (place_at old n) (place_at new n) same
@@ -328,67 +335,72 @@ module _ (J : ℕ → Option Stood → List Passing → Option Stood → Type 0)
       → J old.talk.first_transfer_number (place_at old.talk.sessions n) [] (place_at new.talk.sessions n)
   still-judges old new n same = k.still _ _ _ (ap (λ (ps : List Stood). slice_get ps n) same)
 
-  deed-judges : (deed : Deed) (old new : LinkedSessions) → IsDeed linked old deed new → (n : ℕ)
+  pub deed-judges : (deed : Deed) (old new : LinkedSessions)
+      → (IsSending deed → (accepted : Batches) → Allows accepted) → IsDeed linked old deed new → (n : ℕ)
       → J old.talk.first_transfer_number (place_at old.talk.sessions n) (passes_in n old deed)
       (place_at new.talk.sessions n)
-  deed-judges (Queues it) old new same n =
+  deed-judges (Queues it) old new may same n =
       still-judges old new n (ap (λ (s : LinkedSessions). s.talk.sessions.places) same)
-  deed-judges (Hears frame events) old new (moves, told) n =
+  deed-judges (Hears frame events) old new may (moves, told) n =
       still-judges old new n (by-frame-still frame.body old new moves).0
-  deed-judges (Takes limit f frames events) old new h n =
+  deed-judges (Takes limit f frames events) old new may h n =
       (frame-heard J k f.body old new limit (record { 0 = f.channel }) frames events h.0).all n
-  deed-judges (Refuses limit f error own_close) old new e n = ends-judges limit f error own_close old new e n
-  deed-judges (Does limit it answer frames) old new c n = (called J k it answer old new limit frames c.0).all n
-  deed-judges (Moves connection) old new m n =
+  deed-judges (Refuses limit f error own_close) old new may e n =
+      ends-judges limit f error own_close old new e n
+  deed-judges (Does limit it answer frames) old new may c n =
+      (called J k it answer old new limit frames may c.0).all n
+  deed-judges (Moves connection) old new may m n =
       still-judges old new n (ap (λ (s : LinkedSessions). s.talk.sessions.places) m.1)
-  deed-judges Renews old new is n =
+  deed-judges Renews old new may is n =
       still-judges old new n (ap (λ (s : LinkedSessions). s.talk.sessions.places) is)
-  deed-judges Closes old new l n =
+  deed-judges Closes old new may l n =
       judges-wane _ old.talk.sessions new.talk.sessions n
       (left-first _ old.talk.sessions new.talk.sessions old.links new.links (l.0).each n)
-  deed-judges Finishes old new f n =
+  deed-judges Finishes old new may f n =
       judges-wane _ old.talk.sessions new.talk.sessions n
       (finished-first _ old.talk.sessions new.talk.sessions old.links new.links (f.0).each n)
 
-  deed-first : (deed : Deed) (old new : LinkedSessions) → IsDeed linked old deed new → Firsts old.talk new.talk
-  deed-first (Queues it) old new same = ap (λ (s : LinkedSessions). s.talk.first_transfer_number) same
-  deed-first (Hears frame events) old new (moves, told) = (by-frame-still frame.body old new moves).1
-  deed-first (Takes limit f frames events) old new h =
+  pub deed-first : (deed : Deed) (old new : LinkedSessions)
+      → (IsSending deed → (accepted : Batches) → Allows accepted) → IsDeed linked old deed new
+      → Firsts old.talk new.talk
+  deed-first (Queues it) old new may same = ap (λ (s : LinkedSessions). s.talk.first_transfer_number) same
+  deed-first (Hears frame events) old new may (moves, told) = (by-frame-still frame.body old new moves).1
+  deed-first (Takes limit f frames events) old new may h =
       (frame-heard J k f.body old new limit (record { 0 = f.channel }) frames events h.0).first
-  deed-first (Refuses limit f error own_close) old new e = ends-first limit f error own_close old new e
-  deed-first (Does limit it answer frames) old new c = (called J k it answer old new limit frames c.0).first
-  deed-first (Moves connection) old new m = ap (λ (s : LinkedSessions). s.talk.first_transfer_number) m.1
-  deed-first Renews old new is = ap (λ (s : LinkedSessions). s.talk.first_transfer_number) is
-  deed-first Closes old new l = first-rest old.talk new.talk (l.0).rest
-  deed-first Finishes old new f = first-rest old.talk new.talk (f.0).rest
+  deed-first (Refuses limit f error own_close) old new may e = ends-first limit f error own_close old new e
+  deed-first (Does limit it answer frames) old new may c = (called J k it answer old new limit frames may c.0).first
+  deed-first (Moves connection) old new may m = ap (λ (s : LinkedSessions). s.talk.first_transfer_number) m.1
+  deed-first Renews old new may is = ap (λ (s : LinkedSessions). s.talk.first_transfer_number) is
+  deed-first Closes old new may l = first-rest old.talk new.talk (l.0).rest
+  deed-first Finishes old new may f = first-rest old.talk new.talk (f.0).rest
 
   -- so it is by all of them
-  pub deeds-judge : (deeds : List Deed) (n : ℕ) (old new : LinkedSessions) (passings : List Passing)
+  pub deeds-judge : ((accepted : Batches) → Allows accepted) → (deeds : List Deed) (n : ℕ) (old new : LinkedSessions) (passings : List Passing)
       → PassesIn n old deeds new passings
       → J old.talk.first_transfer_number (place_at old.talk.sessions n) passings (place_at new.talk.sessions n)
-  deeds-judge [] n old new passings (same, none) =
+  deeds-judge may [] n old new passings (same, none) =
       subst
       (λ (ps : List Passing).
       J old.talk.first_transfer_number (place_at old.talk.sessions n) ps (place_at new.talk.sessions n))
       (sym none)
       (k.still _ _ _ (ap (λ (s : LinkedSessions). place_at s.talk.sessions n) same))
-  deeds-judge (deed ∷ deeds) n old new passings (mid, later, one, rest, is) =
+  deeds-judge may (deed ∷ deeds) n old new passings (mid, later, one, rest, is) =
       let first : ℕ = old.talk.first_transfer_number in
       subst (λ (ps : List Passing). J first (place_at old.talk.sessions n) ps (place_at new.talk.sessions n)) (sym is)
       (k.on first (place_at old.talk.sessions n) (place_at mid.talk.sessions n) (place_at new.talk.sessions n)
-      (passes_in n old deed) later (deed-judges deed old mid one n)
+      (passes_in n old deed) later (deed-judges deed old mid (λ sends. may) one n)
       (subst (λ (f : ℕ). J f (place_at mid.talk.sessions n) later (place_at new.talk.sessions n))
-      (deed-first deed old mid one) (deeds-judge deeds n mid new later rest)))
+      (deed-first deed old mid (λ sends. may) one) (deeds-judge may deeds n mid new later rest)))
 
   -- from new sessions on
-  pub new-judges : (sessions end : LinkedSessions) (settings : Settings) (deeds : List Deed) (n : ℕ)
+  pub new-judges : ((accepted : Batches) → Allows accepted) → (sessions end : LinkedSessions) (settings : Settings) (deeds : List Deed) (n : ℕ)
       (passings : List Passing) → IsNew linked settings sessions → PassesIn n sessions deeds end passings
       → J settings.first_transfer_number None passings (place_at end.talk.sessions n)
-  new-judges sessions end settings deeds n passings new p =
+  new-judges may sessions end settings deeds n passings new p =
       subst
       (λ (s : LinkedSessions).
       J s.talk.first_transfer_number (place_at s.talk.sessions n) passings (place_at end.talk.sessions n))
-      new.is (deeds-judge deeds n sessions end passings p)
+      new.is (deeds-judge may deeds n sessions end passings p)
 
 -- something passes in each session, or nothing
 pub some-passes : (deeds : List Deed) (n : ℕ) (old new : LinkedSessions) → AreDone linked old deeds new

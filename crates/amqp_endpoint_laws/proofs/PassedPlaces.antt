@@ -31,7 +31,7 @@ use Rattle.amqp_endpoint_sessions.specs.State.{asked_of, live_of, place_at, with
 use Rattle.amqp_endpoint_sessions.specs.Steps.{ChangesAsked, ChangesLive, Steps as SessionsSteps}
 use Rattle.amqp_endpoint_sessions.specs.declared.place.Place.TheVariants.{Asked, Live, Ending, Over}
 use Rattle.amqp_endpoint_sessions.proofs.Owning.{at, same_number}
-use Rattle.amqp_endpoint_talk.specs.Inside.{DoneInside, said_in}
+use Rattle.amqp_endpoint_talk.specs.Inside.{AcceptsInside, Batches, DoneInside, said_in}
 use Rattle.amqp_endpoint_talk.specs.Windows.{Came, Passing, body_said, went}
 use Rattle.amqp_endpoint_laws.specs.Conversing.{SessionsStep}
 use Rattle.amqp_endpoint_laws.specs.Passed.{is_it, sent_in}
@@ -42,19 +42,24 @@ IsGone (Some (Ending channel)) = Unit {0}
 IsGone (Some (Over peer_end complete)) = Unit {0}
 IsGone o = ⊥
 
--- a session that has begun goes on, and this passes: by steps of its own, by what it hears, or by the peer's Begin
-pub data GoesBy (old new : State Link) (ps : List Passing) : Type 0 where
-  by-steps : (frames : List SessionFrame) → DoneInside gives old frames new → ps ≡ went frames → GoesBy old new ps
-  hears : (it : LinkPerformative) (told : Result (PerformativeTaken AttachTold Told Detached) SessionError)
+-- a session that has begun goes on, accepts these transfers, and this passes: by steps of its own, by what it hears, or
+-- by the peer's Begin
+pub data GoesBy (accepted : Batches) (old new : State Link) (ps : List Passing) : Type 0 where
+  by-steps : (frames : List SessionFrame) → AcceptsInside gives accepted old frames new → ps ≡ went frames
+      → GoesBy accepted old new ps
+  hears : accepted ≡ [] → (it : LinkPerformative) (told : Result (PerformativeTaken AttachTold Told Detached) SessionError)
       (frames : List SessionFrame) (before after : Linked) → told ≢ Err Memory
       → Hears gives before [] it told after frames → before.session ≡ old → after.session ≡ new
-      → ps ≡ Came (body_said it) ∷ went frames → GoesBy old new ps
-  opens : (channel : IncomingChannel) (begin : Begin) (base : ℕ) (left : Left) (frames : List SessionFrame)
+      → ps ≡ Came (body_said it) ∷ went frames → GoesBy accepted old new ps
+  opens : accepted ≡ [] → (channel : IncomingChannel) (begin : Begin) (base : ℕ) (left : Left) (frames : List SessionFrame)
       → Steps gives old (TakesBegin channel begin base left frames) new
-      → ps ≡ Came (body.Begin begin) ∷ went frames → GoesBy old new ps
+      → ps ≡ Came (body.Begin begin) ∷ went frames → GoesBy accepted old new ps
 
 -- a relation of where a session stands, of what passes in it, and of where it stands then, which all that it does keeps
-pub record Keeping (J : ℕ → Option Stood → List Passing → Option Stood → Type 0) : Type 0 where
+-- by which it accepts such transfers
+pub record Keeping (Allows : Batches → Type 0) (J : ℕ → Option Stood → List Passing → Option Stood → Type 0)
+    : Type 0 where
+  pub quiet : Allows []
   pub still : (first : ℕ) (old new : Option Stood) → new ≡ old → J first old [] new
   pub on : (first : ℕ) (a b d : Option Stood) (ps qs : List Passing) → J first a ps b → J first b qs d
       → J first a (ps ++ qs) d
@@ -64,8 +69,9 @@ pub record Keeping (J : ℕ → Option Stood → List Passing → Option Stood �
   -- frames of no link pass, by which nothing changes
   pub free : (first : ℕ) (stood : Option Stood) (frames : List SessionFrame) → said_in frames ≡ []
       → J first stood (went frames) stood
-  pub live : (first : ℕ) (stood : Stood) (before after : Session) (ps : List Passing)
-      → live_of (Some stood) ≡ Some before → GoesBy before.value.session after.value.session ps
+  pub live : (first : ℕ) (stood : Stood) (accepted : Batches) (before after : Session) (ps : List Passing)
+      → Allows accepted → live_of (Some stood) ≡ Some before
+      → GoesBy accepted before.value.session after.value.session ps
       → J first (Some stood) ps (Some (with_live stood after))
   pub told : (first : ℕ) (stood : Stood) (before after : Box AskedSession) (it : LinkPerformative)
       → asked_of (Some stood) ≡ Some before → HearsAsked before.value it (Ok tt) after.value
@@ -87,7 +93,8 @@ eq-same n = by (eqb_tells n n)
     by (inl p) = p.0
     by (inr p) = absurd (p.1 refl)
 
-module _ (J : ℕ → Option Stood → List Passing → Option Stood → Type 0) (k : Keeping J) where
+module _ {Allows : Batches → Type 0} (J : ℕ → Option Stood → List Passing → Option Stood → Type 0)
+    (k : Keeping Allows J) where
   -- in the session with this number this passes, and all others stay
   pub record Passed (m : ℕ) (ps : List Passing) (old new : Talk) : Type 0 where
     pub here :
@@ -145,16 +152,23 @@ module _ (J : ℕ → Option Stood → List Passing → Option Stood → Type 0)
       subst (λ (o : Option Stood). J first o ps new) (sym e)
       (subst (λ (o : Option Stood). J first was ps o) (sym f) j)
 
-  pub live-passed : (m : ℕ) (before after : Session) (old new : Talk) (ps : List Passing)
-      → SessionsSteps old.sessions (ChangesLive m before after) new.sessions
+  pub going-passed : (m : ℕ) (accepted : Batches) (before after : Session) (old new : Talk) (ps : List Passing)
+      → Allows accepted → SessionsSteps old.sessions (ChangesLive m before after) new.sessions
       → new ≡ record old { sessions = new.sessions }
-      → GoesBy before.value.session after.value.session ps → Passed m ps old new
-  live-passed m before after old new ps s rest g =
+      → GoesBy accepted before.value.session after.value.session ps → Passed m ps old new
+  going-passed m accepted before after old new ps allowed s rest g =
       let (stood, was, lives, becomes) =
       (at m old.sessions (ChangesLive m before after) new.sessions s).about (eq-same m) in
       by-step m (ChangesLive m before after) old new ps (λ n e. e) s rest
       (judged-at old.first_transfer_number (Some stood) (Some (with_live stood after)) _ _ ps was becomes
-      (k.live old.first_transfer_number stood before after ps lives g))
+      (k.live old.first_transfer_number stood accepted before after ps allowed lives g))
+
+  -- it accepts no transfers
+  pub live-passed : (m : ℕ) (before after : Session) (old new : Talk) (ps : List Passing)
+      → SessionsSteps old.sessions (ChangesLive m before after) new.sessions
+      → new ≡ record old { sessions = new.sessions }
+      → GoesBy [] before.value.session after.value.session ps → Passed m ps old new
+  live-passed m before after old new ps s rest g = going-passed m [] before after old new ps k.quiet s rest g
 
   pub inside-passed : (m : ℕ) (before after : Session) (old new : Talk) (frames : List SessionFrame)
       → SessionsSteps old.sessions (ChangesLive m before after) new.sessions

@@ -22,7 +22,8 @@ use Rattle.amqp_session_frames.specs.declared.frame.FrameBody.TheVariants as bod
 use Rattle.amqp_session_core.specs.Frames.{session_flow}
 use Rattle.amqp_session_core.specs.History.{History}
 use Rattle.amqp_session_core.specs.State.{State, leads}
-use Rattle.amqp_session_core.specs.Steps.{SendsBegin, SetsWindow, Step, Steps, TakesBegin, TakesFlow, TakesTransfer}
+use Rattle.amqp_session_core.specs.Steps.{SendsBegin, SetsWindow, Step, Steps, TakesBegin, TakesDisposition}
+use Rattle.amqp_session_core.specs.Steps.{TakesFlow, TakesTransfer}
 use Rattle.amqp_session_core.specs.Told.{FlowTaken}
 use Rattle.amqp_session_core.specs.declared.fields.SessionFields.{SessionFields}
 use Rattle.amqp_session_core.specs.declared.relay.RelayError.{RelayError}
@@ -55,7 +56,7 @@ use Rattle.amqp_endpoint_model.specs.Relay.{IsNew}
 use Rattle.amqp_endpoint_model.specs.declared.settings.Settings.{Settings}
 use Rattle.amqp_endpoint_sessions.specs.State.{asked_of, live_at, live_of, place_at, with_asked, with_live}
 use Rattle.amqp_endpoint_sessions.specs.declared.place.Place.TheVariants.{Asked, Live, Ending, Over}
-use Rattle.amqp_endpoint_talk.specs.Inside.{said_in}
+use Rattle.amqp_endpoint_talk.specs.Inside.{Batches, accepted_of, said_in}
 use Rattle.amqp_endpoint_talk.specs.Windows.{Came, Passing, Went, body_said, went}
 use Rattle.amqp_endpoint_talk.proofs.Inside.{handed-both, history-both, said-both}
 use Rattle.amqp_endpoint_laws.specs.Passed.{HasCome, PassesIn, sent_in}
@@ -65,11 +66,11 @@ use Rattle.amqp_endpoint_laws.proofs.PassedPlaces.{GoesBy, IsGone, Keeping, by-s
 abbrev LinkStep : Type 0
 LinkStep = Step Link AttachTold Told Detached
 
-sent-went : (frames : List SessionFrame) → sent_in (went frames) ≡ frames
+pub sent-went : (frames : List SessionFrame) → sent_in (went frames) ≡ frames
 sent-went [] = refl
 sent-went (f ∷ fs) = ap (λ (gs : List SessionFrame). f ∷ gs) (sent-went fs)
 
-sent-append : (ps qs : List Passing) → sent_in (ps ++ qs) ≡ sent_in ps ++ sent_in qs
+pub sent-append : (ps qs : List Passing) → sent_in (ps ++ qs) ≡ sent_in ps ++ sent_in qs
 sent-append [] qs = refl
 sent-append (Came it ∷ ps) qs = sent-append ps qs
 sent-append (Went f ∷ ps) qs = ap (λ (gs : List SessionFrame). f ∷ gs) (sent-append ps qs)
@@ -79,17 +80,18 @@ more-sent : (ps qs : List Passing)
 more-sent ps qs = ap said_in (sent-append ps qs) ∙ said-both (sent_in ps) (sent_in qs)
 
 -- what links say among what passes is what these steps hand out of it
-record Did (old : State Link) (ps : List Passing) (new : State Link) : Type 0 where
-  steps : List LinkStep
-  history : History gives old steps new
-  says : said_in (sent_in ps) ≡ said_in (handed_of steps)
+pub record Did (accepted : Batches) (old : State Link) (ps : List Passing) (new : State Link) : Type 0 where
+  pub steps : List LinkStep
+  pub history : History gives old steps new
+  pub accepts : accepted_of steps ≡ accepted
+  pub says : said_in (sent_in ps) ≡ said_in (handed_of steps)
 
 one-did : (step : LinkStep) (old new : State Link) (ps : List Passing) → Steps gives old step new
-    → said_in (sent_in ps) ≡ said_in (handed_of (step ∷ [])) → Did old ps new
-one-did step old new ps s is = record { steps = step ∷ []; history = (new, s, refl); says = is }
+    → said_in (sent_in ps) ≡ said_in (handed_of (step ∷ [])) → Did (accepted_of (step ∷ [])) old ps new
+one-did step old new ps s is = record { steps = step ∷ []; history = (new, s, refl); accepts = refl; says = is }
 
 flow-taken : (flow said_so : Flow) (frames : List SessionFrame) (answer : Result ⊤ SessionError) (old new : State Link)
-    → FlowTaken gives old [] flow answer new frames → Did old (Came (body.Flow said_so) ∷ went frames) new
+    → FlowTaken gives old [] flow answer new frames → Did [] old (Came (body.Flow said_so) ∷ went frames) new
 flow-taken flow said_so frames answer old new f =
     one-did (TakesFlow flow f.told f.reply f.base f.left f.frames) old new (Came (body.Flow said_so) ∷ went frames)
     f.stepped
@@ -97,7 +99,7 @@ flow-taken flow said_so frames answer old new f =
 
 flow-in : (attached : Bool) (flow : Flow) (frames : List SessionFrame) (answer : Result ⊤ SessionError)
     (old new : State Link) → answer ≢ Err Memory → FlowInSession gives attached old [] flow answer new frames
-    → Did old (Came (body.Flow flow) ∷ went frames) new
+    → Did [] old (Came (body.Flow flow) ∷ went frames) new
 flow-in false flow frames answer old new fault f =
     one-did (SetsWindow flow f.base) old new (Came (body.Flow flow) ∷ went frames) f.stepped
     (ap (λ (fs : List SessionFrame). said_in (sent_in (went fs))) f.same)
@@ -116,7 +118,7 @@ flow-in true flow frames (Err HandleMaxReached) old new fault f = flow-taken flo
 
 flow-at : (asked : Bool) (flow : Flow) (frames : List SessionFrame) (answer : Result ⊤ SessionError)
     (old new : Linked) → answer ≢ Err Memory → FlowAt gives asked old [] flow answer new frames
-    → Did old.session (Came (body.Flow flow) ∷ went frames) new.session
+    → Did [] old.session (Came (body.Flow flow) ∷ went frames) new.session
 flow-at false flow frames answer old new fault f =
     flow-in (leads old.session flow.handle) flow frames answer old.session new.session fault f.0
 flow-at true flow frames (Ok ok) old new fault f =
@@ -139,58 +141,68 @@ transfer-none handle it payload (Ok told) due old new s =
 transfer-none handle it payload (Err e) due old new s =
     ap (λ (f : Option SessionFrame). said_in (option_to_list f ++ [])) s.2
 
-one-none : (Is : LinkStep → Type 0) → ((step : LinkStep) → Is step → said_in (handed_of (step ∷ [])) ≡ [])
-    → (steps : List LinkStep) → AtMostOne Is steps → said_in (handed_of steps) ≡ []
-one-none Is by [] are = refl
+-- nothing is said by steps, and no transfer accepted
+record Silent (steps : List LinkStep) : Type 0 where
+  says : said_in (handed_of steps) ≡ []
+  accepts : accepted_of steps ≡ []
+
+one-none : (Is : LinkStep → Type 0) → ((step : LinkStep) → Is step → Silent (step ∷ [])) → (steps : List LinkStep)
+    → AtMostOne Is steps → Silent steps
+one-none Is by [] are = record { says = refl; accepts = refl }
 one-none Is by (step ∷ []) are = by step are
 one-none Is by (step ∷ next ∷ steps) are = absurd are
 
 step-none : (it : LinkPerformative) (step : AskingStep Link AttachTold Told Detached) (old new : Linked)
     → IsHearing it step → ((flow : Flow) → it ≢ said.Flow flow) → (w : Within gives step old new)
-    → said_in (handed_of w.steps) ≡ []
+    → Silent w.steps
 step-none (said.Attach attach named) step old new (result, is) other w =
     one-none (IsAttach attach named)
-    (λ s i. ap (λ (x : LinkStep). said_in (handed_of (x ∷ []))) i.is) w.steps
+    (λ s i. subst (λ (x : LinkStep). Silent (x ∷ [])) (sym i.is) (record { says = refl; accepts = refl })) w.steps
     (subst (λ (x : AskingStep Link AttachTold Told Detached). IsDoneBy x w.steps) is w.are)
 step-none (said.Flow flow) step old new is other w = absurd (other flow refl)
 step-none (said.Transfer transfer payload) step old new (handle, told, due, is) other w =
     let done : w.steps ≡ TakesTransfer handle transfer payload told due ∷ [] =
     subst (λ (x : AskingStep Link AttachTold Told Detached). IsDoneBy x w.steps) is w.are in
     let run = subst (λ (ss : List LinkStep). History gives old.session ss new.session) done w.run in
-    ap (λ (ss : List LinkStep). said_in (handed_of ss)) done
-    ∙ transfer-none handle transfer payload told due old.session run.0 run.1
+    subst Silent (sym done)
+    (record { says = transfer-none handle transfer payload told due old.session run.0 run.1; accepts = refl })
 step-none (said.Disposition disposition) step old new (walk, echoes, is) other w =
-    ap (λ (ss : List LinkStep). said_in (handed_of ss))
-    (subst (λ (x : AskingStep Link AttachTold Told Detached). IsDoneBy x w.steps) is w.are)
+    let done : w.steps ≡ TakesDisposition disposition walk echoes ∷ [] =
+    subst (λ (x : AskingStep Link AttachTold Told Detached). IsDoneBy x w.steps) is w.are in
+    subst Silent (sym done) (record { says = refl; accepts = refl })
 step-none (said.Detach detach) step old new (result, is) other w =
     one-none (IsDetach detach)
-    (λ s i. ap (λ (x : LinkStep). said_in (handed_of (x ∷ []))) i.is) w.steps
+    (λ s i. subst (λ (x : LinkStep). Silent (x ∷ [])) (sym i.is) (record { says = refl; accepts = refl })) w.steps
     (subst (λ (x : AskingStep Link AttachTold Told Detached). IsDoneBy x w.steps) is w.are)
 
 heard-did : (it : LinkPerformative) (steps : List (AskingStep Link AttachTold Told Detached))
     (frames : List SessionFrame) (old new : Linked) → AreHearing it steps → ((flow : Flow) → it ≢ said.Flow flow)
-    → frames ≡ [] → AskingHistory gives old steps new → Did old.session (Came (body_said it) ∷ went frames) new.session
+    → frames ≡ [] → AskingHistory gives old steps new
+    → Did [] old.session (Came (body_said it) ∷ went frames) new.session
 heard-did it [] frames old new are other none same =
     record {
       steps = [];
       history = ap (λ (t : Linked). t.session) same;
+      accepts = refl;
       says = ap (λ (fs : List SessionFrame). said_in (sent_in (went fs))) none;
     }
 heard-did it (step ∷ []) frames old new are other none (mid, stepped, same) =
     let w = step-within gives step old mid stepped in
+    let silent : Silent w.steps = step-none it step old mid are other w in
     record {
       steps = w.steps;
       history =
           subst (λ (t : Linked). History gives old.session w.steps t.session) (sym same) w.run;
+      accepts = silent.accepts;
       says =
           ap (λ (fs : List SessionFrame). said_in (sent_in (went fs))) none
-          ∙ sym (step-none it step old mid are other w);
+          ∙ sym silent.says;
     }
 heard-did it (step ∷ next ∷ steps) frames old new are other none h = absurd are
 
 hears-did : (it : LinkPerformative) (told : Result (PerformativeTaken AttachTold Told Detached) SessionError)
     (frames : List SessionFrame) (old new : Linked) → told ≢ Err Memory → Hears gives old [] it told new frames
-    → Did old.session (Came (body_said it) ∷ went frames) new.session
+    → Did [] old.session (Came (body_said it) ∷ went frames) new.session
 hears-did (said.Flow flow) (Ok taken.Flow) frames old new fault h =
     flow-at (is_asked old.asked flow.handle) flow frames (Ok tt) old new (λ e. let clash = e in absurd cc) h
 hears-did (said.Flow flow) (Ok (taken.Attach it)) frames old new fault h = absurd h
@@ -214,23 +226,27 @@ hears-did (said.Detach detach) told frames old new fault h =
     let (steps, are, history) = heard gives old new [] frames (said.Detach detach) told h in
     heard-did (said.Detach detach) steps frames old new are (λ flow e. let clash = e in absurd cc) h.1 history
 
-goes-did : (old new : State Link) (ps : List Passing) → GoesBy old new ps → Did old ps new
-goes-did old new ps (by-steps frames d is) =
+pub goes-did : (accepted : Batches) (old new : State Link) (ps : List Passing) → GoesBy accepted old new ps
+    → Did accepted old ps new
+goes-did accepted old new ps (by-steps frames d is) =
     record {
       steps = d.steps;
       history = d.history;
+      accepts = d.accepts;
       says = ap (λ (qs : List Passing). said_in (sent_in qs)) is ∙ ap said_in (sent-went frames)
           ∙ d.says;
     }
-goes-did old new ps (hears it told frames before after memory h was becomes is) =
-    subst (λ (qs : List Passing). Did old qs new) (sym is)
-    (subst (λ (s : State Link). Did s (Came (body_said it) ∷ went frames) new) was
-    (subst (λ (s : State Link). Did before.session (Came (body_said it) ∷ went frames) s) becomes
-    (hears-did it told frames before after memory h)))
-goes-did old new ps (opens channel begin base left frames s is) =
-    subst (λ (qs : List Passing). Did old qs new) (sym is)
+goes-did accepted old new ps (hears none it told frames before after memory h was becomes is) =
+    subst (λ (bs : Batches). Did bs old ps new) (sym none)
+    (subst (λ (qs : List Passing). Did [] old qs new) (sym is)
+    (subst (λ (s : State Link). Did [] s (Came (body_said it) ∷ went frames) new) was
+    (subst (λ (s : State Link). Did [] before.session (Came (body_said it) ∷ went frames) s) becomes
+    (hears-did it told frames before after memory h))))
+goes-did accepted old new ps (opens none channel begin base left frames s is) =
+    subst (λ (bs : Batches). Did bs old ps new) (sym none)
+    (subst (λ (qs : List Passing). Did [] old qs new) (sym is)
     (one-did (TakesBegin channel begin base left frames) old new (Came (body.Begin begin) ∷ went frames) s
-    (ap said_in (sent-went frames ∙ sym (append-nil frames))))
+    (ap said_in (sent-went frames ∙ sym (append-nil frames)))))
 
 -- where a session stands, and what passed in it so far
 abbrev Come : ℕ → Option Stood → List Passing → Type 0
@@ -298,9 +314,9 @@ comes-free first stood frames none =
       by = λ qs c. come-free stood first qs (went frames) (ap said_in (sent-went frames) ∙ none) c;
     }
 
-more-come : (first : ℕ) (qs ps : List Passing) (old new : State Link) → Did old ps new → HasCome first qs old
-    → HasCome first (qs ++ ps) new
-more-come first qs ps old new d c =
+more-come : (first : ℕ) (accepted : Batches) (qs ps : List Passing) (old new : State Link) → Did accepted old ps new
+    → HasCome first qs old → HasCome first (qs ++ ps) new
+more-come first accepted qs ps old new d c =
     record {
       channel = c.channel;
       window = c.window;
@@ -313,19 +329,19 @@ more-come first qs ps old new d c =
           ∙ ap said_in (sym (handed-both c.steps d.steps));
     }
 
-comes-live : (first : ℕ) (stood : Stood) (before after : Session) (ps : List Passing)
-    → live_of (Some stood) ≡ Some before → GoesBy before.value.session after.value.session ps
+comes-live : (first : ℕ) (stood : Stood) (accepted : Batches) (before after : Session) (ps : List Passing) → Unit {0}
+    → live_of (Some stood) ≡ Some before → GoesBy accepted before.value.session after.value.session ps
     → Comes first (Some stood) ps (Some (with_live stood after))
-comes-live first (Live channel s) before after ps is g =
+comes-live first (Live channel s) accepted before after ps any is g =
     record {
       by = λ qs c.
-          more-come first qs ps before.value.session after.value.session
-          (goes-did before.value.session after.value.session ps g)
+          more-come first accepted qs ps before.value.session after.value.session
+          (goes-did accepted before.value.session after.value.session ps g)
           (subst (λ (x : Session). HasCome first qs x.value.session) (same_Some s before is) c);
     }
-comes-live first (Asked channel a) before after ps is g = absurd (none-some before is)
-comes-live first (Ending channel) before after ps is g = absurd (none-some before is)
-comes-live first (Over peer_end complete) before after ps is g = absurd (none-some before is)
+comes-live first (Asked channel a) accepted before after ps any is g = absurd (none-some before is)
+comes-live first (Ending channel) accepted before after ps any is g = absurd (none-some before is)
+comes-live first (Over peer_end complete) accepted before after ps any is g = absurd (none-some before is)
 
 comes-told : (first : ℕ) (stood : Stood) (before after : Box AskedSession) (it : LinkPerformative)
     → asked_of (Some stood) ≡ Some before → HearsAsked before.value it (Ok tt) after.value
@@ -384,9 +400,10 @@ comes-accepts first window incoming channel asked outgoing session frame a =
       };
     }
 
-steps-keep : Keeping Comes
+steps-keep : Keeping (λ accepted. Unit {0}) Comes
 steps-keep =
     record {
+      quiet = tt;
       still = comes-still;
       on = comes-on;
       gone = comes-gone;
@@ -413,4 +430,4 @@ pub session-come : (sessions end : LinkedSessions) (settings : Settings) (deeds 
     → HasCome settings.first_transfer_number passings session.value.session
 session-come sessions end settings deeds n passings session new p live =
     come-live (place_at end.talk.sessions n) settings.first_transfer_number passings session live
-    ((new-judges Comes steps-keep sessions end settings deeds n passings new p).by [] refl)
+    ((new-judges Comes steps-keep (λ accepted. tt) sessions end settings deeds n passings new p).by [] refl)

@@ -31,7 +31,7 @@ use Rattle.amqp_endpoint_model.specs.Relay.{IsNew}
 use Rattle.amqp_endpoint_model.specs.declared.settings.Settings.{Settings}
 use Rattle.amqp_endpoint_sessions.specs.State.{asked_of, live_of, with_asked, with_live}
 use Rattle.amqp_endpoint_sessions.specs.declared.place.Place.TheVariants.{Asked, Live, Ending, Over}
-use Rattle.amqp_endpoint_talk.specs.Inside.{is_transfer, said_in, transfers_in}
+use Rattle.amqp_endpoint_talk.specs.Inside.{Batches, is_transfer, said_in, transfers_in}
 use Rattle.amqp_endpoint_talk.specs.Windows.{Came, Count, IsAllowed, Keeps, KeepsWindow, Passing, Went, base_by}
 use Rattle.amqp_endpoint_talk.specs.Windows.{begins_with, body_said, count_behind, counted, sent_by, told_by, went}
 use Rattle.amqp_endpoint_talk.proofs.HeardWindows.{hears-keep}
@@ -129,12 +129,12 @@ judges-free first stood frames none =
       behind = λ c is. subst (λ (x : Count). Counts first stood x) (sym (free c).counts) is;
     }
 
-goes-keeps : (old new : State Link) (ps : List Passing) → GoesBy old new ps
+goes-keeps : (accepted : Batches) (old new : State Link) (ps : List Passing) → GoesBy accepted old new ps
     → Keeps (counted old.outgoing) ps (counted new.outgoing)
-goes-keeps old new ps (by-steps frames d is) =
+goes-keeps accepted old new ps (by-steps frames d is) =
     subst (λ (qs : List Passing). Keeps (counted old.outgoing) qs (counted new.outgoing)) (sym is)
-    (inside-keeps gives frames old new d)
-goes-keeps old new ps (hears it told frames before after memory h was becomes is) =
+    (inside-keeps gives accepted frames old new d)
+goes-keeps accepted old new ps (hears none it told frames before after memory h was becomes is) =
     subst (λ (qs : List Passing). Keeps (counted old.outgoing) qs (counted new.outgoing)) (sym is)
     (subst
     (λ (s : State Link). Keeps (counted s.outgoing) (Came (body_said it) ∷ went frames) (counted new.outgoing)) was
@@ -142,24 +142,24 @@ goes-keeps old new ps (hears it told frames before after memory h was becomes is
     (λ (s : State Link).
     Keeps (counted before.session.outgoing) (Came (body_said it) ∷ went frames) (counted s.outgoing))
     becomes (hears-keep gives it told frames before after memory h)))
-goes-keeps old new ps (opens channel begin base left frames s is) =
+goes-keeps accepted old new ps (opens none channel begin base left frames s is) =
     subst (λ (qs : List Passing). Keeps (counted old.outgoing) qs (counted new.outgoing)) (sym is)
     (begin-keeps gives channel begin base left frames old new s)
 
-judges-live : (first : ℕ) (stood : Stood) (before after : Session) (ps : List Passing)
-    → live_of (Some stood) ≡ Some before → GoesBy before.value.session after.value.session ps
+judges-live : (first : ℕ) (stood : Stood) (accepted : Batches) (before after : Session) (ps : List Passing) → Unit {0}
+    → live_of (Some stood) ≡ Some before → GoesBy accepted before.value.session after.value.session ps
     → Judges first (Some stood) ps (Some (with_live stood after))
-judges-live first (Live channel s) before after ps is g =
-    let k = goes-keeps before.value.session after.value.session ps g in
+judges-live first (Live channel s) accepted before after ps any is g =
+    let k = goes-keeps accepted before.value.session after.value.session ps g in
     let e : counted s.value.session.outgoing ≡ counted before.value.session.outgoing =
     ap (λ (x : Session). counted x.value.session.outgoing) (same_Some s before is) in
     record {
       each = λ c here. subst (λ (d : Count). KeepsWindow d ps) (sym (here ∙ e)) k.each;
       behind = λ c here. ap (λ (d : Count). count_behind d ps) (here ∙ e) ∙ k.counts;
     }
-judges-live first (Asked channel a) before after ps is g = absurd (none-some before is)
-judges-live first (Ending channel) before after ps is g = absurd (none-some before is)
-judges-live first (Over peer_end complete) before after ps is g = absurd (none-some before is)
+judges-live first (Asked channel a) accepted before after ps any is g = absurd (none-some before is)
+judges-live first (Ending channel) accepted before after ps any is g = absurd (none-some before is)
+judges-live first (Over peer_end complete) accepted before after ps any is g = absurd (none-some before is)
 
 told-flow : (first : ℕ) (begin : Begin) (kept : Option SessionFlow) (flow : Flow)
     → told_by (body.Flow flow) (kept_count first begin kept) ≡ kept_count first begin (Some (session_told flow))
@@ -261,9 +261,10 @@ judges-accepts first window incoming channel asked outgoing session frame a =
     (λ (f : SessionFrame). Judges first (Some (Asked incoming asked)) (went (f ∷ [])) (Some (Live outgoing session)))
     (sym says) j
 
-windows-keep : Keeping Judges
+windows-keep : Keeping (λ accepted. Unit {0}) Judges
 windows-keep =
     record {
+      quiet = tt;
       still = judges-still;
       on = judges-on;
       gone = judges-gone;
@@ -279,5 +280,5 @@ pub window-kept : (sessions end : LinkedSessions) (settings : Settings) (deeds :
     (passings : List Passing) → IsNew linked settings sessions → PassesIn n sessions deeds end passings
     → KeepsWindow (begins_with settings.first_transfer_number) passings
 window-kept sessions end settings deeds n passings new p =
-    (new-judges Judges windows-keep sessions end settings deeds n passings new p).each
+    (new-judges Judges windows-keep (λ accepted. tt) sessions end settings deeds n passings new p).each
     (begins_with settings.first_transfer_number) refl

@@ -5,3 +5,4 @@ pub mod Passed
 pub mod Held
 pub mod Agreeing
 pub mod Handed
+pub mod Queued

@@ -1,5 +1,6 @@
 //! The laws. A function here does nothing but name the laws that it rests on: its contract is the law.
 ghost use Rattle.std.specs.Prelude.{◌≡◌, ℕ, List, map, slice_get, Option, Some};
+ghost use Rattle.amqp_session_performatives.specs.declared.session_frame.SessionFrame.{SessionFrame};
 ghost use Rattle.amqp_session_types.specs.declared.channels.OutgoingChannel.{OutgoingChannel};
 ghost use Rattle.amqp_session_types.specs.declared.handles.OutputHandle.{OutputHandle};
 ghost use Rattle.amqp_link_place.specs.Readings.{Piece, nothing, readings};
@@ -11,15 +12,18 @@ ghost use Rattle.amqp_endpoint_linking.specs.Linking.{Session};
 ghost use Rattle.amqp_endpoint_sessions.specs.State.{channel_at, live_at};
 ghost use Rattle.amqp_endpoint_model.specs.History.{Run};
 ghost use Rattle.amqp_endpoint_model.specs.Relay.{IsNew};
-ghost use Rattle.amqp_endpoint_model.specs.Said.{Told};
+ghost use Rattle.amqp_endpoint_model.specs.Said.{Told, attaching};
 ghost use Rattle.amqp_endpoint_model.specs.State.{State, fresh};
 ghost use Rattle.amqp_endpoint_model.specs.declared.call.Call.{Call};
+ghost use Rattle.amqp_endpoint_model.specs.declared.call.Call.TheVariants.{AttachSender};
+ghost use Rattle.amqp_endpoint_model.specs.declared.event.Event.{Event};
 ghost use Rattle.amqp_endpoint_model.specs.declared.settings.Settings.{Settings};
 ghost use Rattle.amqp_endpoint_linked.specs.Does.{linked};
 ghost use Rattle.amqp_endpoint_linked.specs.Sending.{tag_of};
 ghost use Rattle.amqp_endpoint_linked.specs.declared.linked.LinkedSessions.{LinkedSessions};
-ghost use Rattle.amqp_endpoint_deeds.specs.Deeds.{AreDone, Deed, told_by};
+ghost use Rattle.amqp_endpoint_deeds.specs.Deeds.{AreDone, Deed, Does, IsDeed, told_by};
 ghost use Rattle.amqp_endpoint_deeds.specs.Telling.{events_told};
+ghost use Rattle.amqp_endpoint_settings.specs.declared.link.LinkSettings.{LinkSettings};
 ghost use Rattle.amqp_endpoint_talk.specs.Windows.{KeepsWindow, Passing, begins_with};
 ghost use Rattle.amqp_endpoint_laws.specs.Conversing.{SessionsGoOn};
 ghost use Rattle.amqp_endpoint_laws.specs.Handed.{IsReceiving, NoneResumes, PassesOn, ReachIn, handed_as};
@@ -27,6 +31,7 @@ ghost use Rattle.amqp_endpoint_laws.specs.Handed.{handed_by, pieces_on};
 ghost use Rattle.amqp_endpoint_laws.specs.Held.{IsHeldThere, number_at};
 ghost use Rattle.amqp_endpoint_laws.specs.Linking.{HaveCome};
 ghost use Rattle.amqp_endpoint_laws.specs.Passed.{HasCome, PassesIn};
+ghost use Rattle.amqp_endpoint_laws.specs.Queued.{AttachesFirst, SayMessages, messages_by, queued};
 ghost use Rattle.amqp_endpoint_laws.specs.Telling.{numbers_told, numbers_under, tags_given};
 
 use amqp_endpoint_linking::laws::links_given_back_go_on;
@@ -191,3 +196,30 @@ pub fn what_is_handed_out_is_what_was_said()
         (theirs : ℕ) (passings : List Passing) → PassesOn link session own theirs start since end passings →
         ReachIn link session own start since end (pieces_on theirs passings) }
 {}
+
+/// What a sending link is given to send is queued in order. Its Attach is the first frame of the call by which it
+/// attaches, and says its own handle and its name. The transfers with that handle among all that passes in its session
+/// from then on, and behind them those that wait there for the peer's window, say the messages that the link accepted
+/// since, one after the other, each with its tag, its format, whether it goes settled, and all of its bytes; and no
+/// message is left half said (part 2, 2.6.12, 2.6.14). So it is whatever else the endpoint does and hears, as long as
+/// the session holds the link and goes on.
+pub fn what_is_sent_is_queued_in_order()
+    ensures says { (sessions old new end : LinkedSessions) (settings : Settings) (before since : List Deed)
+        (number link limit : ℕ) (its : LinkSettings) (events : List Event) (frames : List SessionFrame)
+        (passings : List Passing) (handle : OutputHandle) (session : Session) → IsNew linked settings sessions →
+        AreDone linked sessions before old →
+        IsDeed linked old (Does limit (AttachSender number its) (attaching link events) frames) new →
+        PassesIn number new since end passings → place_at end.links link ≡ Some (Held number handle) →
+        live_at end.talk.sessions number ≡ Some session →
+        SayMessages (queued handle passings session.value.session) (messages_by link since) }
+    ensures attaches { (sessions old new end : LinkedSessions) (settings : Settings) (before since : List Deed)
+        (number link limit : ℕ) (its : LinkSettings) (events : List Event) (frames : List SessionFrame)
+        (passings : List Passing) (handle : OutputHandle) → IsNew linked settings sessions →
+        AreDone linked sessions before old →
+        IsDeed linked old (Does limit (AttachSender number its) (attaching link events) frames) new →
+        PassesIn number new since end passings → place_at end.links link ≡ Some (Held number handle) →
+        AttachesFirst handle its.name frames }
+{
+    links_given_back_go_on();
+    no_two_links_share_a_handle();
+}

@@ -7,7 +7,7 @@ use Rattle.amqp_session_core.specs.Steps.{Changes, SendsDisposition, SendsTransf
 use Rattle.amqp_link_sender.specs.Sends.{entry_unless, sent, with_room}
 use Rattle.amqp_endpoint_model.specs.declared.call.Disposal.{Disposal}
 use Rattle.amqp_endpoint_model.specs.declared.call.Sending.{Sending}
-use Rattle.amqp_endpoint_talk.specs.Inside.{DoneInside, said_in}
+use Rattle.amqp_endpoint_talk.specs.Inside.{AcceptsInside, DoneInside, said_in}
 use Rattle.amqp_endpoint_talk.proofs.Inside.{alike-inside, changed-inside, none-said, none-inside, one-inside}
 use Rattle.amqp_endpoint_talk.proofs.Inside.{same-inside, step-inside}
 use Rattle.amqp_endpoint_attached.specs.Linked.{Linked, LinksIn, end_at, gives}
@@ -22,8 +22,8 @@ use Rattle.amqp_endpoint_link_messages.proofs.Disposed.{ChangesLink, all-change,
 
 -- its link makes room for a message, the session takes the transfers, and the link has sent it
 message-inside : (limit : ℕ) (m : Message) (settled : Bool) (handle : OutputHandle) (before after : Linked)
-    (frames : List SessionFrame) → MessageSent before limit handle m settled [] after frames
-    → DoneInside gives before.session frames after.session
+    (frames : List SessionFrame) (did : MessageSent before limit handle m settled [] after frames)
+    → AcceptsInside gives ((handle.0, did.transfers) ∷ []) before.session frames after.session
 message-inside limit m settled handle before after frames did =
     let s = did.sends in
     changed-inside gives before.session did.mid after.session handle.0 (sending did.number did.before)
@@ -36,8 +36,9 @@ message-inside limit m settled handle before after frames did =
     (sending did.number (sent (with_room did.before) (entry_unless settled m.tag m.format m.payload)))) did.commits
     tt)))
 
-pub sends-inside : (limit : ℕ) (tag : List ℕ) (message : Sending) (settled : Bool)
-    → StaysInside (sends limit tag message settled)
+pub sends-inside : (limit : ℕ) (tag : List ℕ) (message : Sending) (settled : Bool) (handle : OutputHandle)
+    (before after : Linked) (frames : List SessionFrame) (did : sends limit tag message settled handle before frames after)
+    → AcceptsInside gives ((handle.0, did.transfers) ∷ []) before.session frames after.session
 sends-inside limit tag message settled handle before after frames did =
     message-inside limit (with_tag tag message) settled handle before after frames did
 

@@ -14,8 +14,8 @@ use Rattle.amqp_session_core.specs.State.{State}
 use Rattle.amqp_session_core.specs.Steps.{Changes, SendsBehind, Step, Steps}
 use Rattle.amqp_session_core.specs.declared.batch.BehindFrame.{BehindFrame}
 use Rattle.amqp_endpoint_fitting.specs.Handed.{handed, handed_of}
-use Rattle.amqp_endpoint_talk.specs.Inside.{DoneInside, SetNoWindow, SetsNoWindow, is_of_link, is_transfer}
-use Rattle.amqp_endpoint_talk.specs.Inside.{said_in, transfers_in}
+use Rattle.amqp_endpoint_talk.specs.Inside.{AcceptsInside, Batches, DoneInside, SetNoWindow, SetsNoWindow}
+use Rattle.amqp_endpoint_talk.specs.Inside.{accepted_in, accepted_of, is_of_link, is_transfer, said_in, transfers_in}
 
 -- a frame before others is one before those to which others are added
 one-more : (counts : Bool) (frame : SessionFrame) (all first later : List SessionFrame) → all ≡ first ++ later
@@ -82,6 +82,13 @@ module _ {R A T D : Type 0} where
   still-both [] later none still = still
   still-both (step ∷ first) later (one, others) still = (one, still-both first later others still)
 
+  pub accepted-both : (first later : List (Step R A T D))
+      → accepted_of (first ++ later) ≡ accepted_of first ++ accepted_of later
+  accepted-both [] later = refl
+  accepted-both (step ∷ first) later =
+      ap (λ (bs : Batches). accepted_in step ++ bs) (accepted-both first later)
+      ∙ sym (append_assoc (accepted_in step) (accepted_of first) (accepted_of later))
+
 module _ {R A T D : Type 0} (gives : Relations R A T D) where
   pub history-both : (first later : List (Step R A T D)) (old mid new : State R) → History gives old first mid
       → History gives mid later new → History gives old (first ++ later) new
@@ -91,17 +98,18 @@ module _ {R A T D : Type 0} (gives : Relations R A T D) where
 
   -- nothing is done
   pub none-inside : (old new : State R) → new ≡ old → DoneInside gives old [] new
-  none-inside old new is = record { steps = []; history = is; still = tt; says = refl }
+  none-inside old new is = record { steps = []; history = is; still = tt; accepts = refl; says = refl }
 
   -- a step, and what is done behind it
-  pub step-inside : (old mid new : State R) (step : Step R A T D) (frames : List SessionFrame)
-      → Steps gives old step mid → SetsNoWindow step → DoneInside gives mid frames new
-      → DoneInside gives old (handed step ++ frames) new
+  pub step-inside : {accepted : Batches} (old mid new : State R) (step : Step R A T D) (frames : List SessionFrame)
+      → Steps gives old step mid → SetsNoWindow step → AcceptsInside gives accepted mid frames new
+      → AcceptsInside gives (accepted_in step ++ accepted) old (handed step ++ frames) new
   step-inside old mid new step frames stepped still d =
       record {
         steps = step ∷ d.steps;
         history = (mid, stepped, d.history);
         still = (still, d.still);
+        accepts = ap (λ (bs : Batches). accepted_in step ++ bs) d.accepts;
         says =
             said-both (handed step) frames
             ∙ ap (λ (fs : List SessionFrame). said_in (handed step) ++ fs) d.says
@@ -110,12 +118,13 @@ module _ {R A T D : Type 0} (gives : Relations R A T D) where
 
   -- one step alone
   pub one-inside : (old new : State R) (step : Step R A T D) → Steps gives old step new → SetsNoWindow step
-      → DoneInside gives old (handed step) new
+      → AcceptsInside gives (accepted_in step) old (handed step) new
   one-inside old new step stepped still =
       record {
         steps = step ∷ [];
         history = (new, stepped, refl);
         still = (still, tt);
+        accepts = append-nil (accepted_in step);
         says = ap said_in (sym (append-nil (handed step)));
       }
 
@@ -127,6 +136,8 @@ module _ {R A T D : Type 0} (gives : Relations R A T D) where
         steps = d.steps ++ e.steps;
         history = history-both d.steps e.steps old mid new d.history e.history;
         still = still-both d.steps e.steps d.still e.still;
+        accepts =
+            accepted-both d.steps e.steps ∙ ap (λ (bs : Batches). bs ++ accepted_of e.steps) d.accepts ∙ e.accepts;
         says =
             said-both first later
             ∙ ap (λ (fs : List SessionFrame). fs ++ said_in later) d.says
@@ -136,13 +147,20 @@ module _ {R A T D : Type 0} (gives : Relations R A T D) where
       }
 
   -- other frames are handed out, among which links say the same
-  pub alike-inside : (old new : State R) (frames others : List SessionFrame)
-      → said_in others ≡ said_in frames → DoneInside gives old frames new → DoneInside gives old others new
+  pub alike-inside : {accepted : Batches} (old new : State R) (frames others : List SessionFrame)
+      → said_in others ≡ said_in frames → AcceptsInside gives accepted old frames new
+      → AcceptsInside gives accepted old others new
   alike-inside old new frames others same d =
-      record { steps = d.steps; history = d.history; still = d.still; says = same ∙ d.says }
+      record {
+        steps = d.steps;
+        history = d.history;
+        still = d.still;
+        accepts = d.accepts;
+        says = same ∙ d.says;
+      }
 
-  pub same-inside : (old new : State R) (frames others : List SessionFrame) → others ≡ frames
-      → DoneInside gives old frames new → DoneInside gives old others new
+  pub same-inside : {accepted : Batches} (old new : State R) (frames others : List SessionFrame) → others ≡ frames
+      → AcceptsInside gives accepted old frames new → AcceptsInside gives accepted old others new
   same-inside old new frames others is d = alike-inside old new frames others (ap said_in is) d
 
   -- nothing is handed out behind
@@ -161,8 +179,8 @@ module _ {R A T D : Type 0} (gives : Relations R A T D) where
       (one-inside old new (SendsBehind handle frame left answer) sent tt)
 
   -- a link is changed before
-  pub changed-inside : (old mid new : State R) (handle : ℕ) (stood stands : R) (frames : List SessionFrame)
-      → Steps gives old (Changes handle stood stands) mid → DoneInside gives mid frames new
-      → DoneInside gives old frames new
+  pub changed-inside : {accepted : Batches} (old mid new : State R) (handle : ℕ) (stood stands : R)
+      (frames : List SessionFrame) → Steps gives old (Changes handle stood stands) mid
+      → AcceptsInside gives accepted mid frames new → AcceptsInside gives accepted old frames new
   changed-inside old mid new handle stood stands frames changed d =
       step-inside old mid new (Changes handle stood stands) frames changed tt d

@@ -31,7 +31,8 @@ use Rattle.amqp_session_core.specs.Steps.{SendsTransfers, SendsDisposition, Tell
 use Rattle.amqp_session_core.specs.Steps.{Changes, Steps, Reply, NoReply, OfSession, OfLink, Replies, reply_frames}
 use Rattle.amqp_session_core.specs.Steps.{SendsDispositionStep, with_table}
 use Rattle.amqp_endpoint_fitting.specs.Handed.{handed, handed_of}
-use Rattle.amqp_endpoint_talk.specs.Inside.{DoneInside, SetNoWindow, SetsNoWindow, is_transfer, transfers_in}
+use Rattle.amqp_endpoint_talk.specs.Inside.{AcceptsInside, Batches, SetNoWindow, SetsNoWindow, is_transfer}
+use Rattle.amqp_endpoint_talk.specs.Inside.{transfers_in}
 use Rattle.amqp_endpoint_talk.specs.Windows.{Came, Count, IsAllowed, KeepsWindow, Passing, Went, base_by, count_behind}
 use Rattle.amqp_endpoint_talk.specs.Windows.{Keeps, Sending, counted, sent_by, told_by, went}
 use Rattle.amqp_endpoint_talk.proofs.Inside.{same-transfers}
@@ -249,9 +250,10 @@ module _ {R A T D : Type 0} (gives : Relations R A T D) where
       (went (handed_of steps)) (step-keeps step old mid one stepped) (history-keeps steps mid new rest more))
 
   -- what is done in a session by its own steps
-  pub inside-keeps : (frames : List SessionFrame) (old new : State R) → DoneInside gives old frames new
+  pub inside-keeps : (accepted : Batches) (frames : List SessionFrame) (old new : State R)
+      → AcceptsInside gives accepted old frames new
       → Keeps (counted old.outgoing) (went frames) (counted new.outgoing)
-  inside-keeps frames old new d =
+  inside-keeps accepted frames old new d =
       with-same frames (handed_of d.steps) (counted old.outgoing) (counted new.outgoing)
       (same-transfers frames (handed_of d.steps) d.says)
       (history-keeps d.steps old new d.still d.history)

@@ -1,12 +1,13 @@
 -- What is done inside of a session that has begun, and which frames of its links are handed out by it (part 2, 2.5.6).
-use Rattle.std.specs.Prelude.{◌≡◌, List, [], ◌∷◌, Bool, true, false, if◌then◌else◌, is_some}
+use Rattle.std.specs.Prelude.{◌≡◌, ℕ, List, [], ◌∷◌, ◌++◌, Bool, true, false, if◌then◌else◌, is_some}
 use Rattle.amqp_session_performatives.specs.declared.session_frame.SessionFrame.{SessionFrame}
 use Rattle.amqp_session_performatives.specs.declared.session_frame.SessionFrameBody.{SessionFrameBody}
 use Rattle.amqp_session_performatives.specs.declared.session_frame.SessionFrameBody.TheVariants.{Detach, Flow, Transfer}
+use Rattle.amqp_session_core.specs.Batch.{Transfers}
 use Rattle.amqp_session_core.specs.History.{History}
 use Rattle.amqp_session_core.specs.Relay.{Relations}
 use Rattle.amqp_session_core.specs.State.{State}
-use Rattle.amqp_session_core.specs.Steps.{SetsWindow, Step, TakesBegin, TakesFlow}
+use Rattle.amqp_session_core.specs.Steps.{SendsTransfers, SetsWindow, Step, TakesBegin, TakesFlow}
 use Rattle.amqp_endpoint_fitting.specs.Handed.{handed_of}
 
 abbrev pub is_transfer : SessionFrameBody → Bool
@@ -43,11 +44,30 @@ module _ {R A T D : Type 0} where
   SetNoWindow [] = Unit {0}
   SetNoWindow (step ∷ steps) = SetsNoWindow step × SetNoWindow steps
 
+-- transfers that a session accepts to be sent, in order: each batch with the own handle of its link
+abbrev pub Batches : Type 0
+Batches = List (ℕ × Transfers)
+
+module _ {R A T D : Type 0} where
+  abbrev pub accepted_in : Step R A T D → Batches
+  accepted_in (SendsTransfers handle batch left frames) = (handle.0, batch) ∷ []
+  accepted_in step = []
+
+  abbrev pub accepted_of : List (Step R A T D) → Batches
+  accepted_of [] = []
+  accepted_of (step ∷ steps) = accepted_in step ++ accepted_of steps
+
 module _ {R A T D : Type 0} (gives : Relations R A T D) where
-  -- a session goes on by steps of its own, by which its peer's window stays as it is, and what links say among what is
-  -- handed out is theirs
-  pub record DoneInside (old : State R) (frames : List SessionFrame) (new : State R) : Type 0 where
-    pub steps : List (Step R A T D)
-    pub history : History gives old steps new
-    pub still : SetNoWindow steps
-    pub says : said_in frames ≡ said_in (handed_of steps)
+  -- a session goes on by steps of its own, by which its peer's window stays as it is and which accept these transfers,
+  -- and what links say among what is handed out is theirs
+  pub record AcceptsInside (accepted : Batches) (old : State R) (frames : List SessionFrame) (new : State R) : Type 0
+    where
+      pub steps : List (Step R A T D)
+      pub history : History gives old steps new
+      pub still : SetNoWindow steps
+      pub accepts : accepted_of steps ≡ accepted
+      pub says : said_in frames ≡ said_in (handed_of steps)
+
+  -- it accepts none
+  abbrev pub DoneInside : State R → List SessionFrame → State R → Type 0
+  DoneInside old frames new = AcceptsInside [] old frames new

@@ -40,7 +40,7 @@ ghost use Rattle.amqp_endpoint_fitting.specs.Handed.{AllAskingEndFit, AllAskingH
 ghost use Rattle.amqp_endpoint_fitting.specs.Read.{IsRead};
 ghost use Rattle.amqp_endpoint_talk.specs.Clearing.{Clears, ClearsFirst};
 ghost use Rattle.amqp_endpoint_talk.specs.Going.{AnswersPlain, Goes, NoneLive, Rests, Within};
-ghost use Rattle.amqp_endpoint_talk.specs.Inside.{DoneInside};
+ghost use Rattle.amqp_endpoint_talk.specs.Inside.{AcceptsInside, Batches};
 ghost use Rattle.amqp_endpoint_talk.specs.Windows.{Came, Keeps, body_said, counted, went};
 
 use amqp_session_core::LinkRelay;
@@ -132,7 +132,8 @@ pub fn sessions_end_with_their_connection<R: LinkRelay>()
 /// does (part 2, 2.5.6): by steps of its own by which the window stays, as the peer's Begin opens it, as a Flow of the
 /// peer's tells it anew, and so by all that the session hears of its peer, where there is memory for that.
 pub fn transfers_keep_to_the_window<R: LinkRelay>()
-    ensures inside { (frames : List SessionFrame) (old new : State R) → DoneInside R.gives old frames new →
+    ensures inside { (accepted : Batches) (frames : List SessionFrame) (old new : State R) →
+        AcceptsInside R.gives accepted old frames new →
         Keeps (counted old.outgoing) (went frames) (counted new.outgoing) }
     ensures opened { (channel : IncomingChannel) (begin : Begin) (base : ℕ) (left : Left) (frames : List SessionFrame)
         (old new : State R) → session.Steps R.gives old (session.TakesBegin channel begin base left frames) new →

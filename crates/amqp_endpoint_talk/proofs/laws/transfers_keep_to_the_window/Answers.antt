@@ -3,7 +3,8 @@ use Rattle.amqp_endpoint_talk.proofs.Windows.{begin-keeps, flow-keeps, inside-ke
 use Rattle.amqp_endpoint_talk.proofs.laws.transfers_keep_to_the_window.Goals as goal
 
 pub returns-clause-inside : goal.returns-clause-inside
-returns-clause-inside g c = λ frames old new d. inside-keeps g.R.LinkRelay.gives frames old new d
+returns-clause-inside g c = λ accepted frames old new d.
+    inside-keeps g.R.LinkRelay.gives accepted frames old new d
 
 pub returns-clause-opened : goal.returns-clause-opened
 returns-clause-opened g c = λ channel begin base left frames old new s.

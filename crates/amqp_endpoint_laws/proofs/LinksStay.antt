@@ -1,0 +1,121 @@
+-- A link that a session holds was held by it all the time, since it was entered: none attaches again.
+use Rattle.std.proofs.Common.{◌≡◌, ◌≢◌, ◌==◌, ◌⊎◌, inl, inr, ℕ, Bool, true, false, List, [], ◌∷◌, Option, Some, None}
+use Rattle.std.proofs.Common.{ap, refl, sym, subst}
+use Rattle.std.proofs.Common.{◌∙◌}
+use Rattle.std.proofs.lemmas.Bool.Decides.{eqb_tells}
+use Rattle.std.proofs.lemmas.Option.{none-some}
+use Rattle.amqp_session_types.specs.declared.handles.OutputHandle.{OutputHandle}
+use Rattle.amqp_link_ends.specs.declared.end.End.{End}
+use Rattle.amqp_endpoint_names.specs.Own.{SlotSteps, is_about, slot_at}
+use Rattle.amqp_endpoint_names.specs.State.{open_of, place_at, place_of}
+use Rattle.amqp_endpoint_names.specs.Steps.{ChangesAtRest, Closes, Enters, Holds, LowersRoom, MakesRoom, Rests, Step}
+use Rattle.amqp_endpoint_names.specs.Steps.{Steps}
+use Rattle.amqp_endpoint_names.specs.declared.place.LinkPlace.{LinkPlace}
+use Rattle.amqp_endpoint_names.specs.declared.place.LinkPlace.TheVariants.{AtRest, Held}
+use Rattle.amqp_endpoint_names.specs.declared.place.Named.{Named}
+use Rattle.amqp_endpoint_names.proofs.Owning.{at}
+use Rattle.amqp_endpoint_deeds.specs.Deeds.{AreDone, Deed, IsDeed}
+use Rattle.amqp_endpoint_linking.specs.Linking.{Links}
+use Rattle.amqp_endpoint_linked.specs.Does.{linked}
+use Rattle.amqp_endpoint_linked.specs.declared.linked.LinkedSessions.{LinkedSessions}
+use Rattle.amqp_endpoint_laws.proofs.DeedsKept.{deed-keeps}
+use Rattle.amqp_endpoint_laws.proofs.LinksKept.{BackGoesOn, FinishedGoesOn, HoldsNone, LeftGoesOn, links-keep}
+
+abbrev Slot : Type 0
+Slot = Option (Option (Named End))
+
+module _ (link session : ℕ) (handle : OutputHandle) where
+  abbrev here : LinkPlace End
+  here = Held session handle
+
+  -- a link that was entered, and isn't held so
+  abbrev IsElsewhere : Slot → Type 0
+  IsElsewhere o = (o ≢ None) × (place_of (open_of o) ≢ Some here)
+
+  at-rest : (it : End) → Some (AtRest it) ≢ Some here
+  at-rest it is = absurd cc
+
+  none-here : None ≢ Some here
+  none-here is = absurd cc
+
+  elsewhere-on : (step : Step End) (old new : Slot) → HoldsNone step → SlotSteps old step new → IsElsewhere old
+      → IsElsewhere new
+  elsewhere-on (MakesRoom name) old new none s e = absurd s
+  elsewhere-on (LowersRoom room) old new none s e = absurd s
+  elsewhere-on (Enters number name n h) old new none s e = absurd (e.0 s.0)
+  elsewhere-on (Rests number it) old new none (stood, was, held, is) e =
+      subst IsElsewhere (sym is) ((λ same. absurd (none-some _ (sym same))), at-rest it)
+  elsewhere-on (Holds number n h it) old new none s e = absurd none
+  elsewhere-on (ChangesAtRest number before after) old new none (stood, was, place, is) e =
+      subst IsElsewhere (sym is) ((λ same. absurd (none-some _ (sym same))), at-rest after)
+  elsewhere-on (Closes number place) old new none (stood, was, there, is) e =
+      subst IsElsewhere (sym is) ((λ same. absurd (none-some _ (sym same))), none-here)
+
+  -- it stays so
+  stays-elsewhere : (step : Step End) (old new : Links) → HoldsNone step → Steps old step new
+      → IsElsewhere (slot_at old link) → IsElsewhere (slot_at new link)
+  stays-elsewhere step old new none s e = by (is_about link step) refl
+    where
+      by : (b : Bool) → is_about link step ≡ b → IsElsewhere (slot_at new link)
+      by true about = elsewhere-on step (slot_at old link) (slot_at new link) none ((at link old step new s).about about) e
+      by false about = subst IsElsewhere (sym ((at link old step new s).other about)) e
+
+  -- and it stays entered
+  stays-entered : (step : Step End) (old new : Links) → HoldsNone step → Steps old step new
+      → slot_at old link ≢ None → slot_at new link ≢ None
+  stays-entered step old new none s e = by (is_about link step) refl
+    where
+      entered : (it : Step End) (o p : Slot) → SlotSteps o it p → p ≢ None
+      entered (MakesRoom name) o p t = absurd t
+      entered (LowersRoom room) o p t = absurd t
+      entered (Enters number name n h) o p t = λ is. absurd (none-some _ (sym is ∙ t.1))
+      entered (Rests number it) o p t = λ is. absurd (none-some _ (sym is ∙ t.3))
+      entered (Holds number n h it) o p t = λ is. absurd (none-some _ (sym is ∙ t.3))
+      entered (ChangesAtRest number before after) o p t = λ is. absurd (none-some _ (sym is ∙ t.3))
+      entered (Closes number place) o p t = λ is. absurd (none-some _ (sym is ∙ t.3))
+
+      by : (b : Bool) → is_about link step ≡ b → slot_at new link ≢ None
+      by true about = entered step (slot_at old link) (slot_at new link) ((at link old step new s).about about)
+      by false about = subst (λ (o : Slot). o ≢ None) (sym ((at link old step new s).other about)) e
+
+  held-or-not : (o : Option (LinkPlace End)) → (o ≡ Some here) ⊎ (o ≢ Some here)
+  held-or-not None = inr none-here
+  held-or-not (Some (AtRest it)) = inr (at-rest it)
+  held-or-not (Some (Held n h)) = by (eqb_tells n session) (eqb_tells h.0 handle.0)
+    where
+      by : (((n == session) ≡ true) × (n ≡ session)) ⊎ (((n == session) ≡ false) × (n ≢ session))
+          → (((h.0 == handle.0) ≡ true) × (h.0 ≡ handle.0)) ⊎ (((h.0 == handle.0) ≡ false) × (h.0 ≢ handle.0))
+          → (Some (Held n h) ≡ Some here) ⊎ (Some (Held n h) ≢ Some here)
+      by (inl a) (inl b) =
+          inl
+          (ap (λ (m : ℕ). Some (Held m h)) a.1
+          ∙ ap (λ (m : ℕ). Some (Held session (record { 0 = m }))) b.1)
+      by (inr a) b = inr (λ is. a.1 (let same : n ≡ session = cc in same))
+      by a (inr b) = inr (λ is. b.1 (ap (λ (k : OutputHandle). k.0) (let same : h ≡ handle = cc in same)))
+
+  module _ (back_on : BackGoesOn) (left_on : LeftGoesOn) (finished_on : FinishedGoesOn) where
+    pub entered-before : (deed : Deed) (old new : LinkedSessions) → IsDeed linked old deed new
+        → slot_at old.links link ≢ None → slot_at new.links link ≢ None
+    entered-before deed old new d e =
+        deed-keeps linked (λ s. slot_at s.links link ≢ None)
+        (links-keep (λ ls. slot_at ls link ≢ None) stays-entered back_on left_on finished_on) deed old new d e
+
+    -- behind a deed it is held so, and it was before
+    pub held-before : (deed : Deed) (old new : LinkedSessions) → IsDeed linked old deed new
+        → slot_at old.links link ≢ None → place_at new.links link ≡ Some here → place_at old.links link ≡ Some here
+    held-before deed old new d e held =
+        elim (held-or-not (place_at old.links link)) [
+          | inl is ↦ is
+          | inr other ↦
+              absurd
+              ((deed-keeps linked (λ s. IsElsewhere (slot_at s.links link))
+              (links-keep (λ ls. IsElsewhere (slot_at ls link)) stays-elsewhere back_on left_on finished_on) deed old new
+              d (e, other)).1
+              held)
+        ]
+
+    pub held-since : (deeds : List Deed) (old new : LinkedSessions) → AreDone linked old deeds new
+        → slot_at old.links link ≢ None → place_at new.links link ≡ Some here → place_at old.links link ≡ Some here
+    held-since [] old new same e held = ap (λ (s : LinkedSessions). place_at s.links link) (sym same) ∙ held
+    held-since (deed ∷ deeds) old new (mid, one, rest) e held =
+        held-before deed old mid one e (held-since deeds mid new rest (entered-before deed old mid one e) held)

@@ -1,0 +1,83 @@
+-- What a link has queued: its transfers that passed in its session, and those that wait there (part 2, 2.5.6, 2.6.12).
+use Rattle.std.specs.Prelude.{◌≡◌, ◌==◌, ℕ, Bool, List, [], ◌∷◌, ◌++◌, Option, Some, None, if◌then◌else◌, is_some, map}
+use Rattle.amqp_session_types.specs.declared.handles.OutputHandle.{OutputHandle}
+use Rattle.amqp_session_performatives.specs.declared.attach.Attach.{Attach}
+use Rattle.amqp_session_performatives.specs.declared.session_frame.SessionFrame.{SessionFrame}
+use Rattle.amqp_session_performatives.specs.declared.session_frame.SessionFrameBody.{SessionFrameBody}
+use Rattle.amqp_session_performatives.specs.declared.session_frame.SessionFrameBody.TheVariants as body
+use Rattle.amqp_session_outgoing.specs.Queues.{units_of}
+use Rattle.amqp_session_core.specs.State.{State}
+use Rattle.amqp_link_place.specs.Readings.{Piece, nothing, readings}
+use Rattle.amqp_link_place.specs.Said.{Said}
+use Rattle.amqp_link_split.specs.Saying.{pieces_of}
+use Rattle.amqp_endpoint_deeds.specs.Deeds.{Deed, Does}
+use Rattle.amqp_endpoint_model.specs.declared.call.Call.TheVariants.{Send}
+use Rattle.amqp_endpoint_model.specs.Said.{message_sent}
+use Rattle.amqp_endpoint_linking.specs.Linking.{Link}
+use Rattle.amqp_endpoint_talk.specs.Windows.{Passing}
+use Rattle.amqp_endpoint_laws.specs.Passed.{sent_in}
+
+-- the transfer of a frame, where it goes by this own handle
+abbrev pub piece_on : ℕ → SessionFrameBody → List Piece
+piece_on handle (body.Transfer transfer payload) =
+    if transfer.handle.0 == handle then record { performative = transfer; payload = payload } ∷ [] else []
+piece_on handle said = []
+
+-- the transfers among frames that go by it, in order
+abbrev pub pieces_on : ℕ → List SessionFrame → List Piece
+pieces_on handle [] = []
+pieces_on handle (frame ∷ frames) = piece_on handle frame.body ++ pieces_on handle frames
+
+-- those of it that wait in a session
+abbrev pub pieces_waiting : {R : Type 0} → ℕ → State R → List Piece
+pieces_waiting handle s = pieces_of (units_of handle s.outgoing.queues)
+
+-- those that passed, and behind them those that wait
+abbrev pub queued : OutputHandle → List Passing → State Link → List Piece
+queued handle passings s = pieces_on handle.0 (sent_in passings) ++ pieces_waiting handle.0 s
+
+-- a message as its transfers say it: the tag of its delivery, its format, whether it goes settled, and its bytes
+pub record Message : Type 0 where
+  pub tag : Option (List ℕ)
+  pub format : Option ℕ
+  pub settled : Option Bool
+  pub payload : List ℕ
+
+abbrev pub message_of : Said → Message
+message_of said =
+    record {
+      tag = said.performative.delivery_tag;
+      format = said.performative.message_format;
+      settled = said.performative.settled;
+      payload = said.payload;
+    }
+
+-- transfers say these messages, in order, and leave no delivery open
+pub record SayMessages (pieces : List Piece) (messages : List Message) : Type 0 where
+  pub whole : (readings nothing pieces).held ≡ None
+  pub says : map message_of (readings nothing pieces).messages ≡ messages
+
+-- the message that is sent by a link in a deed, where one is accepted: it goes settled where its outcome is told at once
+abbrev pub message_in : ℕ → Deed → List Message
+message_in link (Does limit (Send number message) (message_sent tag outcome) frames) =
+    if number == link then record {
+      tag = Some tag;
+      format = Some message.message_format;
+      settled = Some (is_some outcome);
+      payload = message.payload;
+    } ∷ [] else []
+message_in link deed = []
+
+-- those that are sent by it, in order
+abbrev pub messages_by : ℕ → List Deed → List Message
+messages_by link [] = []
+messages_by link (deed ∷ deeds) = message_in link deed ++ messages_by link deeds
+
+-- the first of these frames is an Attach with this own handle and this name (part 2, 2.6.3)
+pub record AttachesFirst (handle : OutputHandle) (name : List ℕ) (frames : List SessionFrame) : Type 0 where
+  pub channel : ℕ
+  pub attach : Attach
+  pub others : List SessionFrame
+  pub are : frames ≡ record { channel = channel; body = body.Attach attach } ∷ others
+  pub handled : attach.handle.0 ≡ handle.0
+  pub named : attach.name ≡ name
