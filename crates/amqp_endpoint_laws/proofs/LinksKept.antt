@@ -79,8 +79,10 @@ given-holds-none step back = tt
 
 hold-none : (steps : List (Step End)) → All IsGivenBack steps → AllHoldNone steps
 hold-none [] given = tt
-hold-none (step ∷ steps) given =
-    (given-holds-none step (All-head IsGivenBack step steps given), hold-none steps (All-tail IsGivenBack step steps given))
+hold-none (step ∷ steps) given = (
+  given-holds-none step (All-head IsGivenBack step steps given),
+  hold-none steps (All-tail IsGivenBack step steps given),
+)
 
 -- what each such step keeps is kept by all that an endpoint does
 module _ (P : Links → Type 0)
@@ -278,8 +280,8 @@ pub have-come : (back_on : BackGoesOn) (left_on : LeftGoesOn) (finished_on : Fin
     (end : State LinkedSessions) → IsNew linked settings sessions
     → Run linked (fresh_endpoint settings sessions) calls told end → HaveCome end.sessions.links
 have-come back_on left_on finished_on sessions settings calls told end new run =
-    run-keeps linked (λ seen tags phase s. HaveCome s.links) (links-keep HaveCome come-on back_on left_on finished_on) []
-    [] (fresh_endpoint settings sessions) end calls told run
+    run-keeps linked (λ seen tags phase s. HaveCome s.links)
+    (links-keep HaveCome come-on back_on left_on finished_on) [] [] (fresh_endpoint settings sessions) end calls told run
     (record { steps = []; history = ap (λ (s : LinkedSessions). s.links) new.is })
 
 pub are-apart : (links : Links) → HaveCome links → AreApart links.links

@@ -57,7 +57,8 @@ module _ (link session : ℕ) (handle : OutputHandle) where
   stays-elsewhere step old new none s e = by (is_about link step) refl
     where
       by : (b : Bool) → is_about link step ≡ b → IsElsewhere (slot_at new link)
-      by true about = elsewhere-on step (slot_at old link) (slot_at new link) none ((at link old step new s).about about) e
+      by true about =
+          elsewhere-on step (slot_at old link) (slot_at new link) none ((at link old step new s).about about) e
       by false about = subst IsElsewhere (sym ((at link old step new s).other about)) e
 
   -- and it stays entered
@@ -109,8 +110,8 @@ module _ (link session : ℕ) (handle : OutputHandle) where
           | inr other ↦
               absurd
               ((deed-keeps linked (λ s. IsElsewhere (slot_at s.links link))
-              (links-keep (λ ls. IsElsewhere (slot_at ls link)) stays-elsewhere back_on left_on finished_on) deed old new
-              d (e, other)).1
+              (links-keep (λ ls. IsElsewhere (slot_at ls link)) stays-elsewhere back_on left_on finished_on) deed
+              old new d (e, other)).1
               held)
         ]
 

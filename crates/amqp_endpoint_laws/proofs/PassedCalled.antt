@@ -205,7 +205,8 @@ module _ {Allows : Batches → Type 0} (J : ℕ → Option Stood → List Passin
       same-at-all J k o (went frames) old.talk new.talk (ap (λ (s : LinkedSessions). s.talk) same) (ap went none)
 
   pub called : (it : Call) (answer : Said) (old new : LinkedSessions) (limit : ℕ) (frames : List SessionFrame)
-      → (IsSend it → (accepted : Batches) → Allows accepted) → Calls old limit it answer frames new → AllPassed J k (called_in old it answer) (went frames) old.talk new.talk
+      → (IsSend it → (accepted : Batches) → Allows accepted) → Calls old limit it answer frames new
+      → AllPassed J k (called_in old it answer) (went frames) old.talk new.talk
   called call.Begin (session_begun n) old new limit frames may c =
       all-passed J k n (went frames) old.talk new.talk (begun old.talk new.talk n frames c.begins)
   called (call.AcceptBegin channel) (session_begun n) old new limit frames may c =

@@ -375,7 +375,8 @@ module _ {Allows : Batches → Type 0} (J : ℕ → Option Stood → List Passin
   deed-first Finishes old new may f = first-rest old.talk new.talk (f.0).rest
 
   -- so it is by all of them
-  pub deeds-judge : ((accepted : Batches) → Allows accepted) → (deeds : List Deed) (n : ℕ) (old new : LinkedSessions) (passings : List Passing)
+  pub deeds-judge : ((accepted : Batches) → Allows accepted) → (deeds : List Deed) (n : ℕ) (old new : LinkedSessions)
+      (passings : List Passing)
       → PassesIn n old deeds new passings
       → J old.talk.first_transfer_number (place_at old.talk.sessions n) passings (place_at new.talk.sessions n)
   deeds-judge may [] n old new passings (same, none) =
@@ -393,7 +394,8 @@ module _ {Allows : Batches → Type 0} (J : ℕ → Option Stood → List Passin
       (deed-first deed old mid (λ sends. may) one) (deeds-judge may deeds n mid new later rest)))
 
   -- from new sessions on
-  pub new-judges : ((accepted : Batches) → Allows accepted) → (sessions end : LinkedSessions) (settings : Settings) (deeds : List Deed) (n : ℕ)
+  pub new-judges : ((accepted : Batches) → Allows accepted) → (sessions end : LinkedSessions) (settings : Settings)
+      (deeds : List Deed) (n : ℕ)
       (passings : List Passing) → IsNew linked settings sessions → PassesIn n sessions deeds end passings
       → J settings.first_transfer_number None passings (place_at end.talk.sessions n)
   new-judges may sessions end settings deeds n passings new p =

@@ -47,11 +47,13 @@ IsGone o = ⊥
 pub data GoesBy (accepted : Batches) (old new : State Link) (ps : List Passing) : Type 0 where
   by-steps : (frames : List SessionFrame) → AcceptsInside gives accepted old frames new → ps ≡ went frames
       → GoesBy accepted old new ps
-  hears : accepted ≡ [] → (it : LinkPerformative) (told : Result (PerformativeTaken AttachTold Told Detached) SessionError)
+  hears : accepted ≡ [] → (it : LinkPerformative)
+      (told : Result (PerformativeTaken AttachTold Told Detached) SessionError)
       (frames : List SessionFrame) (before after : Linked) → told ≢ Err Memory
       → Hears gives before [] it told after frames → before.session ≡ old → after.session ≡ new
       → ps ≡ Came (body_said it) ∷ went frames → GoesBy accepted old new ps
-  opens : accepted ≡ [] → (channel : IncomingChannel) (begin : Begin) (base : ℕ) (left : Left) (frames : List SessionFrame)
+  opens : accepted ≡ [] → (channel : IncomingChannel) (begin : Begin) (base : ℕ) (left : Left)
+      (frames : List SessionFrame)
       → Steps gives old (TakesBegin channel begin base left frames) new
       → ps ≡ Came (body.Begin begin) ∷ went frames → GoesBy accepted old new ps
 

@@ -153,7 +153,8 @@ module _ (handles_apart : HandlesApart) (back_on : BackGoesOn) (left_on : LeftGo
         (passings : List Passing) (handle : OutputHandle) (fresh : IsNew linked settings sessions)
         (done : AreDone linked sessions before old)
         (d : IsDeed linked old (Does limit (call.AttachSender number its) (attaching link events) frames) new)
-        (passes : PassesIn number new since_then end passings) (held : link_place end.links link ≡ Some (Held number handle))
+        (passes : PassesIn number new since_then end passings)
+        (held : link_place end.links link ≡ Some (Held number handle))
       where
         a : LinkAttached old.talk old.links limit number (sender_by its) link events frames new.talk new.links
         a = d.0
@@ -231,9 +232,10 @@ module _ (handles_apart : HandlesApart) (back_on : BackGoesOn) (left_on : LeftGo
             reached-on old new (Does limit (call.AttachSender number its) (attaching link events) frames) d
             (record { sessions = sessions; settings = settings; deeds = before; fresh = fresh; done = done }) in
             let all =
-            since Reached reached-on (reached-apart handles_apart) back_on left_on finished_on link number handle since_then new end passings
-            reached passes is-entered held [] [] says-first in
-            let q = queued-here handle.0 all.accepted (place_at end.talk.sessions number) passings session live all.queued in
+            since Reached reached-on (reached-apart handles_apart) back_on left_on finished_on link number handle
+            since_then new end passings reached passes is-entered held [] [] says-first in
+            let q =
+            queued-here handle.0 all.accepted (place_at end.talk.sessions number) passings session live all.queued in
             says-bare (queued handle passings session.value.session) all.accepted (messages_by link since_then)
             (map-both bare (pieces_on handle.0 (sent_in passings)) (pieces_waiting handle.0 session.value.session)
             ∙ q.order)

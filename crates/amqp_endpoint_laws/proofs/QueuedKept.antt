@@ -119,7 +119,8 @@ module _ (h : ℕ) where
   queued-on first a b d ps rs x y =
       record {
         by = λ w qs q.
-            subst (λ (all : List Passing). QueuedAt h w d all) (append_assoc qs ps rs) (y.by w (qs ++ ps) (x.by w qs q));
+            subst (λ (all : List Passing). QueuedAt h w d all) (append_assoc qs ps rs)
+            (y.by w (qs ++ ps) (x.by w qs q));
       }
 
   gone-queued : (o : Option Stood) → IsGone o → (w : List Piece) (qs : List Passing) → QueuedAt h w o qs

@@ -79,7 +79,8 @@ pieces-both h (frame ∷ first) later =
     ap (λ (ps : List Piece). piece_on h frame.body ++ ps) (pieces-both h first later)
     ∙ sym (append_assoc (piece_on h frame.body) (pieces_on h first) (pieces_on h later))
 
-none-behind : (h : ℕ) (f : SessionFields) (number : ℕ) (b : BehindFrame) → piece_on h (behind_frame f number b).body ≡ []
+none-behind : (h : ℕ) (f : SessionFields) (number : ℕ) (b : BehindFrame)
+    → piece_on h (behind_frame f number b).body ≡ []
 none-behind h f number (behind.Flow flow) = refl
 none-behind h f number (behind.Detach detach) = refl
 
@@ -137,7 +138,8 @@ accepted-both h (x ∷ xs) ys =
     bares-both (frames_accepted_in h x) (frames_accepted h (xs ++ ys))
     ∙ ap (λ (ps : List Piece). bares (frames_accepted_in h x) ++ ps) (accepted-both h xs ys)
     ∙ sym (append_assoc (bares (frames_accepted_in h x)) (bares (frames_accepted h xs)) (bares (frames_accepted h ys)))
-    ∙ ap (λ (ps : List Piece). ps ++ bares (frames_accepted h ys)) (sym (bares-both (frames_accepted_in h x) (frames_accepted h xs)))
+    ∙ ap (λ (ps : List Piece). ps ++ bares (frames_accepted h ys))
+    (sym (bares-both (frames_accepted_in h x) (frames_accepted h xs)))
 
 settles-out : (h : ℕ) (ns : List ℕ) → out_of h (settles ns) ≡ []
 settles-out h [] = refl
@@ -231,7 +233,8 @@ by-both h ((k, batch) ∷ xs) ys =
 batch-bare : (here : Bool) (batch : Transfers)
     → bares ((if here then frames_of batch else []) ++ []) ≡ map bare ((if here then pieces_of batch else []) ++ [])
 batch-bare true batch =
-    ap bares (append-nil (frames_of batch)) ∙ bares-units batch ∙ ap (λ (ps : List Piece). map bare ps) (sym (append-nil (pieces_of batch)))
+    ap bares (append-nil (frames_of batch)) ∙ bares-units batch
+    ∙ ap (λ (ps : List Piece). map bare ps) (sym (append-nil (pieces_of batch)))
 batch-bare false batch = refl
 
 module _ {R A T D : Type 0} where

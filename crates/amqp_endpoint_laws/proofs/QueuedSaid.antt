@@ -61,7 +61,8 @@ says-alike ps qs ms same s =
           (ap (λ (r : Reading). r.held) alike ∙ ap (λ (o : Option Said). option_map bare_said o) s.whole);
       says =
           sym (messages-bare (readings nothing qs).messages)
-          ∙ ap (λ (r : Reading). map message_of r.messages) alike ∙ messages-bare (readings nothing ps).messages ∙ s.says;
+          ∙ ap (λ (r : Reading). map message_of r.messages) alike ∙ messages-bare (readings nothing ps).messages
+          ∙ s.says;
     }
 
 pub bare-one : (ps : List Piece) (d : Said) → readings nothing ps ≡ record { messages = d ∷ []; held = None }

@@ -136,7 +136,8 @@ module _ (Agree : LinkedSessions → Type 0)
 
   -- a message is sent by a link of the session
   module _ (limit : ℕ) (message : Sending) (frames : List SessionFrame) (old new : LinkedSessions) (settled : Bool)
-      (k : OutputHandle) (d : DoneIn (sends limit (tag_of old.sent) message settled) number k old.talk [] new.talk frames)
+      (k : OutputHandle)
+      (d : DoneIn (sends limit (tag_of old.sent) message settled) number k old.talk [] new.talk frames)
     where
       abbrev batches : Batches
       batches = (k.0, d.did.transfers) ∷ []
@@ -279,9 +280,10 @@ module _ (Agree : LinkedSessions → Type 0)
       → Says (ms ++ (if other == link then sent_as message tag outcome ∷ [] else [])) (At new)
       (qs ++ (if is_it (holder place) number then went frames else []))
   sent-at limit other message tag outcome frames old new settled None agrees held is tagged told d ms qs s = absurd d
-  sent-at limit other message tag outcome frames old new settled (Some (AtRest it)) agrees held is tagged told d ms qs s =
-      absurd d
-  sent-at limit other message tag outcome frames old new settled (Some (Held n k)) agrees held is tagged told d ms qs s =
+  sent-at limit other message tag outcome frames old new settled (Some (AtRest it)) agrees held is tagged told d ms qs
+      s = absurd d
+  sent-at limit other message tag outcome frames old new settled (Some (Held n k)) agrees held is tagged told d ms qs
+      s =
       sent-by limit other n k message tag outcome frames old new settled agrees held is tagged told d (number == n)
       (other == link) refl refl ms qs s
 

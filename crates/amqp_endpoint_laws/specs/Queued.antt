@@ -57,7 +57,8 @@ pub record SayMessages (pieces : List Piece) (messages : List Message) : Type 0 
   pub whole : (readings nothing pieces).held ≡ None
   pub says : map message_of (readings nothing pieces).messages ≡ messages
 
--- the message that is sent by a link in a deed, where one is accepted: it goes settled where its outcome is told at once
+-- the message that is sent by a link in a deed, where one is accepted. It goes settled where its outcome is told at
+-- once
 abbrev pub message_in : ℕ → Deed → List Message
 message_in link (Does limit (Send number message) (message_sent tag outcome) frames) =
     if number == link then record {

@@ -126,8 +126,8 @@ pub fn transfers_stay_in_the_window()
         (passings : List Passing) × PassesIn number old deeds new passings }
 {}
 
-/// A session that goes on came about by steps of its own since it was new, whatever its endpoint did, and what its links
-/// said in it, in their transfers, Flows and Detaches, is what these steps handed out of it, in order. So what
+/// A session that goes on came about by steps of its own since it was new, whatever its endpoint did, and what its
+/// links said in it, in their transfers, Flows and Detaches, is what these steps handed out of it, in order. So what
 /// `amqp_session_core::laws` and `amqp_session_outgoing::laws` say of all histories of a session holds of what an
 /// endpoint sends: within an attachment each link's transfers, Flows and Detaches are queued in the order in which the
 /// link made them, links have turns, and each transfer and each delivery has its number (part 2, 2.5.6, 2.6.12).

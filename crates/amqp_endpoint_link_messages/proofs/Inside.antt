@@ -37,7 +37,8 @@ message-inside limit m settled handle before after frames did =
     tt)))
 
 pub sends-inside : (limit : ℕ) (tag : List ℕ) (message : Sending) (settled : Bool) (handle : OutputHandle)
-    (before after : Linked) (frames : List SessionFrame) (did : sends limit tag message settled handle before frames after)
+    (before after : Linked) (frames : List SessionFrame)
+    (did : sends limit tag message settled handle before frames after)
     → AcceptsInside gives ((handle.0, did.transfers) ∷ []) before.session frames after.session
 sends-inside limit tag message settled handle before after frames did =
     message-inside limit (with_tag tag message) settled handle before after frames did

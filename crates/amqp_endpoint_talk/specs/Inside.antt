@@ -19,8 +19,8 @@ abbrev pub transfers_in : List SessionFrame → List SessionFrame
 transfers_in [] = []
 transfers_in (frame ∷ frames) = if is_transfer frame.body then frame ∷ transfers_in frames else transfers_in frames
 
--- a frame by which a link says something behind all that it said before: a transfer, its Flow or its Detach. A Flow that
--- names no link is the session's, and an Attach and a Disposition leave at once (part 2, 2.7.4)
+-- a frame by which a link says something behind all that it said before: a transfer, its Flow or its Detach. A Flow
+-- that names no link is the session's, and an Attach and a Disposition leave at once (part 2, 2.7.4)
 abbrev pub is_of_link : SessionFrameBody → Bool
 is_of_link (Transfer transfer payload) = true
 is_of_link (Flow flow) = is_some flow.handle
