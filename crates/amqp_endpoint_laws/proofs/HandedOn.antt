@@ -1,5 +1,5 @@
 -- The transfers that reach a link are those that pass in its session on the handle of the peer's that leads to it.
-use Rattle.std.proofs.Common.{◌≡◌, ◌==◌, ◌&&◌, ℕ, Bool, true, false, List, [], ◌∷◌, ◌++◌, ap, refl, sym, ◌∙◌}
+use Rattle.std.proofs.Common.{◌≡◌, ◌&&◌, ℕ, Bool, true, false, List, [], ◌∷◌, ◌++◌, ap, refl, sym, ◌∙◌}
 use Rattle.std.proofs.Common.{append_assoc, if◌then◌else◌}
 use Rattle.std.proofs.lemmas.List.{append-nil}
 use Rattle.amqp_session_types.specs.declared.handles.OutputHandle.{OutputHandle}

@@ -41,7 +41,7 @@ use Rattle.amqp_endpoint_link_hearing.specs.Detaching as detaching
 use Rattle.amqp_endpoint_link_hearing.specs.Detaching.{detached_told, ending}
 use Rattle.amqp_endpoint_link_hearing.specs.Disposing as disposing
 use Rattle.amqp_endpoint_link_hearing.specs.Transferring as transferring
-use Rattle.amqp_endpoint_link_hearing.specs.Transferring.{Comes, ComesToNothing}
+use Rattle.amqp_endpoint_link_hearing.specs.Transferring.{Comes}
 use Rattle.amqp_endpoint_linked.specs.Hearing.{Hears}
 use Rattle.amqp_endpoint_laws.specs.Telling.{numbers_told}
 use Rattle.amqp_endpoint_laws.proofs.Unnumbered.{Unnumbered, both-unnumbered, by-unnumbered, reached-unnumbered}
