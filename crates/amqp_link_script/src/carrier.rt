@@ -1,8 +1,8 @@
 //! What gives the transfers of a link their numbers.
 use amqp_session::{
     Attach, Batch, Begin, DeliveryState, DeliveryTag, Detach, IncomingChannel, LinkFlow, LinkRelay,
-    OutgoingChannel, OutputHandle, Registration, RelayError, Role, Session, SessionFrame, Transfer,
-    TransferAnswer,
+    OutgoingChannel, OutputHandle, Registration, RelayError, Role, Session, SessionFrame,
+    SessionFrameBody, Transfer, TransferAnswer,
 };
 use bytes::Bytes;
 use serde_amqp::Array;
@@ -72,10 +72,20 @@ const PEERS_CHANNEL: IncomingChannel = IncomingChannel(0);
 
 /// The sending side of a session whose peer takes any number of transfers. It gives deliveries their numbers, and holds
 /// nothing back.
-#[derive(Drop)]
 pub struct Carrier {
     session: Session<Unlinked>,
     handle: OutputHandle,
+    out: VecDeque<SessionFrame>,
+}
+
+impl Drop for Carrier {
+    fn drop(self) {
+        let Carrier {
+            session: _,
+            handle: _,
+            out: _,
+        } = self;
+    }
 }
 
 impl Carrier {
@@ -84,26 +94,45 @@ impl Carrier {
         let mut session = Session::new(alloc, OutgoingChannel(0), 0, u32::MAX);
         map(alloc, &mut session)?;
         match session.allocate_link(Unlinked) {
-            Ok(handle) => Ok(Carrier { session, handle }),
+            Ok(handle) => Ok(Carrier {
+                session,
+                handle,
+                out: VecDeque::new(alloc),
+            }),
             Err(_) => Err(AllocError),
         }
     }
 
-    /// The transfers as frames, each delivery with its number.
-    pub fn carry(
-        &mut self,
-        alloc: Global,
-        batch: Batch,
-    ) -> Result<VecDeque<SessionFrame>, AllocError> {
-        let mut batch = batch;
-        let mut out = VecDeque::new(alloc);
+    /// The transfers become frames, each delivery with its number. The answer is how many frames there are.
+    pub fn carry(&mut self, alloc: Global, batch: &mut Batch) -> Result<usize, AllocError> {
         let answer = self
             .session
-            .on_outgoing_transfer(alloc, &mut out, self.handle, &mut batch);
+            .on_outgoing_transfer(alloc, &mut self.out, self.handle, batch);
         match answer {
-            Ok(()) => Ok(out),
+            Ok(()) => Ok(self.out.len()),
             Err(_) => Err(AllocError),
         }
+    }
+
+    /// How many frames there are.
+    pub fn len(&self) -> usize {
+        self.out.len()
+    }
+
+    /// Takes the first frame out, which is a transfer with its payload.
+    pub fn take(&mut self) -> Option<(Transfer, Bytes)> {
+        transfer_in(self.out.pop_front()?)
+    }
+}
+
+/// The transfer of a frame, with its payload.
+fn transfer_in(frame: SessionFrame) -> Option<(Transfer, Bytes)> {
+    match frame.body {
+        SessionFrameBody::Transfer {
+            performative,
+            payload,
+        } => Some((performative, payload)),
+        _ => None,
     }
 }
 

@@ -1,7 +1,9 @@
-//! Answers scripts of the two ends of a link, with no session between them. Each line of standard input is a script,
-//! and a row `given => wanted` is compared with its answer. `docs/LINK_SCRIPTS.md` has the words.
+//! Answers scripts of the two ends of a link, with no session between them, and does work with such ends a number of
+//! times, so that the instructions that it takes can be counted. Each line of standard input is a script or such work, and
+//! a row `given => wanted` is compared with its answer. `docs/LINK_SCRIPTS.md` has the words.
 #![tactic(auto)]
 
+mod bench;
 mod carrier;
 mod content;
 mod frame;

@@ -16,17 +16,17 @@ mod taking;
 mod termini;
 
 use crate::words::Words;
-pub use attaching::{accept, attach};
+pub use attaching::{accept, attach, attach_sent, own_attach};
 pub use calls::{DisposeOf, Outcome, Which};
-pub use delivering::deliver;
+pub use delivering::{deliver, take_attach};
 pub use disposing::dispose;
-pub use ending::break_both;
+pub use ending::{break_both, part};
 pub use ends::{Pair, receiver_of, sender_of};
 pub use flowing::{drain, grant};
 pub use happening::Happening;
 use reading::read_call;
 pub use seen::open;
-pub use sending::{Message, send, send_on};
+pub use sending::{Message, next_on, send, send_on, send_on_link};
 use std::alloc::{AllocError, Global};
 
 impl Pair {

@@ -4,7 +4,7 @@ use amqp_link::{
     SplitRefusal,
 };
 use amqp_session::RelayError;
-use std::alloc::{AllocError, AllocFailed};
+use std::alloc::{AllocError, AllocFailed, Global};
 
 /// Why a call on an end of a link is refused.
 #[derive(Clone, Copy)]
@@ -48,6 +48,14 @@ impl Refusal {
             Refusal::UnattachedHandle => "unattached-handle",
             Refusal::TransferFrameToSender => "transfer-frame-to-sender",
             Refusal::Memory => "memory",
+        }
+    }
+
+    /// What a call answers that is refused so. Want of memory isn't answered.
+    pub fn text(self, alloc: Global) -> Result<String, AllocError> {
+        match self {
+            Refusal::Memory => Err(AllocError),
+            refusal => format!(in alloc; "refused {}", refusal.word()),
         }
     }
 }

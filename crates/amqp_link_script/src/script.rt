@@ -1,8 +1,8 @@
 //! Scripts: steps that are called one after the other on the two ends of a link.
 use crate::pair::Pair;
-use crate::random;
 use crate::text::BETWEEN_STEPS;
 use crate::words::{Words, words_of};
+use crate::{bench, random};
 use std::alloc::{AllocError, Global};
 
 /// What a script answers: the answers of its steps, or `unreadable` where one can't be read.
@@ -23,13 +23,14 @@ fn answer_of(alloc: Global, line: &str) -> Result<Option<String>, AllocError> {
     begin(alloc, Words::new(words.as_slice()), others)
 }
 
-/// The first step says whether the others are called on two ends, or is a whole run.
+/// The first step says that the others are called on two ends, or is a whole run or work that is counted.
 fn begin(alloc: Global, words: Words<'_>, steps: &[&str]) -> Result<Option<String>, AllocError> {
     let mut words = words;
     match words.word() {
         Some("links") => answer_on(alloc, words, steps),
         Some("random") => random::answer(alloc, words, steps.is_empty()),
-        _ => Ok(None),
+        Some(word) => bench::answer(alloc, word, words, steps.is_empty()),
+        None => Ok(None),
     }
 }
 

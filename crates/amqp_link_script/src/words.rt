@@ -29,6 +29,16 @@ pub fn large_number_of(word: &str) -> Option<u64> {
     word.parse().ok()
 }
 
+/// What a table has under this word.
+pub fn named<T: Copy>(table: &[(&str, T)], word: &str) -> Option<T> {
+    for (name, value) in table {
+        if *name == word {
+            return Some(*value);
+        }
+    }
+    None
+}
+
 /// `true` or `false`.
 fn truth_of(word: &str) -> Option<bool> {
     match word {

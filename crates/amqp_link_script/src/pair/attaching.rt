@@ -8,7 +8,7 @@ use super::shown::attach_text;
 use crate::frame::Frame;
 use crate::refusal::Refusal;
 use crate::text;
-use amqp_link::{End, LinkEnd, ListError};
+use amqp_link::{End, IllegalState, LinkEnd, ListError};
 use amqp_session::{Attach, Boxed, OutputHandle, Unsettled};
 use std::alloc::{AllocError, Global};
 
@@ -45,7 +45,7 @@ pub fn attach_anew(pair: &mut Pair, alloc: Global) -> Result<String, Refusal> {
 const OWN_HANDLE: OutputHandle = OutputHandle(0);
 
 /// The own Attach of an end, in a frame of at most so many bytes.
-fn own_attach(end: &LinkEnd, alloc: Global, limit: u32) -> Result<Boxed<Attach>, ListError> {
+pub fn own_attach(end: &LinkEnd, alloc: Global, limit: u32) -> Result<Boxed<Attach>, ListError> {
     let attach = match end.end() {
         End::Sender(link) => link.attach_frame(alloc, OWN_HANDLE, limit)?,
         End::Receiver(link) => link.attach_frame(alloc, OWN_HANDLE, limit)?,
@@ -65,7 +65,12 @@ fn send_attach(
     which: Which,
     attach: Boxed<Attach>,
 ) -> Result<String, Refusal> {
-    let incomplete = attach.incomplete_unsettled;
+    attach_sent(pair, which, attach.incomplete_unsettled)?;
+    push_attach(pair, alloc, which, attach)
+}
+
+/// The end's state moves on, as its Attach is sent, which lists all that is unsettled or not.
+pub fn attach_sent(pair: &mut Pair, which: Which, incomplete: bool) -> Result<(), IllegalState> {
     match which {
         Which::Sender => {
             if let Some(link) = sender_of(&mut pair.sender) {
@@ -78,7 +83,7 @@ fn send_attach(
             }
         }
     }
-    push_attach(pair, alloc, which, attach)
+    Ok(())
 }
 
 /// An end's Attach is under way. The numbers of its deliveries before are worth nothing any more.

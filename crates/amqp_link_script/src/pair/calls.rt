@@ -252,10 +252,8 @@ pub enum Call<'a> {
     Drain,
     /// `echo`: the receiver asks for a Flow.
     Echo,
-    /// `send tag=0 size=9`
-    Send(SendOf<'a>),
-    /// `send-many 42 size=1`
-    SendMany(u32, SendOf<'a>),
+    /// `send tag=0 size=9`, and `send-many 42 tag=0 size=1` for so many.
+    Send(u32, SendOf<'a>),
     /// `send-on`
     SendOn,
     /// `deliver receiver 3`: so many frames, or all.
@@ -286,18 +284,13 @@ pub fn perform(
 ) -> Result<Option<String>, AllocError> {
     match perform_call(pair, alloc, call) {
         Ok(answer) => Ok(answer),
-        Err(Refusal::Memory) => Err(AllocError),
-        Err(refusal) => {
-            let why = refusal.word();
-            Ok(Some(format!(in alloc; "refused {why}")?))
-        }
+        Err(refusal) => Ok(Some(refusal.text(alloc)?)),
     }
 }
 
 fn perform_call(pair: &mut Pair, alloc: Global, call: Call<'_>) -> Result<Option<String>, Refusal> {
     match call {
-        Call::Send(send) => send_text(pair, alloc, 1, send),
-        Call::SendMany(count, send) => send_text(pair, alloc, count, send),
+        Call::Send(count, send) => send_text(pair, alloc, count, send),
         Call::Take(which, frame) => take_text(pair, alloc, which, frame),
         Call::DisposeAll(disposed) => dispose_all_text(pair, alloc, disposed),
         call => Ok(Some(perform_readable(pair, alloc, call)?)),

@@ -82,7 +82,8 @@ pub fn take(
     }
 }
 
-fn take_attach(
+/// An Attach reaches an end.
+pub fn take_attach(
     pair: &mut Pair,
     alloc: Global,
     which: Which,

@@ -16,13 +16,18 @@ pub fn break_both(pair: &mut Pair, alloc: Global) -> Result<(), AllocError> {
     pair.carrier = Carrier::new(alloc)?;
     pair.sent = Unsettled::new(alloc);
     pair.received = Unsettled::new(alloc);
+    part(pair);
+    Ok(())
+}
+
+/// Both ends are told that the connection is lost.
+pub fn part(pair: &mut Pair) {
     if let Some(link) = sender_of(&mut pair.sender) {
         link.on_break();
     }
     if let Some(link) = receiver_of(&mut pair.receiver) {
         link.on_break();
     }
-    Ok(())
 }
 
 /// The end sends its Detach, which closes the link or doesn't, for an error or for none.

@@ -6,9 +6,7 @@ use crate::carrier::Carrier;
 use crate::content::number_of_tag;
 use crate::frame::Frame;
 use amqp_link::{Abort, End, LinkBase, LinkEnd, ReceiverLink, SenderLink, Terms};
-use amqp_session::{
-    Boxed, DeliveryTag, ReceiverSettleMode, SessionFrame, SessionFrameBody, Unsettled,
-};
+use amqp_session::{Boxed, DeliveryTag, ReceiverSettleMode, Unsettled};
 use bytes::Bytes;
 use serde_amqp::Text;
 use std::alloc::{AllocError, Global};
@@ -18,7 +16,6 @@ use std::collections::VecDeque;
 const LIMIT: u32 = 512;
 
 /// The two ends of a link, and what is under way between them.
-#[derive(Drop)]
 pub struct Pair {
     /// The sending end.
     pub sender: Box<LinkEnd>,
@@ -40,6 +37,23 @@ pub struct Pair {
     pub messages: Vec<(u32, Bytes)>,
     /// How many bytes a frame may have.
     pub limit: u32,
+}
+
+impl Drop for Pair {
+    fn drop(self) {
+        let Pair {
+            sender: _,
+            receiver: _,
+            carrier: _,
+            to_sender: _,
+            to_receiver: _,
+            sent: _,
+            received: _,
+            aborts: _,
+            messages: _,
+            limit: _,
+        } = self;
+    }
 }
 
 impl Pair {
@@ -154,17 +168,6 @@ fn message_of(messages: &[(u32, Bytes)], number: u32) -> Option<&Bytes> {
         }
     }
     found
-}
-
-/// The transfer of a session's frame.
-pub fn transfer_frame(alloc: Global, frame: SessionFrame) -> Result<Option<Frame>, AllocError> {
-    match frame.body {
-        SessionFrameBody::Transfer {
-            performative,
-            payload,
-        } => Ok(Some(Frame::Transfer(Boxed::new(alloc, performative)?, payload))),
-        _ => Ok(None),
-    }
 }
 
 /// An end that was never attached.

@@ -1,7 +1,7 @@
 //! How frames that are made by hand are read.
 use super::calls::{AttachOf, FlowOf, Handmade, Node, Outcome, TermsOf, TransferOf};
 use crate::content::Content;
-use crate::words::{Words, large_number_of, number_of};
+use crate::words::{Words, large_number_of, named, number_of};
 use amqp_session::{ReceiverSettleMode, SenderSettleMode};
 
 /// Reads a frame.
@@ -36,33 +36,39 @@ fn read_size(words: &mut Words<'_>) -> Option<u64> {
     large_number_of(words.value("max-message-size")?)
 }
 
+/// How a sender settles.
+const SENDER_MODES: [(&str, SenderSettleMode); 3] = [
+    ("unsettled", SenderSettleMode::Unsettled),
+    ("settled", SenderSettleMode::Settled),
+    ("mixed", SenderSettleMode::Mixed),
+];
+
 fn read_sender_mode(words: &mut Words<'_>) -> Option<SenderSettleMode> {
-    match words.value("snd-settle-mode")? {
-        "unsettled" => Some(SenderSettleMode::Unsettled),
-        "settled" => Some(SenderSettleMode::Settled),
-        "mixed" => Some(SenderSettleMode::Mixed),
-        _ => None,
-    }
+    named(&SENDER_MODES, words.value("snd-settle-mode")?)
 }
+
+/// How a receiver settles.
+const MODES: [(&str, ReceiverSettleMode); 2] = [
+    ("first", ReceiverSettleMode::First),
+    ("second", ReceiverSettleMode::Second),
+];
 
 fn read_mode(words: &mut Words<'_>, name: &str) -> Option<ReceiverSettleMode> {
-    match words.value(name)? {
-        "first" => Some(ReceiverSettleMode::First),
-        "second" => Some(ReceiverSettleMode::Second),
-        _ => None,
-    }
+    named(&MODES, words.value(name)?)
 }
 
+/// What can stand as a source or a target.
+const NODES: [(&str, Node); 6] = [
+    ("none", Node::Absent),
+    ("plain", Node::Plain),
+    ("dynamic", Node::Dynamic),
+    ("dynamic-address", Node::DynamicAddress),
+    ("properties", Node::Properties),
+    ("coordinator", Node::Coordinator),
+];
+
 fn read_node(words: &mut Words<'_>, name: &str) -> Option<Node> {
-    match words.value(name)? {
-        "none" => Some(Node::Absent),
-        "plain" => Some(Node::Plain),
-        "dynamic" => Some(Node::Dynamic),
-        "dynamic-address" => Some(Node::DynamicAddress),
-        "properties" => Some(Node::Properties),
-        "coordinator" => Some(Node::Coordinator),
-        _ => None,
-    }
+    named(&NODES, words.value(name)?)
 }
 
 fn read_attach<'a>(words: &mut Words<'a>) -> AttachOf<'a> {
@@ -121,14 +127,19 @@ pub fn read_content<'a>(words: &mut Words<'a>) -> Option<Content<'a>> {
     }
 }
 
+/// The outcomes.
+const OUTCOMES: [(&str, Outcome); 4] = [
+    ("accepted", Outcome::Accepted),
+    ("rejected", Outcome::Rejected),
+    ("released", Outcome::Released),
+    ("modified", Outcome::Modified),
+];
+
 /// An outcome, or a place as `received.1.5`.
 pub fn outcome_of(word: &str) -> Option<Outcome> {
-    match word {
-        "accepted" => Some(Outcome::Accepted),
-        "rejected" => Some(Outcome::Rejected),
-        "released" => Some(Outcome::Released),
-        "modified" => Some(Outcome::Modified),
-        _ => place_of(word),
+    match named(&OUTCOMES, word) {
+        Some(outcome) => Some(outcome),
+        None => place_of(word),
     }
 }
 

@@ -1,13 +1,13 @@
 //! What the sending end sends.
-use super::calls::SendOf;
-use super::ends::{Pair, sender_of, transfer_frame};
+use super::calls::{SendOf, Which};
+use super::ends::{Pair, sender_of};
 use super::shown::transfer_size;
 use crate::content::{bytes_of, tag_of};
 use crate::frame::Frame;
 use crate::refusal::Refusal;
 use crate::text::{self, List};
 use amqp_link::{Abort, PreparedBatch, PreparedSendOn, SenderLink};
-use amqp_session::{Batch, Delivery, DeliveryTag, OutputHandle, Transfer, Unsettled};
+use amqp_session::{Batch, Boxed, Delivery, DeliveryTag, OutputHandle, Transfer, Unsettled};
 use bytes::Bytes;
 use std::alloc::{AllocError, Global};
 
@@ -69,7 +69,7 @@ pub fn send(pair: &mut Pair, alloc: Global, message: Message) -> Result<usize, R
 }
 
 /// The link takes a message as sent, and hands its transfers out.
-fn send_on_link(
+pub fn send_on_link(
     link: &mut SenderLink,
     alloc: Global,
     message: Message,
@@ -125,7 +125,7 @@ pub fn send_on(pair: &mut Pair, alloc: Global) -> Result<Option<usize>, Refusal>
 }
 
 /// The transfers of the first message that waits.
-fn next_on(link: &mut SenderLink, alloc: Global, limit: u32) -> Result<Option<Batch>, Refusal> {
+pub fn next_on(link: &mut SenderLink, alloc: Global, limit: u32) -> Result<Option<Batch>, Refusal> {
     let Some(PreparedSendOn { transfer, payload }) = link.prepare_send_on()? else {
         return Ok(None);
     };
@@ -151,25 +151,26 @@ pub fn cut_abort(alloc: Global, abort: Abort, limit: u32) -> Result<Batch, Refus
 
 /// Transfers get their numbers and are under way. The answer is how many they are.
 pub fn carry(pair: &mut Pair, alloc: Global, batch: Batch) -> Result<usize, AllocError> {
-    let mut frames = pair.carrier.carry(alloc, batch)?;
-    let count = frames.len();
+    let mut batch = batch;
+    let count = pair.carrier.carry(alloc, &mut batch)?;
     for _ in 0..count {
-        let Some(frame) = frames.pop_front() else {
-            return Ok(count);
-        };
-        if let Some(frame) = transfer_frame(alloc, frame)? {
-            begin_delivery(&mut pair.sent, &frame)?;
-            pair.to_receiver.push_back(frame)?;
-        }
+        send_carried(pair, alloc)?;
     }
     Ok(count)
 }
 
-/// A delivery that begins unsettled has its number from now on.
-fn begin_delivery(deliveries: &mut Unsettled, frame: &Frame) -> Result<(), AllocError> {
-    let Frame::Transfer(transfer, _) = frame else {
+/// The next transfer that has its number is under way.
+fn send_carried(pair: &mut Pair, alloc: Global) -> Result<(), AllocError> {
+    let Some((transfer, payload)) = pair.carrier.take() else {
         return Ok(());
     };
+    let transfer = Boxed::new(alloc, transfer)?;
+    begin_delivery(&mut pair.sent, &transfer)?;
+    pair.send_frame(Which::Sender, Frame::Transfer(transfer, payload))
+}
+
+/// A delivery that begins unsettled has its number from now on.
+fn begin_delivery(deliveries: &mut Unsettled, transfer: &Transfer) -> Result<(), AllocError> {
     let Some(number) = transfer.delivery_id else {
         return Ok(());
     };

@@ -12,7 +12,6 @@ use amqp_session::ReceiverSettleMode;
 use std::alloc::{AllocError, Global};
 
 /// A run.
-#[derive(Drop)]
 pub struct Run {
     /// The two ends.
     pub pair: Pair,
@@ -24,6 +23,18 @@ pub struct Run {
     pub plan: Plan,
     /// How many messages were sent.
     pub sent: u32,
+}
+
+impl Drop for Run {
+    fn drop(self) {
+        let Run {
+            pair: _,
+            ledger: _,
+            generator: _,
+            plan: _,
+            sent: _,
+        } = self;
+    }
 }
 
 impl Run {

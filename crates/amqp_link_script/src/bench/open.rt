@@ -1,16 +1,19 @@
 //! What is done with many messages that are open.
 use super::Bench;
+use super::counts::add;
+use super::ends::{attach, listed, take_list};
 use crate::content::tag_of;
-use crate::ends::{attach, break_off, listing, note_resolved, take_list};
-use crate::fault::Fault;
+use crate::pair::part;
+use crate::refusal::Refusal;
+use crate::words::named;
 use amqp_session::{Accepted, DeliveryState};
-use std::alloc::Global;
+use std::alloc::{AllocError, Global};
 
 /// How many bytes the frame of an Attach has at most, where that is few.
 const SMALL: u32 = 512;
 
 /// What is done with messages that are open.
-#[derive(Debug, Clone, Copy)]
+#[derive(Clone, Copy)]
 pub enum Kind {
     /// `sent`: nothing. Their transfers are lost.
     Sent,
@@ -26,27 +29,28 @@ pub enum Kind {
     Resolved,
     /// `resent`: the connection is lost, and the receiver has none of them. They are sent anew.
     Resent,
-    /// `resumed`: the connection is lost, and the receiver has all of them. Their deliveries are resumed behind the
-    /// end.
+    /// `resumed`: the connection is lost, and the receiver has all of them. Their deliveries are resumed behind the end.
     Resumed,
 }
 
-impl Kind {
-    /// The kind of this name.
-    pub fn parse(name: &str) -> Option<Kind> {
-        match name {
-            "sent" => Some(Kind::Sent),
-            "received" => Some(Kind::Received),
-            "listed" => Some(Kind::Listed),
-            "halved" => Some(Kind::Halved),
-            "disposed" => Some(Kind::Disposed),
-            "resolved" => Some(Kind::Resolved),
-            "resent" => Some(Kind::Resent),
-            "resumed" => Some(Kind::Resumed),
-            _ => None,
-        }
-    }
+/// The kinds by their names.
+const KINDS: [(&str, Kind); 8] = [
+    ("sent", Kind::Sent),
+    ("received", Kind::Received),
+    ("listed", Kind::Listed),
+    ("halved", Kind::Halved),
+    ("disposed", Kind::Disposed),
+    ("resolved", Kind::Resolved),
+    ("resent", Kind::Resent),
+    ("resumed", Kind::Resumed),
+];
 
+/// The kind of this name.
+pub fn read_kind(name: &str) -> Option<Kind> {
+    named(&KINDS, name)
+}
+
+impl Kind {
     /// Whether the receiver has taken the messages.
     fn is_received(self) -> bool {
         matches!(self, Kind::Received | Kind::Resumed)
@@ -55,7 +59,7 @@ impl Kind {
 
 impl Bench {
     /// So many messages are sent unsettled, and then this is done with them.
-    pub fn open(&mut self, alloc: Global, count: u32, kind: Kind) -> Result<(), Fault> {
+    pub fn open(&mut self, alloc: Global, count: u32, kind: Kind) -> Result<(), Refusal> {
         if kind.is_received() {
             self.pass_each(alloc, false, count)?;
         } else {
@@ -65,7 +69,7 @@ impl Bench {
     }
 
     /// This is done with the messages that are open.
-    fn go_on(&mut self, alloc: Global, count: u32, kind: Kind) -> Result<(), Fault> {
+    fn go_on(&mut self, alloc: Global, count: u32, kind: Kind) -> Result<(), Refusal> {
         match kind {
             Kind::Sent | Kind::Received => Ok(()),
             Kind::Listed => self.list(alloc, u32::MAX),
@@ -77,14 +81,14 @@ impl Bench {
     }
 
     /// The sender's Attach lists the messages in a frame of at most so many bytes.
-    fn list(&mut self, alloc: Global, limit: u32) -> Result<(), Fault> {
-        let count = listing(&self.ends.sender, alloc, limit)?;
-        self.counts.add_listed(count);
+    fn list(&mut self, alloc: Global, limit: u32) -> Result<(), Refusal> {
+        let count = listed(&self.pair.sender, alloc, limit)?;
+        add(&mut self.counts.listed, count);
         Ok(())
     }
 
     /// So many messages are accepted and settled one by one.
-    fn dispose_each(&mut self, alloc: Global, count: u32) -> Result<(), Fault> {
+    fn dispose_each(&mut self, alloc: Global, count: u32) -> Result<(), Refusal> {
         for number in 0..count {
             self.dispose_at_sender(alloc, number)?;
         }
@@ -93,34 +97,31 @@ impl Bench {
     }
 
     /// The sender takes a disposition that accepts and settles a message.
-    fn dispose_at_sender(&mut self, alloc: Global, number: u32) -> Result<(), Fault> {
+    fn dispose_at_sender(&mut self, alloc: Global, number: u32) -> Result<(), AllocError> {
         let tag = tag_of(alloc, number)?;
         let accepted = Some(DeliveryState::Accepted(Accepted {}));
-        let _ = self
-            .ends
-            .sender
-            .on_incoming_disposition(&tag, true, accepted);
+        self.tell_sender(&tag, true, accepted);
         Ok(())
     }
 
     /// The receiver's Attach lists so many messages as accepted.
-    fn resolve(&mut self, alloc: Global, count: u32) -> Result<(), Fault> {
-        take_list(&mut self.ends, alloc, count)?;
+    fn resolve(&mut self, alloc: Global, count: u32) -> Result<(), Refusal> {
+        take_list(&mut self.pair, alloc, count)?;
         self.note_each_resolved(count);
         Ok(())
     }
 
     /// The connection is lost, the ends are attached anew, and so many messages are sent on.
-    fn resume(&mut self, alloc: Global, count: u32) -> Result<(), Fault> {
-        break_off(&mut self.ends);
-        attach(&mut self.ends, alloc)?;
+    fn resume(&mut self, alloc: Global, count: u32) -> Result<(), Refusal> {
+        part(&mut self.pair);
+        attach(&mut self.pair, alloc)?;
         self.pass_on_each(alloc, count)
     }
 
     /// The sender is told the outcomes of so many messages.
     fn note_each_resolved(&mut self, count: u32) {
         for _ in 0..count {
-            note_resolved(&mut self.ends.sender, &mut self.counts);
+            self.note_resolved();
         }
     }
 }
