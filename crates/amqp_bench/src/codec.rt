@@ -2,11 +2,12 @@
 mod record;
 mod values;
 
+use crate::words::named;
 use serde_amqp::{Deserialize, Error, Serialize, from_slice, serialized_size, to_vec};
 use std::alloc::Global;
 
 /// What is done with a value.
-#[derive(Debug, Clone, Copy)]
+#[derive(Clone, Copy)]
 pub enum Way {
     /// Its text is written.
     Encode,
@@ -17,7 +18,7 @@ pub enum Way {
 }
 
 /// The values that there are.
-#[derive(Debug, Clone, Copy)]
+#[derive(Clone, Copy)]
 pub enum Shape {
     /// A list of small uints.
     List,
@@ -32,7 +33,7 @@ pub enum Shape {
 }
 
 /// Work to be counted.
-#[derive(Debug, Clone, Copy)]
+#[derive(Clone, Copy)]
 pub struct Work {
     way: Way,
     shape: Shape,
@@ -40,25 +41,21 @@ pub struct Work {
     times: u32,
 }
 
-fn way_of(name: &str) -> Option<Way> {
-    match name {
-        "encode" => Some(Way::Encode),
-        "count" => Some(Way::Count),
-        "decode" => Some(Way::Decode),
-        _ => None,
-    }
-}
+/// The ways by their names.
+const WAYS: [(&str, Way); 3] = [
+    ("encode", Way::Encode),
+    ("count", Way::Count),
+    ("decode", Way::Decode),
+];
 
-fn shape_of(name: &str) -> Option<Shape> {
-    match name {
-        "list" => Some(Shape::List),
-        "record" => Some(Shape::Record),
-        "binary" => Some(Shape::Binary),
-        "nested" => Some(Shape::Nested),
-        "flat" => Some(Shape::Flat),
-        _ => None,
-    }
-}
+/// The values by their names.
+const SHAPES: [(&str, Shape); 5] = [
+    ("list", Shape::List),
+    ("record", Shape::Record),
+    ("binary", Shape::Binary),
+    ("nested", Shape::Nested),
+    ("flat", Shape::Flat),
+];
 
 impl Work {
     /// The work that this line names.
@@ -67,8 +64,8 @@ impl Work {
         let (shape, others) = others.split_once(' ')?;
         let (size, times) = others.split_once(' ')?;
         Some(Work {
-            way: way_of(way)?,
-            shape: shape_of(shape)?,
+            way: named(&WAYS, way)?,
+            shape: named(&SHAPES, shape)?,
             size: size.parse().ok()?,
             times: times.parse().ok()?,
         })

@@ -2,11 +2,10 @@
 //! links attach and are detached, or between which messages go.
 ghost use Rattle.std.specs.Prelude.{◌<◌};
 
-use crate::links::{attach_and_detach, begin_and_end};
-use crate::messages::send_and_receive;
+use crate::links::{attach_and_detach, begin_and_end, open};
+use crate::messages::{message, send_and_receive};
 use amqp_endpoint::{Endpoint, EndpointError, Event, Fed, Settings, Text};
-use std::alloc::Global;
-use std::fmt;
+use std::alloc::{AllocError, Global};
 
 /// The protocol header (part 2, 2.2).
 const HEADER: &[u8] = b"AMQP\x00\x01\x00\x00";
@@ -21,11 +20,14 @@ const CLOSE: &[u8] = b"\x00\x00\x00\x0c\x02\x00\x00\x00\x00\x53\x18\x45";
 /// An Empty frame (part 2, 2.4.5).
 const EMPTY: &[u8] = b"\x00\x00\x00\x08\x02\x00\x00\x00";
 
+/// The highest channel of an endpoint that is alone.
+const CHANNEL_MAX: u16 = 255;
+
 /// The Empty frames of a block.
 const BLOCK_FRAMES: usize = 8192;
 
 /// Work to be counted.
-#[derive(Debug, Clone, Copy)]
+#[derive(Clone, Copy)]
 pub enum Work {
     /// So many blocks of Empty frames are fed in pieces of so many bytes.
     Frames {
@@ -53,7 +55,7 @@ pub enum Work {
 }
 
 /// What an endpoint found in the bytes that it was fed.
-#[derive(Debug, Clone, Copy)]
+#[derive(Clone, Copy)]
 pub struct Found {
     opened: u64,
     closed: u64,
@@ -61,20 +63,27 @@ pub struct Found {
     events: u64,
 }
 
-impl fmt::Display for Found {
-    fn fmt<W: fmt::Write>(&self, f: &mut fmt::Formatter<W>) -> fmt::Result {
+impl Found {
+    /// Nothing yet.
+    fn new() -> Found {
+        Found {
+            opened: 0,
+            closed: 0,
+            faults: 0,
+            events: 0,
+        }
+    }
+
+    /// What was found, as it is printed.
+    pub(crate) fn text(self, alloc: Global) -> Result<String, AllocError> {
         let opened = self.opened;
         let closed = self.closed;
         let faults = self.faults;
         let events = self.events;
-        write!(
-            f,
-            "opened {opened}, closed {closed}, faults {faults}, events {events}"
-        )
+        format!(in alloc; "opened {opened}, closed {closed}, faults {faults}, events {events}")
     }
-}
 
-impl Found {
+    /// What a feed answers is counted.
     pub(crate) fn note(&mut self, fed: &Fed) {
         self.events = self.events.saturating_add(fed.events.len() as u64);
         for event in fed.events.iter() {
@@ -94,63 +103,95 @@ impl Work {
     /// The work that this line names.
     pub(crate) fn parse(line: &str) -> Option<Work> {
         let (name, numbers) = line.split_once(' ')?;
+        match numbers.split_once(' ') {
+            Some((first, count)) => Work::of_two(name, first.parse().ok()?, count.parse().ok()?),
+            None => Work::of_one(name, numbers.parse().ok()?),
+        }
+    }
+
+    /// The work of this name with two numbers.
+    fn of_two(name: &str, first: u32, count: u32) -> Option<Work> {
         match name {
-            "frames" => {
-                let (blocks, piece) = numbers.split_once(' ')?;
-                Some(Work::Frames {
-                    blocks: blocks.parse().ok()?,
-                    piece: piece.parse().ok()?,
-                })
-            }
-            "open_close" => Some(Work::OpenClose {
-                count: numbers.parse().ok()?,
+            "frames" => Some(Work::Frames {
+                blocks: first,
+                piece: count as usize,
             }),
-            "sessions" => Some(Work::Sessions {
-                count: numbers.parse().ok()?,
+            "settled" => Some(Work::Messages {
+                settled: true,
+                size: first,
+                count,
             }),
-            "links" => Some(Work::Links {
-                count: numbers.parse().ok()?,
+            "unsettled" => Some(Work::Messages {
+                settled: false,
+                size: first,
+                count,
             }),
-            "settled" => Work::messages(true, numbers),
-            "unsettled" => Work::messages(false, numbers),
             _ => None,
         }
     }
 
-    /// Messages, by the bytes of each and how many there are.
-    fn messages(settled: bool, numbers: &str) -> Option<Work> {
-        let (size, count) = numbers.split_once(' ')?;
-        Some(Work::Messages {
-            settled,
-            size: size.parse().ok()?,
-            count: count.parse().ok()?,
-        })
+    /// The work of this name with one number.
+    fn of_one(name: &str, count: u32) -> Option<Work> {
+        match name {
+            "open_close" => Some(Work::OpenClose { count }),
+            "sessions" => Work::of_sessions(count),
+            "links" => Some(Work::Links { count }),
+            _ => None,
+        }
+    }
+
+    /// So many sessions, of which there are no more than channels.
+    fn of_sessions(count: u32) -> Option<Work> {
+        let count = u16::try_from(count).ok()?;
+        Some(Work::Sessions { count })
     }
 
     /// Does the work.
     pub(crate) fn run(self, alloc: Global) -> Result<Found, EndpointError> {
-        let mut found = Found {
-            opened: 0,
-            closed: 0,
-            faults: 0,
-            events: 0,
-        };
+        let mut found = Found::new();
         match self {
             Work::Frames { blocks, piece } => feed_frames(alloc, blocks, piece, &mut found)?,
-            Work::OpenClose { count } => {
-                for _ in 0..count {
-                    open_and_close(alloc, &mut found)?;
-                }
-            }
-            Work::Sessions { count } => begin_and_end(alloc, count, &mut found)?,
-            Work::Links { count } => attach_and_detach(alloc, count, &mut found)?,
+            Work::OpenClose { count } => open_and_close_each(alloc, count, &mut found)?,
+            _ => self.run_between(alloc, &mut found)?,
+        }
+        Ok(found)
+    }
+
+    /// Does the work between two endpoints. Here and in the next function each of them is owned.
+    fn run_between(self, alloc: Global, found: &mut Found) -> Result<(), EndpointError> {
+        let mut a = endpoint(alloc, u16::MAX)?;
+        self.run_with(alloc, &mut a, found)
+    }
+
+    fn run_with(
+        self,
+        alloc: Global,
+        a: &mut Endpoint,
+        found: &mut Found,
+    ) -> Result<(), EndpointError> {
+        let mut b = endpoint(alloc, u16::MAX)?;
+        self.run_in(alloc, a, &mut b, found)
+    }
+
+    /// Does the work with two endpoints that were never connected.
+    fn run_in(
+        self,
+        alloc: Global,
+        a: &mut Endpoint,
+        b: &mut Endpoint,
+        found: &mut Found,
+    ) -> Result<(), EndpointError> {
+        open(a, b, found)?;
+        match self {
+            Work::Sessions { count } => begin_and_end(a, b, count, found),
+            Work::Links { count } => attach_and_detach(alloc, a, b, count, found),
             Work::Messages {
                 settled,
                 size,
                 count,
-            } => send_and_receive(alloc, settled, size, count, &mut found)?,
+            } => send_and_receive(alloc, a, b, &message(alloc, settled, size)?, count, found),
+            Work::Frames { .. } | Work::OpenClose { .. } => Ok(()),
         }
-        Ok(found)
     }
 }
 
@@ -161,9 +202,20 @@ fn feed_frames(
     found: &mut Found,
 ) -> Result<(), EndpointError> {
     let block = block_of_frames(alloc)?;
-    let mut endpoint = opened(alloc, found)?;
+    let mut endpoint = endpoint(alloc, CHANNEL_MAX)?;
+    feed_blocks(&mut endpoint, block.as_slice(), blocks, piece, found)
+}
+
+fn feed_blocks(
+    endpoint: &mut Endpoint,
+    block: &[u8],
+    blocks: u32,
+    piece: usize,
+    found: &mut Found,
+) -> Result<(), EndpointError> {
+    exchange(endpoint, found)?;
     for _ in 0..blocks {
-        feed_block(&mut endpoint, block.as_slice(), piece.max(1), found);
+        feed_block(endpoint, block, piece.max(1), found);
     }
     Ok(())
 }
@@ -184,15 +236,12 @@ fn feed_block(endpoint: &mut Endpoint, block: &[u8], piece: usize, found: &mut F
     }
 }
 
-/// An endpoint behind both headers and both Open frames.
-fn opened(alloc: Global, found: &mut Found) -> Result<Endpoint, EndpointError> {
-    let mut endpoint = Endpoint::new(alloc, settings(alloc, 255)?)?;
-    exchange(&mut endpoint, found)?;
-    Ok(endpoint)
+/// An endpoint that was never connected and takes channels up to this one.
+fn endpoint(alloc: Global, channel_max: u16) -> Result<Endpoint, EndpointError> {
+    Endpoint::new(alloc, settings(alloc, channel_max)?)
 }
 
-/// An endpoint that takes channels up to this one.
-pub(crate) fn settings(alloc: Global, channel_max: u16) -> Result<Settings, EndpointError> {
+fn settings(alloc: Global, channel_max: u16) -> Result<Settings, EndpointError> {
     Ok(Settings {
         container_id: Text::new(String::from_str(alloc, "a")?),
         max_frame_size: 65_536,
@@ -213,9 +262,21 @@ fn exchange(endpoint: &mut Endpoint, found: &mut Found) -> Result<(), EndpointEr
     Ok(())
 }
 
+fn open_and_close_each(alloc: Global, count: u32, found: &mut Found) -> Result<(), EndpointError> {
+    for _ in 0..count {
+        open_and_close(alloc, found)?;
+    }
+    Ok(())
+}
+
 fn open_and_close(alloc: Global, found: &mut Found) -> Result<(), EndpointError> {
-    let mut endpoint = opened(alloc, found)?;
-    close(&mut endpoint, found)
+    let mut endpoint = endpoint(alloc, CHANNEL_MAX)?;
+    exchange_and_close(&mut endpoint, found)
+}
+
+fn exchange_and_close(endpoint: &mut Endpoint, found: &mut Found) -> Result<(), EndpointError> {
+    exchange(endpoint, found)?;
+    close(endpoint, found)
 }
 
 /// Both Close frames go.

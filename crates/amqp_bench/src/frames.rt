@@ -1,12 +1,13 @@
 //! Frames that are read, or read and written.
 mod texts;
 
+use crate::words::named;
 use amqp_session_frames::{Error, FrameDecoder, FrameEncoder, Pieces};
 use bytes::Bytes;
 use std::alloc::{AllocError, Global};
 
 /// What is done with a frame.
-#[derive(Debug, Clone, Copy)]
+#[derive(Clone, Copy)]
 pub enum Way {
     /// It is read from its bytes.
     Decode,
@@ -15,7 +16,7 @@ pub enum Way {
 }
 
 /// The frames that there are.
-#[derive(Debug, Clone, Copy)]
+#[derive(Clone, Copy)]
 pub enum Kind {
     /// A first transfer with a payload.
     Transfer,
@@ -28,7 +29,7 @@ pub enum Kind {
 }
 
 /// Work to be counted.
-#[derive(Debug, Clone, Copy)]
+#[derive(Clone, Copy)]
 pub struct Work {
     way: Way,
     kind: Kind,
@@ -46,23 +47,16 @@ fn length_of(pieces: &Pieces) -> u64 {
     bytes
 }
 
-fn way_of(name: &str) -> Option<Way> {
-    match name {
-        "decode" => Some(Way::Decode),
-        "both" => Some(Way::Both),
-        _ => None,
-    }
-}
+/// The ways by their names.
+const WAYS: [(&str, Way); 2] = [("decode", Way::Decode), ("both", Way::Both)];
 
-fn kind_of(name: &str) -> Option<Kind> {
-    match name {
-        "transfer" => Some(Kind::Transfer),
-        "flow" => Some(Kind::Flow),
-        "disposition" => Some(Kind::Disposition),
-        "attach" => Some(Kind::Attach),
-        _ => None,
-    }
-}
+/// The frames by their names.
+const KINDS: [(&str, Kind); 4] = [
+    ("transfer", Kind::Transfer),
+    ("flow", Kind::Flow),
+    ("disposition", Kind::Disposition),
+    ("attach", Kind::Attach),
+];
 
 impl Work {
     /// The work that this line names.
@@ -72,8 +66,8 @@ impl Work {
         let (payload, others) = others.split_once(' ')?;
         let (limit, times) = others.split_once(' ')?;
         Some(Work {
-            way: way_of(way)?,
-            kind: kind_of(kind)?,
+            way: named(&WAYS, way)?,
+            kind: named(&KINDS, kind)?,
             payload: payload.parse().ok()?,
             limit: limit.parse().ok()?,
             times: times.parse().ok()?,

@@ -1,5 +1,5 @@
 //! Two endpoints, and the bytes between them: their sessions begin and end, their links attach and are detached.
-use crate::endpoint::{Found, settings};
+use crate::endpoint::Found;
 use amqp_endpoint::{
     Endpoint, EndpointError, IncomingChannel, LinkSettings, ReceiverSettleMode, SenderSettleMode,
     Source, Target, TargetArchetype, TerminusDurability, TerminusExpiryPolicy, Text,
@@ -45,17 +45,6 @@ pub(crate) fn open(
 
 /// So many sessions begin at one end and are accepted at the other, and then they end.
 pub(crate) fn begin_and_end(
-    alloc: Global,
-    count: u16,
-    found: &mut Found,
-) -> Result<(), EndpointError> {
-    let mut a = Endpoint::new(alloc, settings(alloc, u16::MAX)?)?;
-    let mut b = Endpoint::new(alloc, settings(alloc, u16::MAX)?)?;
-    open(&mut a, &mut b, found)?;
-    sessions(&mut a, &mut b, count, found)
-}
-
-fn sessions(
     a: &mut Endpoint,
     b: &mut Endpoint,
     count: u16,
@@ -87,25 +76,14 @@ pub(crate) fn begin(
 /// So many links attach in a session, sending at one end and receiving at the other, and then they are detached.
 pub(crate) fn attach_and_detach(
     alloc: Global,
-    count: u32,
-    found: &mut Found,
-) -> Result<(), EndpointError> {
-    let mut a = Endpoint::new(alloc, settings(alloc, u16::MAX)?)?;
-    let mut b = Endpoint::new(alloc, settings(alloc, u16::MAX)?)?;
-    open(&mut a, &mut b, found)?;
-    begin(&mut a, &mut b, 0, found)?;
-    links(alloc, &mut a, &mut b, count, found)
-}
-
-fn links(
-    alloc: Global,
     a: &mut Endpoint,
     b: &mut Endpoint,
     count: u32,
     found: &mut Found,
 ) -> Result<(), EndpointError> {
+    begin(a, b, 0, found)?;
     for number in 0..count {
-        attach(a, b, &link(alloc, number)?, found)?;
+        attach(alloc, a, b, number, found)?;
     }
     for link in 0..count {
         a.detach(u64::from(link))?;
@@ -114,8 +92,18 @@ fn links(
     Ok(())
 }
 
-/// A link attaches in the first session of both ends.
+/// A link with this number as its name attaches in the first session of both ends.
 pub(crate) fn attach(
+    alloc: Global,
+    a: &mut Endpoint,
+    b: &mut Endpoint,
+    number: u32,
+    found: &mut Found,
+) -> Result<(), EndpointError> {
+    attach_link(a, b, &link(alloc, number)?, found)
+}
+
+fn attach_link(
     a: &mut Endpoint,
     b: &mut Endpoint,
     link: &LinkSettings,
@@ -128,7 +116,7 @@ pub(crate) fn attach(
 }
 
 /// A link with this number as its name.
-pub(crate) fn link(alloc: Global, number: u32) -> Result<LinkSettings, EndpointError> {
+fn link(alloc: Global, number: u32) -> Result<LinkSettings, EndpointError> {
     Ok(LinkSettings {
         name: Text::new(format!(in alloc; "{number}")?),
         source: Some(source(alloc)),

@@ -20,6 +20,7 @@ mod frames;
 mod links;
 mod messages;
 mod sessions;
+mod words;
 
 use anyhow::{Context, Result};
 use std::alloc::Global;
@@ -70,5 +71,5 @@ fn session_found(alloc: Global, work: &str) -> Result<String> {
 fn endpoint_found(alloc: Global, work: &str) -> Result<String> {
     let work = endpoint::Work::parse(work).context("no work is named so")?;
     let found = work.run(alloc)?;
-    Ok(format!(in alloc; "{found}")?)
+    Ok(found.text(alloc)?)
 }

@@ -1,6 +1,6 @@
 //! Two endpoints, and the messages that one sends to the other.
-use crate::endpoint::{Found, settings};
-use crate::links::{attach, begin, exchange, link, move_all, open};
+use crate::endpoint::Found;
+use crate::links::{attach, begin, exchange, move_all};
 use amqp_endpoint::{Accepted, DeliveryState, Disposal, Endpoint, EndpointError, Sending};
 use bytes::Bytes;
 use std::alloc::Global;
@@ -8,28 +8,25 @@ use std::alloc::Global;
 /// How many messages are granted at a time.
 const CREDIT: u64 = 1000;
 
-/// So many messages of so many bytes go from one end to the other, each settled, or each disposed of as accepted.
+/// So many messages like this one go from one end to the other. Where they aren't settled each is disposed of as accepted.
 pub(crate) fn send_and_receive(
     alloc: Global,
-    settled: bool,
-    size: u32,
+    a: &mut Endpoint,
+    b: &mut Endpoint,
+    message: &Sending,
     count: u32,
     found: &mut Found,
 ) -> Result<(), EndpointError> {
-    let mut a = Endpoint::new(alloc, settings(alloc, u16::MAX)?)?;
-    let mut b = Endpoint::new(alloc, settings(alloc, u16::MAX)?)?;
-    open(&mut a, &mut b, found)?;
-    begin(&mut a, &mut b, 0, found)?;
-    attach(&mut a, &mut b, &link(alloc, 0)?, found)?;
-    let message = message(alloc, settled, size)?;
+    begin(a, b, 0, found)?;
+    attach(alloc, a, b, 0, found)?;
     for number in 0..count {
-        send(&mut a, &mut b, &message, u64::from(number), found)?;
+        send(a, b, message, u64::from(number), found)?;
     }
     Ok(())
 }
 
 /// A message of so many bytes.
-fn message(alloc: Global, settled: bool, size: u32) -> Result<Sending, EndpointError> {
+pub(crate) fn message(alloc: Global, settled: bool, size: u32) -> Result<Sending, EndpointError> {
     let payload = vec![in alloc; 0; size as usize]?;
     Ok(Sending {
         payload: Bytes::from_vec(payload)?,

@@ -4,12 +4,13 @@ mod frames;
 mod link;
 
 use crate::sessions::bench::{Bench, Counts};
+use crate::words::named;
 use anyhow::Result;
 use bytes::Bytes;
 use std::alloc::{AllocError, Global};
 
 /// How the peer disposes of unsettled deliveries.
-#[derive(Debug, Clone, Copy)]
+#[derive(Clone, Copy)]
 pub enum Way {
     /// `left`: not at all.
     Left,
@@ -24,7 +25,7 @@ pub enum Way {
 }
 
 /// Work to be counted.
-#[derive(Debug, Clone, Copy)]
+#[derive(Clone, Copy)]
 pub enum Work {
     /// `put_together COUNT`: deliveries are put together, without a session.
     PutTogether {
@@ -56,16 +57,14 @@ pub enum Work {
     },
 }
 
-fn way_of(name: &str) -> Option<Way> {
-    match name {
-        "left" => Some(Way::Left),
-        "settled_all" => Some(Way::SettledAll),
-        "settled_each" => Some(Way::SettledEach),
-        "settled_wide" => Some(Way::SettledWide),
-        "echoed" => Some(Way::Echoed),
-        _ => None,
-    }
-}
+/// The ways by their names.
+const WAYS: [(&str, Way); 5] = [
+    ("left", Way::Left),
+    ("settled_all", Way::SettledAll),
+    ("settled_each", Way::SettledEach),
+    ("settled_wide", Way::SettledWide),
+    ("echoed", Way::Echoed),
+];
 
 impl Work {
     /// The work that this line names.
@@ -103,7 +102,7 @@ impl Work {
         if name == "put_together" {
             return Some(Work::PutTogether { count });
         }
-        let way = way_of(name)?;
+        let way = named(&WAYS, name)?;
         Some(Work::Dispose { way, count })
     }
 

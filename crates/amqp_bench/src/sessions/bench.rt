@@ -11,7 +11,7 @@ use std::alloc::{AllocError, Global};
 use std::collections::VecDeque;
 
 /// How many frames left, and how many dispositions go back.
-#[derive(Debug, Clone, Copy)]
+#[derive(Clone, Copy)]
 pub struct Counts {
     /// The frames that left.
     pub frames: u64,
@@ -20,13 +20,24 @@ pub struct Counts {
 }
 
 /// A session with what its links hand to it and what it hands out.
-#[derive(Drop)]
 pub struct Bench {
     session: Session<PlainLink>,
     out: VecDeque<SessionFrame>,
     batch: Batch,
     payload: Bytes,
     counts: Counts,
+}
+
+impl Drop for Bench {
+    fn drop(self) {
+        let Bench {
+            session: _,
+            out: _,
+            batch: _,
+            payload: _,
+            counts: _,
+        } = self;
+    }
 }
 
 impl Bench {

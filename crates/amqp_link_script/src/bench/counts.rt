@@ -21,7 +21,7 @@ pub struct Counts {
 
 /// There are so many more.
 pub fn add(count: &mut u32, more: usize) {
-    *count = count.saturating_add(more as u32);
+    *count = count.saturating_add(u32::try_from(more).unwrap_or(u32::MAX));
 }
 
 impl Counts {
