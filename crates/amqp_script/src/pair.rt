@@ -15,6 +15,7 @@ mod shown;
 mod taking;
 mod termini;
 
+use crate::script::Subject;
 use crate::words::Words;
 pub use attaching::{accept, attach, attach_sent, own_attach};
 pub use calls::{DisposeOf, Outcome, Which};
@@ -29,9 +30,8 @@ pub use seen::open;
 pub use sending::{Message, next_on, send, send_on, send_on_link};
 use std::alloc::{AllocError, Global};
 
-impl Pair {
-    /// What the step with these words answers, or `None` where it can't be read.
-    pub fn step(&mut self, alloc: Global, words: Words<'_>) -> Result<Option<String>, AllocError> {
+impl Subject for Pair {
+    fn step(&mut self, alloc: Global, words: Words<'_>) -> Result<Option<String>, AllocError> {
         match read_call(words) {
             Some(call) => calls::perform(self, alloc, call),
             None => Ok(None),

@@ -3,7 +3,7 @@ use crate::script::Subject;
 use crate::text;
 use crate::text::List;
 use crate::unsettled::read_range;
-use crate::words::{Words, byte_of, number_of};
+use crate::words::{Words, byte_of, named, number_of};
 use amqp_session::{
     Behind, DeliveryRange, DeliveryTag, Outbound, Outgoing, OutputHandle, Part, Sent, TransferError,
 };
@@ -68,14 +68,26 @@ enum Look {
     Touched(DeliveryRange),
 }
 
+/// The words for what is to be seen of the whole side.
+const LOOKS: [(&str, Look); 5] = [
+    ("left", Look::Left),
+    ("held-back", Look::HeldBack),
+    ("frames", Look::Frames),
+    ("waiting", Look::Waiting),
+    ("next-outgoing-id", Look::NextOutgoingId),
+];
+
 fn read_look(words: &mut Words<'_>) -> Option<Look> {
-    match words.word()? {
-        "left" => Some(Look::Left),
-        "held-back" => Some(Look::HeldBack),
-        "frames" => Some(Look::Frames),
-        "waiting" => Some(Look::Waiting),
+    let word = words.word()?;
+    match named(&LOOKS, word) {
+        Some(look) => Some(look),
+        None => read_look_at(word, words),
+    }
+}
+
+fn read_look_at(word: &str, words: &mut Words<'_>) -> Option<Look> {
+    match word {
         "is-waiting" => words.number().map(Look::IsWaiting),
-        "next-outgoing-id" => Some(Look::NextOutgoingId),
         "unsettled" => words.number().map(Look::Unsettled),
         "touched" => read_range(words).map(Look::Touched),
         _ => None,

@@ -1,5 +1,5 @@
 use Rattle.amqp_link.proofs.Ready.{may_commit}
-use Rattle.amqp_link_script.proofs.pair.sending.send_ready.Goals as goal
+use Rattle.amqp_script.proofs.pair.sending.send_ready.Goals as goal
 
 -- no message with the tag is open, since the message was made ready
 pub commit_send-requires-clause-absent : goal.commit_send-requires-clause-absent

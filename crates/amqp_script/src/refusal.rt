@@ -1,4 +1,5 @@
 //! Why a call on an end of a link is refused.
+use crate::text;
 use amqp_link::{
     DisposeError, DisposeRefusal, FlowRefusal, GrantRefusal, IllegalState, ListError, SendRefusal,
     SplitRefusal,
@@ -55,7 +56,7 @@ impl Refusal {
     pub fn text(self, alloc: Global) -> Result<String, AllocError> {
         match self {
             Refusal::Memory => Err(AllocError),
-            refusal => format!(in alloc; "refused {}", refusal.word()),
+            refusal => text::refused(alloc, refusal.word()),
         }
     }
 }

@@ -1,17 +1,22 @@
-//! Answers scripts of the two ends of a link, with no session between them, and does work with such ends a number of
-//! times, so that the instructions that it takes can be counted. Each line of standard input is a script or such work, and
-//! a row `given => wanted` is compared with its answer. `docs/LINK_SCRIPTS.md` has the words.
+//! Answers scripts of the two ends of a link, of a session over plain links, or of a part of a session, and does work with
+//! two ends of a link a number of times, so that the instructions that it takes can be counted. Each line of standard input
+//! is a script or such work, and a row `given => wanted` is compared with its answer. `docs/LINK_SCRIPTS.md` and
+//! `docs/SESSION_SCRIPTS.md` have the words.
 #![tactic(auto)]
 
 mod bench;
 mod carrier;
 mod content;
 mod frame;
+mod outgoing;
 mod pair;
+mod plain;
 mod random;
 mod refusal;
 mod script;
+mod session;
 mod text;
+mod unsettled;
 mod words;
 
 use std::io;

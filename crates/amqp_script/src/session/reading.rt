@@ -2,7 +2,7 @@
 use super::calls::{
     Call, Change, DispositionOf, FlowOf, Frame, LinkFrame, Look, Part, Sending, TransferOf,
 };
-use crate::words::{Words, byte_of};
+use crate::words::{Words, byte_of, named};
 use amqp_session::Role;
 use std::alloc::{AllocError, Global};
 
@@ -183,16 +183,22 @@ fn read_link(words: &mut Words<'_>) -> Option<Change> {
     }
 }
 
+/// The words for what is to be seen of the whole session.
+const LOOKS: [(&str, Look); 7] = [
+    ("left", Look::Left),
+    ("held-back", Look::HeldBack),
+    ("frames", Look::Frames),
+    ("waiting", Look::Waiting),
+    ("next-outgoing-id", Look::NextOutgoingId),
+    ("next-incoming-id", Look::NextIncomingId),
+    ("state", Look::State),
+];
+
 fn read_look(words: &mut Words<'_>) -> Option<Look> {
-    match words.word()? {
-        "left" => Some(Look::Left),
-        "held-back" => Some(Look::HeldBack),
-        "frames" => Some(Look::Frames),
-        "waiting" => Some(Look::Waiting),
-        "next-outgoing-id" => Some(Look::NextOutgoingId),
-        "next-incoming-id" => Some(Look::NextIncomingId),
-        "state" => Some(Look::State),
-        word => read_look_at(word, words.number()?),
+    let word = words.word()?;
+    match named(&LOOKS, word) {
+        Some(look) => Some(look),
+        None => read_look_at(word, words.number()?),
     }
 }
 

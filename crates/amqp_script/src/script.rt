@@ -1,9 +1,11 @@
 //! Scripts: steps that are called one after the other on a subject.
 use crate::outgoing::Sending;
+use crate::pair::Pair;
 use crate::session::Peer;
 use crate::text::BETWEEN_STEPS;
 use crate::unsettled::Table;
 use crate::words::{Words, words_of};
+use crate::{bench, random};
 use std::alloc::{AllocError, Global};
 
 /// What the steps of a script are called on.
@@ -30,7 +32,7 @@ fn answer_of(alloc: Global, line: &str) -> Result<Option<String>, AllocError> {
     begin(alloc, Words::new(words.as_slice()), others)
 }
 
-/// The first step says what the others are called on.
+/// The first step says what the others are called on, or is a whole run or work that is counted.
 fn begin(alloc: Global, words: Words<'_>, steps: &[&str]) -> Result<Option<String>, AllocError> {
     let mut words = words;
     match words.word() {
@@ -47,11 +49,38 @@ fn begin_named(
     steps: &[&str],
 ) -> Result<Option<String>, AllocError> {
     match word {
+        "links" => answer_on_links(alloc, words, steps),
         "session" => answer_on(alloc, Peer::read(alloc, words), steps),
         "outgoing" => answer_on(alloc, Sending::read(alloc, words), steps),
-        "unsettled" => answer_on(alloc, Table::read(alloc, words), steps),
-        _ => Ok(None),
+        "unsettled" => begin_unsettled(alloc, words, steps),
+        "random" => random::answer(alloc, words, steps.is_empty()),
+        _ => bench::answer(alloc, word, words, steps.is_empty()),
     }
+}
+
+/// Alone the word names a table of deliveries, and with numbers messages that are counted.
+fn begin_unsettled(
+    alloc: Global,
+    words: Words<'_>,
+    steps: &[&str],
+) -> Result<Option<String>, AllocError> {
+    if words.is_empty() {
+        return answer_on(alloc, Table::read(alloc, words), steps);
+    }
+    bench::answer(alloc, "unsettled", words, steps.is_empty())
+}
+
+/// The answers of the steps, called on two ends of a link that were never attached.
+fn answer_on_links(
+    alloc: Global,
+    words: Words<'_>,
+    steps: &[&str],
+) -> Result<Option<String>, AllocError> {
+    if !words.is_empty() {
+        return Ok(None);
+    }
+    let mut pair = Pair::new(alloc)?;
+    answer_steps(alloc, &mut pair, steps)
 }
 
 /// The answers of the steps, called on this, if it could be read.

@@ -21,6 +21,11 @@ pub fn number_of(word: &str) -> Option<u32> {
     word.parse().ok()
 }
 
+/// A byte in decimal digits.
+pub fn byte_of(word: &str) -> Option<u8> {
+    u8::try_from(number_of(word)?).ok()
+}
+
 /// A larger number in decimal digits alone.
 pub fn large_number_of(word: &str) -> Option<u64> {
     if word.starts_with('+') {
@@ -72,6 +77,13 @@ impl<'a> Words<'a> {
         let word = self.next()?;
         self.read = self.read.saturating_add(1);
         Some(word)
+    }
+
+    /// Reads all that are left.
+    pub fn take_all(&mut self) -> &'a [&'a str] {
+        let read = self.read;
+        self.read = self.all.len();
+        self.all.get(read..).unwrap_or(&[])
     }
 
     /// Reads the next word where it is this one, and says whether it was.

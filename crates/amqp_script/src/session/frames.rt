@@ -4,7 +4,7 @@ use amqp_session::{
     Accepted, Attach, Begin, DeliveryState, DeliveryTag, Detach, Disposition, Flow, Handle,
     LinkFlow, ReceiverSettleMode, Role, SenderSettleMode, Transfer,
 };
-use serde_amqp_types::{Array, Text};
+use serde_amqp::{Array, Text};
 use std::alloc::{AllocError, Global};
 
 /// The peer's Begin.
