@@ -8,7 +8,8 @@ use std::alloc::Global;
 /// How many messages are granted at a time.
 const CREDIT: u64 = 1000;
 
-/// So many messages like this one go from one end to the other. Where they aren't settled each is disposed of as accepted.
+/// So many messages like this one go from one end to the other. Where they aren't settled each is disposed of as
+/// accepted.
 pub(crate) fn send_and_receive(
     alloc: Global,
     a: &mut Endpoint,

@@ -29,10 +29,11 @@ enum Work {
     Carried(bool),
     /// `sent`: settled messages are sent, and their transfers dropped.
     Sent,
-    /// `settled`: settled messages are sent, their transfers get their numbers, and the receiver takes them and hands the
-    /// messages out.
+    /// `settled`: settled messages are sent, their transfers get their numbers, and the receiver takes them and hands
+    /// the messages out.
     Settled,
-    /// `unsettled`: the same with unsettled messages, which the receiver accepts and settles, and the sender is told so.
+    /// `unsettled`: the same with unsettled messages, which the receiver accepts and settles, and the sender is told
+    /// so.
     Unsettled,
     /// `open COUNT KIND`: messages are sent unsettled, and then something is done with all of them.
     Open(Kind),

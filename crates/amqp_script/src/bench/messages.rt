@@ -109,7 +109,8 @@ impl Bench {
         Ok(())
     }
 
-    /// Transfers get their numbers, and the receiver takes them. The answer is the tag of the message that they complete.
+    /// Transfers get their numbers, and the receiver takes them. The answer is the tag of the message that they
+    /// complete.
     fn carry_and_take(
         &mut self,
         alloc: Global,

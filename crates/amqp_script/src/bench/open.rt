@@ -29,7 +29,8 @@ pub enum Kind {
     Resolved,
     /// `resent`: the connection is lost, and the receiver has none of them. They are sent anew.
     Resent,
-    /// `resumed`: the connection is lost, and the receiver has all of them. Their deliveries are resumed behind the end.
+    /// `resumed`: the connection is lost, and the receiver has all of them. Their deliveries are resumed behind the
+    /// end.
     Resumed,
 }
 
