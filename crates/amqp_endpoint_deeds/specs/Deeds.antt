@@ -192,7 +192,7 @@ closed_behind closed (Queues it) = is_own_close it || closed
 closed_behind closed Renews = false
 closed_behind closed deed = closed
 
--- it is queued once, and a refusal sends it where it wasn't sent before (part 2, 2.4.3)
+-- it is queued at most once, and a refusal sends it where it wasn't sent before (part 2, 2.4.3)
 abbrev pub MayClose : Bool → Deed → Type 0
 MayClose closed (Queues it) = is_own_close it ≡ true → closed ≡ false
 MayClose closed (Refuses limit frame error own_close) = own_close ≡ closed
@@ -233,7 +233,7 @@ IsInOrder peer (Does limit call answer frames) = IsWithin (limit_of peer) limit 
 IsInOrder peer deed = Unit {0}
 
 -- what passes on a connection that isn't cut off: what pull gave and what is queued still are what these deeds queue,
--- and the frames that they take are what is read of the bytes fed. The own Close goes once
+-- and the frames that they take are what is read of the bytes fed. The own Close goes at most once
 pub record Passes {S : Type 0} (limit : ℕ) (deeds : List Deed) (given : List (List ℕ)) (bytes : List ℕ) (s : State S)
     : Type 0 where
   pub queued : map text_of (queued_by deeds) ≡ given ++ map text_of s.queue

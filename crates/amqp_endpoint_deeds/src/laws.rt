@@ -18,9 +18,9 @@ use amqp_endpoint_model::SessionRelay;
 ///
 /// As long as the connection isn't cut off, what pull gave since the latest connect, and then what is queued, is what
 /// the deeds since then queue, in order; the frames that they take are what is read of the bytes fed since then; and
-/// the own Close goes once, with the refusal of a frame where it hadn't gone (part 2, 2.2, 2.3, 2.4). So what deeds
-/// keep each run keeps, and what is said of the frames, events and calls of deeds is said of the bytes, answers and
-/// calls of a run.
+/// the own Close goes at most once, with the refusal of a frame where it hadn't gone (part 2, 2.2, 2.3, 2.4). So what
+/// deeds keep each run keeps, and what is said of the frames, events and calls of deeds is said of the bytes, answers
+/// and calls of a run.
 pub fn runs_are_deeds<S: SessionRelay>()
     ensures { (sessions : S) (settings : Settings) (calls : List Call) (told : List Told) (end : State S) →
         Run S.does (fresh settings sessions) calls told end →

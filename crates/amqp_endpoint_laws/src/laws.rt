@@ -166,7 +166,7 @@ pub fn no_two_links_share_a_handle()
 {}
 
 /// A link that stands in a session that goes on is held there: the endpoint's table says so by its number; or the link
-/// was closed, by either end, and stands in its session only as long as frames of it wait there (part 2, 2.6.2, 2.6.6).
+/// is closed, by either end (part 2, 2.6.2, 2.6.6).
 pub fn links_of_sessions_are_held()
     ensures by_deeds { (sessions end : LinkedSessions) (settings : Settings) (deeds : List Deed)
         (link session handle : ℕ) → IsNew linked settings sessions → AreDone linked sessions deeds end →
@@ -181,8 +181,8 @@ pub fn links_of_sessions_are_held()
 /// As long as a receiving link stays attached, the messages that its endpoint hands out by it are those that the
 /// transfers say which reach the link, in order, and what it holds of a message then is what these leave open (part 2,
 /// 2.6.14): so it is from whichever moment on, and whichever deeds the endpoint's run consists of, where none of the
-/// transfers resumes a delivery of an earlier attachment. A link that refuses a transfer is attached no longer. The
-/// transfers that reach it are those that come in its session on the one handle of the peer's that leads to it.
+/// transfers says that it resumes a delivery. Where one handle of the peer's alone leads to the link, they are those
+/// that come in its session on that handle.
 pub fn what_is_handed_out_is_what_was_said()
     ensures as_said { (sessions start end : LinkedSessions) (settings : Settings) (before since : List Deed)
         (link session : ℕ) (own : OutputHandle) (held : Option Said) (pieces : List Piece) →
