@@ -1,5 +1,6 @@
 //! The links that a peer asks for, by their handles and their names.
-ghost use Rattle.std.specs.Prelude.{◌≡◌, is_some, IsSome, IfErr, OnOk, OnErr, option_copied, option_map, Ok, Err, None, Some};
+ghost use Rattle.std.specs.Prelude.{◌≡◌, is_some, IsSome, IfErr, OnOk, OnErr, option_copied, option_map, Ok, Err, None};
+ghost use Rattle.std.specs.Prelude.{Some};
 ghost use Rattle.std.specs.FinMap as map;
 ghost use Rattle.amqp_endpoint_asked.specs.Asked.{Asks, Names, asked_with, is_asked, told_at, told_of};
 ghost use Rattle.amqp_endpoint_asked.specs.Inside.{AreNamed, PutsUnder, TakesAway};

@@ -1,6 +1,7 @@
 //! A session that the peer asks for.
 ghost use Rattle.std.specs.Prelude.{◌≡◌, None};
-ghost use Rattle.amqp_endpoint_asked.specs.AskedSession.{session_told, flow_of, asked_by, is_for_asked, AttachAnswered, FlowAnswered, DetachAnswered};
+ghost use Rattle.amqp_endpoint_asked.specs.AskedSession.{session_told, flow_of, asked_by, is_for_asked, AttachAnswered};
+ghost use Rattle.amqp_endpoint_asked.specs.AskedSession.{FlowAnswered, DetachAnswered};
 
 use crate::links::{AskRefusal, AskedLinks};
 use amqp_session_performatives::{Attach, Begin, Detach, Flow};

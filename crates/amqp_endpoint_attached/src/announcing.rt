@@ -23,7 +23,8 @@ use std::collections::VecDeque;
 /// it.
 pub(crate) fn offered<R: Drop>(session: &Session<R>) -> Result<OutputHandle, AttachRefusal>
     ensures ok { IfOk result (λ handle. (handle ≡ offered session.now) × IsOffered session.now) }
-    ensures err { IfErr result (λ e. (e ≡ HandleMaxReached) × (session.now.handle_max < session.now.offered)) }
+    ensures err { IfErr result (λ e. (e ≡ HandleMaxReached)
+        × (session.now.handle_max < session.now.offered)) }
 {
     match session.offered_handle() {
         Ok(handle) => Ok(handle),

@@ -58,7 +58,8 @@ fn prepare<R: Drop>(
     out: &mut VecDeque<SessionFrame>,
 ) -> Result<Boxed<Attach>, AttachRefusal>
     requires { IsSome (after_send_attach (state_of link.old) false) }
-    ensures ok { IfOk result (λ attach. Sends limit link.old (offered session.now) attach link.new) }
+    ensures ok { IfOk result (λ attach. Sends limit link.old (offered session.now) attach
+        link.new) }
     ensures err { IfErr result (RefusesAttach limit session.now link.old) }
     ensures room { OnOk result (deque_len out.new < deque_capacity out.new) }
     ensures kept { out.new.items ≡ out.old.items }
@@ -80,7 +81,8 @@ fn allocate<R: LinkRelay, M: Drop>(
 ) -> Result<(OutputHandle, M), AttachRefusal>
     ensures ok { IfOk result (λ r. (made ≡ Ok r.1)
         × Steps R.gives session.old (Allocates (r.0).0 link None) session.new) }
-    ensures err { IfErr result (λ e. (made ≡ Err e) ⊎ (IsOk made × RefusesHandle session.old None e)) }
+    ensures err { IfErr result (λ e. (made ≡ Err e)
+        ⊎ (IsOk made × RefusesHandle session.old None e)) }
     ensures kept { OnErr result (session.new ≡ session.old) }
 {
     let made = made?;

@@ -37,7 +37,8 @@ pub fn detach(
     error: Option<definitions::Error>,
     out: &mut VecDeque<SessionFrame>,
 ) -> Result<(), EndpointError>
-    ensures answer { DetachAnswered session.old handle closed error result out.old.items session.new out.new.items }
+    ensures answer { DetachAnswered session.old handle closed error result out.old.items session.new
+        out.new.items }
     ensures kept { OnErr result ((session.new ≡ session.old) × (out.new.items ≡ out.old.items)) }
     ensures capacity { deque_capacity out.old ≤ deque_capacity out.new }
 {
@@ -64,7 +65,8 @@ pub fn detach_placed(
     requires there { is_there (end_at session.old handle) ≡ true }
     requires place { room_behind handle.0 1 session.old.session.outgoing.queues ≤ place }
     requires spare { deque_len out.old < deque_capacity out.old }
-    ensures given { DetachGiven session.old handle closed error out.old.items session.new out.new.items }
+    ensures given { DetachGiven session.old handle closed error out.old.items session.new
+        out.new.items }
     ensures capacity { deque_capacity out.new ≡ deque_capacity out.old }
 {
     detach_in(&mut session.session, handle, closed);
@@ -86,7 +88,8 @@ pub fn answer_detach(
     requires there { IsSome (end_at session.old handle) }
     requires place { room_behind handle.0 1 session.old.session.outgoing.queues ≤ place }
     requires spare { deque_len out.old < deque_capacity out.old }
-    ensures reply { DetachReplied session.old handle closed error out.old.items session.new out.new.items }
+    ensures reply { DetachReplied session.old handle closed error out.old.items session.new
+        out.new.items }
     ensures capacity { deque_capacity out.new ≡ deque_capacity out.old }
 {
     let answer = own_detach(handle, closed, error);

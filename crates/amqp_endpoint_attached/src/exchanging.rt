@@ -1,5 +1,6 @@
 //! How a link answers one that the peer asks for: what both Attach make of it (part 2, 2.6.3).
-ghost use Rattle.std.specs.Prelude.{◌≡◌, ◌≤◌, ◌+◌, ◌⊎◌, Ok, Err, true, false, None, IsOk, IsSome, IfOk, IfErr, OnOk, OnErr};
+ghost use Rattle.std.specs.Prelude.{◌≡◌, ◌≤◌, ◌+◌, ◌⊎◌, Ok, Err, true, false, None, IsOk, IsSome, IfOk, IfErr, OnOk};
+ghost use Rattle.std.specs.Prelude.{OnErr};
 ghost use Rattle.std.specs.FinMap as map;
 ghost use Rattle.std.specs.VecDeque.{deque_len, deque_capacity};
 ghost use Rattle.amqp_session_outgoing.specs.Queues.{room_behind};
@@ -7,7 +8,8 @@ ghost use Rattle.amqp_link_attach.specs.State.{after_send_attach};
 ghost use Rattle.amqp_link_ends.specs.Ends.{flow_answer, flowed, state_of};
 ghost use Rattle.amqp_endpoint_attached.specs.Answering.{Exchanges, RefusesExchange, Takes, flowed_by, reply_to};
 ghost use Rattle.amqp_endpoint_attached.specs.Links.{is_at_rest, offered};
-ghost use Rattle.amqp_endpoint_attached.specs.Refusals.{IsOffered, RefusesPeer, outcome, receiver_outcome, sender_outcome, test_failed};
+ghost use Rattle.amqp_endpoint_attached.specs.Refusals.{IsOffered, RefusesPeer, outcome, receiver_outcome};
+ghost use Rattle.amqp_endpoint_attached.specs.Refusals.{sender_outcome, test_failed};
 ghost use Rattle.amqp_endpoint_attached.specs.declared.refusal.AttachRefusal.TheVariants.{Memory};
 
 use crate::announcing::{announce, make_room, offered, send_attach};
@@ -51,7 +53,8 @@ pub(crate) fn exchange<R: LinkRelay>(
     requires { is_at_rest (state_of link.old) ≡ true }
     ensures ok { IfOk result (λ made. Exchanges limit link.old asked.now (offered session.now) made.attaching
         made.attach made.reply link.new) }
-    ensures passes { OnOk result (IsOffered session.now × (test_failed link.old asked.now.attach ≡ None)) }
+    ensures passes { OnOk result (IsOffered session.now
+        × (test_failed link.old asked.now.attach ≡ None)) }
     ensures err { IfErr result (RefusesExchange limit session.now link.old asked.now) }
     ensures place { IfOk result (λ made.
         room_behind session.now.offered 1 session.now.outgoing.queues ≤ made.place) }

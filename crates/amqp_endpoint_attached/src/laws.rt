@@ -25,7 +25,8 @@ pub fn what_is_sent_is_the_frame()
 
 /// The Flow that shows what a receiving link gives has no properties (part 2, 2.7.4).
 pub fn a_shown_flow_has_no_properties()
-    ensures { (handle : OutputHandle) (receiver : ReceiverState) → (shown_flow handle receiver).properties ≡ None }
+    ensures { (handle : OutputHandle) (receiver : ReceiverState) →
+        (shown_flow handle receiver).properties ≡ None }
 {}
 
 /// An own Attach that lists as many unsettled deliveries as a frame holds fits that frame.

@@ -5,7 +5,8 @@ ghost use Rattle.amqp_session_core.specs.State.{link_at};
 ghost use Rattle.amqp_link_attach.specs.State.{is_attached};
 ghost use Rattle.amqp_link_receiver.specs.Flowing.{credited, own_flow};
 ghost use Rattle.amqp_endpoint_attached.specs.Linked.{end_in};
-ghost use Rattle.amqp_endpoint_attached.specs.Receiving.{drained, is_receiving, DrainAnswered, DrainsIn, GivesCredit, GivesIn, GrantAnswered, WantsDrain};
+ghost use Rattle.amqp_endpoint_attached.specs.Receiving.{drained, is_receiving, DrainAnswered, DrainsIn, GivesCredit};
+ghost use Rattle.amqp_endpoint_attached.specs.Receiving.{GivesIn, GrantAnswered, WantsDrain};
 
 use crate::sending::{LinkSession, room_for_frame, send_flow};
 use amqp_endpoint_links::Numbered;
@@ -34,7 +35,8 @@ pub fn grant(
     credit: u32,
     out: &mut VecDeque<SessionFrame>,
 ) -> Result<u32, EndpointError>
-    ensures answer { GrantAnswered session.old handle credit result out.old.items session.new out.new.items }
+    ensures answer { GrantAnswered session.old handle credit result out.old.items session.new
+        out.new.items }
     ensures kept { OnErr result ((session.new ≡ session.old) × (out.new.items ≡ out.old.items)) }
     ensures capacity { deque_capacity out.old ≤ deque_capacity out.new }
 {
@@ -63,7 +65,8 @@ pub fn drain(
     handle: OutputHandle,
     out: &mut VecDeque<SessionFrame>,
 ) -> Result<(), EndpointError>
-    ensures answer { DrainAnswered session.old handle result out.old.items session.new out.new.items }
+    ensures answer { DrainAnswered session.old handle result out.old.items session.new
+        out.new.items }
     ensures kept { OnErr result ((session.new ≡ session.old) × (out.new.items ≡ out.old.items)) }
     ensures capacity { deque_capacity out.old ≤ deque_capacity out.new }
 {

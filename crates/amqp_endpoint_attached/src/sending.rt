@@ -26,7 +26,8 @@ pub(crate) fn room_for_frame<R: LinkRelay>(
     handle: OutputHandle,
     out: &mut VecDeque<SessionFrame>,
 ) -> Result<Place<BehindFrame>, AllocError>
-    ensures place { IfOk result (λ place. room_behind handle.0 1 session.now.outgoing.queues ≤ place) }
+    ensures place { IfOk result (λ place.
+        room_behind handle.0 1 session.now.outgoing.queues ≤ place) }
     ensures spare { OnOk result (deque_len out.new < deque_capacity out.new) }
     ensures same { out.new.items ≡ out.old.items }
     ensures capacity { deque_capacity out.old ≤ deque_capacity out.new }

@@ -8,7 +8,8 @@ ghost use Rattle.amqp_endpoint_sessions.specs.State.{asked_at, asked_on, live_at
 ghost use Rattle.amqp_endpoint_sessions.specs.Steps.{Steps, Begins, ChangesLive};
 ghost use Rattle.std.specs.Global.{Box};
 ghost use Rattle.std.specs.VecDeque.{deque_len, deque_capacity};
-ghost use Rattle.amqp_endpoint_conversation.specs.Beginning.{Accepting, AcceptsHere, BeginsHere, BeginAnswered, HearsBegin, RefusesAccept, with_links};
+ghost use Rattle.amqp_endpoint_conversation.specs.Beginning.{Accepting, AcceptsHere, BeginsHere, BeginAnswered};
+ghost use Rattle.amqp_endpoint_conversation.specs.Beginning.{HearsBegin, RefusesAccept, with_links};
 
 use crate::conversation::Conversation;
 use amqp_endpoint_asked::AskedSession;
@@ -61,7 +62,8 @@ impl<R: LinkRelay> Conversation<R> {
         alloc: Global,
         out: &mut VecDeque<SessionFrame>,
     ) -> Result<u64, BeginError>
-        ensures ok { IfOk result (λ number. BeginsHere R.gives self.old out.old.items number self.new out.new.items) }
+        ensures ok { IfOk result (λ number.
+            BeginsHere R.gives self.old out.old.items number self.new out.new.items) }
         ensures err { IfErr result (RefusesSession self.old.sessions.connection) }
         ensures kept { OnErr result ((self.new ≡ self.old) × (out.new.items ≡ out.old.items)) }
     {
@@ -142,7 +144,8 @@ impl<R: LinkRelay> Conversation<R> {
         number: u64,
     ) -> Result<(), BeginError>
         requires { asked_on self.old.sessions channel.0 ≡ Some number }
-        ensures ok { OnOk result (AcceptsHere R.gives self.old out.old.items channel number self.new out.new.items) }
+        ensures ok { OnOk result (AcceptsHere R.gives self.old out.old.items channel number self.new
+            out.new.items) }
         ensures err { IfErr result (RefusesSession self.old.sessions.connection) }
         ensures kept { OnErr result ((self.new ≡ self.old) × (out.new.items ≡ out.old.items)) }
     {
@@ -168,7 +171,8 @@ impl<R: LinkRelay> Conversation<R> {
         outgoing: OutgoingChannel,
     ) -> Result<(Box<AskingSession<R>>, SessionFrame), AllocError>
         requires { IsSome (asked_at self.now.sessions number) }
-        ensures { IfOk result (λ made. Accepting R.gives self.now channel number outgoing made.0 made.1) }
+        ensures { IfOk result (λ made. Accepting R.gives self.now channel number outgoing made.0
+            made.1) }
     {
         let Some(asked) = self.sessions.asked(number) else {
             unreachable!()
@@ -210,7 +214,8 @@ impl<R: LinkRelay> Conversation<R> {
         channel: IncomingChannel,
         begin: Begin,
     ) -> Result<BeginHeard, BeginRefusal>
-        ensures { BeginAnswered R.gives self.old out.old.items channel begin result self.new out.new.items }
+        ensures { BeginAnswered R.gives self.old out.old.items channel begin result self.new
+            out.new.items }
     {
         match begin.remote_channel {
             None => self.ask(alloc, channel, begin),
@@ -226,7 +231,8 @@ impl<R: LinkRelay> Conversation<R> {
         begin: Begin,
     ) -> Result<BeginHeard, BeginRefusal>
         requires { begin.remote_channel ≡ None }
-        ensures { (out : List SessionFrame) → BeginAnswered R.gives self.old out channel begin result self.new out }
+        ensures { (out : List SessionFrame) →
+            BeginAnswered R.gives self.old out channel begin result self.new out }
     {
         if self.sessions.reached(channel).is_some() {
             return Err(BeginRefusal::Connection(ConnectionError::NotAllowed));
@@ -248,7 +254,8 @@ impl<R: LinkRelay> Conversation<R> {
         begin: &Begin,
     ) -> Result<BeginHeard, BeginRefusal>
         requires { IsSome begin.now.remote_channel }
-        ensures { BeginAnswered R.gives self.old out.old.items channel begin.now result self.new out.new.items }
+        ensures { BeginAnswered R.gives self.old out.old.items channel begin.now result self.new
+            out.new.items }
     {
         let number = match self.sessions.on_incoming_begin(channel, begin) {
             Ok(number) => number,

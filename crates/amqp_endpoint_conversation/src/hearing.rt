@@ -6,7 +6,8 @@ ghost use Rattle.amqp_endpoint_asked.specs.declared.session.AskedSession.{AskedS
 ghost use Rattle.amqp_endpoint_links.specs.Hearing.{says_flow};
 ghost use Rattle.amqp_endpoint_links.specs.declared.asking.AskingSession.{AskingSession};
 ghost use Rattle.amqp_endpoint_sessions.specs.State.{asked_at, live_at};
-ghost use Rattle.amqp_endpoint_conversation.specs.Hearing.{Answered, AskedAnswered, FlowTold, LiveAnswered, LiveHears, Refuses};
+ghost use Rattle.amqp_endpoint_conversation.specs.Hearing.{Answered, AskedAnswered, FlowTold, LiveAnswered, LiveHears};
+ghost use Rattle.amqp_endpoint_conversation.specs.Hearing.{Refuses};
 
 use crate::conversation::Conversation;
 use amqp_endpoint_links::{AskingSession, LinkPerformative, PerformativeTaken, hear_asked};
@@ -57,7 +58,8 @@ impl<R: LinkRelay> Conversation<R> {
         channel: IncomingChannel,
         said: LinkPerformative,
     ) -> Result<Heard<R::Attached, R::Transferred, R::Detached>, HearRefusal<R>>
-        ensures step { Answered R.gives self.old out.old.items channel said result self.new out.new.items }
+        ensures step { Answered R.gives self.old out.old.items channel said result self.new
+            out.new.items }
         ensures untouched { says_flow said ≡ false → OnOk result (out.new ≡ out.old) }
     {
         let Some(number) = self.sessions.reached(channel) else {

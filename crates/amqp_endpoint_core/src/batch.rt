@@ -20,7 +20,8 @@ pub(crate) fn pull_batch(
 ) -> Result<usize, EndpointError>
     requires least { 512 ≤ limit }
     requires within { AllWithin limit (queue.old.items ++ frames_waiting out.old.items) }
-    ensures fills { IfOk result (λ count. Fills most (queue.old.items ++ frames_waiting out.old.items) count) }
+    ensures fills { IfOk result (λ count.
+        Fills most (queue.old.items ++ frames_waiting out.old.items) count) }
     ensures some { IfOk result (λ count. limit ≤ most
         → 0 < length (queue.old.items ++ frames_waiting out.old.items) → 0 < count) }
     ensures bytes { IfOk result (λ count. bytes.new.items

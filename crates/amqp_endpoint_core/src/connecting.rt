@@ -3,12 +3,14 @@ ghost use Rattle.amqp_session_types.specs.declared.refusals.ConnectionError.TheV
 ghost use Rattle.amqp_session_connection.specs.State.{fresh};
 ghost use Rattle.amqp_session_connection.specs.Steps.{frame_on};
 ghost use Rattle.amqp_session_connection.specs.Table.{after_incoming_close, after_incoming_open, after_send_close};
-ghost use Rattle.amqp_session_connection.specs.declared.state.ConnectionState.TheVariants.{Start, HeaderSent, HeaderExchange, OpenSent};
+ghost use Rattle.amqp_session_connection.specs.declared.state.ConnectionState.TheVariants.{Start, HeaderSent};
+ghost use Rattle.amqp_session_connection.specs.declared.state.ConnectionState.TheVariants.{HeaderExchange, OpenSent};
 ghost use Rattle.amqp_session_frames.specs.declared.frame.FrameBody.TheVariants as body;
 ghost use Rattle.amqp_endpoint_model.specs.State.{fits, own_close_with, own_open, the_frame};
 ghost use Rattle.amqp_endpoint_model.specs.Step as step;
 ghost use Rattle.amqp_endpoint_model.specs.declared.error.EndpointError.TheVariants.{Memory, FrameTooLarge};
-ghost use Rattle.amqp_endpoint_core.specs.Connected.{BeginsWith, IsGreeting, MovesBy, StayIdle, StayWithin, sent_close, took_close};
+ghost use Rattle.amqp_endpoint_core.specs.Connected.{BeginsWith, IsGreeting, MovesBy, StayIdle, StayWithin, sent_close};
+ghost use Rattle.amqp_endpoint_core.specs.Connected.{took_close};
 
 use crate::coding::{MIN_MAX_FRAME_SIZE, encoded, open_of};
 use crate::queued::Queued;
@@ -22,7 +24,8 @@ use std::alloc::Global;
 /// A connection before its start, which sends the Open of these settings. `FrameTooLarge` where that has more than 512
 /// bytes.
 pub(crate) fn unopened(alloc: Global, settings: &Settings) -> Result<Connection, EndpointError>
-    ensures ok { IfOk result (λ c. BeginsWith Start settings.now c × (fits 512 (own_open settings.now) ≡ true)) }
+    ensures ok { IfOk result (λ c. BeginsWith Start settings.now c
+        × (fits 512 (own_open settings.now) ≡ true)) }
     ensures err { IfErr result (λ e. (e ≡ Memory)
         ⊎ ((e ≡ FrameTooLarge) × (fits 512 (own_open settings.now) ≡ false))) }
 {
@@ -77,10 +80,12 @@ pub(crate) fn close(
     connection: &mut Connection,
     error: Option<definitions::Error>,
 ) -> Result<Queued, EndpointError>
-    ensures ok { OnOk result (MovesBy (after_send_close (is_some error)) connection.old connection.new) }
+    ensures ok { OnOk result (MovesBy (after_send_close (is_some error)) connection.old
+        connection.new) }
     ensures frame { IfOk result (λ q. q ≡ the_frame (own_close_with error)) }
     ensures own { OnOk result (sent_close connection.new.local_state ≡ true) }
-    ensures peer { OnOk result (took_close connection.new.local_state ≡ took_close connection.old.local_state) }
+    ensures peer { OnOk result (took_close connection.new.local_state
+        ≡ took_close connection.old.local_state) }
     ensures err { IfErr result (λ e. (e ≡ EndpointError.Connection IllegalState)
         × (after_send_close (is_some error) connection.old.local_state ≡ None) × (connection.new ≡ connection.old)) }
 {
@@ -105,7 +110,8 @@ pub(crate) fn take_close(
 /// The connection of these sessions begins anew.
 pub(crate) fn greet_anew<S: SessionRelay>(alloc: Global, sessions: &mut S)
     ensures sessions { sessions.new ≡ step.anew S.does sessions.old }
-    ensures connection { S.does.connection sessions.new ≡ fresh HeaderSent (S.does.connection sessions.old).local_open }
+    ensures connection { S.does.connection sessions.new
+        ≡ fresh HeaderSent (S.does.connection sessions.old).local_open }
     ensures within { StayWithin S.does sessions.old sessions.new }
     ensures idle { StayIdle S.does sessions.old sessions.new }
 {
@@ -159,7 +165,8 @@ pub(crate) fn send_close<S: SessionRelay>(
     sessions: &mut S,
     error: Option<definitions::Error>,
 ) -> Result<Queued, EndpointError>
-    ensures ok { OnOk result (step.MovesBy S.does (after_send_close (is_some error)) sessions.old sessions.new) }
+    ensures ok { OnOk result (step.MovesBy S.does (after_send_close (is_some error)) sessions.old
+        sessions.new) }
     ensures connection { OnOk result (MovesBy (after_send_close (is_some error))
         (S.does.connection sessions.old) (S.does.connection sessions.new)) }
     ensures frame { IfOk result (λ q. q ≡ the_frame (own_close_with error)) }

@@ -2,10 +2,12 @@ ghost use Rattle.std.specs.Prelude.{◌≡◌, ◌≤◌, ◌<◌, ◌==◌, ◌
 ghost use Rattle.std.specs.Prelude.{Some, None, IfOk, IfErr, OnOk, OnErr, MatchOption, MatchResult};
 ghost use Rattle.amqp_session_connection.specs.Table.{after_send_close};
 ghost use Rattle.amqp_endpoint_model.specs.Relay.{IsNew};
-ghost use Rattle.amqp_endpoint_model.specs.State.{Waiting, fresh, has_opened, is_running, limit_of, text_of, the_frame, the_header, heartbeat, fits, own_close_with};
+ghost use Rattle.amqp_endpoint_model.specs.State.{Waiting, fresh, has_opened, is_running, limit_of, text_of, the_frame};
+ghost use Rattle.amqp_endpoint_model.specs.State.{the_header, heartbeat, fits, own_close_with};
 ghost use Rattle.amqp_endpoint_core.specs.Queue.{IsFirst, PullsInto};
 ghost use Rattle.amqp_endpoint_model.specs.Said.{said};
-ghost use Rattle.amqp_endpoint_model.specs.Step.{refusal_of_settings, refusal, Breaks, ClosesOwn, MayRefuse, MovesBy, Pulls, Step, close_refusal, connected, goes_on};
+ghost use Rattle.amqp_endpoint_model.specs.Step.{refusal_of_settings, refusal, Breaks, ClosesOwn, MayRefuse, MovesBy};
+ghost use Rattle.amqp_endpoint_model.specs.Step.{Pulls, Step, close_refusal, connected, goes_on};
 ghost use Rattle.amqp_endpoint_model.specs.declared.error.EndpointError.TheVariants.{Memory};
 ghost use Rattle.amqp_endpoint_model.specs.declared.settings.Settings.{Settings};
 
@@ -143,8 +145,10 @@ impl<S: SessionRelay> Endpoint<S> {
     /// `AlreadyConnected` where there is a connection, also one that is closed: `break_off` ends it. `Memory`
     /// where there is no memory. A refusal changes nothing.
     pub fn connect(&mut self) -> Result<(), EndpointError>
-        ensures ok { OnOk result ((refusal self.old Call.Connect ≡ None) × (self.new ≡ connected S.does self.old)) }
-        ensures err { IfErr result (λ e. MayRefuse self.old Call.Connect e × (self.new ≡ self.old)) }
+        ensures ok { OnOk result ((refusal self.old Call.Connect ≡ None)
+            × (self.new ≡ connected S.does self.old)) }
+        ensures err { IfErr result (λ e. MayRefuse self.old Call.Connect e
+            × (self.new ≡ self.old)) }
     {
         if self.phase != Phase::Unconnected {
             return Err(EndpointError::AlreadyConnected);
@@ -237,7 +241,8 @@ impl<S: SessionRelay> Endpoint<S> {
     pub fn heartbeat(&mut self) -> Result<(), EndpointError>
         ensures ok { OnOk result ((refusal self.old Call.Heartbeat ≡ None)
             × (self.new ≡ record self.old { queue = self.old.queue ++ the_frame heartbeat ∷ [] })) }
-        ensures err { IfErr result (λ e. MayRefuse self.old Call.Heartbeat e × (self.new ≡ self.old)) }
+        ensures err { IfErr result (λ e. MayRefuse self.old Call.Heartbeat e
+            × (self.new ≡ self.old)) }
     {
         if !self.goes_on() {
             return Err(EndpointError::NotConnected);
@@ -298,7 +303,8 @@ impl<S: SessionRelay> Endpoint<S> {
     pub fn try_close(&mut self) -> Result<(), TryCloseError>
         ensures ok { OnOk result ((close_refusal self.old ≡ None)
             × (self.new ≡ record self.old { close_told = true })) }
-        ensures err { IfErr result (λ e. (close_refusal self.old ≡ Some e) × (self.new ≡ self.old)) }
+        ensures err { IfErr result (λ e. (close_refusal self.old ≡ Some e)
+            × (self.new ≡ self.old)) }
     {
         if !self.peer_close() {
             return Err(TryCloseError::RemoteCloseNotReceived);
@@ -448,7 +454,8 @@ fn done(outcome: Result<(), EndpointError>) -> Answer
 }
 
 fn begun(outcome: Result<u64, EndpointError>) -> Answer
-    ensures { MatchResult outcome (λ number. result ≡ Answer.Session number) (λ e. result ≡ Answer.Refused e) }
+    ensures { MatchResult outcome (λ number. result ≡ Answer.Session number)
+        (λ e. result ≡ Answer.Refused e) }
 {
     match outcome {
         Ok(number) => Answer::Session(number),
@@ -457,7 +464,8 @@ fn begun(outcome: Result<u64, EndpointError>) -> Answer
 }
 
 fn attaching(outcome: Result<Attaching, EndpointError>) -> Answer
-    ensures { MatchResult outcome (λ a. result ≡ Answer.Attaching a) (λ e. result ≡ Answer.Refused e) }
+    ensures { MatchResult outcome (λ a. result ≡ Answer.Attaching a)
+        (λ e. result ≡ Answer.Refused e) }
 {
     match outcome {
         Ok(attaching) => Answer::Attaching(attaching),
@@ -466,7 +474,8 @@ fn attaching(outcome: Result<Attaching, EndpointError>) -> Answer
 }
 
 fn link_closed(outcome: Result<Vec<Event>, EndpointError>) -> Answer
-    ensures { MatchResult outcome (λ events. result ≡ Answer.LinkClosed events) (λ e. result ≡ Answer.Refused e) }
+    ensures { MatchResult outcome (λ events. result ≡ Answer.LinkClosed events)
+        (λ e. result ≡ Answer.Refused e) }
 {
     match outcome {
         Ok(events) => Answer::LinkClosed(events),
@@ -475,7 +484,8 @@ fn link_closed(outcome: Result<Vec<Event>, EndpointError>) -> Answer
 }
 
 fn credit_is(outcome: Result<u32, EndpointError>) -> Answer
-    ensures { MatchResult outcome (λ left. result ≡ Answer.Credit left) (λ e. result ≡ Answer.Refused e) }
+    ensures { MatchResult outcome (λ left. result ≡ Answer.Credit left)
+        (λ e. result ≡ Answer.Refused e) }
 {
     match outcome {
         Ok(left) => Answer::Credit(left),
@@ -493,7 +503,8 @@ fn count(outcome: Result<usize, EndpointError>) -> Answer
 }
 
 fn waiting(outcome: Result<Vec<(u64, u64)>, EndpointError>) -> Answer
-    ensures { MatchResult outcome (λ turn. result ≡ Answer.Waiting turn) (λ e. result ≡ Answer.Refused e) }
+    ensures { MatchResult outcome (λ turn. result ≡ Answer.Waiting turn)
+        (λ e. result ≡ Answer.Refused e) }
 {
     match outcome {
         Ok(turn) => Answer::Waiting(turn),

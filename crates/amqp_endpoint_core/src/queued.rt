@@ -1,4 +1,5 @@
-ghost use Rattle.std.specs.Prelude.{◌≡◌, ◌+◌, ◌<◌, ◌≤◌, ◌^◌, ◌++◌, [], true, drop, length, IfErr, IfOk, MatchOption, OnErr, OnOk};
+ghost use Rattle.std.specs.Prelude.{◌≡◌, ◌+◌, ◌<◌, ◌≤◌, ◌^◌, ◌++◌, [], true, drop, length, IfErr, IfOk, MatchOption};
+ghost use Rattle.std.specs.Prelude.{OnErr, OnOk};
 ghost use Rattle.amqp_session_frames.specs.Cutting.{with_size};
 ghost use Rattle.amqp_endpoint_model.specs.State.{Waiting, body_of, fits, protocol_header, text_of, the_frame};
 ghost use Rattle.amqp_endpoint_model.specs.State.{the_header, waiting_of, written};
@@ -103,7 +104,8 @@ impl Queued {
 /// Puts the frame that sessions sent first behind what waits, where nothing else does. Nothing changes where there is
 /// no memory.
 fn advance(queue: &mut VecDeque<Queued>, out: &mut VecDeque<SessionFrame>) -> Result<(), AllocError>
-    ensures same { queue.new.items ++ frames_waiting out.new.items ≡ queue.old.items ++ frames_waiting out.old.items }
+    ensures same { queue.new.items ++ frames_waiting out.new.items ≡ queue.old.items
+        ++ frames_waiting out.old.items }
     ensures first { OnOk result (queue.new.items ≡ [] → out.new.items ≡ []) }
 {
     if !queue.is_empty() {
@@ -130,7 +132,8 @@ pub(crate) fn first_bytes(
         (λ bytes. (first : Waiting) × IsFirst (queue.old.items ++ frames_waiting out.old.items) first
         × (bytes.items ≡ text_of first))) }
     ensures err { IfErr result (λ e. e ≡ Memory) }
-    ensures same { queue.new.items ++ frames_waiting out.new.items ≡ queue.old.items ++ frames_waiting out.old.items }
+    ensures same { queue.new.items ++ frames_waiting out.new.items ≡ queue.old.items
+        ++ frames_waiting out.old.items }
 {
     advance(queue, out)?;
     let Some(first) = queue.front() else {
@@ -173,7 +176,8 @@ pub(crate) fn gather(
 ) -> Result<(), AllocError>
     ensures ok { OnOk result ((queue.new.items ≡ queue.old.items ++ frames_waiting out.old.items)
         × (out.new.items ≡ []) × (deque_len queue.new < deque_capacity queue.new)) }
-    ensures err { OnErr result ((queue.new.items ≡ queue.old.items) × (out.new.items ≡ out.old.items)) }
+    ensures err { OnErr result ((queue.new.items ≡ queue.old.items)
+        × (out.new.items ≡ out.old.items)) }
 {
     let Some(room) = out.len().checked_add(1) else {
         return Err(AllocError);

@@ -78,7 +78,8 @@ fn too_large(
     tags: &[DeliveryTag],
 ) -> EndpointError
     requires { is_receiving (end_in session.now handle) ≡ true }
-    ensures { RefusesAll (end_in session.now handle) (named_at (end_in session.now handle) tags.now) false result }
+    ensures { RefusesAll (end_in session.now handle) (named_at (end_in session.now handle) tags.now)
+        false result }
 {
     match look_at(session, alloc, handle, tags) {
         Ok(()) => EndpointError::FrameTooLarge,
@@ -99,7 +100,8 @@ fn dispose_in(
     ensures disposes { IfOk result (λ told.
         DisposesOfAll handle tags.now state settled session.old told.items session.new) }
     ensures few { IfOk result (λ told. length told.items ≤ length tags.now) }
-    ensures refused { IfErr result (λ error. NotNamed (named_at (end_in session.old handle) tags.now) error) }
+    ensures refused { IfErr result (λ error.
+        NotNamed (named_at (end_in session.old handle) tags.now) error) }
     ensures kept { OnErr result (session.new ≡ session.old) }
 {
     let Some(link) = session.link_mut(handle) else {
@@ -117,7 +119,8 @@ fn dispose_by(
     settled: Option<bool>,
 ) -> Result<Vec<Disposition>, DisposeError>
     requires { is_receiving (Some link.old) ≡ true }
-    ensures disposes { IfOk result (λ told. EndDisposes link.old tags.now state settled told.items link.new) }
+    ensures disposes { IfOk result (λ told.
+        EndDisposes link.old tags.now state settled told.items link.new) }
     ensures refused { IfErr result (λ error. NotNamed (named_at (Some link.old) tags.now) error) }
     ensures kept { OnErr result (link.new ≡ link.old) }
 {

@@ -21,7 +21,9 @@ ghost use Rattle.amqp_endpoint_links.specs.declared.hearing.LinkPerformative.{Li
 ghost use Rattle.amqp_endpoint_links.specs.declared.hearing.PerformativeTaken.{PerformativeTaken};
 ghost use Rattle.amqp_endpoint_links.specs.declared.hearing.PerformativeTaken.TheVariants as taken;
 ghost use Rattle.amqp_endpoint_fitting.specs.Fits.{FrameFits, QueuesFit};
-ghost use Rattle.amqp_endpoint_fitting.specs.Handed.{AllAskingEndFit, AllAskingHand, AllAskingSendFit, AllEndFit, AllSendFit, AskingEndFits, AskingHands, AskingSendsFit, EndFits, RepliesFit, SendsFit, handed, handed_of};
+ghost use Rattle.amqp_endpoint_fitting.specs.Handed.{AllAskingEndFit, AllAskingHand, AllAskingSendFit, AllEndFit};
+ghost use Rattle.amqp_endpoint_fitting.specs.Handed.{AllSendFit, AskingEndFits, AskingHands, AskingSendsFit, EndFits};
+ghost use Rattle.amqp_endpoint_fitting.specs.Handed.{RepliesFit, SendsFit, handed, handed_of};
 ghost use Rattle.amqp_endpoint_fitting.specs.Read.{IsRead};
 
 use amqp_session_core::LinkRelay;

@@ -10,7 +10,9 @@ ghost use Rattle.amqp_session_performatives.specs.declared.session_frame.Session
 ghost use Rattle.amqp_session_frames.specs.declared.frame.Frame.{Frame};
 ghost use Rattle.amqp_endpoint_model.specs.State.{error_of, fits, frame_of};
 ghost use Rattle.amqp_endpoint_model.specs.Step.{not_allowed};
-ghost use Rattle.amqp_endpoint_lengths.specs.Plain.{IsPlainBegin, IsPlainDetach, IsPlainDisposition, IsPlainEnd, IsPlainFlow, SaysConditionAlone, handle_in_use, message_size_exceeded, transfer_limit_exceeded, unattached_handle};
+ghost use Rattle.amqp_endpoint_lengths.specs.Plain.{IsPlainBegin, IsPlainDetach, IsPlainDisposition, IsPlainEnd};
+ghost use Rattle.amqp_endpoint_lengths.specs.Plain.{IsPlainFlow, SaysConditionAlone, handle_in_use};
+ghost use Rattle.amqp_endpoint_lengths.specs.Plain.{message_size_exceeded, transfer_limit_exceeded, unattached_handle};
 
 /// What fits the least limit fits every other one (part 2, 2.4.1).
 pub fn a_larger_limit_fits_too()

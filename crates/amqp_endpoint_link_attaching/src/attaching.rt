@@ -76,7 +76,8 @@ pub fn attach_sender(
 ) -> Result<Placed, EndpointError>
     ensures ok { IfOk result (λ placed. LinkAttaches talk.old links.old out.old.items limit session
         (sender_by settings.now) placed talk.new links.new out.new.items) }
-    ensures err { IfErr result (BarsAttaching limit talk.old links.old session (sender_by settings.now)) }
+    ensures err { IfErr result (BarsAttaching limit talk.old links.old session
+        (sender_by settings.now)) }
     ensures kept { OnErr result
         ((talk.new ≡ talk.old) × (links.new ≡ links.old) × (out.new.items ≡ out.old.items)) }
     ensures goes { Goes limit talk.old talk.new out.old.items out.new.items }
@@ -106,7 +107,8 @@ pub fn attach_receiver(
 ) -> Result<Placed, EndpointError>
     ensures ok { IfOk result (λ placed. LinkAttaches talk.old links.old out.old.items limit session
         (receiver_by settings.now) placed talk.new links.new out.new.items) }
-    ensures err { IfErr result (BarsAttaching limit talk.old links.old session (receiver_by settings.now)) }
+    ensures err { IfErr result (BarsAttaching limit talk.old links.old session
+        (receiver_by settings.now)) }
     ensures kept { OnErr result
         ((talk.new ≡ talk.old) × (links.new ≡ links.old) × (out.new.items ≡ out.old.items)) }
     ensures goes { Goes limit talk.old talk.new out.old.items out.new.items }

@@ -51,7 +51,8 @@ pub fn close_link(
     ensures err { IfErr result (BarsClosing talk.old (place_at links.old link)) }
     ensures kept { OnErr result
         ((talk.new ≡ talk.old) × (links.new ≡ links.old) × (out.new.items ≡ out.old.items)) }
-    ensures goes { (limit : ℕ) → 512 ≤ limit → Goes limit talk.old talk.new out.old.items out.new.items }
+    ensures goes { (limit : ℕ) → 512 ≤ limit →
+        Goes limit talk.old talk.new out.old.items out.new.items }
     ensures rests { Rests talk.old talk.new out.old.items out.new.items }
 {
     if let Some(count) = open_at_rest(links, link) {
@@ -63,7 +64,8 @@ pub fn close_link(
 
 /// How many messages are open of the link with this number, if it is at rest.
 fn open_at_rest(links: &Links<LinkEnd>, link: u64) -> Option<usize>
-    ensures { result ≡ option_map (λ (end : LinkOf). open_count (Some end)) (rest_at links.now link) }
+    ensures { result ≡ option_map (λ (end : LinkOf). open_count (Some end))
+        (rest_at links.now link) }
 {
     match links.at_rest(link) {
         Some(end) => Some(open_count(end)),
@@ -140,9 +142,11 @@ fn close_held(
 ) -> Result<Vec<Event>, EndpointError>
     ensures ok { IfOk result (λ events. DoneIn (closes events.items) session handle talk.old out.old.items talk.new
         out.new.items) }
-    ensures err { IfErr result (RefusesDetach (end_live (live_at talk.old.sessions session) handle)) }
+    ensures err { IfErr result (RefusesDetach
+        (end_live (live_at talk.old.sessions session) handle)) }
     ensures kept { OnErr result ((talk.new ≡ talk.old) × (out.new.items ≡ out.old.items)) }
-    ensures goes { (limit : ℕ) → 512 ≤ limit → Goes limit talk.old talk.new out.old.items out.new.items }
+    ensures goes { (limit : ℕ) → 512 ≤ limit →
+        Goes limit talk.old talk.new out.old.items out.new.items }
     ensures rests { Rests talk.old talk.new out.old.items out.new.items }
 {
     handle_is_short(handle);
@@ -162,7 +166,8 @@ fn close_in(
 ) -> Result<Vec<Event>, EndpointError>
     ensures ok { IfOk result (λ events. DoneIn (closes events.items) session handle talk.old out.old.items talk.new
         out.new.items) }
-    ensures err { IfErr result (RefusesDetach (end_live (live_at talk.old.sessions session) handle)) }
+    ensures err { IfErr result (RefusesDetach
+        (end_live (live_at talk.old.sessions session) handle)) }
     ensures kept { OnErr result ((talk.new ≡ talk.old) × (out.new.items ≡ out.old.items)) }
 {
     let Some(session) = talk.sessions.live_mut(session) else {
@@ -196,7 +201,8 @@ fn close_by(
 fn open_in(session: &LinkSession, handle: OutputHandle) -> Result<usize, EndpointError>
     ensures there { OnOk result (is_there (end_at session.now handle) ≡ true) }
     ensures ok { IfOk result (λ count. count ≡ open_count (end_at session.now handle)) }
-    ensures err { IfErr result (λ e. (e ≡ IllegalState) × (is_there (end_at session.now handle) ≡ false)) }
+    ensures err { IfErr result (λ e. (e ≡ IllegalState)
+        × (is_there (end_at session.now handle) ≡ false)) }
 {
     let Some(link) = session.session.link(handle) else {
         return Err(EndpointError::IllegalState);

@@ -86,7 +86,8 @@ fn grant_in(
 ) -> Result<u32, EndpointError>
     ensures ok { IfOk result (λ left. DoneIn (gives_credit credit left) session handle talk.old out.old.items
         talk.new out.new.items) }
-    ensures err { IfErr result (RefusesGrant (end_live (live_at talk.old.sessions session) handle) credit) }
+    ensures err { IfErr result (RefusesGrant (end_live (live_at talk.old.sessions session) handle)
+        credit) }
     ensures kept { OnErr result ((talk.new ≡ talk.old) × (out.new.items ≡ out.old.items)) }
 {
     let Some(session) = talk.sessions.live_mut(session) else {
@@ -103,8 +104,10 @@ fn drain_in(
     handle: OutputHandle,
     out: &mut VecDeque<SessionFrame>,
 ) -> Result<(), EndpointError>
-    ensures ok { OnOk result (DoneIn wants_drain session handle talk.old out.old.items talk.new out.new.items) }
-    ensures err { IfErr result (RefusesDrain (end_live (live_at talk.old.sessions session) handle)) }
+    ensures ok { OnOk result (DoneIn wants_drain session handle talk.old out.old.items talk.new
+        out.new.items) }
+    ensures err { IfErr result (RefusesDrain
+        (end_live (live_at talk.old.sessions session) handle)) }
     ensures kept { OnErr result ((talk.new ≡ talk.old) × (out.new.items ≡ out.old.items)) }
 {
     let Some(session) = talk.sessions.live_mut(session) else {

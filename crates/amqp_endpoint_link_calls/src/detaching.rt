@@ -35,7 +35,8 @@ pub fn detach(
         (DoneAt (detaches false) (place_at links.now link) talk.old out.old.items talk.new out.new.items) }
     ensures err { IfErr result (BarsDetach talk.old (place_at links.now link)) }
     ensures kept { OnErr result ((talk.new ≡ talk.old) × (out.new.items ≡ out.old.items)) }
-    ensures goes { (limit : ℕ) → 512 ≤ limit → Goes limit talk.old talk.new out.old.items out.new.items }
+    ensures goes { (limit : ℕ) → 512 ≤ limit →
+        Goes limit talk.old talk.new out.old.items out.new.items }
     ensures rests { Rests talk.old talk.new out.old.items out.new.items }
 {
     let (session, handle) = holder(links, link)?;
@@ -53,9 +54,11 @@ fn detach_held(
 ) -> Result<(), EndpointError>
     ensures ok { OnOk result
         (DoneIn (detaches false) session handle talk.old out.old.items talk.new out.new.items) }
-    ensures err { IfErr result (RefusesDetach (end_live (live_at talk.old.sessions session) handle)) }
+    ensures err { IfErr result (RefusesDetach
+        (end_live (live_at talk.old.sessions session) handle)) }
     ensures kept { OnErr result ((talk.new ≡ talk.old) × (out.new.items ≡ out.old.items)) }
-    ensures goes { (limit : ℕ) → 512 ≤ limit → Goes limit talk.old talk.new out.old.items out.new.items }
+    ensures goes { (limit : ℕ) → 512 ≤ limit →
+        Goes limit talk.old talk.new out.old.items out.new.items }
     ensures rests { Rests talk.old talk.new out.old.items out.new.items }
 {
     handle_is_short(handle);
@@ -75,7 +78,8 @@ fn detach_in(
 ) -> Result<(), EndpointError>
     ensures ok { OnOk result
         (DoneIn (detaches false) session handle talk.old out.old.items talk.new out.new.items) }
-    ensures err { IfErr result (RefusesDetach (end_live (live_at talk.old.sessions session) handle)) }
+    ensures err { IfErr result (RefusesDetach
+        (end_live (live_at talk.old.sessions session) handle)) }
     ensures kept { OnErr result ((talk.new ≡ talk.old) × (out.new.items ≡ out.old.items)) }
 {
     let Some(session) = talk.sessions.live_mut(session) else {

@@ -6,6 +6,7 @@ ghost use Rattle.amqp_endpoint_link_calls.specs.Waiting.{AllAreThereAt, SessionP
 /// there (part 2, 2.5.6). Of a handle that was taken back nothing waits, as
 /// `amqp_session_core::laws::freed_handles_have_no_deliveries` says.
 pub fn what_waits_is_held_back()
-    ensures all { (place : SessionPlace) → AllAreThereAt place → total (turn_at place) ≡ held_at place }
+    ensures all { (place : SessionPlace) → AllAreThereAt place →
+        total (turn_at place) ≡ held_at place }
     ensures most { (place : SessionPlace) → total (turn_at place) ≤ held_at place }
 {}

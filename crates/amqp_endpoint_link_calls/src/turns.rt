@@ -66,7 +66,8 @@ fn turn_in(
     session: &Session<Numbered<LinkEnd>>,
     alloc: Global,
 ) -> Result<Vec<(u64, u64)>, EndpointError>
-    ensures ok { IfOk result (λ turn. turn.items ≡ by_number session.now (turn_of session.now.outgoing.queues)) }
+    ensures ok { IfOk result (λ turn. turn.items
+        ≡ by_number session.now (turn_of session.now.outgoing.queues)) }
     ensures err { IfErr result (λ e. e ≡ EndpointError.Memory) }
 {
     let Ok(turn) = session.waiting(alloc) else {
@@ -100,7 +101,8 @@ fn count_each(
     numbers: &mut Vec<(u64, u64)>,
 )
     requires { vec_len numbers.old + vec_len turn.old ≤ vec_capacity numbers.old }
-    ensures numbers { numbers.new.items ≡ numbers.old.items ++ by_number session.now turn.old.items }
+    ensures numbers { numbers.new.items ≡ numbers.old.items
+        ++ by_number session.now turn.old.items }
     ensures capacity { vec_capacity numbers.new ≡ vec_capacity numbers.old }
 {
     turn.reverse();
@@ -116,7 +118,8 @@ fn count_one(
     numbers: &mut Vec<(u64, u64)>,
 )
     requires { vec_len numbers.old < vec_capacity numbers.old }
-    ensures numbers { numbers.new.items ≡ numbers.old.items ++ counted (link_at session.now (one.0).0) one.1 }
+    ensures numbers { numbers.new.items ≡ numbers.old.items
+        ++ counted (link_at session.now (one.0).0) one.1 }
     ensures len { vec_len numbers.new ≤ vec_len numbers.old + 1 }
     ensures capacity { vec_capacity numbers.new ≡ vec_capacity numbers.old }
 {

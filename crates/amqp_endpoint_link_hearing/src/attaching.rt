@@ -77,7 +77,8 @@ pub fn hear_attach(
         IsSessionFault e × RefusesAttach talk.old links.old channel attach e talk.new) }
     ensures kept { OnErr result ((links.new ≡ links.old) × (out.new.items ≡ out.old.items)
         × (events.new.items ≡ events.old.items)) }
-    ensures goes { (limit : ℕ) → 512 ≤ limit → Goes limit talk.old talk.new out.old.items out.new.items }
+    ensures goes { (limit : ℕ) → 512 ≤ limit →
+        Goes limit talk.old talk.new out.old.items out.new.items }
     ensures rests { Rests talk.old talk.new out.old.items out.new.items }
 {
     events.reserve(1)?;
@@ -153,7 +154,8 @@ fn take_attach(
         IsSessionFault e × RefusesAttach talk.old links.old channel attach e talk.new) }
     ensures kept { OnErr result ((links.new ≡ links.old) × (out.new.items ≡ out.old.items)
         × (events.new.items ≡ events.old.items)) }
-    ensures goes { (limit : ℕ) → 512 ≤ limit → Goes limit talk.old talk.new out.old.items out.new.items }
+    ensures goes { (limit : ℕ) → 512 ≤ limit →
+        Goes limit talk.old talk.new out.old.items out.new.items }
     ensures rests { Rests talk.old talk.new out.old.items out.new.items }
 {
     let said = LinkPerformative::Attach(attach, named);
@@ -185,7 +187,8 @@ fn attach_heard(
     requires room { vec_len events.old < vec_capacity events.old }
     ensures becomes { Tells (λ frames told. Becomes took named talk.old attach result frames told talk.new)
         out.old.items events.old.items out.new.items events.new.items }
-    ensures goes { (limit : ℕ) → 512 ≤ limit → Goes limit talk.old talk.new out.old.items out.new.items }
+    ensures goes { (limit : ℕ) → 512 ≤ limit →
+        Goes limit talk.old talk.new out.old.items out.new.items }
     ensures rests { Rests talk.old talk.new out.old.items out.new.items }
 {
     match took {
@@ -227,7 +230,8 @@ fn take_by_link(
     requires room { vec_len events.old < vec_capacity events.old }
     ensures takes { Tells (λ frames told_now. ByLink talk.old session handle told result frames told_now talk.new)
         out.old.items events.old.items out.new.items events.new.items }
-    ensures goes { (limit : ℕ) → 512 ≤ limit → Goes limit talk.old talk.new out.old.items out.new.items }
+    ensures goes { (limit : ℕ) → 512 ≤ limit →
+        Goes limit talk.old talk.new out.old.items out.new.items }
     ensures rests { Rests talk.old talk.new out.old.items out.new.items }
 {
     let link = number_of(talk, session, handle);

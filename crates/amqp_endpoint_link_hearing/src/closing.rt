@@ -90,7 +90,8 @@ pub(crate) fn close(
     requires spare { deque_len out.old < deque_capacity out.old }
     ensures closed { Hands (λ frames. GoesOn (Closes closing.error handle frames) talk.old session talk.new)
         out.old.items out.new.items }
-    ensures goes { (limit : ℕ) → 512 ≤ limit → Goes limit talk.old talk.new out.old.items out.new.items }
+    ensures goes { (limit : ℕ) → 512 ≤ limit →
+        Goes limit talk.old talk.new out.old.items out.new.items }
     ensures rests { Rests talk.old talk.new out.old.items out.new.items }
     ensures added { deque_len out.new ≤ deque_len out.old + 1 }
     ensures capacity { deque_capacity out.new ≡ deque_capacity out.old }

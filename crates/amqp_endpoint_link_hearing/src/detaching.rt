@@ -78,7 +78,8 @@ pub fn hear_detach(
         IsSessionFault e × RefusesSaid talk.old channel (said.Detach detach) e talk.new) }
     ensures kept { OnErr result ((links.new ≡ links.old) × (out.new.items ≡ out.old.items)
         × (events.new.items ≡ events.old.items)) }
-    ensures goes { (limit : ℕ) → 512 ≤ limit → Goes limit talk.old talk.new out.old.items out.new.items }
+    ensures goes { (limit : ℕ) → 512 ≤ limit →
+        Goes limit talk.old talk.new out.old.items out.new.items }
     ensures rests { Rests talk.old talk.new out.old.items out.new.items }
 {
     let ready = make_ready(talk, alloc, channel, &detach)?;
@@ -91,7 +92,8 @@ pub fn hear_detach(
 /// Makes room for what is told at most. It is refused where there is no memory.
 fn make_room(ready: &Option<Ready>, events: &mut Vec<Event>) -> Result<(), AllocError>
     ensures items { events.new.items ≡ events.old.items }
-    ensures room { OnOk result (vec_len events.new + told_most ready.now ≤ vec_capacity events.new) }
+    ensures room { OnOk result (vec_len events.new + told_most ready.now
+        ≤ vec_capacity events.new) }
 {
     let count = count_of(ready);
     let Some(most) = count.checked_add(1) else {
@@ -135,7 +137,8 @@ fn take_detach(
         IsSessionFault e × RefusesSaid talk.old channel (said.Detach detach) e talk.new) }
     ensures kept { OnErr result ((links.new ≡ links.old) × (out.new.items ≡ out.old.items)
         × (events.new.items ≡ events.old.items)) }
-    ensures goes { (limit : ℕ) → 512 ≤ limit → Goes limit talk.old talk.new out.old.items out.new.items }
+    ensures goes { (limit : ℕ) → 512 ≤ limit →
+        Goes limit talk.old talk.new out.old.items out.new.items }
     ensures rests { Rests talk.old talk.new out.old.items out.new.items }
 {
     let said = LinkPerformative::Detach(detach);
@@ -166,7 +169,8 @@ fn detach_heard(
     requires room { vec_len events.old + told_most ready ≤ vec_capacity events.old }
     ensures leaves { Tells (λ frames told. LeavesBy took ready talk.old links.old frames told talk.new links.new)
         out.old.items events.old.items out.new.items events.new.items }
-    ensures goes { (limit : ℕ) → 512 ≤ limit → Goes limit talk.old talk.new out.old.items out.new.items }
+    ensures goes { (limit : ℕ) → 512 ≤ limit →
+        Goes limit talk.old talk.new out.old.items out.new.items }
     ensures rests { Rests talk.old talk.new out.old.items out.new.items }
 {
     let Some((session, told)) = took else {
@@ -196,7 +200,8 @@ fn leave_by_link(
     requires room { vec_len events.old + (ready.count + 1) ≤ vec_capacity events.old }
     ensures leaves { Tells (λ frames events. LinkLeaves session told ready talk.old links.old frames events
         talk.new links.new) out.old.items events.old.items out.new.items events.new.items }
-    ensures goes { (limit : ℕ) → 512 ≤ limit → Goes limit talk.old talk.new out.old.items out.new.items }
+    ensures goes { (limit : ℕ) → 512 ≤ limit →
+        Goes limit talk.old talk.new out.old.items out.new.items }
     ensures rests { Rests talk.old talk.new out.old.items out.new.items }
 {
     let Ready {

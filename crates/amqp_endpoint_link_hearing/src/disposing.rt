@@ -215,8 +215,10 @@ fn make_ready(
 ) -> Result<Option<Ready>, AllocError>
     ensures ready { IfOk result (Prepares limit talk.now channel disposition.now) }
     ensures one { OnOk result (vec_len events.new < vec_capacity events.new) }
-    ensures spare { IfOk result (λ ready. deque_len out.new + count_of ready ≤ deque_capacity out.new) }
-    ensures room { IfOk result (λ ready. vec_len events.new + count_of ready ≤ vec_capacity events.new) }
+    ensures spare { IfOk result (λ ready.
+        deque_len out.new + count_of ready ≤ deque_capacity out.new) }
+    ensures room { IfOk result (λ ready. vec_len events.new + count_of ready
+        ≤ vec_capacity events.new) }
     ensures frames { out.new.items ≡ out.old.items }
     ensures events { events.new.items ≡ events.old.items }
 {

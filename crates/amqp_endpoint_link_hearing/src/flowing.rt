@@ -48,7 +48,8 @@ pub fn hear_flow(
     ensures ok { OnOk result
         (Tells (λ frames told. HearsFlow talk.old links.old channel flow frames told talk.new links.new)
         out.old.items events.old.items out.new.items events.new.items) }
-    ensures err { IfErr result (λ e. IsSessionFault e × RefusesSaid talk.old channel (said.Flow flow) e talk.new) }
+    ensures err { IfErr result (λ e. IsSessionFault e
+        × RefusesSaid talk.old channel (said.Flow flow) e talk.new) }
     ensures kept { OnErr result ((links.new ≡ links.old) × (out.new.items ≡ out.old.items)
         × (events.new.items ≡ events.old.items)) }
     ensures goes { (limit : ℕ) → Goes limit talk.old talk.new out.old.items out.new.items }
@@ -74,7 +75,8 @@ fn take_flow(
     ensures ok { OnOk result
         (Tells (λ frames told. HearsFlow talk.old links.old channel flow frames told talk.new links.new)
         out.old.items events.old.items out.new.items events.new.items) }
-    ensures err { IfErr result (λ e. IsSessionFault e × RefusesSaid talk.old channel (said.Flow flow) e talk.new) }
+    ensures err { IfErr result (λ e. IsSessionFault e
+        × RefusesSaid talk.old channel (said.Flow flow) e talk.new) }
     ensures kept { OnErr result ((links.new ≡ links.old) × (out.new.items ≡ out.old.items)
         × (events.new.items ≡ events.old.items)) }
     ensures goes { (limit : ℕ) → Goes limit talk.old talk.new out.old.items out.new.items }
@@ -125,7 +127,8 @@ fn let_go_in(
     from: usize,
 )
     requires { IsSome (live_at talk.old.sessions session) }
-    ensures leave { LetsGo (Some session) (drop from out.now.items) talk.old links.old talk.new links.new }
+    ensures leave { LetsGo (Some session) (drop from out.now.items) talk.old links.old talk.new
+        links.new }
     ensures goes { (limit : ℕ) → Goes limit talk.old talk.new out.now.items out.now.items }
     ensures rests { Rests talk.old talk.new out.now.items out.now.items }
 {

@@ -76,7 +76,8 @@ fn remember_unless_settled(
     number: u64,
 )
     requires { IsSome (link_of talk.old session handle) }
-    ensures { RemembersUnless message.now.settled handle message.now.delivery_tag number talk.old session talk.new }
+    ensures { RemembersUnless message.now.settled handle message.now.delivery_tag number talk.old
+        session talk.new }
 {
     if message.settled {
         return;

@@ -77,7 +77,8 @@ pub(crate) fn part(
         out.old.items out.new.items }
     ensures told { (error : Option Error) → AreCopies error count copies.items →
         events.new.items ≡ events.old.items ++ first_told count error (link_of talk.old session handle) }
-    ensures goes { (limit : ℕ) → 512 ≤ limit → Goes limit talk.old talk.new out.old.items out.new.items }
+    ensures goes { (limit : ℕ) → 512 ≤ limit →
+        Goes limit talk.old talk.new out.old.items out.new.items }
     ensures rests { Rests talk.old talk.new out.old.items out.new.items }
 {
     let from = out.len();

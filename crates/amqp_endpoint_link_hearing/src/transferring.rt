@@ -76,7 +76,8 @@ pub fn hear_transfer(
         IsSessionFault e × RefusesTransfer talk.old given.old channel transfer payload e talk.new) }
     ensures kept { OnErr result ((links.new ≡ links.old) × (given.new ≡ given.old)
         × (out.new.items ≡ out.old.items) × (events.new.items ≡ events.old.items)) }
-    ensures goes { (limit : ℕ) → 512 ≤ limit → Goes limit talk.old talk.new out.old.items out.new.items }
+    ensures goes { (limit : ℕ) → 512 ≤ limit →
+        Goes limit talk.old talk.new out.old.items out.new.items }
     ensures rests { Rests talk.old talk.new out.old.items out.new.items }
 {
     make_room(*given, out, events)?;
@@ -131,7 +132,8 @@ fn take_transfer(
         IsSessionFault e × RefusesTransfer talk.old given.old channel transfer payload e talk.new) }
     ensures kept { OnErr result ((links.new ≡ links.old) × (given.new ≡ given.old)
         × (out.new.items ≡ out.old.items) × (events.new.items ≡ events.old.items)) }
-    ensures goes { (limit : ℕ) → 512 ≤ limit → Goes limit talk.old talk.new out.old.items out.new.items }
+    ensures goes { (limit : ℕ) → 512 ≤ limit →
+        Goes limit talk.old talk.new out.old.items out.new.items }
     ensures rests { Rests talk.old talk.new out.old.items out.new.items }
 {
     let handle = transfer.handle;
@@ -186,7 +188,8 @@ fn transfer_heard(
     ensures err { IfErr result (λ e. FailsIn took e × (talk.new ≡ talk.old)) }
     ensures kept { OnErr result ((given.new ≡ given.old) × (out.new.items ≡ out.old.items)
         × (events.new.items ≡ events.old.items)) }
-    ensures goes { (limit : ℕ) → 512 ≤ limit → Goes limit talk.old talk.new out.old.items out.new.items }
+    ensures goes { (limit : ℕ) → 512 ≤ limit →
+        Goes limit talk.old talk.new out.old.items out.new.items }
     ensures rests { Rests talk.old talk.new out.old.items out.new.items }
 {
     let Some(it) = took else {
@@ -219,7 +222,8 @@ fn taken_by_link(
     ensures err { IfErr result (λ e. FailsFor taken.told e × (talk.new ≡ talk.old)) }
     ensures kept { OnErr result ((given.new ≡ given.old) × (out.new.items ≡ out.old.items)
         × (events.new.items ≡ events.old.items)) }
-    ensures goes { (limit : ℕ) → 512 ≤ limit → Goes limit talk.old talk.new out.old.items out.new.items }
+    ensures goes { (limit : ℕ) → 512 ≤ limit →
+        Goes limit talk.old talk.new out.old.items out.new.items }
     ensures rests { Rests talk.old talk.new out.old.items out.new.items }
 {
     let TransferTaken { told, flow } = taken;
@@ -258,7 +262,8 @@ fn do_for(
     ensures kept { OnErr result ((given.new ≡ given.old) × (out.new.items ≡ out.old.items)
         × (events.new.items ≡ events.old.items)) }
     ensures spare { deque_len out.new < deque_capacity out.new }
-    ensures goes { (limit : ℕ) → 512 ≤ limit → Goes limit talk.old talk.new out.old.items out.new.items }
+    ensures goes { (limit : ℕ) → 512 ≤ limit →
+        Goes limit talk.old talk.new out.old.items out.new.items }
     ensures rests { Rests talk.old talk.new out.old.items out.new.items }
 {
     match told {
@@ -315,9 +320,11 @@ fn close_for(
     ensures ok { OnOk result (Tells (λ frames told. ClosesBy error talk.old session handle.0 frames told talk.new)
         out.old.items events.old.items out.new.items events.new.items) }
     ensures err { IfErr result (λ e. (e ≡ Memory) × (talk.new ≡ talk.old)) }
-    ensures kept { OnErr result ((out.new.items ≡ out.old.items) × (events.new.items ≡ events.old.items)) }
+    ensures kept { OnErr result ((out.new.items ≡ out.old.items)
+        × (events.new.items ≡ events.old.items)) }
     ensures spare { deque_len out.new < deque_capacity out.new }
-    ensures goes { (limit : ℕ) → 512 ≤ limit → Goes limit talk.old talk.new out.old.items out.new.items }
+    ensures goes { (limit : ℕ) → 512 ≤ limit →
+        Goes limit talk.old talk.new out.old.items out.new.items }
     ensures rests { Rests talk.old talk.new out.old.items out.new.items }
 {
     let (handle, answer) = closing_of(talk, alloc, session, handle, error)?;
@@ -366,7 +373,8 @@ fn close_by_link(
         out.old.items events.old.items out.new.items events.new.items }
     ensures added { deque_len out.new ≤ deque_len out.old + 1 }
     ensures capacity { deque_capacity out.new ≡ deque_capacity out.old }
-    ensures goes { (limit : ℕ) → 512 ≤ limit → Goes limit talk.old talk.new out.old.items out.new.items }
+    ensures goes { (limit : ℕ) → 512 ≤ limit →
+        Goes limit talk.old talk.new out.old.items out.new.items }
     ensures rests { Rests talk.old talk.new out.old.items out.new.items }
 {
     let link = number_of(talk, session, handle);

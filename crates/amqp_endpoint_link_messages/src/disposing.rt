@@ -55,7 +55,8 @@ pub fn dispose_all(
         out.old.items talk.new out.new.items) }
     ensures allowed { OnOk result
         (refusal_of limit talk.old links.now given link messages.now disposal.now ≡ None) }
-    ensures err { IfErr result (BarsDisposing limit talk.old links.now given link messages.now disposal.now) }
+    ensures err { IfErr result (BarsDisposing limit talk.old links.now given link messages.now
+        disposal.now) }
     ensures kept { OnErr result ((talk.new ≡ talk.old) × (out.new.items ≡ out.old.items)) }
     ensures goes { Goes limit talk.old talk.new out.old.items out.new.items }
     ensures waits { (most : ℕ) → Within most talk.old → Within most talk.new }
@@ -94,7 +95,8 @@ pub fn dispose(
         out.old.items talk.new out.new.items) }
     ensures allowed { OnOk result
         (refusal_of limit talk.old links.now given link (message ∷ []) disposal.now ≡ None) }
-    ensures err { IfErr result (BarsDisposing limit talk.old links.now given link (message ∷ []) disposal.now) }
+    ensures err { IfErr result (BarsDisposing limit talk.old links.now given link (message ∷ [])
+        disposal.now) }
     ensures kept { OnErr result ((talk.new ≡ talk.old) × (out.new.items ≡ out.old.items)) }
     ensures goes { Goes limit talk.old talk.new out.old.items out.new.items }
     ensures waits { (most : ℕ) → Within most talk.old → Within most talk.new }
@@ -157,7 +159,8 @@ fn dispose_kept_one(
     out: &mut VecDeque<SessionFrame>,
 ) -> Result<(), EndpointError>
     requires attached { is_receiving (end_live (live_at talk.old.sessions session) handle) ≡ true }
-    requires keeps { IsSome (kept_tag (end_live (live_at talk.old.sessions session) handle) message) }
+    requires keeps { IsSome (kept_tag (end_live (live_at talk.old.sessions session) handle)
+        message) }
     ensures ok { OnOk result (DoneIn (disposes_of_one limit message disposal.now) session handle talk.old
         out.old.items talk.new out.new.items) }
     ensures err { IfErr result (λ e. e ≡ Memory) }

@@ -81,7 +81,8 @@ pub(crate) fn tag_in(
     handle: OutputHandle,
     message: u64,
 ) -> Result<Option<DeliveryTag>, AllocError>
-    ensures { IfOk result (λ tag. tag ≡ kept_tag (end_live (live_at talk.now.sessions session) handle) message) }
+    ensures { IfOk result (λ tag. tag ≡ kept_tag
+        (end_live (live_at talk.now.sessions session) handle) message) }
 {
     let Some(session) = talk.sessions.live(session) else {
         return Ok(None);

@@ -59,7 +59,8 @@ fn refusal_by(
     messages: &[u64],
     state: &DeliveryState,
 ) -> Option<EndpointError>
-    ensures { result ≡ refusal_by talk.now links.now given (is_told limit messages.now state.now) (Ok refused) }
+    ensures { result ≡ refusal_by talk.now links.now given (is_told limit messages.now state.now)
+        (Ok refused) }
 {
     if let Some(refused) = refused {
         return Some(error_of(talk, links, given, refused));
@@ -99,7 +100,8 @@ fn error_of(
 
 /// What a message that its link doesn't keep is refused with.
 fn of_none_kept(talk: &LinkTalk, links: &Links<LinkEnd>, given: u64, message: u64) -> EndpointError
-    ensures { result ≡ of_none_kept given (one_keeps talk.now links.now (length links.now.links) message) message }
+    ensures { result ≡ of_none_kept given
+        (one_keeps talk.now links.now (length links.now.links) message) message }
 {
     if given <= message {
         return EndpointError::UnknownMessage;

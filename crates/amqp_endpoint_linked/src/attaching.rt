@@ -37,7 +37,8 @@ pub(crate) fn attach_sender(
 ) -> Result<Attaching, EndpointError>
     ensures ok { IfOk result (λ a. Hands (λ frames. LinkAttached talk.old links.old limit session
         (sender_by settings.now) a.link a.events.items frames talk.new links.new) out.old.items out.new.items) }
-    ensures err { IfErr result (BarsAttaching limit talk.old links.old session (sender_by settings.now)) }
+    ensures err { IfErr result (BarsAttaching limit talk.old links.old session
+        (sender_by settings.now)) }
     ensures kept { OnErr result
         ((talk.new ≡ talk.old) × (links.new ≡ links.old) × (out.new.items ≡ out.old.items)) }
     ensures goes { Goes limit talk.old talk.new out.old.items out.new.items }
@@ -62,7 +63,8 @@ pub(crate) fn attach_receiver(
 ) -> Result<Attaching, EndpointError>
     ensures ok { IfOk result (λ a. Hands (λ frames. LinkAttached talk.old links.old limit session
         (receiver_by settings.now) a.link a.events.items frames talk.new links.new) out.old.items out.new.items) }
-    ensures err { IfErr result (BarsAttaching limit talk.old links.old session (receiver_by settings.now)) }
+    ensures err { IfErr result (BarsAttaching limit talk.old links.old session
+        (receiver_by settings.now)) }
     ensures kept { OnErr result
         ((talk.new ≡ talk.old) × (links.new ≡ links.old) × (out.new.items ≡ out.old.items)) }
     ensures goes { Goes limit talk.old talk.new out.old.items out.new.items }
@@ -102,7 +104,8 @@ fn room_to_tell(
 fn tell_placed(placed: Placed, events: &mut Vec<Event>) -> u64
     requires { vec_len events.old < vec_capacity events.old }
     ensures link { result ≡ placed.link }
-    ensures told { events.new.items ≡ events.old.items ++ exchange_told placed.link placed.exchange }
+    ensures told { events.new.items ≡ events.old.items
+        ++ exchange_told placed.link placed.exchange }
 {
     let Placed {
         link,

@@ -96,7 +96,8 @@ fn take_attach(
         IsSessionFault e × RefusesAttach talk.old links.old channel attach e talk.new) }
     ensures kept { OnErr result ((links.new ≡ links.old) × (out.new.items ≡ out.old.items)
         × (events.new.items ≡ events.old.items)) }
-    ensures goes { (limit : ℕ) → 512 ≤ limit → Goes limit talk.old talk.new out.old.items out.new.items }
+    ensures goes { (limit : ℕ) → 512 ≤ limit →
+        Goes limit talk.old talk.new out.old.items out.new.items }
     ensures rests { Rests talk.old talk.new out.old.items out.new.items }
 {
     match hear_attach(talk, links, alloc, channel, attach, out, events) {

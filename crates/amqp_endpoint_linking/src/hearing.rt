@@ -43,7 +43,8 @@ pub fn hear_begin(
     ensures ok { OnOk result
         (Tells (λ frames told. HearsBegin talk.old links.old channel begin frames told talk.new links.new)
         out.old.items events.old.items out.new.items events.new.items) }
-    ensures err { IfErr result (λ e. IsSessionFault e × RefusesBegin talk.old channel begin e talk.new) }
+    ensures err { IfErr result (λ e. IsSessionFault e
+        × RefusesBegin talk.old channel begin e talk.new) }
     ensures kept { OnErr result ((links.new ≡ links.old) × (out.new.items ≡ out.old.items)
         × (events.new.items ≡ events.old.items)) }
     ensures goes { (limit : ℕ) → Goes limit talk.old talk.new out.old.items out.new.items }
@@ -69,7 +70,8 @@ fn take_begin(
     ensures ok { OnOk result
         (Tells (λ frames told. HearsBegin talk.old links.old channel begin frames told talk.new links.new)
         out.old.items events.old.items out.new.items events.new.items) }
-    ensures err { IfErr result (λ e. IsSessionFault e × RefusesBegin talk.old channel begin e talk.new) }
+    ensures err { IfErr result (λ e. IsSessionFault e
+        × RefusesBegin talk.old channel begin e talk.new) }
     ensures kept { OnErr result ((links.new ≡ links.old) × (out.new.items ≡ out.old.items)
         × (events.new.items ≡ events.old.items)) }
     ensures goes { (limit : ℕ) → Goes limit talk.old talk.new out.old.items out.new.items }
@@ -125,7 +127,8 @@ pub fn hear_end(
     ensures ok { OnOk result
         (Tells (λ frames told. TakesEnd talk.old links.old channel end frames told talk.new links.new)
         out.old.items events.old.items out.new.items events.new.items) }
-    ensures err { IfErr result (λ e. IsSessionFault e × RefusesEnd talk.old channel end e talk.new) }
+    ensures err { IfErr result (λ e. IsSessionFault e
+        × RefusesEnd talk.old channel end e talk.new) }
     ensures kept { OnErr result ((talk.new ≡ talk.old) × (links.new ≡ links.old)
         × (out.new.items ≡ out.old.items) × (events.new.items ≡ events.old.items)) }
     ensures goes { (limit : ℕ) → Goes limit talk.old talk.new out.old.items out.new.items }
@@ -150,7 +153,8 @@ fn take_end(
     ensures ok { OnOk result
         (Tells (λ frames told. TakesEnd talk.old links.old channel end frames told talk.new links.new)
         out.old.items events.old.items out.new.items events.new.items) }
-    ensures err { IfErr result (λ e. IsSessionFault e × RefusesEnd talk.old channel end e talk.new) }
+    ensures err { IfErr result (λ e. IsSessionFault e
+        × RefusesEnd talk.old channel end e talk.new) }
     ensures kept { OnErr result ((talk.new ≡ talk.old) × (links.new ≡ links.old)
         × (out.new.items ≡ out.old.items) × (events.new.items ≡ events.old.items)) }
     ensures goes { (limit : ℕ) → Goes limit talk.old talk.new out.old.items out.new.items }

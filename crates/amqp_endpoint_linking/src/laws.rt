@@ -9,7 +9,8 @@ ghost use Rattle.amqp_endpoint_linking.specs.Linking.{Link, Links, Talk};
 /// 2.6.6).
 pub fn links_given_back_go_on()
     ensures back { (old new : Links) (left : List Link) → AllGivenBack old left new → GoOn old new }
-    ensures left { (old new : Talk) (links links_new : Links) → Leaves old links new links_new → GoOn links links_new }
+    ensures left { (old new : Talk) (links links_new : Links) → Leaves old links new links_new →
+        GoOn links links_new }
     ensures finished { (old new : Talk) (links links_new : Links) → Finishes old links new links_new →
         GoOn links links_new }
 {}

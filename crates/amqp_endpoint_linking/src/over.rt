@@ -41,7 +41,8 @@ fn leave_all(
     sessions: &mut Sessions<Box<AskedSession>, Box<LinkSession>>,
     links: &mut Links<LinkEnd>,
 )
-    ensures left { LeavesFirst (length sessions.old.places) sessions.old links.old sessions.new links.new }
+    ensures left { LeavesFirst (length sessions.old.places) sessions.old links.old sessions.new
+        links.new }
     ensures none { (number : ℕ) → live_at sessions.new number ≡ None }
     ensures still { StandsStill sessions.old.connection sessions.new.connection }
 {
@@ -76,7 +77,8 @@ fn finish_all(
     sessions: &mut Sessions<Box<AskedSession>, Box<LinkSession>>,
     links: &mut Links<LinkEnd>,
 )
-    ensures finished { FinishesFirst (length sessions.old.places) sessions.old links.old sessions.new links.new }
+    ensures finished { FinishesFirst (length sessions.old.places) sessions.old links.old
+        sessions.new links.new }
     ensures none { (number : ℕ) → live_at sessions.new number ≡ None }
     ensures still { StandsStill sessions.old.connection sessions.new.connection }
 {

@@ -6,7 +6,8 @@ ghost use Rattle.amqp_session_outgoing.specs.Queues.{frames_in};
 ghost use Rattle.amqp_session_core.specs.Refusals.{RefusesLink};
 ghost use Rattle.amqp_session_core.specs.State.{links_in};
 ghost use Rattle.amqp_session_core.specs.Steps.{Steps, Allocates};
-ghost use Rattle.amqp_endpoint_links.specs.Asking.{in_use, AsksFor, ByLink, AttachAnswered, FlowAnswered, DetachAnswered};
+ghost use Rattle.amqp_endpoint_links.specs.Asking.{in_use, AsksFor, ByLink, AttachAnswered, FlowAnswered};
+ghost use Rattle.amqp_endpoint_links.specs.Asking.{DetachAnswered};
 
 use amqp_endpoint_asked::{AskRefusal, AskedLinks, SessionFlow};
 use amqp_session_core::{LinkRelay, Links, Session, Unallocated};
@@ -113,7 +114,8 @@ impl<R: LinkRelay> AskingSession<R> {
         out: &mut VecDeque<SessionFrame>,
         flow: Flow,
     ) -> Result<(), SessionError>
-        ensures step { FlowAnswered R.gives self.old out.old.items flow result self.new out.new.items }
+        ensures step { FlowAnswered R.gives self.old out.old.items flow result self.new
+            out.new.items }
         ensures frames_most { deque_len out.new + frames_in self.new.session.outgoing.queues ≤
             deque_len out.old + frames_in self.old.session.outgoing.queues + 1 }
         ensures frames_least { deque_len out.old + frames_in self.old.session.outgoing.queues ≤

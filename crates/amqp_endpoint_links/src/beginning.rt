@@ -78,7 +78,8 @@ fn take_asked<R: LinkRelay>(
 ) -> Result<(), AllocError>
     requires idle { IsIdle session.old [] }
     requires unmapped { after_incoming_begin session.old.local_state ≡ Some BeginReceived }
-    ensures step { OnOk result (TakesAsked R.gives session.old incoming begin.now flow session.new) }
+    ensures step { OnOk result (TakesAsked R.gives session.old incoming begin.now flow
+        session.new) }
     ensures received { OnOk result (session.new.local_state ≡ BeginReceived) }
 {
     let mut out = VecDeque::new(alloc);
@@ -94,7 +95,8 @@ fn take_begin<R: LinkRelay>(
     begin: &Begin,
 ) -> Result<(), AllocError>
     requires idle { IsIdle session.old out.old.items }
-    ensures step { OnOk result (TakesBeginAlone R.gives session.old incoming begin.now session.new) }
+    ensures step { OnOk result (TakesBeginAlone R.gives session.old incoming begin.now
+        session.new) }
     ensures idle { OnOk result (IsIdle session.new out.new.items) }
 {
     for_memory(session.on_incoming_begin(out, incoming, begin))

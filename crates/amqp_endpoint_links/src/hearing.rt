@@ -2,7 +2,9 @@
 ghost use Rattle.std.specs.Prelude.{◌≡◌, ◌+◌, ◌≤◌, Err, false, IfOk, IfErr, OnErr};
 ghost use Rattle.std.specs.VecDeque.{deque_len, deque_capacity};
 ghost use Rattle.amqp_session_outgoing.specs.Queues.{frames_in};
-ghost use Rattle.amqp_endpoint_links.specs.Hearing.{AsksInAsked, Hears, HearsAsked, HearsAttach, HearsDetach, HearsDisposition, HearsFlow, HearsTransfer, KeepsWaiting, says_flow};
+ghost use Rattle.amqp_endpoint_links.specs.Hearing.{AsksInAsked, Hears, HearsAsked, HearsAttach, HearsDetach};
+ghost use Rattle.amqp_endpoint_links.specs.Hearing.{HearsDisposition, HearsFlow, HearsTransfer, KeepsWaiting};
+ghost use Rattle.amqp_endpoint_links.specs.Hearing.{says_flow};
 
 use crate::asking::{AskingSession, AttachTaken, DetachTaken, NamedLink};
 use amqp_endpoint_asked::{AskRefusal, AskedSession};
@@ -60,7 +62,8 @@ impl<R: LinkRelay> AskingSession<R> {
         said: LinkPerformative,
     ) -> Result<PerformativeTaken<R::Attached, R::Transferred, R::Detached>, SessionError>
         ensures step { Hears R.gives self.old out.old.items said result self.new out.new.items }
-        ensures memory { result ≡ Err SessionError.Memory → (self.new ≡ self.old) × (out.new.items ≡ out.old.items) }
+        ensures memory { result ≡ Err SessionError.Memory →
+            (self.new ≡ self.old) × (out.new.items ≡ out.old.items) }
         ensures untouched { says_flow said ≡ false → out.new ≡ out.old }
         ensures frames_most { deque_len out.new + frames_in self.new.session.outgoing.queues ≤
             deque_len out.old + frames_in self.old.session.outgoing.queues + 1 }
@@ -105,7 +108,8 @@ impl<R: LinkRelay> AskingSession<R> {
         flow: Flow,
     ) -> Result<PerformativeTaken<R::Attached, R::Transferred, R::Detached>, SessionError>
         ensures step { HearsFlow R.gives self.old out.old.items flow result self.new out.new.items }
-        ensures memory { result ≡ Err SessionError.Memory → (self.new ≡ self.old) × (out.new.items ≡ out.old.items) }
+        ensures memory { result ≡ Err SessionError.Memory →
+            (self.new ≡ self.old) × (out.new.items ≡ out.old.items) }
         ensures frames_most { deque_len out.new + frames_in self.new.session.outgoing.queues ≤
             deque_len out.old + frames_in self.old.session.outgoing.queues + 1 }
         ensures frames_least { deque_len out.old + frames_in self.old.session.outgoing.queues ≤

@@ -10,9 +10,11 @@ ghost use Rattle.amqp_session_core.specs.Relay.{LinkHistory, LinkStep, OwnerKeep
 ghost use Rattle.amqp_session_core.specs.State.{fresh, link_at, reached};
 ghost use Rattle.amqp_session_core.specs.Steps.{Step, SendsBegin};
 ghost use Rattle.amqp_endpoint_asked.specs.declared.session.AskedSession.{AskedSession};
-ghost use Rattle.amqp_endpoint_links.specs.Beginning.{Begun, Accepted, accept_steps, begin_frame, begun_state, accepted_with};
+ghost use Rattle.amqp_endpoint_links.specs.Beginning.{Begun, Accepted, accept_steps, begin_frame, begun_state};
+ghost use Rattle.amqp_endpoint_links.specs.Beginning.{accepted_with};
 ghost use Rattle.amqp_endpoint_links.specs.Hearing.{Hears};
-ghost use Rattle.amqp_endpoint_links.specs.History.{AskingStep, AskingHistory, AreDoneBy, AreHearing, AllKeep, RouteNone, is_handle_freed};
+ghost use Rattle.amqp_endpoint_links.specs.History.{AskingStep, AskingHistory, AreDoneBy, AreHearing, AllKeep};
+ghost use Rattle.amqp_endpoint_links.specs.History.{RouteNone, is_handle_freed};
 ghost use Rattle.amqp_endpoint_links.specs.Numbering.{keeping, numbered, without_numbers};
 ghost use Rattle.amqp_endpoint_links.specs.declared.asking.AskingSession.{AskingSession};
 ghost use Rattle.amqp_endpoint_links.specs.declared.hearing.LinkPerformative.{LinkPerformative};

@@ -59,13 +59,15 @@ pub trait SessionRelay: Drop {
 
     /// The connection, for its headers, Open and Close.
     fn connection_mut(&mut self) -> &mut Connection
-        ensures* writes_back { sem 𝓛 (Lends Self.row connection_row self.entry result (does.moved self.old)) }
+        ensures* writes_back { sem 𝓛 (Lends Self.row connection_row self.entry result
+            (does.moved self.old)) }
         ensures value { result.now ≡ does.connection self.old }
         ensures moved { (c : channels.State) → does.connection (does.moved self.old c) ≡ c }
         ensures same { does.moved self.old (does.connection self.old) ≡ self.old }
         ensures within { (limit wider : ℕ) (c : channels.State) → limit ≤ wider → does.within limit self.old
             → does.within wider (does.moved self.old c) }
-        ensures idle { (c : channels.State) → does.idle self.old → does.idle (does.moved self.old c) };
+        ensures idle { (c : channels.State) → does.idle self.old →
+            does.idle (does.moved self.old c) };
 
     /// Takes a frame of the peer that is neither Open nor Close, and hands out what is to be sent then: none of it is
     /// longer than `limit` bytes, the longest frame that the peer takes. What it tells is put behind `events`.
@@ -88,7 +90,8 @@ pub trait SessionRelay: Drop {
         ensures ok { OnOk result (Taken does self.old limit channel.0 body out.old.items events.old.items
             self.new out.new.items events.new.items) }
         ensures err { IfErr result (λ e. Refused does self.old limit channel.0 body e self.new) }
-        ensures kept { OnErr result ((out.new.items ≡ out.old.items) × (events.new.items ≡ events.old.items)) }
+        ensures kept { OnErr result ((out.new.items ≡ out.old.items)
+            × (events.new.items ≡ events.old.items)) }
         ensures within { does.within limit self.new }
         ensures still { StandsStill (does.connection self.old) (does.connection self.new) };
 
@@ -147,7 +150,8 @@ pub trait SessionRelay: Drop {
     /// Whether both End of the session with this number have passed, or its connection is over. False where there is
     /// none (part 2, 2.5.2).
     fn is_ended(&self, number: u64) -> bool
-        ensures { (limit : ℕ) → does.calls self.now limit (IsEnded number) (truth result) [] self.now };
+        ensures { (limit : ℕ) → does.calls self.now limit (IsEnded number) (truth result) []
+            self.now };
 
     /// Tells once that the peer's End of the session with this number came (part 2, 2.5.2).
     ///
@@ -177,7 +181,8 @@ pub trait SessionRelay: Drop {
             (attaching a.link a.events.items) out.old.items self.new out.new.items) }
         ensures err { IfErr result (does.bars self.old limit (AttachSender session settings.now)) }
         ensures kept { OnErr result ((self.new ≡ self.old) × (out.new.items ≡ out.old.items)) }
-        ensures within { (most : ℕ) → 512 ≤ most → does.within most self.old → does.within most self.new }
+        ensures within { (most : ℕ) → 512 ≤ most → does.within most self.old →
+            does.within most self.new }
         ensures quiet { does.idle self.old → out.new.items ≡ out.old.items }
         ensures idle { does.idle self.old → does.idle self.new }
         ensures still { StandsStill (does.connection self.old) (does.connection self.new) };
@@ -195,9 +200,11 @@ pub trait SessionRelay: Drop {
         requires waiting { does.within limit self.old }
         ensures ok { IfOk result (λ a. Called does self.old limit (AttachReceiver session settings.now)
             (attaching a.link a.events.items) out.old.items self.new out.new.items) }
-        ensures err { IfErr result (does.bars self.old limit (AttachReceiver session settings.now)) }
+        ensures err { IfErr result (does.bars self.old limit
+            (AttachReceiver session settings.now)) }
         ensures kept { OnErr result ((self.new ≡ self.old) × (out.new.items ≡ out.old.items)) }
-        ensures within { (most : ℕ) → 512 ≤ most → does.within most self.old → does.within most self.new }
+        ensures within { (most : ℕ) → 512 ≤ most → does.within most self.old →
+            does.within most self.new }
         ensures quiet { does.idle self.old → out.new.items ≡ out.old.items }
         ensures idle { does.idle self.old → does.idle self.new }
         ensures still { StandsStill (does.connection self.old) (does.connection self.new) };
@@ -217,7 +224,8 @@ pub trait SessionRelay: Drop {
             (Called does self.old limit (Detach link) done out.old.items self.new out.new.items) }
         ensures err { IfErr result (does.bars self.old limit (Detach link)) }
         ensures kept { OnErr result ((self.new ≡ self.old) × (out.new.items ≡ out.old.items)) }
-        ensures within { (most : ℕ) → 512 ≤ most → does.within most self.old → does.within most self.new }
+        ensures within { (most : ℕ) → 512 ≤ most → does.within most self.old →
+            does.within most self.new }
         ensures quiet { does.idle self.old → out.new.items ≡ out.old.items }
         ensures idle { does.idle self.old → does.idle self.new }
         ensures still { StandsStill (does.connection self.old) (does.connection self.new) };
@@ -237,7 +245,8 @@ pub trait SessionRelay: Drop {
             out.old.items self.new out.new.items) }
         ensures err { IfErr result (does.bars self.old limit (CloseLink link)) }
         ensures kept { OnErr result ((self.new ≡ self.old) × (out.new.items ≡ out.old.items)) }
-        ensures within { (most : ℕ) → 512 ≤ most → does.within most self.old → does.within most self.new }
+        ensures within { (most : ℕ) → 512 ≤ most → does.within most self.old →
+            does.within most self.new }
         ensures quiet { does.idle self.old → out.new.items ≡ out.old.items }
         ensures idle { does.idle self.old → does.idle self.new }
         ensures still { StandsStill (does.connection self.old) (does.connection self.new) };
@@ -258,7 +267,8 @@ pub trait SessionRelay: Drop {
             out.old.items self.new out.new.items) }
         ensures err { IfErr result (does.bars self.old limit (Grant link credit)) }
         ensures kept { OnErr result ((self.new ≡ self.old) × (out.new.items ≡ out.old.items)) }
-        ensures within { (most : ℕ) → 512 ≤ most → does.within most self.old → does.within most self.new }
+        ensures within { (most : ℕ) → 512 ≤ most → does.within most self.old →
+            does.within most self.new }
         ensures quiet { does.idle self.old → out.new.items ≡ out.old.items }
         ensures idle { does.idle self.old → does.idle self.new }
         ensures still { StandsStill (does.connection self.old) (does.connection self.new) };
@@ -277,7 +287,8 @@ pub trait SessionRelay: Drop {
             (Called does self.old limit (Drain link) done out.old.items self.new out.new.items) }
         ensures err { IfErr result (does.bars self.old limit (Drain link)) }
         ensures kept { OnErr result ((self.new ≡ self.old) × (out.new.items ≡ out.old.items)) }
-        ensures within { (most : ℕ) → 512 ≤ most → does.within most self.old → does.within most self.new }
+        ensures within { (most : ℕ) → 512 ≤ most → does.within most self.old →
+            does.within most self.new }
         ensures quiet { does.idle self.old → out.new.items ≡ out.old.items }
         ensures idle { does.idle self.old → does.idle self.new }
         ensures still { StandsStill (does.connection self.old) (does.connection self.new) };
@@ -321,7 +332,8 @@ pub trait SessionRelay: Drop {
             (Called does self.old limit (Dispose link message disposal.now) done out.old.items self.new out.new.items) }
         ensures err { IfErr result (does.bars self.old limit (Dispose link message disposal.now)) }
         ensures kept { OnErr result ((self.new ≡ self.old) × (out.new.items ≡ out.old.items)) }
-        ensures within { (most : ℕ) → 512 ≤ most → does.within most self.old → does.within most self.new }
+        ensures within { (most : ℕ) → 512 ≤ most → does.within most self.old →
+            does.within most self.new }
         ensures quiet { does.idle self.old → out.new.items ≡ out.old.items }
         ensures idle { does.idle self.old → does.idle self.new }
         ensures still { StandsStill (does.connection self.old) (does.connection self.new) };
@@ -341,9 +353,11 @@ pub trait SessionRelay: Drop {
         requires waiting { does.within limit self.old }
         ensures ok { OnOk result (Called does self.old limit (DisposeAll link messages.now disposal.now) done
             out.old.items self.new out.new.items) }
-        ensures err { IfErr result (does.bars self.old limit (DisposeAll link messages.now disposal.now)) }
+        ensures err { IfErr result (does.bars self.old limit
+            (DisposeAll link messages.now disposal.now)) }
         ensures kept { OnErr result ((self.new ≡ self.old) × (out.new.items ≡ out.old.items)) }
-        ensures within { (most : ℕ) → 512 ≤ most → does.within most self.old → does.within most self.new }
+        ensures within { (most : ℕ) → 512 ≤ most → does.within most self.old →
+            does.within most self.new }
         ensures quiet { does.idle self.old → out.new.items ≡ out.old.items }
         ensures idle { does.idle self.old → does.idle self.new }
         ensures still { StandsStill (does.connection self.old) (does.connection self.new) };
@@ -358,13 +372,15 @@ pub trait SessionRelay: Drop {
     fn held_back(&self, session: u64) -> Result<usize, EndpointError>
         ensures ok { IfOk result (λ n. (limit : ℕ) →
             does.calls self.now limit (HeldBack session) (count n) [] self.now) }
-        ensures err { IfErr result (λ e. (limit : ℕ) → does.bars self.now limit (HeldBack session) e) };
+        ensures err { IfErr result (λ e. (limit : ℕ) →
+            does.bars self.now limit (HeldBack session) e) };
 
     /// The links of which transfers wait in the session with this number, in turn, each with how many.
     fn waiting(&self, alloc: Global, session: u64) -> Result<Vec<(u64, u64)>, EndpointError>
         ensures ok { IfOk result (λ turn. (limit : ℕ) →
             does.calls self.now limit (Waiting session) (waiting turn.items) [] self.now) }
-        ensures err { IfErr result (λ e. (limit : ℕ) → does.bars self.now limit (Waiting session) e) };
+        ensures err { IfErr result (λ e. (limit : ℕ) →
+            does.bars self.now limit (Waiting session) e) };
 
     /// The own Close was sent: no session goes on here, and none sends anything more (part 2, 2.4.3). It takes no
     /// memory.

@@ -1,7 +1,8 @@
 ghost use Rattle.std.specs.Prelude.{◌≡◌, ◌<◌, length, option_copied, IsOk};
 ghost use Rattle.std.specs.Option.{option_copied_mut};
 ghost use types.Logic.{sem};
-ghost use Rattle.amqp_endpoint_names.specs.State.{AreApart, IsNewName, Names, fresh, held_at, link_at, name_at, place_at, rest_at};
+ghost use Rattle.amqp_endpoint_names.specs.State.{AreApart, IsNewName, Names, fresh, held_at, link_at, name_at};
+ghost use Rattle.amqp_endpoint_names.specs.State.{place_at, rest_at};
 ghost use Rattle.amqp_endpoint_names.specs.Lends.{lends_at_rest};
 ghost use Rattle.amqp_endpoint_names.specs.Steps.{Closed, Entered, HandedOut, LowersRoom, Rested, RoomMade, Steps};
 

@@ -1,5 +1,6 @@
 //! How links come and go, by their numbers and their names.
-ghost use Rattle.std.specs.Prelude.{◌≡◌, ◌+◌, ◌<◌, ◌≤◌, ◌++◌, [], ◌∷◌, IsSome, IfNone, OnSome, None, Some, length, slice_set};
+ghost use Rattle.std.specs.Prelude.{◌≡◌, ◌+◌, ◌<◌, ◌≤◌, ◌++◌, [], ◌∷◌, IsSome, IfNone, OnSome, None, Some, length};
+ghost use Rattle.std.specs.Prelude.{slice_set};
 ghost use Rattle.std.specs.Borrow.{Lends};
 ghost use Rattle.std.specs.Vec.{vec_len, vec_capacity};
 ghost use Rattle.indexmap.specs.IndexMap.{spare};
@@ -7,7 +8,8 @@ ghost use types.Logic.{sem};
 ghost use Rattle.std.specs.contracts.option.Option.{the_row as option_row};
 ghost use Rattle.amqp_endpoint_names.specs.contracts.place.Named.{the_row as named_row};
 ghost use Rattle.amqp_endpoint_names.specs.declared.place.LinkPlace.TheVariants.{AtRest};
-ghost use Rattle.amqp_endpoint_names.specs.State.{AreApart, IsNewName, Names, link_at, moved, place_of, put_in, rest_of};
+ghost use Rattle.amqp_endpoint_names.specs.State.{AreApart, IsNewName, Names, link_at, moved, place_of, put_in};
+ghost use Rattle.amqp_endpoint_names.specs.State.{rest_of};
 ghost use Rattle.amqp_endpoint_names.specs.Inside.{AreNamed, PutsUnder, TakesAway};
 
 use crate::place::{LinkPlace, Named, NewName};
@@ -42,7 +44,8 @@ pub(crate) fn enter<L: Drop>(
     requires unused { IsNewName links.old.items name }
     requires room { vec_len links.old < vec_capacity links.old }
     requires spare { 0 < spare numbers.old }
-    ensures links { links.new.items ≡ links.old.items ++ Some (record { name = name; place = place }) ∷ [] }
+    ensures links { links.new.items ≡ links.old.items
+        ++ Some (record { name = name; place = place }) ∷ [] }
     ensures named { AreNamed links.new.items numbers.new.entries }
     ensures len { vec_len links.new ≡ vec_len links.old + 1 }
     ensures capacity { vec_capacity links.new ≡ vec_capacity links.old }

@@ -142,7 +142,8 @@ impl<L: Drop> LinkPlace<L> {
     /// The link, which is at rest, to be changed.
     pub(crate) fn at_rest_mut(&mut self) -> &mut L
         requires { IsSome (rest_of (Some self.old)) }
-        ensures* lends { sem 𝓛 (Lends (the_row L.row) L.row self.entry result (λ link. AtRest link)) }
+        ensures* lends { sem 𝓛 (Lends (the_row L.row) L.row self.entry result
+            (λ link. AtRest link)) }
         ensures value { rest_of (Some self.old) ≡ Some result.now }
     {
         match self {

@@ -43,7 +43,8 @@ pub fn tell_first(
     events: &mut Vec<Event>,
 )
     requires { vec_len events.old + count ≤ vec_capacity events.old }
-    ensures tells { TellsFirst count handle (link_at session.old.session handle.0) session.old session.new }
+    ensures tells { TellsFirst count handle (link_at session.old.session handle.0) session.old
+        session.new }
     ensures told { (error : Option Error) → AreCopies error count copies.items →
         events.new.items ≡ events.old.items ++ first_told count error (link_at session.old.session handle.0) }
     ensures there { IsSome (end_at session.old handle) → IsSome (end_at session.new handle) }

@@ -40,7 +40,8 @@ pub fn make_echoes(
     state: &Option<DeliveryState>,
     count: usize,
 ) -> Result<Echoes, AllocError>
-    ensures state { IfOk result (λ echoes. (channel : ℕ) → echoes.state ≡ told_back limit channel state.now) }
+    ensures state { IfOk result (λ echoes. (channel : ℕ) →
+        echoes.state ≡ told_back limit channel state.now) }
     ensures fits { IfOk result (λ echoes. EchoFits limit echoes.state) }
     ensures serves { IfOk result (ServesFor count) }
 {
@@ -85,7 +86,8 @@ fn echo(run: (u32, u32), state: Option<DeliveryState>) -> Disposition
 
 /// Whether a Disposition fits the limit, whatever its channel.
 fn fits(limit: u32, disposition: &Disposition) -> bool
-    ensures { (channel : ℕ) → result ≡ fits limit (frame_of (disposition_frame channel disposition.now)) }
+    ensures { (channel : ℕ) → result ≡ fits limit
+        (frame_of (disposition_frame channel disposition.now)) }
 {
     fits_text(disposition, limit)
 }
@@ -126,7 +128,8 @@ pub fn send_echoes(
 )
     requires serves { ServesFor (length runs.now) echoes }
     requires spare { deque_len out.old + length runs.now ≤ deque_capacity out.old }
-    ensures sent { SendsEach gives session.old.session (echoes_of echoes.state runs.now) session.new.session }
+    ensures sent { SendsEach gives session.old.session (echoes_of echoes.state runs.now)
+        session.new.session }
     ensures rest { session.new ≡ record session.old { session = session.new.session } }
     ensures added { out.new.items ≡
         out.old.items ++ frames_of session.old.session.fields (echoes_of echoes.state runs.now) }

@@ -35,5 +35,6 @@ pub fn what_goes_back_fits()
 /// Of a receiver's disposition that goes back which its session wants echoed: settled, with the same state (part 2,
 /// 2.7.6, 2.8.3).
 pub fn what_goes_back_is_the_echo()
-    ensures { (it : Disposition) (run : ℕ × ℕ) → it.role ≡ Receiver → echo it.state run ≡ echo_of it run }
+    ensures { (it : Disposition) (run : ℕ × ℕ) → it.role ≡ Receiver →
+        echo it.state run ≡ echo_of it run }
 {}

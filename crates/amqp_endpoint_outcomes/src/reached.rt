@@ -42,8 +42,10 @@ pub fn reached_by(
 /// with which the peer closed a link; no message ends so by a disposition. There must be room for as many events.
 pub fn tell_reached(session: &mut LinkSession, reached: &[Touched], events: &mut Vec<Event>)
     requires room { vec_len events.old + length reached.now ≤ vec_capacity events.old }
-    ensures told { events.new.items ≡ events.old.items ++ reached_told session.old.session reached.now }
-    ensures behind { session.new ≡ record session.old { session = behind_reached session.old.session reached.now } }
+    ensures told { events.new.items ≡ events.old.items
+        ++ reached_told session.old.session reached.now }
+    ensures behind { session.new ≡ record session.old
+        { session = behind_reached session.old.session reached.now } }
 {
     tell_each(&mut session.session, reached, events);
 }
@@ -90,7 +92,8 @@ fn tell_first(number: u64, link: &mut LinkEnd, events: &mut Vec<Event>)
 /// The message that ended first of those that weren't told yet is told, if there is one.
 fn tell_first_of(number: u64, sender: &mut SenderLink, events: &mut Vec<Event>)
     requires room { vec_len events.old < vec_capacity events.old }
-    ensures told { events.new.items ≡ events.old.items ++ first_told number sender.old.messages.resolved }
+    ensures told { events.new.items ≡ events.old.items
+        ++ first_told number sender.old.messages.resolved }
     ensures behind { sender.new ≡ without_first sender.old }
     ensures few { vec_len events.new ≤ vec_len events.old + 1 }
     ensures capacity { vec_capacity events.new ≡ vec_capacity events.old }

@@ -111,7 +111,8 @@ pub fn what_a_session_hands_out_is_on_its_channel<R: LinkRelay>()
         (told : Result (PerformativeTaken R.Attached R.Transferred R.Detached) SessionError)
         (frames : List SessionFrame) → Hears R.gives old [] said told new frames →
         AreOf old.session.fields.channel.0 frames }
-    ensures plain { (channel : ℕ) (frames : List SessionFrame) → AreOf channel frames → NoBegins frames }
+    ensures plain { (channel : ℕ) (frames : List SessionFrame) → AreOf channel frames →
+        NoBegins frames }
 {}
 
 /// Each frame by which a session begins or ends is read as the frame of that session, and whatever else comes as that

@@ -40,7 +40,8 @@ pub(crate) fn room_in(
 /// For how many messages an end has room, where it sends and nothing speaks against this one.
 fn room_of(link: &LinkEnd, tag: &DeliveryTag, message: &Sending) -> Result<usize, SendRefusal>
     ensures ok { IfOk result (HasRoom (Some link.now) (with_tag tag.now message.now)) }
-    ensures err { IfErr result (λ e. link_refusal (Some link.now) (with_tag tag.now message.now) ≡ Some e) }
+    ensures err { IfErr result (λ e. link_refusal (Some link.now) (with_tag tag.now message.now)
+        ≡ Some e) }
 {
     match link.end() {
         End::Sender(sender) => match sender.refusal(tag, message.payload.len()) {

@@ -99,7 +99,8 @@ fn give_channel(
     channel: IncomingChannel,
     number: u64,
 ) -> Result<OutgoingChannel, BeginError>
-    ensures ok { IfOk result (λ outgoing. GivesChannel connection.old channel number outgoing connection.new) }
+    ensures ok { IfOk result (λ outgoing.
+        GivesChannel connection.old channel number outgoing connection.new) }
     ensures err { IfErr result (RefusesSession connection.old) }
     ensures kept { OnErr result (connection.new ≡ connection.old) }
 {

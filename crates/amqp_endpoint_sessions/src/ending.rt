@@ -2,8 +2,10 @@
 ghost use Rattle.std.specs.Prelude.{◌≡◌, ℕ, Some, None, IsSome, MatchOption, ⊤, slice_set};
 ghost use Rattle.std.specs.FinMap as map;
 ghost use Rattle.amqp_session_performatives.specs.declared.end.End.{End};
-ghost use Rattle.amqp_endpoint_sessions.specs.State.{asked_on, channel_at, ended_place, is_complete, live_channel_at, place_at, routed};
-ghost use Rattle.amqp_endpoint_sessions.specs.Steps.{Steps, EndAnswered, EndSent, EndTold, Finished, GivesBack, TakesChannelBack, TakesEnd};
+ghost use Rattle.amqp_endpoint_sessions.specs.State.{asked_on, channel_at, ended_place, is_complete, live_channel_at};
+ghost use Rattle.amqp_endpoint_sessions.specs.State.{place_at, routed};
+ghost use Rattle.amqp_endpoint_sessions.specs.Steps.{Steps, EndAnswered, EndSent, EndTold, Finished, GivesBack};
+ghost use Rattle.amqp_endpoint_sessions.specs.Steps.{TakesChannelBack, TakesEnd};
 
 use crate::place::{PeerEnd, Place};
 use crate::sessions::{Sessions, forget, put};

@@ -2,7 +2,8 @@ ghost use Rattle.std.specs.Prelude.{◌≡◌, IsSome, Some};
 ghost use Rattle.std.specs.Borrow.{Lends};
 ghost use types.Logic.{sem};
 ghost use Rattle.amqp_endpoint_sessions.specs.Steps.{refusal_of_try_end};
-ghost use Rattle.amqp_endpoint_sessions.specs.State.{asked_of, channel_of, ended_place, finished_place, live_of, standing_of, with_asked, with_live};
+ghost use Rattle.amqp_endpoint_sessions.specs.State.{asked_of, channel_of, ended_place, finished_place, live_of};
+ghost use Rattle.amqp_endpoint_sessions.specs.State.{standing_of, with_asked, with_live};
 
 use amqp_session_types::{BeginError, IncomingChannel, OutgoingChannel, TryEndError};
 
@@ -132,7 +133,8 @@ impl<A: Drop, S: Drop> Place<A, S> {
     /// What is asked for, to be changed.
     pub(crate) fn asked_mut(&mut self) -> &mut A
         requires { IsSome (asked_of (Some self.old)) }
-        ensures* lends { sem 𝓛 (Lends (the_row A.row S.row) A.row self.entry result (with_asked self.old)) }
+        ensures* lends { sem 𝓛 (Lends (the_row A.row S.row) A.row self.entry result
+            (with_asked self.old)) }
         ensures value { asked_of (Some self.old) ≡ Some result.now }
     {
         match self {
@@ -144,7 +146,8 @@ impl<A: Drop, S: Drop> Place<A, S> {
     /// The session that has begun, to be changed.
     pub(crate) fn live_mut(&mut self) -> &mut S
         requires { IsSome (live_of (Some self.old)) }
-        ensures* lends { sem 𝓛 (Lends (the_row A.row S.row) S.row self.entry result (with_live self.old)) }
+        ensures* lends { sem 𝓛 (Lends (the_row A.row S.row) S.row self.entry result
+            (with_live self.old)) }
         ensures value { live_of (Some self.old) ≡ Some result.now }
     {
         match self {

@@ -1,4 +1,5 @@
-ghost use Rattle.std.specs.Prelude.{◌≡◌, ◌<◌, Ok, length, slice_get, slice_set, IfOk, IfErr, OnErr, OnSome, IfNone, option_copied};
+ghost use Rattle.std.specs.Prelude.{◌≡◌, ◌<◌, Ok, length, slice_get, slice_set, IfOk, IfErr, OnErr, OnSome, IfNone};
+ghost use Rattle.std.specs.Prelude.{option_copied};
 ghost use Rattle.std.specs.Option.{option_copied_mut};
 ghost use types.Logic.{sem};
 ghost use Rattle.std.specs.FinMap as map;
@@ -193,7 +194,8 @@ impl<A: Drop, S: Drop> Sessions<A, S> {
         channel: IncomingChannel,
         begin: &Begin,
     ) -> Result<u64, ConnectionError>
-        ensures ok { IfOk result (λ number. Steps self.old (TakesBegin number channel begin.now) self.new) }
+        ensures ok { IfOk result (λ number.
+            Steps self.old (TakesBegin number channel begin.now) self.new) }
         ensures err { IfErr result (λ e.
             connection_steps.RefusesBegin self.old.connection begin.now e × (self.new ≡ self.old)) }
     {
@@ -211,7 +213,8 @@ fn room_for_session<A: Drop, S: Drop>(
         × (given.0 ≡ length places.old.items)
         × (given.1 ≡ record { 0 = connection.old.offered })
         × (vec_len places.new < vec_capacity places.new)) }
-    ensures err { IfErr result (λ e. RefusesSession connection.old e × (connection.new ≡ connection.old)) }
+    ensures err { IfErr result (λ e. RefusesSession connection.old e
+        × (connection.new ≡ connection.old)) }
     ensures same { places.new.items ≡ places.old.items }
 {
     let _ = connection.offered_channel()?;

@@ -26,7 +26,8 @@ pub fn begin<R: LinkRelay>(
     alloc: Global,
     out: &mut VecDeque<SessionFrame>,
 ) -> Result<u64, BeginError>
-    ensures ok { IfOk result (λ number. BeginsHere R.gives talk.old out.old.items number talk.new out.new.items) }
+    ensures ok { IfOk result (λ number. BeginsHere R.gives talk.old out.old.items number talk.new
+        out.new.items) }
     ensures err { IfErr result (RefusesSession talk.old.sessions.connection) }
     ensures kept { OnErr result ((talk.new ≡ talk.old) × (out.new.items ≡ out.old.items)) }
     ensures goes { (limit : ℕ) → Goes limit talk.old talk.new out.old.items out.new.items }

@@ -33,7 +33,8 @@ pub fn hear_begin<R: LinkRelay>(
     channel: IncomingChannel,
     begin: Begin,
 ) -> Result<BeginHeard, BeginRefusal>
-    ensures step { BeginAnswered R.gives talk.old out.old.items channel begin result talk.new out.new.items }
+    ensures step { BeginAnswered R.gives talk.old out.old.items channel begin result talk.new
+        out.new.items }
     ensures goes { (limit : ℕ) → Goes limit talk.old talk.new out.old.items out.new.items }
     ensures rests { Rests talk.old talk.new out.old.items out.new.items }
 {
@@ -53,7 +54,8 @@ pub fn hear_end<R: LinkRelay>(
     channel: IncomingChannel,
     end: &End,
 ) -> Result<EndHeard<R>, ConnectionError>
-    ensures step { EndAnswered talk.old out.old.items channel end.now result talk.new out.new.items }
+    ensures step { EndAnswered talk.old out.old.items channel end.now result talk.new
+        out.new.items }
     ensures goes { (limit : ℕ) → Goes limit talk.old talk.new out.old.items out.new.items }
     ensures rests { Rests talk.old talk.new out.old.items out.new.items }
 {
@@ -78,9 +80,11 @@ pub fn hear<R: LinkRelay>(
     channel: IncomingChannel,
     said: LinkPerformative,
 ) -> Result<Heard<R::Attached, R::Transferred, R::Detached>, HearRefusal<R>>
-    ensures step { Answered R.gives talk.old out.old.items channel said result talk.new out.new.items }
+    ensures step { Answered R.gives talk.old out.old.items channel said result talk.new
+        out.new.items }
     ensures untouched { says_flow said ≡ false → OnOk result (out.new ≡ out.old) }
-    ensures goes { (limit : ℕ) → AnswersPlain R.gives → Goes limit talk.old talk.new out.old.items out.new.items }
+    ensures goes { (limit : ℕ) → AnswersPlain R.gives →
+        Goes limit talk.old talk.new out.old.items out.new.items }
     ensures rests { Rests talk.old talk.new out.old.items out.new.items }
 {
     let from = out.len();

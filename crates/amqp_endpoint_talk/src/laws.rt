@@ -1,5 +1,6 @@
 //! Laws of a conversation's calls. A function here does nothing: its contract is the law.
-ghost use Rattle.std.specs.Prelude.{◌≡◌, ◌≢◌, ◌≤◌, ◌∷◌, ◌++◌, [], ℕ, suc, zero, length, List, All, None, Option, Result, Err, ⊤};
+ghost use Rattle.std.specs.Prelude.{◌≡◌, ◌≢◌, ◌≤◌, ◌∷◌, ◌++◌, [], ℕ, suc, zero, length, List, All, None, Option};
+ghost use Rattle.std.specs.Prelude.{Result, Err, ⊤};
 ghost use Rattle.std.specs.Global.{Box};
 ghost use Rattle.amqp_session_types.specs.declared.channels.OutgoingChannel.{OutgoingChannel};
 ghost use Rattle.amqp_session_types.specs.declared.refusals.TryEndError.{TryEndError};
@@ -108,7 +109,8 @@ pub fn an_end_told_goes_on<R: LinkRelay>()
 
 /// What fits a limit fits a wider one (part 2, 2.7.1), and where no session goes on nothing waits.
 pub fn what_waits_fits<R: LinkRelay>()
-    ensures wider { (limit wider : ℕ) (talk : Conversation R) → Within limit talk → limit ≤ wider → Within wider talk }
+    ensures wider { (limit wider : ℕ) (talk : Conversation R) → Within limit talk → limit ≤ wider →
+        Within wider talk }
     ensures none { (limit : ℕ) (talk : Conversation R) → NoneLive talk → Within limit talk }
 {}
 

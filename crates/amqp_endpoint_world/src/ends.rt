@@ -5,7 +5,9 @@ ghost use Rattle.amqp_endpoint_model.specs.Step.{refusal_of_settings};
 ghost use Rattle.amqp_endpoint_model.specs.declared.error.EndpointError.TheVariants.{Memory};
 ghost use Rattle.amqp_endpoint_world.specs.WorldSaid.{did_said, feed_said, texts};
 ghost use Rattle.amqp_endpoint_world.specs.WorldState.{IsNewWorld, stream_to, way_from};
-ghost use Rattle.amqp_endpoint_world.specs.WorldStep.{BreaksBoth, CallsAt, CallsOne, Carries, MovesFrom, WorldStep, fault_breaks_off, has_broken_off, is_the_worlds, refusal_of_either};
+ghost use Rattle.amqp_endpoint_world.specs.WorldStep.{BreaksBoth, CallsAt, CallsOne, Carries, MovesFrom, WorldStep};
+ghost use Rattle.amqp_endpoint_world.specs.WorldStep.{fault_breaks_off, has_broken_off, is_the_worlds};
+ghost use Rattle.amqp_endpoint_world.specs.WorldStep.{refusal_of_either};
 
 use crate::carrying::carry;
 use crate::reply::{Did, Moved};
@@ -57,7 +59,8 @@ impl<S: SessionRelay> World<S> {
         ensures accepted { OnOk result ((refusal_of_settings settings_a ≡ None)
             × (refusal_of_settings settings_b ≡ None)) }
         ensures ok { IfOk result (λ w. IsNewWorld S.does settings_a settings_b w) }
-        ensures err { IfErr result (λ e. (e ≡ Memory) ⊎ (refusal_of_either settings_a settings_b ≡ Some e)) }
+        ensures err { IfErr result (λ e. (e ≡ Memory)
+            ⊎ (refusal_of_either settings_a settings_b ≡ Some e)) }
     {
         let a = Endpoint::new(alloc, settings_a)?;
         let b = Endpoint::new(alloc, settings_b)?;
@@ -109,7 +112,8 @@ impl<S: SessionRelay> World<S> {
 
     /// Bytes are moved. Where the feed broke its end off, both ends break off behind it.
     fn move_from(&mut self, from: End, count: u64) -> Moved
-        ensures { MovesFrom S.does from count (texts result.pulled.items) (feed_said result.answer) self.old self.new }
+        ensures { MovesFrom S.does from count (texts result.pulled.items) (feed_said result.answer)
+            self.old self.new }
     {
         let moved = self.carry(from, count);
         if has_broken_off(&moved.answer) {

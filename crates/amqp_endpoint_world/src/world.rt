@@ -31,7 +31,8 @@ pub fn run<S: SessionRelay>(
     ensures run { IfOk result (λ replies. (start : WorldState S) × (end : WorldState S)
         × IsNewWorld S.does settings_a settings_b start
         × WorldRun S.does start steps.now (map world_told replies.items) end) }
-    ensures err { IfErr result (λ e. (e ≡ Memory) ⊎ (refusal_of_either settings_a settings_b ≡ Some e)) }
+    ensures err { IfErr result (λ e. (e ≡ Memory)
+        ⊎ (refusal_of_either settings_a settings_b ≡ Some e)) }
 {
     let mut replies = Vec::with_capacity(alloc, steps.len())?;
     let mut world = World::<S>::new(alloc, settings_a, settings_b)?;

@@ -5,7 +5,8 @@ ghost use Rattle.serde_amqp_types.specs.contracts.array.Array.{the_row as array_
 ghost use Rattle.amqp_link_types.specs.declared.attaching.SenderAttachError.{SenderAttachError};
 ghost use Rattle.amqp_link_types.specs.declared.attaching.ReceiverAttachError.{ReceiverAttachError};
 ghost use Rattle.amqp_link_attach.specs.Tests.{FirstOf};
-ghost use Rattle.amqp_link_attach.specs.Target.{sender_target_tests, receiver_target_tests, sender_archetype_tests, receiver_archetype_tests, is_coordinator, dynamic_of};
+ghost use Rattle.amqp_link_attach.specs.Target.{sender_target_tests, receiver_target_tests, sender_archetype_tests};
+ghost use Rattle.amqp_link_attach.specs.Target.{receiver_archetype_tests, is_coordinator, dynamic_of};
 
 use amqp_link_types::{ReceiverAttachError, SenderAttachError};
 use amqp_session_states::{Target, TargetArchetype};

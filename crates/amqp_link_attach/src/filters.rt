@@ -50,7 +50,8 @@ fn gather(
     in_place: &Option<FilterSet>,
     names: &mut Vec<Symbol>,
 ) -> Result<(), AllocError>
-    ensures ok { OnOk result (names.new.items ≡ names.old.items ++ unsupported wanted.entry (filters_of in_place.now)) }
+    ensures ok { OnOk result (names.new.items ≡ names.old.items
+        ++ unsupported wanted.entry (filters_of in_place.now)) }
     ensures err { OnErr result (unsupported wanted.entry (filters_of in_place.now) ≢ []) }
 {
     let mut wanted = wanted;

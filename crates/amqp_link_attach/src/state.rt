@@ -1,6 +1,8 @@
 //! The states of a link (part 2, 2.6.3 to 2.6.6).
 ghost use Rattle.std.specs.Prelude.{◌≡◌};
-ghost use Rattle.amqp_link_attach.specs.State.{after_send_attach, after_incoming_attach, after_send_detach, after_detach_reply, after_remote_detach, after_break, is_attached, is_incomplete};
+ghost use Rattle.amqp_link_attach.specs.State.{after_send_attach, after_incoming_attach, after_send_detach};
+ghost use Rattle.amqp_link_attach.specs.State.{after_detach_reply, after_remote_detach, after_break, is_attached};
+ghost use Rattle.amqp_link_attach.specs.State.{is_incomplete};
 
 /// The states of a link's end.
 #[derive(Debug, Clone, Copy, PartialEq, Eq)]

@@ -1,6 +1,8 @@
 //! What a peer's Attach is refused for, test by test (part 2, 2.6.3 and 2.7.3; part 3, 3.5.3 and 3.5.4).
 ghost use Rattle.amqp_link_attach.specs.Tests.{FirstOf, JudgedBy, first_of};
-ghost use Rattle.amqp_link_attach.specs.Attach.{sender_tests, receiver_tests, source_tests_of_sender, target_tests_of_sender, mode_tests, source_tests_of_receiver, count_tests, target_tests_of_receiver};
+ghost use Rattle.amqp_link_attach.specs.Attach.{sender_tests, receiver_tests, source_tests_of_sender};
+ghost use Rattle.amqp_link_attach.specs.Attach.{target_tests_of_sender, mode_tests, source_tests_of_receiver};
+ghost use Rattle.amqp_link_attach.specs.Attach.{count_tests, target_tests_of_receiver};
 
 use crate::archetype::{VariantOfTargetArchetype, VerifyTargetArchetype};
 use crate::source::VerifySource;

@@ -74,7 +74,8 @@ impl LinkFlowStateInner {
         echo: bool,
         include_properties: bool,
     ) -> Result<LinkFlow, AllocError>
-        ensures flow { IfOk result (λ flow. flow ≡ told output_handle echo include_properties self.now) }
+        ensures flow { IfOk result (λ flow.
+            flow ≡ told output_handle echo include_properties self.now) }
         ensures not_asked { include_properties ≡ false → IsOk result }
         ensures none { self.now.properties ≡ None → IsOk result }
     {

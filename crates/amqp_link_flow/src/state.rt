@@ -89,7 +89,8 @@ impl<R> LinkFlowState<R> {
     pub fn initial_delivery_count_mut<F: Fn(u32) -> u32>(&mut self, f: F)
         requires { F.pre f self.old.initial_delivery_count }
         ensures put { F.post f self.old.initial_delivery_count self.new.initial_delivery_count }
-        ensures others { self.new ≡ record self.old { initial_delivery_count = self.new.initial_delivery_count } }
+        ensures others { self.new ≡ record self.old
+            { initial_delivery_count = self.new.initial_delivery_count } }
     {
         self.inner.initial_delivery_count = f(self.inner.initial_delivery_count);
     }

@@ -5,11 +5,14 @@ ghost use Rattle.serde_amqp_item.specs.Canon.{alone};
 ghost use Rattle.serde_amqp_read.specs.Reads.{Unless, faultless};
 ghost use Rattle.serde_amqp_ser.specs.Puts.{listed, place_of, OnlyWhere, WantsMemory};
 ghost use Rattle.amqp_link_sections.specs.Annotations.{footer_item, footer_taken};
-ghost use Rattle.amqp_link_sections.specs.Body.{data_item, data_taken, amqp_sequence_item, amqp_sequence_taken, amqp_value_item, amqp_value_taken};
+ghost use Rattle.amqp_link_sections.specs.Body.{data_item, data_taken, amqp_sequence_item, amqp_sequence_taken};
+ghost use Rattle.amqp_link_sections.specs.Body.{amqp_value_item, amqp_value_taken};
 ghost use Rattle.amqp_link_message.specs.Payload.{payload_text};
 ghost use Rattle.amqp_link_message.specs.Sections.{IsBody};
 ghost use Rattle.amqp_link_message.specs.Parts.{at_most_one, exactly_one, if_there, OneValue, ReadsParts, NoParts};
-ghost use Rattle.amqp_link_sections.specs.BodyLaws.{data_again, data_decided, amqp_sequence_again, amqp_sequence_decided, amqp_sequence_same_item, amqp_value_again, amqp_value_decided, amqp_value_same_item};
+ghost use Rattle.amqp_link_sections.specs.BodyLaws.{data_again, data_decided, amqp_sequence_again};
+ghost use Rattle.amqp_link_sections.specs.BodyLaws.{amqp_sequence_decided, amqp_sequence_same_item, amqp_value_again};
+ghost use Rattle.amqp_link_sections.specs.BodyLaws.{amqp_value_decided, amqp_value_same_item};
 ghost use Rattle.std.proofs.Common.{ap};
 ghost use Rattle.amqp_link_message.specs.RoundLaws.{one_again};
 ghost use Rattle.amqp_link_message.specs.OneReading.{one_decided};
@@ -36,7 +39,8 @@ pub trait WriteBody {
         ensures place { OnOk result (place_of s.new.element ≡ alone) }
         ensures ok { OnOk result (listed (W.written s.old.writer) (items_of (items self.now))
             ≡ Some (W.written s.new.writer)) }
-        ensures refused { OnlyWhere result (listed (W.written s.old.writer) (items_of (items self.now))) }
+        ensures refused { OnlyWhere result (listed (W.written s.old.writer)
+            (items_of (items self.now))) }
         ensures memory { WantsMemory W.takes_memory result };
 
     /// The bytes that the body is written as, where it holds them already. They are shared, not written again.
@@ -61,7 +65,8 @@ pub trait ReadBody: Sized {
     fn read(alloc: Global, bytes: &[u8]) -> Result<(Self, Option<Footer>), Error>
         ensures ok { IfOk result (λ p. ReadsParts (takes ∷ at_most_one footer_taken ∷ []) bytes.now
             (items p.0 ∷ if_there footer_item p.1 ∷ [])) }
-        ensures refused { Unless faultless result (NoParts (takes ∷ at_most_one footer_taken ∷ []) bytes.now) };
+        ensures refused { Unless faultless result
+            (NoParts (takes ∷ at_most_one footer_taken ∷ []) bytes.now) };
 
     /// A body has one section of a body or more, and no other sections.
     ghost of_body: { (xs ys : List Item) → takes xs ≡ Some ys → IsBody xs };

@@ -149,7 +149,8 @@ impl Delivery<Raw> {
     pub fn read<B: ReadBody>(&self, alloc: Global) -> Result<Message<B>, Error>
         ensures ok { IfOk result (λ m. ReadsParts (message_takes B.takes) self.now.message.body.0
             (message_parts B.items m)) }
-        ensures refused { Unless faultless result (NoParts (message_takes B.takes) self.now.message.body.0) }
+        ensures refused { Unless faultless result
+            (NoParts (message_takes B.takes) self.now.message.body.0) }
     {
         read_payload(alloc, self.message.body.0.as_slice())
     }

@@ -17,7 +17,8 @@ pub fn one_list_of_items()
 
 /// What is written of items says these items, where their counts are in their bounds and their kept items are wire forms.
 pub fn written_is_said()
-    ensures { (xs : List Item) (text : List ℕ) → IsWithinBounds xs → IsOfForms xs → payload_text xs ≡ Some text → Says text xs }
+    ensures { (xs : List Item) (text : List ℕ) → IsWithinBounds xs → IsOfForms xs →
+        payload_text xs ≡ Some text → Says text xs }
 {}
 
 /// A message that was written is read back: its payload says sections that are read as those of the message. The

@@ -1,9 +1,11 @@
 //! The parts of a message, read one behind the other (part 3, 3.2).
-ghost use Rattle.std.specs.Prelude.{◌≡◌, ◌<◌, ◌&&◌, ◌∷◌, [], ℕ, nat_lt, Bool, true, List, map, IfOk, IfErr, IfSome, Option, None};
+ghost use Rattle.std.specs.Prelude.{◌≡◌, ◌<◌, ◌&&◌, ◌∷◌, [], ℕ, nat_lt, Bool, true, List, map, IfOk, IfErr, IfSome};
+ghost use Rattle.std.specs.Prelude.{Option, None};
 ghost use Rattle.serde_amqp_item.specs.Item.{Item};
 ghost use Rattle.serde_amqp_read.specs.Reads.{Unless, faultless};
 ghost use Rattle.amqp_link_message.specs.Sections.{TakesCode};
-ghost use Rattle.amqp_link_message.specs.Parts.{at_most_one, exactly_one, any_number, one_or_more, if_there, ReadsParts, NoParts, EndsOrBegins};
+ghost use Rattle.amqp_link_message.specs.Parts.{at_most_one, exactly_one, any_number, one_or_more, if_there};
+ghost use Rattle.amqp_link_message.specs.Parts.{ReadsParts, NoParts, EndsOrBegins};
 ghost use Rattle.amqp_link_message.specs.Front.{HasNoFront, AllTaken};
 ghost use Rattle.amqp_link_message.specs.Several.{each_item, NotSeveral};
 ghost use Rattle.amqp_link_message.specs.PartLaws.{nothing_begins, part_begins_in_order};

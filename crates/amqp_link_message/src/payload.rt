@@ -1,5 +1,6 @@
 //! Messages as payloads (part 3, 3.2).
-ghost use Rattle.std.specs.Prelude.{◌≡◌, ◌≢◌, ◌⊎◌, ◌∷◌, ◌++◌, [], ℕ, List, length, Bool, true, Some, None, IsSome, OnOk, IfOk, IfErr, IfSome};
+ghost use Rattle.std.specs.Prelude.{◌≡◌, ◌≢◌, ◌⊎◌, ◌∷◌, ◌++◌, [], ℕ, List, length, Bool, true, Some, None, IsSome};
+ghost use Rattle.std.specs.Prelude.{OnOk, IfOk, IfErr, IfSome};
 ghost use Rattle.serde_amqp_item.specs.Item.{Item, items_of};
 ghost use Rattle.serde_amqp_item.specs.Canon.{alone};
 ghost use Rattle.serde_amqp_read.specs.Reads.{Unless, faultless};
@@ -68,7 +69,8 @@ impl<B: WriteBody> WriteParts for Message<B> {
 fn counted<P: WriteParts>(parts: &P) -> Result<u128, Error>
     ensures ok { IfOk result (λ n. (text : List ℕ) × (payload_text (P.items parts.now) ≡ Some text)
         × (n ≡ capped (length text))) }
-    ensures refused { IfErr result (λ e. (e ≢ Error.Memory) × (payload_text (P.items parts.now) ≡ None)) }
+    ensures refused { IfErr result (λ e. (e ≢ Error.Memory)
+        × (payload_text (P.items parts.now) ≡ None)) }
 {
     let mut s = Serializer::new(Counter::new());
     parts.put(&mut s)?;
@@ -82,8 +84,10 @@ fn counted<P: WriteParts>(parts: &P) -> Result<u128, Error>
 #[tactic(auto, using(crate::proofs::Listing::texts))]
 fn written<P: WriteParts>(alloc: Global, parts: &P) -> Result<Vec<u8>, Error>
     ensures ok { IfOk result (λ bytes. payload_text (P.items parts.now) ≡ Some bytes.items) }
-    ensures refused { IfErr result (λ e. e ≢ Error.Memory → payload_text (P.items parts.now) ≡ None) }
-    ensures memory { IfErr result (λ e. e ≡ Error.Memory → IsSome (payload_text (P.items parts.now))) }
+    ensures refused { IfErr result (λ e. e ≢ Error.Memory →
+        payload_text (P.items parts.now) ≡ None) }
+    ensures memory { IfErr result (λ e. e ≡ Error.Memory →
+        IsSome (payload_text (P.items parts.now))) }
 {
     let Ok(size) = usize::try_from(counted(parts)?) else {
         return Err(Error::Memory);
@@ -99,7 +103,8 @@ impl<B: WriteBody> Message<B> {
     /// Errors: `InvalidLength` where it has 2^64 bytes or more; else an error exactly where an item of it has no
     /// canonical text. `Memory` is not answered.
     pub fn payload_size(&self) -> Result<usize, Error>
-        ensures ok { IfOk result (λ n. HasLength (payload_text (message_items B.items self.now)) n) }
+        ensures ok { IfOk result (λ n. HasLength (payload_text (message_items B.items self.now))
+            n) }
         ensures refused { IfErr result (λ e. (payload_text (message_items B.items self.now) ≡ None)
             ⊎ (IsTooLong (payload_text (message_items B.items self.now)) × (e ≡ Error.InvalidLength))) }
         ensures memory { IfErr result (λ e. e ≢ Error.Memory) }
@@ -134,9 +139,12 @@ impl<B: WriteBody> Message<B> {
     /// Errors: `Memory` for want of memory alone, as for a payload of 2^64 bytes or more; any other exactly where an item
     /// of the message has no canonical text.
     pub fn to_payload(&self, alloc: Global) -> Result<Bytes, Error>
-        ensures ok { IfOk result (λ bytes. payload_text (message_items B.items self.now) ≡ Some bytes) }
-        ensures refused { IfErr result (λ e. e ≢ Error.Memory → payload_text (message_items B.items self.now) ≡ None) }
-        ensures memory { IfErr result (λ e. e ≡ Error.Memory → IsSome (payload_text (message_items B.items self.now))) }
+        ensures ok { IfOk result (λ bytes. payload_text (message_items B.items self.now)
+            ≡ Some bytes) }
+        ensures refused { IfErr result (λ e. e ≢ Error.Memory →
+            payload_text (message_items B.items self.now) ≡ None) }
+        ensures memory { IfErr result (λ e. e ≡ Error.Memory →
+            IsSome (payload_text (message_items B.items self.now))) }
     {
         match self.as_written() {
             Some(bytes) => Ok(bytes.clone()?),
@@ -190,7 +198,8 @@ type FromAnnotations<B> = (
 /// Errors: `Memory`; any other exactly where the bytes don't say such sections. `SequenceLengthMismatch` where bytes are
 /// left behind them.
 pub fn read_payload<B: ReadBody>(alloc: Global, bytes: &[u8]) -> Result<Message<B>, Error>
-    ensures ok { IfOk result (λ m. ReadsParts (message_takes B.takes) bytes.now (message_parts B.items m)) }
+    ensures ok { IfOk result (λ m. ReadsParts (message_takes B.takes) bytes.now
+        (message_parts B.items m)) }
     ensures refused { Unless faultless result (NoParts (message_takes B.takes) bytes.now) }
 {
     let (header, annotations) = <(Option<Header>, FromAnnotations<B>) as ReadParts>::read(

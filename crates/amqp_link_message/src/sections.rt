@@ -1,5 +1,7 @@
 //! The sections of a message, by their descriptors (part 3, 3.2.1 to 3.2.9).
-ghost use Rattle.amqp_link_message.specs.CodeLaws.{header_coded, delivery_annotations_coded, message_annotations_coded, properties_coded, application_properties_coded, data_coded, amqp_sequence_coded, amqp_value_coded, footer_coded};
+ghost use Rattle.amqp_link_message.specs.CodeLaws.{header_coded, delivery_annotations_coded, message_annotations_coded};
+ghost use Rattle.amqp_link_message.specs.CodeLaws.{properties_coded, application_properties_coded, data_coded};
+ghost use Rattle.amqp_link_message.specs.CodeLaws.{amqp_sequence_coded, amqp_value_coded, footer_coded};
 
 use crate::parts::Section;
 use amqp_link_sections::{

@@ -6,7 +6,9 @@ ghost use Rattle.amqp_session_states.specs.declared.delivery_state.DeliveryState
 ghost use Rattle.amqp_session_states.specs.declared.outcome.Outcome.TheVariants.{Accepted};
 ghost use Rattle.amqp_link_types.specs.declared.refusals.LinkStateError.{LinkStateError};
 ghost use Rattle.amqp_link_types.specs.declared.refusals.LinkStateError.TheVariants.{IllegalState, SessionStopped};
-ghost use Rattle.amqp_link_types.specs.declared.refusals.SendError.TheVariants.{LinkStateError as NoOutcome, NonTerminalDeliveryState, IllegalDeliveryState};
+ghost use Rattle.amqp_link_types.specs.declared.refusals.SendError.TheVariants.{LinkStateError as NoOutcome};
+ghost use Rattle.amqp_link_types.specs.declared.refusals.SendError.TheVariants.{NonTerminalDeliveryState};
+ghost use Rattle.amqp_link_types.specs.declared.refusals.SendError.TheVariants.{IllegalDeliveryState};
 
 use amqp_link_types::{LinkStateError, RecvError, SendError};
 use amqp_session_states::{Accepted, DeliveryState, Outcome};

@@ -26,7 +26,11 @@ pub struct NoMessage;
 impl Sendable<NoMessage> {
     /// Begins a message that is to be sent: of format 0, and without a word on how it is settled.
     pub fn builder() -> Builder<NoMessage>
-        ensures { result ≡ record { message = record {}; message_format = MESSAGE_FORMAT; settled = None } }
+        ensures { result ≡ record {
+          message = record {};
+          message_format = MESSAGE_FORMAT;
+          settled = None;
+        } }
     {
         Builder::new()
     }
@@ -46,7 +50,11 @@ pub struct Builder<M> {
 impl Builder<NoMessage> {
     /// Begins a message that is to be sent: of format 0, and without a word on how it is settled.
     pub fn new() -> Self
-        ensures { result ≡ record { message = record {}; message_format = MESSAGE_FORMAT; settled = None } }
+        ensures { result ≡ record {
+          message = record {};
+          message_format = MESSAGE_FORMAT;
+          settled = None;
+        } }
     {
         Builder {
             message: NoMessage,
@@ -113,7 +121,11 @@ impl<M> Builder<M> {
 impl<B> Builder<Message<B>> {
     /// The message that is to be sent.
     pub fn build(self) -> Sendable<B>
-        ensures { result ≡ record { message = self.message; message_format = self.message_format; settled = self.settled } }
+        ensures { result ≡ record {
+          message = self.message;
+          message_format = self.message_format;
+          settled = self.settled;
+        } }
     {
         Sendable {
             message: self.message,

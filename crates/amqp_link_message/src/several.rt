@@ -44,7 +44,8 @@ pub(crate) fn put_several<S: Serialize, W: Sink>(
     ensures place { OnOk result (place_of s.new.element ≡ alone) }
     ensures ok { OnOk result (listed (W.written s.old.writer) (items_of (each_item S.item sections.now))
         ≡ Some (W.written s.new.writer)) }
-    ensures refused { OnlyWhere result (listed (W.written s.old.writer) (items_of (each_item S.item sections.now))) }
+    ensures refused { OnlyWhere result (listed (W.written s.old.writer)
+        (items_of (each_item S.item sections.now))) }
     ensures memory { WantsMemory W.takes_memory result }
 {
     sections.first.serialize(s)?;

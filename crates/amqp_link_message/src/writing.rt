@@ -21,7 +21,8 @@ pub(crate) trait WriteParts {
         ensures place { OnOk result (place_of s.new.element ≡ alone) }
         ensures ok { OnOk result (listed (W.written s.old.writer) (items_of (items self.now))
             ≡ Some (W.written s.new.writer)) }
-        ensures refused { OnlyWhere result (listed (W.written s.old.writer) (items_of (items self.now))) }
+        ensures refused { OnlyWhere result (listed (W.written s.old.writer)
+            (items_of (items self.now))) }
         ensures memory { WantsMemory W.takes_memory result };
 }
 
@@ -37,7 +38,8 @@ pub(crate) fn put_section<S: Serialize, W: Sink>(
     ensures place { OnOk result (place_of s.new.element ≡ alone) }
     ensures ok { OnOk result (listed (W.written s.old.writer) (items_of (if_there S.item section.now))
         ≡ Some (W.written s.new.writer)) }
-    ensures refused { OnlyWhere result (listed (W.written s.old.writer) (items_of (if_there S.item section.now))) }
+    ensures refused { OnlyWhere result (listed (W.written s.old.writer)
+        (items_of (if_there S.item section.now))) }
     ensures memory { WantsMemory W.takes_memory result }
 {
     match section {
@@ -85,7 +87,8 @@ pub(crate) fn put_all<S: Serialize, W: Sink>(
     ensures place { OnOk result (place_of s.new.element ≡ alone) }
     ensures ok { OnOk result (listed (W.written s.old.writer) (items_of (map S.item sections.now))
         ≡ Some (W.written s.new.writer)) }
-    ensures refused { OnlyWhere result (listed (W.written s.old.writer) (items_of (map S.item sections.now))) }
+    ensures refused { OnlyWhere result (listed (W.written s.old.writer)
+        (items_of (map S.item sections.now))) }
     ensures memory { WantsMemory W.takes_memory result }
 {
     for section in sections {

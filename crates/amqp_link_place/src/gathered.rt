@@ -136,7 +136,8 @@ fn joined(alloc: Global, pieces: &[Bytes], kept: usize, last: &Bytes) -> Result<
 /// Leaves the first bytes of the pieces.
 fn cut(pieces: &mut Vec<Bytes>, n: usize)
     ensures bytes { concat pieces.new.items ≡ take n (concat pieces.old.items) }
-    ensures room { vec_len pieces.old < vec_capacity pieces.old → vec_len pieces.new < vec_capacity pieces.new }
+    ensures room { vec_len pieces.old < vec_capacity pieces.old →
+        vec_len pieces.new < vec_capacity pieces.new }
 {
     let mut left = n;
     for i in 0..pieces.len() {

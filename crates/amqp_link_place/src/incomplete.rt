@@ -1,8 +1,10 @@
 //! A delivery of which transfers are still to come (part 2, 2.6.14 and 2.7.5).
-ghost use Rattle.std.specs.Prelude.{◌≡◌, ◌+◌, ◌^◌, ◌<◌, ◌⊎◌, ◌++◌, length, take, true, false, Some, None, Ok, Err, IsSome, IsOk, OnOk, OnErr, IfOk, IfErr, IfSome, unwrap_or};
+ghost use Rattle.std.specs.Prelude.{◌≡◌, ◌+◌, ◌^◌, ◌<◌, ◌⊎◌, ◌++◌, length, take, true, false, Some, None, Ok, Err};
+ghost use Rattle.std.specs.Prelude.{IsSome, IsOk, OnOk, OnErr, IfOk, IfErr, IfSome, unwrap_or};
 ghost use Rattle.std.specs.List.{concat};
 ghost use Rattle.amqp_link_place.specs.Starts.{place_at, read_at, kept_till};
-ghost use Rattle.amqp_link_place.specs.Said.{begun, continued, resumed, whole, repeats, is_same_delivery, agrees, unnamed, gathered, settled_by};
+ghost use Rattle.amqp_link_place.specs.Said.{begun, continued, resumed, whole, repeats, is_same_delivery, agrees};
+ghost use Rattle.amqp_link_place.specs.Said.{unnamed, gathered, settled_by};
 
 use crate::gathered::Gathered;
 use amqp_link_types::ReceiverTransferError;
@@ -57,7 +59,8 @@ impl IncompleteTransfer {
         requires { length payload < 2 ^ 32 }
         ensures ok { IfOk result (λ held. gathered None transfer payload ≡ Ok held) }
         ensures refused { IfSome (unnamed transfer) (λ e. result ≡ Err e) }
-        ensures only { IfErr result (λ e. (e ≡ ReceiverTransferError.Memory) ⊎ (unnamed transfer ≡ Some e)) }
+        ensures only { IfErr result (λ e. (e ≡ ReceiverTransferError.Memory)
+            ⊎ (unnamed transfer ≡ Some e)) }
     {
         let payload = first_piece(alloc, &transfer, payload)?;
         Ok(IncompleteTransfer {
@@ -140,7 +143,8 @@ impl IncompleteTransfer {
         ensures err { OnErr result (self.new ≡ self.old) }
         ensures named { OnOk result (unnamed transfer ≡ None) }
         ensures refused { IfSome (unnamed transfer) (λ e. result ≡ Err e) }
-        ensures only { IfErr result (λ e. (e ≡ ReceiverTransferError.Memory) ⊎ (unnamed transfer ≡ Some e)) }
+        ensures only { IfErr result (λ e. (e ≡ ReceiverTransferError.Memory)
+            ⊎ (unnamed transfer ≡ Some e)) }
     {
         named(&transfer)?;
         self.payload.push_behind(kept, payload)?;
@@ -173,7 +177,8 @@ impl IncompleteTransfer {
 
     /// Whether the delivery is settled once a transfer has come that goes on with it (part 2, 2.7.5).
     pub fn is_settled_by(&self, transfer: &Transfer) -> bool
-        ensures { result ≡ unwrap_or (settled_by self.now.performative.settled transfer.now.settled) false }
+        ensures { result ≡ unwrap_or (settled_by self.now.performative.settled transfer.now.settled)
+            false }
     {
         transfer.settled.unwrap_or(false) || self.performative.settled.unwrap_or(false)
     }
@@ -298,7 +303,8 @@ fn first_piece(
     requires { length payload < 2 ^ 32 }
     ensures ok { IfOk result (λ bytes. (unnamed transfer.now ≡ None) × (bytes ≡ payload)) }
     ensures refused { IfSome (unnamed transfer.now) (λ e. result ≡ Err e) }
-    ensures only { IfErr result (λ e. (e ≡ ReceiverTransferError.Memory) ⊎ (unnamed transfer.now ≡ Some e)) }
+    ensures only { IfErr result (λ e. (e ≡ ReceiverTransferError.Memory)
+        ⊎ (unnamed transfer.now ≡ Some e)) }
 {
     named(transfer)?;
     let mut gathered = Gathered::new(alloc);

@@ -1,5 +1,6 @@
 //! Places in a payload, found byte by byte (part 3, 3.4.1).
-ghost use Rattle.std.specs.Prelude.{◌≡◌, ℕ, ◌+◌, ◌-◌, ◌^◌, ◌<◌, ◌≤◌, List, [], ◌∷◌, ◌++◌, length, take, nat_lt, ◌&&◌, Some, IfSome, IfNone};
+ghost use Rattle.std.specs.Prelude.{◌≡◌, ℕ, ◌+◌, ◌-◌, ◌^◌, ◌<◌, ◌≤◌, List, [], ◌∷◌, ◌++◌, length, take, nat_lt, ◌&&◌};
+ghost use Rattle.std.specs.Prelude.{Some, IfSome, IfNone};
 ghost use Rattle.amqp_link_place.specs.Starts.{place_at, read_at, start_of, behind};
 ghost use Rattle.amqp_link_place.specs.Followed.{is_ended, followed};
 
@@ -147,7 +148,10 @@ impl Scan {
 
     /// The place so far.
     pub(crate) fn place(&self) -> Received
-        ensures { result ≡ record { section_number = self.now.section; section_offset = self.now.offset } }
+        ensures { result ≡ record {
+          section_number = self.now.section;
+          section_offset = self.now.offset;
+        } }
     {
         Received {
             section_number: self.section,
@@ -159,7 +163,8 @@ impl Scan {
 /// So far behind a start, where that is within so many bytes.
 pub(crate) fn reach(size: usize, start: u64, offset: u64) -> Option<usize>
     requires { start ≤ size }
-    ensures { (payload : List ℕ) → length payload ≡ size → result ≡ behind payload offset (Some start) }
+    ensures { (payload : List ℕ) → length payload ≡ size →
+        result ≡ behind payload offset (Some start) }
 {
     if offset <= size as u64 - start {
         return Some((start + offset) as usize);

@@ -45,7 +45,8 @@ impl ReceiverLink {
         handle: OutputHandle,
         limit: u32,
     ) -> Result<Attach, ListError>
-        ensures ok { IfOk result (λ attach. Lists limit (unlisted self.now handle) (to_list self.now) attach) }
+        ensures ok { IfOk result (λ attach.
+            Lists limit (unlisted self.now handle) (to_list self.now) attach) }
         ensures too_large { IfErr result (λ e. e ≡ TooLarge
             → FitsNowhere limit (unlisted self.now handle) (to_list self.now)) }
     {
@@ -107,7 +108,8 @@ impl ReceiverLink {
         attach: &Attach,
         state: LinkState,
     ) -> Result<Attached, AllocError>
-        ensures { Accepts (moved_to self.old.base attach.now state) self.old attach.now result self.new }
+        ensures { Accepts (moved_to self.old.base attach.now state) self.old attach.now result
+            self.new }
     {
         let properties = merged_properties(alloc, &self.properties, &attach.properties);
         match both(adopted(alloc, &self.base.terms, attach), properties) {

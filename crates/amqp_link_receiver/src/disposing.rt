@@ -69,7 +69,8 @@ impl ReceiverLink {
         state: DeliveryState,
         settled: Option<bool>,
     ) -> Result<Disposition, DisposeError>
-        ensures { Disposes (disposable_now self.old tag.now) self.old tag.now state settled result self.new }
+        ensures { Disposes (disposable_now self.old tag.now) self.old tag.now state settled result
+            self.new }
     {
         let delivery = self.disposable(tag)?;
         let mode = self.base.terms.rcv_settle_mode;

@@ -1,6 +1,8 @@
 //! How a receiving link disposes of several deliveries at once (part 2, 2.6.12, 2.7.6 and 2.8.3).
 ghost use Rattle.std.specs.Prelude.{◌≡◌, map, Ok, IfOk, IfErr, OnErr};
-ghost use Rattle.amqp_link_receiver.specs.DisposingAll.{AllDisposed, InOrder, NotNamed, each_disposed, goes_on, named_all, one_disposed, run_disposition, run_of, runs_of, same_mode};
+ghost use Rattle.amqp_link_receiver.specs.DisposingAll.{AllDisposed, InOrder, NotNamed, each_disposed, goes_on};
+ghost use Rattle.amqp_link_receiver.specs.DisposingAll.{named_all, one_disposed, run_disposition, run_of, runs_of};
+ghost use Rattle.amqp_link_receiver.specs.DisposingAll.{same_mode};
 
 use crate::disposing::{DisposeError, is_settled};
 use crate::link::ReceiverLink;
@@ -83,7 +85,8 @@ impl ReceiverLink {
         state: DeliveryState,
         settled: Option<bool>,
     ) -> Result<Vec<Disposition>, DisposeError>
-        ensures ok { IfOk result (λ told. AllDisposed (named_all self.old tags.now) self.old state settled told.items self.new) }
+        ensures ok { IfOk result (λ told. AllDisposed (named_all self.old tags.now) self.old state
+            settled told.items self.new) }
         ensures refused { IfErr result (λ error. NotNamed (named_all self.old tags.now) error) }
         ensures err { OnErr result (self.new ≡ self.old) }
     {

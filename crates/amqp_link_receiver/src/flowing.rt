@@ -2,7 +2,8 @@
 ghost use Rattle.std.specs.Prelude.{◌≡◌};
 ghost use Rattle.amqp_link_base.specs.Own.{handle_of};
 ghost use Rattle.amqp_link_flow.specs.Flows.{shown};
-ghost use Rattle.amqp_link_receiver.specs.Flowing.{Drains, Grants, Shows, drained, flow_answer, flowed, grant_refusal, own_flow, told_flow};
+ghost use Rattle.amqp_link_receiver.specs.Flowing.{Drains, Grants, Shows, drained, flow_answer, flowed, grant_refusal};
+ghost use Rattle.amqp_link_receiver.specs.Flowing.{own_flow, told_flow};
 
 use crate::link::ReceiverLink;
 use amqp_link_base::IllegalState;

@@ -144,7 +144,8 @@ impl ReceiverLink {
 
     /// The own handle is this from now on.
     pub fn set_output_handle(&mut self, handle: OutputHandle)
-        ensures { self.new ≡ record self.old { base = record self.old.base { output_handle = Some handle } } }
+        ensures { self.new ≡ record self.old
+            { base = record self.old.base { output_handle = Some handle } } }
     {
         self.base.output_handle = Some(handle);
     }

@@ -36,7 +36,8 @@ impl Attachment {
 
     /// Whether a delivery is to be settled second on a link that settles first.
     pub(crate) fn is_other(self, settled: bool, rcv_settle_mode: Option<ReceiverSettleMode>) -> bool
-        ensures { result ≡ (not settled && is_second rcv_settle_mode && is_first self.rcv_settle_mode) }
+        ensures { result ≡ (not settled && is_second rcv_settle_mode && is_first
+            self.rcv_settle_mode) }
     {
         if settled {
             return false;

@@ -1,7 +1,9 @@
 //! The last transfers of deliveries (part 2, 2.6.14).
-ghost use Rattle.std.specs.Prelude.{◌≡◌, ◌^◌, ◌<◌, ◌↔◌, [], length, take, true, Some, None, IfOk, IsTrue, Ok, Err, OnErr};
+ghost use Rattle.std.specs.Prelude.{◌≡◌, ◌^◌, ◌<◌, ◌↔◌, [], length, take, true, Some, None, IfOk, IsTrue, Ok, Err};
+ghost use Rattle.std.specs.Prelude.{OnErr};
 ghost use Rattle.amqp_link_types.specs.declared.refusals.ReceiverTransferError.TheVariants.{Memory};
-ghost use Rattle.amqp_link_receiving.specs.Deliveries.{begun, delivery_of, fresh, found, joined, kept_bytes, resumed, resumption, with_last};
+ghost use Rattle.amqp_link_receiving.specs.Deliveries.{begun, delivery_of, fresh, found, joined, kept_bytes, resumed};
+ghost use Rattle.amqp_link_receiving.specs.Deliveries.{resumption, with_last};
 ghost use Rattle.amqp_link_receiving.specs.Receiving.{completion, message_of, noted, whole_of};
 ghost use Rattle.amqp_link_receiving.specs.Steps.{CompletedAs, Completes};
 
@@ -29,7 +31,9 @@ pub(crate) fn finish(
     head: &Head,
     payload: &Bytes,
 ) -> Result<Answer, ReceiverTransferError>
-    ensures { Completes attachment (Some held.now) unsettled.old.entries (with_last attachment payload.now (delivery_of (Some held.now) unsettled.old.entries head.now)) result unsettled.new.entries }
+    ensures { Completes attachment (Some held.now) unsettled.old.entries
+        (with_last attachment payload.now
+        (delivery_of (Some held.now) unsettled.old.entries head.now)) result unsettled.new.entries }
 {
     if !held.agrees(head) {
         return Err(ReceiverTransferError::InconsistentFieldInMultiFrameDelivery);
@@ -54,7 +58,9 @@ pub(crate) fn take_whole(
     head: Head,
     payload: Bytes,
 ) -> Result<Answer, ReceiverTransferError>
-    ensures { Completes attachment None unsettled.old.entries (with_last attachment payload (delivery_of None unsettled.old.entries head)) result unsettled.new.entries }
+    ensures { Completes attachment None unsettled.old.entries
+        (with_last attachment payload (delivery_of None unsettled.old.entries head)) result
+        unsettled.new.entries }
 {
     let start = start_of(head)?;
     if start.resume {
@@ -72,7 +78,9 @@ fn take_fresh(
     start: Start,
     payload: Bytes,
 ) -> Result<Answer, ReceiverTransferError>
-    ensures { Completes attachment None unsettled.old.entries (with_last attachment payload (fresh start (found unsettled.old.entries start.delivery_tag))) result unsettled.new.entries }
+    ensures { Completes attachment None unsettled.old.entries
+        (with_last attachment payload (fresh start
+        (found unsettled.old.entries start.delivery_tag))) result unsettled.new.entries }
 {
     if start.settled {
         if has_none(unsettled) {
@@ -111,7 +119,8 @@ fn take_settled(
     payload: Bytes,
 ) -> Result<Answer, ReceiverTransferError>
     requires { start.settled ≡ true }
-    ensures { Completes attachment None [] (with_last attachment payload (fresh start None)) result [] }
+    ensures { Completes attachment None [] (with_last attachment payload (fresh start None)) result
+        [] }
 {
     if attachment.is_passed(0, payload.len() as u64) {
         return Err(ReceiverTransferError::MessageSizeExceeded);
@@ -137,7 +146,8 @@ fn file(
     delivery: Incoming<Bytes>,
 ) -> Result<Answer, ReceiverTransferError>
     requires { length delivery.payload < 2 ^ 32 }
-    ensures { Completes attachment None unsettled.old.entries (Ok delivery) result unsettled.new.entries }
+    ensures { Completes attachment None unsettled.old.entries (Ok delivery) result
+        unsettled.new.entries }
 {
     let registering = registered(
         delivery.settled,
@@ -155,7 +165,9 @@ fn resume_whole(
     start: Start,
     payload: Bytes,
 ) -> Result<Answer, ReceiverTransferError>
-    ensures { Completes attachment None unsettled.old.entries (with_last attachment payload (resumed start (found unsettled.old.entries start.delivery_tag))) result unsettled.new.entries }
+    ensures { Completes attachment None unsettled.old.entries
+        (with_last attachment payload (resumed start
+        (found unsettled.old.entries start.delivery_tag))) result unsettled.new.entries }
 {
     let how = how_resumed(unsettled, &start.delivery_tag, start.place)?;
     if attachment.is_other(start.settled, start.rcv_settle_mode) {
@@ -188,7 +200,8 @@ fn complete(
     delivery: Incoming<Bytes>,
 ) -> Result<Answer, ReceiverTransferError>
     requires { length delivery.payload < 2 ^ 32 }
-    ensures { CompletedAs attachment registering unsettled.old.entries delivery result unsettled.new.entries }
+    ensures { CompletedAs attachment registering unsettled.old.entries delivery result
+        unsettled.new.entries }
 {
     if delivery.settled {
         let _ = unsettled.remove(&delivery.delivery_tag);

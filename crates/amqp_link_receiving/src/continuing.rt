@@ -1,7 +1,8 @@
 //! Transfers that aren't the last of their deliveries (part 2, 2.6.14).
 ghost use Rattle.std.specs.Prelude.{◌≡◌, ◌+◌, ◌^◌, ◌<◌, length, take, Some, None, IfOk, Ok};
 ghost use Rattle.amqp_link_types.specs.declared.refusals.ReceiverTransferError.TheVariants.{Memory};
-ghost use Rattle.amqp_link_receiving.specs.Deliveries.{begun, delivery_of, fresh, found, grown, kept_bytes, resumed, resumption, with_part};
+ghost use Rattle.amqp_link_receiving.specs.Deliveries.{begun, delivery_of, fresh, found, grown, kept_bytes, resumed};
+ghost use Rattle.amqp_link_receiving.specs.Deliveries.{resumption, with_part};
 ghost use Rattle.amqp_link_receiving.specs.declared.resuming.Resumption.TheVariants.{From};
 ghost use Rattle.amqp_link_receiving.specs.Steps.{Continues, Begins, registered, settled_by};
 
@@ -28,7 +29,9 @@ pub(crate) fn go_on(
     head: &Head,
     payload: Bytes,
 ) -> Result<Registering, ReceiverTransferError>
-    ensures { Continues attachment held.old unsettled.old.entries (with_part attachment payload (delivery_of (Some held.old) unsettled.old.entries head.now)) result held.new unsettled.new.entries }
+    ensures { Continues attachment held.old unsettled.old.entries
+        (with_part attachment payload (delivery_of (Some held.old) unsettled.old.entries head.now))
+        result held.new unsettled.new.entries }
 {
     if !held.agrees(head) {
         return Err(ReceiverTransferError::InconsistentFieldInMultiFrameDelivery);
@@ -81,7 +84,9 @@ pub(crate) fn begin(
     head: Head,
     payload: Bytes,
 ) -> Result<(Incoming<Gathered>, Registering), ReceiverTransferError>
-    ensures { Begins attachment unsettled.old.entries (with_part attachment payload (delivery_of None unsettled.old.entries head)) result unsettled.new.entries }
+    ensures { Begins attachment unsettled.old.entries
+        (with_part attachment payload (delivery_of None unsettled.old.entries head)) result
+        unsettled.new.entries }
 {
     let start = start_of(head)?;
     if start.resume {
@@ -98,7 +103,9 @@ fn begin_fresh(
     start: Start,
     payload: Bytes,
 ) -> Result<(Incoming<Gathered>, Registering), ReceiverTransferError>
-    ensures { Begins attachment unsettled.old.entries (with_part attachment payload (fresh start (found unsettled.old.entries start.delivery_tag))) result unsettled.new.entries }
+    ensures { Begins attachment unsettled.old.entries
+        (with_part attachment payload (fresh start
+        (found unsettled.old.entries start.delivery_tag))) result unsettled.new.entries }
 {
     if unsettled.contains(&start.delivery_tag) {
         return Err(ReceiverTransferError::IllegalState);
@@ -144,7 +151,9 @@ fn resume(
     start: Start,
     payload: Bytes,
 ) -> Result<(Incoming<Gathered>, Registering), ReceiverTransferError>
-    ensures { Begins attachment unsettled.old.entries (with_part attachment payload (resumed start (found unsettled.old.entries start.delivery_tag))) result unsettled.new.entries }
+    ensures { Begins attachment unsettled.old.entries
+        (with_part attachment payload (resumed start
+        (found unsettled.old.entries start.delivery_tag))) result unsettled.new.entries }
 {
     match how_resumed(unsettled, &start.delivery_tag, start.place)? {
         Resumption::Joins => keep(
@@ -172,9 +181,14 @@ fn resume_half(
     at: usize,
     payload: Bytes,
 ) -> Result<(Incoming<Gathered>, Registering), ReceiverTransferError>
-    requires from { resumption (found unsettled.old.entries start.delivery_tag) start.place ≡ Ok (From at) }
-    requires short { length (take at (kept_bytes (found unsettled.old.entries start.delivery_tag))) + length payload < 2 ^ 32 }
-    ensures { Begins attachment unsettled.old.entries (Ok (grown (begun start (take at (kept_bytes (found unsettled.old.entries start.delivery_tag)))) payload)) result unsettled.new.entries }
+    requires from { resumption (found unsettled.old.entries start.delivery_tag) start.place
+        ≡ Ok (From at) }
+    requires short { length (take at (kept_bytes (found unsettled.old.entries start.delivery_tag)))
+        + length payload < 2 ^ 32 }
+    ensures { Begins attachment unsettled.old.entries
+        (Ok
+        (grown (begun start (take at (kept_bytes (found unsettled.old.entries start.delivery_tag))))
+        payload)) result unsettled.new.entries }
 {
     let registering = registered(start.settled, start.delivery_id, &start.delivery_tag)?;
     let kept = take_half(alloc, unsettled, &start.delivery_tag);

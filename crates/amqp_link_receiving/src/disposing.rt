@@ -53,7 +53,8 @@ pub(crate) fn disposable_in(
 
 /// What a message is disposed of by.
 fn disposable_message(count: u64, message: &WholeMessage) -> Result<Disposable, DisposeRefusal>
-    ensures { result ≡ (if is_final message.now.state then Err AlreadyDisposed else numbered_in count message.now) }
+    ensures { result ≡ (if is_final message.now.state then Err AlreadyDisposed else numbered_in
+        count message.now) }
 {
     if is_final(&message.state) {
         return Err(DisposeRefusal::AlreadyDisposed);

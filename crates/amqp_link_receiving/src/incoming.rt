@@ -1,6 +1,7 @@
 //! A delivery that is coming in (part 2, 2.6.14).
 ghost use Rattle.std.specs.Prelude.{◌≡◌, ◌+◌, ◌<◌, ◌^◌, length, IfOk, OnOk, OnErr, false};
-ghost use Rattle.amqp_link_receiving.specs.Deliveries.{agrees, continued, grown, is_too_large, repeats_number, repeats_tag};
+ghost use Rattle.amqp_link_receiving.specs.Deliveries.{agrees, continued, grown, is_too_large, repeats_number};
+ghost use Rattle.amqp_link_receiving.specs.Deliveries.{repeats_tag};
 
 use crate::attachment::Attachment;
 use crate::head::Head;

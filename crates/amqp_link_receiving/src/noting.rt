@@ -22,7 +22,8 @@ pub(crate) fn make_room(
     without: bool,
 ) -> Result<Option<DeliveryTag>, AllocError>
     ensures entries { unsettled.new.entries ≡ unsettled.old.entries }
-    ensures key { IfOk result (λ key. key ≡ key_of without tag.now (found unsettled.old.entries tag.now)) }
+    ensures key { IfOk result (λ key. key
+        ≡ key_of without tag.now (found unsettled.old.entries tag.now)) }
     ensures room { IfOk result (λ key. IsSome key → 0 < unsettled.new.room) }
 {
     if without {
@@ -70,7 +71,8 @@ pub(crate) fn renumber(
     number: u32,
     rcv_settle_mode: Option<ReceiverSettleMode>,
 )
-    ensures { unsettled.new.entries ≡ renumbered_as attachment unsettled.old.entries tag.now number rcv_settle_mode }
+    ensures { unsettled.new.entries ≡ renumbered_as attachment unsettled.old.entries tag.now number
+        rcv_settle_mode }
 {
     match unsettled.get(tag) {
         Some(Entry::Whole(_)) => {}
@@ -109,9 +111,11 @@ pub(crate) fn note(
     key: Option<DeliveryTag>,
     delivery: &Incoming<Gathered>,
 )
-    requires key { key ≡ key_of (delivery.now.settled || delivery.now.joins) delivery.now.delivery_tag (found unsettled.old.entries delivery.now.delivery_tag) }
+    requires key { key ≡ key_of (delivery.now.settled || delivery.now.joins)
+        delivery.now.delivery_tag (found unsettled.old.entries delivery.now.delivery_tag) }
     requires room { IsSome key → 0 < unsettled.old.room }
-    ensures { unsettled.new.entries ≡ noted attachment unsettled.old.entries delivery.now (Half []) }
+    ensures { unsettled.new.entries ≡ noted attachment unsettled.old.entries delivery.now
+        (Half []) }
 {
     let tag = &delivery.delivery_tag;
     if delivery.settled {
@@ -129,7 +133,8 @@ pub(crate) fn note(
 
 /// Keeps nothing of a delivery that is settled.
 pub(crate) fn forget_settled(unsettled: &mut UnsettledMap<Entry>, delivery: &Incoming<Gathered>)
-    ensures { unsettled.new.entries ≡ (if delivery.now.settled then without unsettled.old.entries delivery.now.delivery_tag else unsettled.old.entries) }
+    ensures { unsettled.new.entries ≡ (if delivery.now.settled then without unsettled.old.entries
+        delivery.now.delivery_tag else unsettled.old.entries) }
 {
     if delivery.settled {
         let _ = unsettled.remove(&delivery.delivery_tag);

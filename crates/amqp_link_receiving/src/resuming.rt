@@ -85,7 +85,8 @@ pub(crate) fn take_half(
 ) -> Gathered
     requires { IsHalf (found unsettled.old.entries tag.now) }
     ensures kept { found unsettled.old.entries tag.now ≡ Some (Half result) }
-    ensures entries { unsettled.new.entries ≡ set_value (bytes_eq tag.now) unsettled.old.entries (Half []) }
+    ensures entries { unsettled.new.entries
+        ≡ set_value (bytes_eq tag.now) unsettled.old.entries (Half []) }
 {
     match unsettled.replace(tag, Entry::Half(Gathered::new(alloc))) {
         Entry::Half(kept) => kept,
@@ -105,7 +106,8 @@ pub(crate) fn push_half(
     requires short { length (take at kept) + length payload < 2 ^ 32 }
     ensures bytes { IfOk result (λ bytes. bytes ≡ take at kept ++ payload) }
     ensures ok { OnOk result (unsettled.new.entries ≡ unsettled.old.entries) }
-    ensures err { OnErr result (unsettled.new.entries ≡ set_value (bytes_eq tag.now) unsettled.old.entries (Half kept)) }
+    ensures err { OnErr result (unsettled.new.entries
+        ≡ set_value (bytes_eq tag.now) unsettled.old.entries (Half kept)) }
 {
     match kept.push_behind(at, payload) {
         Ok(()) => Ok(kept),
@@ -119,7 +121,8 @@ pub(crate) fn push_half(
 /// Puts the bytes that were taken out back.
 pub(crate) fn put_half(unsettled: &mut UnsettledMap<Entry>, tag: &DeliveryTag, kept: Gathered)
     requires { IsHalf (found unsettled.old.entries tag.now) }
-    ensures { unsettled.new.entries ≡ set_value (bytes_eq tag.now) unsettled.old.entries (Half kept) }
+    ensures { unsettled.new.entries ≡ set_value (bytes_eq tag.now) unsettled.old.entries
+        (Half kept) }
 {
     let _ = unsettled.replace(tag, Entry::Half(kept));
 }
@@ -133,7 +136,8 @@ pub(crate) fn joined_from(
     last: &Bytes,
 ) -> Result<Bytes, AllocError>
     requires { IsHalf (found unsettled.now.entries tag.now) }
-    ensures { IfOk result (λ all. all ≡ take at (kept_bytes (found unsettled.now.entries tag.now)) ++ last.now) }
+    ensures { IfOk result (λ all. all ≡ take at (kept_bytes (found unsettled.now.entries tag.now))
+        ++ last.now) }
 {
     match unsettled.get(tag) {
         Some(Entry::Half(kept)) => kept.join(alloc, at, last),

@@ -1,7 +1,9 @@
 //! What a receiving end does with transfers, Flows and dispositions (part 2, 2.6.7 and 2.6.12 to 2.6.14).
 ghost use Rattle.std.specs.Prelude.{◌≡◌, ◌==◌, [], None, option_copied, if◌then◌else◌};
 ghost use Rattle.amqp_link_types.specs.declared.refusals.ReceiverTransferError.TheVariants.{TransferLimitExceeded};
-ghost use Rattle.amqp_link_receiving.specs.Receiving.{Answers, Receives, aborted, completed, disposed, ended, half_kept, kept_on, number_of, parted, refusal as refused_as, spent};
+ghost use Rattle.amqp_link_receiving.specs.Receiving.{Answers, Receives, aborted, completed, disposed, ended};
+ghost use Rattle.amqp_link_receiving.specs.Receiving.{half_kept, kept_on, number_of, parted, refusal as refused_as};
+ghost use Rattle.amqp_link_receiving.specs.Receiving.{spent};
 ghost use Rattle.amqp_link_receiving.specs.Steps.{Completes, part_answer};
 ghost use Rattle.amqp_link_receiving.specs.declared.answer.Registering.TheVariants.{Unchanged, Settled};
 ghost use Rattle.amqp_link_receiving.specs.declared.answer.Told.TheVariants.{Dropped, Refused};
@@ -124,7 +126,9 @@ impl ReceivingEnd {
         head: Head,
         payload: Bytes,
     ) -> Result<Answer, AllocError>
-        ensures { Answers (kept_on attachment self.old (with_part attachment payload (delivery_of self.old.held self.old.unsettled head))) self.old result self.new }
+        ensures { Answers (kept_on attachment self.old
+            (with_part attachment payload (delivery_of self.old.held self.old.unsettled head)))
+            self.old result self.new }
     {
         match &mut self.held {
             Some(held) => told(go_on(alloc, attachment, held, &mut self.unsettled, &head, payload)),
@@ -204,7 +208,8 @@ impl ReceivingEnd {
 
     /// Begins an attachment by the count that the sender's Attach tells (part 2, 2.6.3).
     pub fn attach(&mut self, initial_delivery_count: u32)
-        ensures { self.new ≡ record self.old { flow = attached self.old.flow initial_delivery_count } }
+        ensures { self.new ≡ record self.old
+            { flow = attached self.old.flow initial_delivery_count } }
     {
         self.flow.attach(initial_delivery_count);
     }
@@ -251,7 +256,8 @@ impl ReceivingEnd {
     /// The message with a tag bears this number of its owner's from now on, where it has come whole and is unsettled.
     /// It takes no memory.
     pub fn number_message(&mut self, alloc: Global, tag: &DeliveryTag, message: u64)
-        ensures { self.new ≡ record self.old { unsettled = message_named self.old.unsettled tag.now message } }
+        ensures { self.new ≡ record self.old
+            { unsettled = message_named self.old.unsettled tag.now message } }
     {
         name(alloc, &mut self.unsettled, tag, message);
     }
@@ -302,7 +308,9 @@ fn last(
     head: Head,
     payload: Bytes,
 ) -> Result<Answer, ReceiverTransferError>
-    ensures { Completes attachment held.now unsettled.old.entries (with_last attachment payload (delivery_of held.now unsettled.old.entries head)) result unsettled.new.entries }
+    ensures { Completes attachment held.now unsettled.old.entries
+        (with_last attachment payload (delivery_of held.now unsettled.old.entries head)) result
+        unsettled.new.entries }
 {
     match held {
         Some(held) => finish(alloc, attachment, held, unsettled, &head, &payload),
@@ -312,7 +320,8 @@ fn last(
 
 /// Keeps what has come of a delivery that isn't settled.
 fn keep_half(unsettled: &mut UnsettledMap<Entry>, delivery: Incoming<Gathered>)
-    ensures { unsettled.new.entries ≡ half_kept unsettled.old.entries delivery (found unsettled.old.entries delivery.delivery_tag) }
+    ensures { unsettled.new.entries ≡ half_kept unsettled.old.entries delivery
+        (found unsettled.old.entries delivery.delivery_tag) }
 {
     let Incoming {
         delivery_id: _,

@@ -1,7 +1,8 @@
 //! The properties that an application gives a message (part 3, 3.2.5).
 ghost use Rattle.std.specs.Prelude.{◌≡◌, refl};
 ghost use Rattle.amqp_link_sections.specs.Annotations.{application_properties_item, application_properties_taken};
-ghost use Rattle.amqp_link_sections.specs.AnnotationLaws.{application_properties_again, application_properties_decided, application_properties_same};
+ghost use Rattle.amqp_link_sections.specs.AnnotationLaws.{application_properties_again, application_properties_decided};
+ghost use Rattle.amqp_link_sections.specs.AnnotationLaws.{application_properties_same};
 
 use crate::described::read_described;
 use serde_amqp_de::{Deserialize, Deserializer, Faithful, NeverNull, Read, RoundTrip};

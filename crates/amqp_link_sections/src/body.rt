@@ -5,8 +5,12 @@ ghost use Rattle.std.specs.Prelude.{◌≡◌, map, refl};
 ghost use Rattle.serde_amqp_item.specs.Item.{list, items_of};
 ghost use Rattle.serde_amqp_de.specs.Deciding.{items_decided};
 ghost use Rattle.serde_amqp_de.specs.Takes.{items_taken};
-ghost use Rattle.amqp_link_sections.specs.Body.{data_item, data_taken, amqp_sequence_item, amqp_sequence_taken, amqp_value_item, amqp_value_taken};
-ghost use Rattle.amqp_link_sections.specs.BodyLaws.{data_again, data_decided, data_same, amqp_sequence_again, amqp_sequence_decided, amqp_sequence_same, amqp_sequence_same_item, amqp_value_again, amqp_value_decided, amqp_value_same, amqp_value_same_item};
+ghost use Rattle.amqp_link_sections.specs.Body.{data_item, data_taken, amqp_sequence_item, amqp_sequence_taken};
+ghost use Rattle.amqp_link_sections.specs.Body.{amqp_value_item, amqp_value_taken};
+ghost use Rattle.amqp_link_sections.specs.BodyLaws.{data_again, data_decided, data_same, amqp_sequence_again};
+ghost use Rattle.amqp_link_sections.specs.BodyLaws.{amqp_sequence_decided, amqp_sequence_same, amqp_sequence_same_item};
+ghost use Rattle.amqp_link_sections.specs.BodyLaws.{amqp_value_again, amqp_value_decided, amqp_value_same};
+ghost use Rattle.amqp_link_sections.specs.BodyLaws.{amqp_value_same_item};
 
 use crate::described::read_described;
 use serde_amqp_de::{Deserialize, Deserializer, Faithful, NeverNull, Read, RoundTrip, read_list};

@@ -1,7 +1,8 @@
 //! Annotations for the next hop of a message (part 3, 3.2.2).
 ghost use Rattle.std.specs.Prelude.{◌≡◌, refl};
 ghost use Rattle.amqp_link_sections.specs.Annotations.{delivery_annotations_item, delivery_annotations_taken};
-ghost use Rattle.amqp_link_sections.specs.AnnotationLaws.{delivery_annotations_again, delivery_annotations_decided, delivery_annotations_same};
+ghost use Rattle.amqp_link_sections.specs.AnnotationLaws.{delivery_annotations_again, delivery_annotations_decided};
+ghost use Rattle.amqp_link_sections.specs.AnnotationLaws.{delivery_annotations_same};
 
 use crate::annotations::Annotations;
 use crate::described::read_described;

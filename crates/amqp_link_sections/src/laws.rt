@@ -2,10 +2,14 @@
 ghost use Rattle.std.specs.Prelude.{◌≡◌, List, Some};
 ghost use Rattle.serde_amqp_item.specs.Item.{Item};
 ghost use Rattle.amqp_link_sections.specs.Header.{header_item, header_taken};
-ghost use Rattle.amqp_link_sections.specs.Annotations.{delivery_annotations_item, delivery_annotations_taken, message_annotations_item, message_annotations_taken, application_properties_item, application_properties_taken, footer_item, footer_taken};
+ghost use Rattle.amqp_link_sections.specs.Annotations.{delivery_annotations_item, delivery_annotations_taken};
+ghost use Rattle.amqp_link_sections.specs.Annotations.{message_annotations_item, message_annotations_taken};
+ghost use Rattle.amqp_link_sections.specs.Annotations.{application_properties_item, application_properties_taken};
+ghost use Rattle.amqp_link_sections.specs.Annotations.{footer_item, footer_taken};
 ghost use Rattle.amqp_link_sections.specs.MessageId.{message_id_item, message_id_taken};
 ghost use Rattle.amqp_link_sections.specs.Properties.{properties_item, properties_taken};
-ghost use Rattle.amqp_link_sections.specs.Body.{data_item, data_taken, amqp_sequence_item, amqp_sequence_taken, amqp_value_item, amqp_value_taken};
+ghost use Rattle.amqp_link_sections.specs.Body.{data_item, data_taken, amqp_sequence_item, amqp_sequence_taken};
+ghost use Rattle.amqp_link_sections.specs.Body.{amqp_value_item, amqp_value_taken};
 ghost use Rattle.amqp_link_sections.specs.Section.{section_code, section_of, section_said};
 ghost use Rattle.amqp_link_sections.specs.declared.header.Header.{Header};
 ghost use Rattle.amqp_link_sections.specs.declared.delivery_annotations.DeliveryAnnotations.{DeliveryAnnotations};
@@ -47,21 +51,25 @@ pub fn message_annotations_is_its_item()
         ≡ Some (message_annotations_item x) }
     ensures told_apart { (x y : MessageAnnotations) → message_annotations_item x ≡ message_annotations_item y
         → x ≡ y }
-    ensures said { (x u : Item) → message_annotations_taken x ≡ Some u → section_said x ≡ Some is.MessageAnnotations }
+    ensures said { (x u : Item) → message_annotations_taken x ≡ Some u →
+        section_said x ≡ Some is.MessageAnnotations }
 {}
 
 /// What a message-id is written as is read as it, and two message-ids are written as two items.
 pub fn message_id_is_its_item()
-    ensures read_back { (x : MessageId) → message_id_taken (message_id_item x) ≡ Some (message_id_item x) }
+    ensures read_back { (x : MessageId) →
+        message_id_taken (message_id_item x) ≡ Some (message_id_item x) }
     ensures told_apart { (x y : MessageId) → message_id_item x ≡ message_id_item y → x ≡ y }
 {}
 
 /// What properties are written as is read as them, and two values of properties are written as two items. What is read
 /// as them says by its descriptor that it is that section.
 pub fn properties_is_its_item()
-    ensures read_back { (x : Properties) → properties_taken (properties_item x) ≡ Some (properties_item x) }
+    ensures read_back { (x : Properties) →
+        properties_taken (properties_item x) ≡ Some (properties_item x) }
     ensures told_apart { (x y : Properties) → properties_item x ≡ properties_item y → x ≡ y }
-    ensures said { (x u : Item) → properties_taken x ≡ Some u → section_said x ≡ Some is.Properties }
+    ensures said { (x u : Item) → properties_taken x ≡ Some u →
+        section_said x ≡ Some is.Properties }
 {}
 
 /// What application properties are written as is read as them, and two values of application properties are written as
@@ -91,7 +99,8 @@ pub fn amqp_sequence_is_its_item<T: Faithful>()
     ensures told_apart { (xs ys : List T)
         → amqp_sequence_item T.Deserialize.item xs ≡ amqp_sequence_item T.Deserialize.item ys
         → xs ≡ ys }
-    ensures said { (x u : Item) → amqp_sequence_taken T.take x ≡ Some u → section_said x ≡ Some is.AmqpSequence }
+    ensures said { (x u : Item) → amqp_sequence_taken T.take x ≡ Some u →
+        section_said x ≡ Some is.AmqpSequence }
 {}
 
 /// What a value is written as is read as it, and two values are written as two items. What is read as it says by its
@@ -102,7 +111,8 @@ pub fn amqp_value_is_its_item<T: Faithful>()
     ensures told_apart { (v w : AmqpValue T)
         → amqp_value_item T.Deserialize.item v ≡ amqp_value_item T.Deserialize.item w
         → v ≡ w }
-    ensures said { (x u : Item) → amqp_value_taken T.take x ≡ Some u → section_said x ≡ Some is.AmqpValue }
+    ensures said { (x u : Item) → amqp_value_taken T.take x ≡ Some u →
+        section_said x ≡ Some is.AmqpValue }
 {}
 
 /// What a footer is written as is read as it, and two footers are written as two items. What is read as it says by its

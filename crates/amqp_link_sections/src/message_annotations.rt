@@ -1,7 +1,8 @@
 //! Annotations of a message (part 3, 3.2.3).
 ghost use Rattle.std.specs.Prelude.{◌≡◌, refl};
 ghost use Rattle.amqp_link_sections.specs.Annotations.{message_annotations_item, message_annotations_taken};
-ghost use Rattle.amqp_link_sections.specs.AnnotationLaws.{message_annotations_again, message_annotations_decided, message_annotations_same};
+ghost use Rattle.amqp_link_sections.specs.AnnotationLaws.{message_annotations_again, message_annotations_decided};
+ghost use Rattle.amqp_link_sections.specs.AnnotationLaws.{message_annotations_same};
 
 use crate::annotations::Annotations;
 use crate::described::read_described;

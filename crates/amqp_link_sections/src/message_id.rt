@@ -1,7 +1,8 @@
 //! What names a message (part 3, 3.2.11 to 3.2.14).
 ghost use Rattle.std.specs.Prelude.{◌≡◌, refl};
 ghost use Rattle.amqp_link_sections.specs.MessageId.{message_id_item, message_id_taken};
-ghost use Rattle.amqp_link_sections.specs.MessageIdLaws.{message_id_again, message_id_decided, message_id_present, message_id_same};
+ghost use Rattle.amqp_link_sections.specs.MessageIdLaws.{message_id_again, message_id_decided, message_id_present};
+ghost use Rattle.amqp_link_sections.specs.MessageIdLaws.{message_id_same};
 
 use serde_amqp_de::{Deserialize, Deserializer, Faithful, NeverNull, Read, RoundTrip};
 use serde_amqp_item::{EncodingCodes, Error};

@@ -162,14 +162,16 @@ impl Properties {
 
     /// Clones of the types of the data.
     fn clone_content(&self) -> Result<(Option<Symbol>, Option<Symbol>), AllocError>
-        ensures { IfOk result (λ c. (c.0 ≡ self.now.content_type) × (c.1 ≡ self.now.content_encoding)) }
+        ensures { IfOk result (λ c. (c.0 ≡ self.now.content_type)
+            × (c.1 ≡ self.now.content_encoding)) }
     {
         Ok((self.content_type.clone()?, self.content_encoding.clone()?))
     }
 
     /// Clones of the groups.
     fn clone_groups(&self) -> Result<(Option<Text>, Option<Text>), AllocError>
-        ensures { IfOk result (λ c. (c.0 ≡ self.now.group_id) × (c.1 ≡ self.now.reply_to_group_id)) }
+        ensures { IfOk result (λ c. (c.0 ≡ self.now.group_id)
+            × (c.1 ≡ self.now.reply_to_group_id)) }
     {
         Ok((self.group_id.clone()?, self.reply_to_group_id.clone()?))
     }

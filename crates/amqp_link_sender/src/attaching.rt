@@ -6,7 +6,8 @@ ghost use Rattle.amqp_link_attach.specs.Terms.{adopted_by_sender};
 ghost use Rattle.amqp_link_attach.specs.Tests.{FirstOf};
 ghost use Rattle.amqp_link_sender_messages.specs.Exchanging.{aborts, exchanged};
 ghost use Rattle.amqp_link_base.specs.Moves.{moved_to};
-ghost use Rattle.amqp_link_sender.specs.Attaching.{TakesAttach, TakesOver, TellsAttach, abort_transfer, attach_sent, attach_sent_anew};
+ghost use Rattle.amqp_link_sender.specs.Attaching.{TakesAttach, TakesOver, TellsAttach, abort_transfer, attach_sent};
+ghost use Rattle.amqp_link_sender.specs.Attaching.{attach_sent_anew};
 ghost use Rattle.amqp_link_sender.specs.Sending.{MovesLink};
 
 use crate::link::SenderLink;
@@ -123,7 +124,8 @@ impl SenderLink {
         attach: &Attach,
         state: LinkState,
     ) -> Result<AttachAnswer, AllocError>
-        ensures { TakesOver (moved_to self.old.base attach.now state) self.old attach.now result self.new }
+        ensures { TakesOver (moved_to self.old.base attach.now state) self.old attach.now result
+            self.new }
     {
         let own_is_empty = self.messages.len() == 0;
         match self.grow(alloc, attach) {
@@ -209,7 +211,8 @@ fn exchange<T: Drop>(
 
 /// What a sending link answers to the receiver's Attach, by its terms.
 fn verify(terms: &Terms, attach: &Attach) -> Result<(), SenderAttachError>
-    ensures { FirstOf (sender_tests terms.now.source terms.now.target terms.now.snd_settle_mode attach.now) result }
+    ensures { FirstOf (sender_tests terms.now.source terms.now.target terms.now.snd_settle_mode
+        attach.now) result }
 {
     verify_attach_as_sender(&terms.source, &terms.target, terms.snd_settle_mode, attach)
 }

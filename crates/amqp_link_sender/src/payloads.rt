@@ -80,7 +80,8 @@ impl SenderLink {
         payload: Bytes,
         limit: usize,
     ) -> Result<Batch, SplitRefusal>
-        ensures ok { IfOk result (λ batch. IsSomeAnd (room_of transfer limit) (λ room. Splits transfer payload room batch)) }
+        ensures ok { IfOk result (λ batch. IsSomeAnd (room_of transfer limit)
+            (λ room. Splits transfer payload room batch)) }
         ensures refused { room_of transfer limit ≡ None → result ≡ Err SplitRefusal.NoRoom }
         ensures only { IfErr result (λ e. (e ≡ SplitRefusal.Memory)
             ⊎ ((e ≡ SplitRefusal.NoRoom) × (room_of transfer limit ≡ None))) }

@@ -1,6 +1,7 @@
 //! How messages are sent (part 2, 2.6.7 and 2.6.12).
 ghost use Rattle.std.specs.Prelude.{◌≡◌, ◌<◌, length, max, min, None, IfSome, IfOk, OnOk, OnErr};
-ghost use Rattle.amqp_link_sender.specs.Sends.{Prepares, refusal, prepared, first_transfer, entry_unless, is_too_large, goes_settled, takes_messages, is_absent, sent};
+ghost use Rattle.amqp_link_sender.specs.Sends.{Prepares, refusal, prepared, first_transfer, entry_unless, is_too_large};
+ghost use Rattle.amqp_link_sender.specs.Sends.{goes_settled, takes_messages, is_absent, sent};
 
 use crate::link::SenderLink;
 use amqp_link_attach::LinkState;
@@ -180,7 +181,8 @@ pub(crate) fn first_transfer(tag: DeliveryTag, message_format: u32, settled: boo
 /// Makes room for one message, and hands back what is ready.
 pub(crate) fn with_room<T: Drop>(messages: &mut Messages, prepared: T) -> Result<T, AllocError>
     ensures ok { IfOk result (λ p. p ≡ prepared) }
-    ensures room { OnOk result (messages.new ≡ record messages.old { room = max messages.old.room 1 }) }
+    ensures room { OnOk result (messages.new
+        ≡ record messages.old { room = max messages.old.room 1 }) }
     ensures err { OnErr result (messages.new ≡ messages.old) }
 {
     messages.reserve(1)?;

@@ -1,7 +1,8 @@
 //! How messages are sent on once their link is attached again (part 2, 2.6.13).
 ghost use Rattle.std.specs.Prelude.{◌≡◌, ◌<◌, drop, true, false, Some, None, IsOk, IfOk};
 ghost use Rattle.amqp_link_sender.specs.Sends.{first_transfer};
-ghost use Rattle.amqp_link_sender.specs.SendsOn.{can_send_on, next_on, prepared_on, resumed_behind, resuming_transfer, sent_on};
+ghost use Rattle.amqp_link_sender.specs.SendsOn.{can_send_on, next_on, prepared_on, resumed_behind, resuming_transfer};
+ghost use Rattle.amqp_link_sender.specs.SendsOn.{sent_on};
 
 use crate::link::SenderLink;
 use crate::sending::first_transfer;
@@ -118,7 +119,8 @@ fn behind(payload: &Bytes, n: usize) -> Result<Bytes, AllocError>
 
 /// A message of which these bytes are sent behind a place.
 fn resuming(message: &Open, place: Received, payload: Bytes) -> Result<PreparedSendOn, AllocError>
-    ensures { IfOk result (λ p. p ≡ record { transfer = resuming_transfer message.now place; payload = payload }) }
+    ensures { IfOk result (λ p. p ≡ record
+        { transfer = resuming_transfer message.now place; payload = payload }) }
 {
     let tag = message.tag.clone()?;
     Ok(PreparedSendOn {

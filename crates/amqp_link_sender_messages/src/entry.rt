@@ -28,7 +28,8 @@ impl Model for Entry {
 impl Entry {
     /// A message of which nothing was told yet. It is refused where there is no memory for it.
     pub fn new(tag: &DeliveryTag, payload: Bytes, message_format: u32) -> Result<Self, AllocError>
-        ensures { IfOk result (λ e. e ≡ record { tag = tag.now; payload = payload; state = None; message_format = message_format }) }
+        ensures { IfOk result (λ e. e ≡ record
+            { tag = tag.now; payload = payload; state = None; message_format = message_format }) }
     {
         let key = tag.clone()?;
         Ok(Entry {

@@ -1,6 +1,8 @@
 //! What the peer's Attach makes of the open messages of a sending link (part 2, 2.6.13 and 2.7.3).
 ghost use Rattle.std.specs.Prelude.{◌≡◌, ◌++◌, [], ◌∷◌, IfOk, OnOk, OnErr};
-ghost use Rattle.amqp_link_sender_messages.specs.Exchanging.{aborts, all_ended, becoming, ends_too, exchanged, given_up_too, nothing, unknown, unknown_of, waits_too, with_message, with_messages};
+ghost use Rattle.amqp_link_sender_messages.specs.Exchanging.{aborts, all_ended, becoming, ends_too, exchanged};
+ghost use Rattle.amqp_link_sender_messages.specs.Exchanging.{given_up_too, nothing, unknown, unknown_of, waits_too};
+ghost use Rattle.amqp_link_sender_messages.specs.Exchanging.{with_message, with_messages};
 ghost use Rattle.amqp_link_sender_messages.specs.Messages.{interrupted};
 
 use crate::fate::{Fate, fate_of, listed_of};
@@ -174,7 +176,8 @@ fn gather(
     incomplete: bool,
     gathering: &mut Gathering,
 ) -> Result<(), AllocError>
-    ensures { OnOk result (gathering.new ≡ with_messages listed.now incomplete gathering.old entries.entry) }
+    ensures { OnOk result (gathering.new ≡ with_messages listed.now incomplete gathering.old
+        entries.entry) }
 {
     let mut entries = entries;
     while let Some((tag, message)) = entries.next() {
@@ -191,7 +194,8 @@ fn with_unknown(
     listed: &Option<UnsettledList>,
     given_up: Vec<Abort>,
 ) -> Result<Vec<Abort>, AllocError>
-    ensures { IfOk result (λ all. all.items ≡ given_up.items ++ unknown_of messages.now listed.now) }
+    ensures { IfOk result (λ all. all.items ≡ given_up.items
+        ++ unknown_of messages.now listed.now) }
 {
     let mut given_up = given_up;
     if let Some(list) = listed {
@@ -206,7 +210,8 @@ fn gather_unknown(
     list: map::Iter<'_, DeliveryTag, Option<DeliveryState>>,
     given_up: &mut Vec<Abort>,
 ) -> Result<(), AllocError>
-    ensures { OnOk result (given_up.new.items ≡ given_up.old.items ++ unknown messages.now list.entry) }
+    ensures { OnOk result (given_up.new.items ≡ given_up.old.items
+        ++ unknown messages.now list.entry) }
 {
     let mut list = list;
     while let Some((tag, _)) = list.next() {

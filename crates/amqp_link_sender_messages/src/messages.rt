@@ -9,7 +9,8 @@ ghost use Rattle.std.specs.VecDeque.{deque_len, deque_capacity};
 ghost use Rattle.std.specs.Map.Iter.{ShowsInOrder, deref_pair};
 ghost use Rattle.amqp_link_unsettled.specs.Listing.{entries_listed};
 ghost use Rattle.amqp_link_sender_messages.specs.Exchanging.{ended_at};
-ghost use Rattle.amqp_link_sender_messages.specs.Messages.{no_messages, first_of, open_at, opened, waiting_but, resolved_as, told_at, disposed, failed, interrupted};
+ghost use Rattle.amqp_link_sender_messages.specs.Messages.{no_messages, first_of, open_at, opened, waiting_but};
+ghost use Rattle.amqp_link_sender_messages.specs.Messages.{resolved_as, told_at, disposed, failed, interrupted};
 ghost use Rattle.amqp_link_sender_messages.specs.Tagged.{AreTagged};
 ghost use Rattle.amqp_link_sender_messages.specs.declared.resolution.Resolution.TheVariants.{Failed};
 
@@ -193,7 +194,8 @@ impl Messages {
     /// Takes the message out that ended first of those that weren't taken out yet, with what became of it. It takes no
     /// memory.
     pub fn take_resolved(&mut self) -> Option<(DeliveryTag, Resolution)>
-        ensures first { self.old ≡ record self.new { resolved = option_to_list result ++ self.new.resolved } }
+        ensures first { self.old ≡ record self.new
+            { resolved = option_to_list result ++ self.new.resolved } }
         ensures none { IfNone result (self.new.resolved ≡ []) }
     {
         self.resolved.pop_front()
@@ -252,11 +254,14 @@ fn reserve_both(
     resolved: &mut VecDeque<(DeliveryTag, Resolution)>,
     count: usize,
 ) -> Result<(), AllocError>
-    requires { unsettled.old.room + length unsettled.old.entries + deque_len resolved.old ≤ deque_capacity resolved.old }
-    ensures ok { OnOk result (unsettled.new ≡ record unsettled.old { room = max unsettled.old.room count }) }
+    requires { unsettled.old.room + length unsettled.old.entries + deque_len resolved.old
+        ≤ deque_capacity resolved.old }
+    ensures ok { OnOk result (unsettled.new
+        ≡ record unsettled.old { room = max unsettled.old.room count }) }
     ensures err { OnErr result (unsettled.new ≡ unsettled.old) }
     ensures resolved { resolved.new.items ≡ resolved.old.items }
-    ensures room { unsettled.new.room + length unsettled.new.entries + deque_len resolved.new ≤ deque_capacity resolved.new }
+    ensures room { unsettled.new.room + length unsettled.new.entries + deque_len resolved.new
+        ≤ deque_capacity resolved.new }
 {
     let room = unsettled.room().max(count);
     let Some(places) = room.checked_add(unsettled.len()) else {
@@ -286,10 +291,13 @@ fn settle(
 )
     requires open { IsSome (lookup (bytes_eq tag.now) unsettled.old.entries) }
     requires tagged { AreTagged unsettled.old.entries }
-    requires room { length unsettled.old.entries + deque_len resolved.old ≤ deque_capacity resolved.old }
-    ensures unsettled { unsettled.new ≡ record unsettled.old { entries = remove_entry (bytes_eq tag.now) unsettled.old.entries } }
+    requires room { length unsettled.old.entries + deque_len resolved.old
+        ≤ deque_capacity resolved.old }
+    ensures unsettled { unsettled.new ≡ record unsettled.old
+        { entries = remove_entry (bytes_eq tag.now) unsettled.old.entries } }
     ensures resolved { resolved.new.items ≡ resolved.old.items ++ (tag.now, resolution) ∷ [] }
-    ensures len { length unsettled.new.entries + deque_len resolved.new ≡ length unsettled.old.entries + deque_len resolved.old }
+    ensures len { length unsettled.new.entries + deque_len resolved.new
+        ≡ length unsettled.old.entries + deque_len resolved.old }
     ensures capacity { deque_capacity resolved.new ≡ deque_capacity resolved.old }
 {
     let tag = unsettled.remove(tag).unwrap().into_tag();
@@ -316,7 +324,8 @@ fn fail_all(
 )
     requires { length unsettled.old.entries + deque_len resolved.old ≤ deque_capacity resolved.old }
     ensures unsettled { unsettled.new ≡ record unsettled.old { entries = [] } }
-    ensures resolved { resolved.new.items ≡ resolved.old.items ++ map (λ tag. (tag, Failed failure)) (keys_of unsettled.old.entries) }
+    ensures resolved { resolved.new.items ≡ resolved.old.items
+        ++ map (λ tag. (tag, Failed failure)) (keys_of unsettled.old.entries) }
     ensures len { deque_len resolved.new ≡ length unsettled.old.entries + deque_len resolved.old }
     ensures capacity { deque_capacity resolved.new ≡ deque_capacity resolved.old }
 {
@@ -328,10 +337,12 @@ fn fail_all(
 
 /// Takes the last open message out, and answers its tag.
 fn pop_tag(unsettled: &mut UnsettledMap<Open>) -> Option<DeliveryTag>
-    ensures tags { keys_of unsettled.old.entries ≡ keys_of unsettled.new.entries ++ option_to_list result }
+    ensures tags { keys_of unsettled.old.entries ≡ keys_of unsettled.new.entries
+        ++ option_to_list result }
     ensures room { unsettled.new.room ≡ unsettled.old.room }
     ensures none { IfNone result (unsettled.new.entries ≡ []) }
-    ensures len { length unsettled.new.entries + length (option_to_list result) ≡ length unsettled.old.entries }
+    ensures len { length unsettled.new.entries + length (option_to_list result)
+        ≡ length unsettled.old.entries }
 {
     let (tag, _) = unsettled.pop_last()?;
     Some(tag)

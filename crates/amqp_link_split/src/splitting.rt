@@ -1,5 +1,6 @@
 //! Messages cut into transfers (part 2, 2.6.14 and 2.7.5).
-ghost use Rattle.std.specs.Prelude.{◌≡◌, ◌-◌, ◌<◌, ◌⊎◌, [], ◌∷◌, ◌++◌, length, false, OnOk, IfOk, IfErr, IfSome, IsSomeAnd, Some, None, Err};
+ghost use Rattle.std.specs.Prelude.{◌≡◌, ◌-◌, ◌<◌, ◌⊎◌, [], ◌∷◌, ◌++◌, length, false, OnOk, IfOk, IfErr, IfSome};
+ghost use Rattle.std.specs.Prelude.{IsSomeAnd, Some, None, Err};
 ghost use Rattle.amqp_session_core.specs.Batch.{Transfers, first_of};
 ghost use Rattle.serde_amqp_item.specs.Canon.{canon};
 ghost use Rattle.amqp_link_split.specs.Room.{room_behind, room_of, some_bytes};
@@ -51,7 +52,8 @@ pub fn split(
     payload: Bytes,
     limit: usize,
 ) -> Result<Batch, SplitRefusal>
-    ensures ok { IfOk result (λ batch. IsSomeAnd (room_of first limit) (λ room. Splits first payload room batch)) }
+    ensures ok { IfOk result (λ batch. IsSomeAnd (room_of first limit)
+        (λ room. Splits first payload room batch)) }
     ensures refused { room_of first limit ≡ None → result ≡ Err SplitRefusal.NoRoom }
     ensures only { IfErr result (λ e. (e ≡ SplitRefusal.Memory)
         ⊎ ((e ≡ SplitRefusal.NoRoom) × (room_of first limit ≡ None))) }

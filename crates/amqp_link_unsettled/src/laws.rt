@@ -9,5 +9,6 @@ use amqp_session_states::Received;
 pub fn places_are_ordered(first: Received, second: Received, third: Received)
     ensures same { is_past first second ≡ false → is_past second first ≡ false → first ≡ second }
     ensures one_way { IsTrue (is_past first second) → is_past second first ≡ false }
-    ensures onward { IsTrue (is_past first second) → IsTrue (is_past second third) → IsTrue (is_past first third) }
+    ensures onward { IsTrue (is_past first second) → IsTrue (is_past second third) →
+        IsTrue (is_past first third) }
 {}

@@ -1,9 +1,11 @@
 //! How an Attach lists the unsettled deliveries of its sender (part 2, 2.7.3).
-ghost use Rattle.std.specs.Prelude.{◌≡◌, ◌↔◌, ◌≤◌, ◌++◌, ◌∷◌, [], take, length, true, false, Option, None, IsTrue, IfOk, OnOk, OnErr, IfErr};
+ghost use Rattle.std.specs.Prelude.{◌≡◌, ◌↔◌, ◌≤◌, ◌++◌, ◌∷◌, [], take, length, true, false, Option, None, IsTrue};
+ghost use Rattle.std.specs.Prelude.{IfOk, OnOk, OnErr, IfErr};
 ghost use Rattle.std.specs.Map.{lookup};
 ghost use Rattle.std.specs.Str.{bytes_eq};
 ghost use Rattle.serde_amqp_item.specs.Canon.{canon};
-ghost use Rattle.amqp_link_unsettled.specs.Listing.{entries_listed, or_null, or_empty, with_first, FitsText, FitsFrame, Lists, FitsNowhere};
+ghost use Rattle.amqp_link_unsettled.specs.Listing.{entries_listed, or_null, or_empty, with_first, FitsText, FitsFrame};
+ghost use Rattle.amqp_link_unsettled.specs.Listing.{Lists, FitsNowhere};
 ghost use Rattle.amqp_link_unsettled.specs.declared.listing.ListError.TheVariants.{TooLarge};
 ghost use Rattle.amqp_session_states.specs.declared.delivery_state.DeliveryState.{DeliveryState};
 
@@ -110,7 +112,8 @@ pub fn list_unsettled<M: Listed + Drop>(
     map: &UnsettledMap<M>,
     limit: u32,
 ) -> Result<(), ListError>
-    ensures ok { OnOk result (Lists limit attach.old (entries_listed M.listed map.now.entries) attach.new) }
+    ensures ok { OnOk result (Lists limit attach.old (entries_listed M.listed map.now.entries)
+        attach.new) }
     ensures too_large { IfErr result (λ e. e ≡ TooLarge
         → FitsNowhere limit attach.old (entries_listed M.listed map.now.entries)) }
     ensures err { OnErr result (attach.new ≡ attach.old) }

@@ -156,7 +156,10 @@ impl<M: Drop> UnsettledMap<M> {
     pub fn insert_reserved(&mut self, tag: DeliveryTag, message: M)
         requires room { 0 < self.old.room }
         requires absent { lookup (bytes_eq tag) self.old.entries ≡ None }
-        ensures { self.new ≡ record { entries = self.old.entries ++ (tag, message) ∷ []; room = self.old.room - 1 } }
+        ensures { self.new ≡ record {
+          entries = self.old.entries ++ (tag, message) ∷ [];
+          room = self.old.room - 1;
+        } }
     {
         enter(&mut self.slots, tag, message);
         self.count += 1;
@@ -166,7 +169,8 @@ impl<M: Drop> UnsettledMap<M> {
     /// Takes a delivery out, if there is one with this tag. The others keep their order. It takes no memory.
     pub fn remove(&mut self, tag: &DeliveryTag) -> Option<M>
         ensures value { result ≡ lookup (bytes_eq tag.now) self.old.entries }
-        ensures others { self.new ≡ record self.old { entries = remove_entry (bytes_eq tag.now) self.old.entries } }
+        ensures others { self.new ≡ record self.old
+            { entries = remove_entry (bytes_eq tag.now) self.old.entries } }
     {
         if self.count == 0 {
             return None;
@@ -268,7 +272,8 @@ fn exchange<M: Drop>(
 ) -> M
     requires { IsSome (lookup (bytes_eq tag.now) (live slots.old.entries)) }
     ensures earlier { lookup (bytes_eq tag.now) (live slots.old.entries) ≡ Some result }
-    ensures entries { live slots.new.entries ≡ set_value (bytes_eq tag.now) (live slots.old.entries) message }
+    ensures entries { live slots.new.entries
+        ≡ set_value (bytes_eq tag.now) (live slots.old.entries) message }
     ensures room { spare slots.new ≡ spare slots.old }
 {
     let Some(slot) = slots.get_mut(tag) else {
@@ -300,7 +305,8 @@ fn note_in<M: Noting + Drop>(
 #[tactic(auto, using(crate::proofs::Live::rules))]
 fn take_out<M>(slots: &mut IndexMap<DeliveryTag, Option<M>>, tag: &DeliveryTag) -> Option<M>
     ensures value { result ≡ lookup (bytes_eq tag.now) (live slots.old.entries) }
-    ensures others { live slots.new.entries ≡ remove_entry (bytes_eq tag.now) (live slots.old.entries) }
+    ensures others { live slots.new.entries
+        ≡ remove_entry (bytes_eq tag.now) (live slots.old.entries) }
     ensures room { spare slots.new ≡ spare slots.old }
 {
     slots.get_mut(tag)?.take()

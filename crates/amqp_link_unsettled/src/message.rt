@@ -23,7 +23,11 @@ pub struct UnsettledMessage {
 impl UnsettledMessage {
     /// A message with these bytes, this state and this format.
     pub fn new(payload: Bytes, state: Option<DeliveryState>, message_format: u32) -> Self
-        ensures { result ≡ record { payload = payload; state = state; message_format = message_format } }
+        ensures { result ≡ record {
+          payload = payload;
+          state = state;
+          message_format = message_format;
+        } }
     {
         UnsettledMessage {
             payload,

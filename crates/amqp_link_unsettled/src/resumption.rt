@@ -1,6 +1,7 @@
 //! What becomes of a delivery that was interrupted (part 2, 2.6.13; part 3, 3.4.6).
 ghost use Rattle.std.specs.Prelude.{◌≡◌, true, option_copied};
-ghost use Rattle.amqp_link_unsettled.specs.Resumption.{decision, resumption, unless_past, told_or_restated, is_past, is_same_kind};
+ghost use Rattle.amqp_link_unsettled.specs.Resumption.{decision, resumption, unless_past, told_or_restated, is_past};
+ghost use Rattle.amqp_link_unsettled.specs.Resumption.{is_same_kind};
 ghost use Rattle.amqp_link_unsettled.specs.declared.resumption.ResumingDelivery.TheVariants as resuming;
 
 use crate::message::UnsettledMessage;

@@ -4,7 +4,8 @@
 ghost use Rattle.std.specs.Prelude.{◌≡◌, ◌≢◌, ◌+◌, ◌-◌, ◌<◌, ◌≤◌, ◌^◌, ℕ, List, IfOk, IfErr, OnOk, string_bytes, map};
 ghost use Rattle.std.specs.Io.KnownBytes.{Appends, Consumes, IsAtEnd};
 ghost use Rattle.amqp_rows.specs.declared.RowsError.TheVariants.{Memory, Write as WriteRefused};
-ghost use Rattle.amqp_rows.specs.Rows.{Answers, Tally, tally_of, nothing_told, LineDone, TextDone, LinesDone, lines_of, all_text, status_of};
+ghost use Rattle.amqp_rows.specs.Rows.{Answers, Tally, tally_of, nothing_told, LineDone, TextDone, LinesDone, lines_of};
+ghost use Rattle.amqp_rows.specs.Rows.{all_text, status_of};
 
 mod line;
 mod report;

@@ -1,6 +1,7 @@
 //! What is printed of a table.
 ghost use Rattle.std.specs.Prelude.{◌≡◌, ◌+◌, ◌++◌, ◌-◌, ◌<◌, ◌^◌, IfOk, OnOk, string_bytes};
-ghost use Rattle.amqp_rows.specs.Rows.{tally_of, nothing_told, printed, judged, all_text, status_of, closing_text, differing_text};
+ghost use Rattle.amqp_rows.specs.Rows.{tally_of, nothing_told, printed, judged, all_text, status_of, closing_text};
+ghost use Rattle.amqp_rows.specs.Rows.{differing_text};
 
 use std::alloc::{AllocError, Global};
 
@@ -92,7 +93,8 @@ fn print_counts(output: &mut String, held: usize, differing: usize) -> Result<()
 }
 
 fn print_differing(output: &mut String, differing: usize) -> Result<(), AllocError>
-    ensures { OnOk result (string_bytes output.new ≡ string_bytes output.old ++ differing_text differing) }
+    ensures { OnOk result (string_bytes output.new ≡ string_bytes output.old
+        ++ differing_text differing) }
 {
     if differing > 0 {
         writeln!(output, "{differing} rows differ")?;

@@ -3,7 +3,10 @@ ghost use Rattle.std.specs.FinMap as map;
 ghost use Rattle.amqp_session_connection.specs.State.{fresh, channel_limit};
 ghost use Rattle.amqp_session_connection.specs.Steps.{Offers, RefusesChannel};
 ghost use Rattle.amqp_session_connection.specs.declared.state.ConnectionState.TheVariants.{Start};
-ghost use Rattle.amqp_session_connection.specs.Steps.{Steps, SetsStopReason, SendsHeader, TakesHeader, SendsOpen, TakesOpen, SendsClose, TakesClose, SendsBegin, SendsEnd, AllocatesSession, DeallocatesSession, TakesBegin, AcceptsRoute, TakesEnd, FindsSession};
+ghost use Rattle.amqp_session_connection.specs.Steps.{Steps, SetsStopReason, SendsHeader, TakesHeader, SendsOpen};
+ghost use Rattle.amqp_session_connection.specs.Steps.{TakesOpen, SendsClose, TakesClose, SendsBegin, SendsEnd};
+ghost use Rattle.amqp_session_connection.specs.Steps.{AllocatesSession, DeallocatesSession, TakesBegin, AcceptsRoute};
+ghost use Rattle.amqp_session_connection.specs.Steps.{TakesEnd, FindsSession};
 
 use crate::routes::Routes;
 use crate::sessions::Sessions;

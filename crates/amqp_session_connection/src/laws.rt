@@ -1,10 +1,12 @@
 //! Laws of a connection's histories. A function here does nothing: its contract is the law.
-ghost use Rattle.std.specs.Prelude.{◌≡◌, ◌≤◌, ◌↔◌, ◌++◌, ℕ, List, [], ◌∷◌, Option, Some, None, Result, Ok, Err, All, IsTrue, length, min, nat_eq};
+ghost use Rattle.std.specs.Prelude.{◌≡◌, ◌≤◌, ◌↔◌, ◌++◌, ℕ, List, [], ◌∷◌, Option, Some, None, Result, Ok, Err, All};
+ghost use Rattle.std.specs.Prelude.{IsTrue, length, min, nat_eq};
 ghost use Rattle.std.specs.List.{IsDistinct};
 ghost use Rattle.std.specs.Map.{keys_of, lookup};
 ghost use Rattle.amqp_session_connection.specs.State.{State, fresh, highest_channel};
 ghost use Rattle.amqp_session_connection.specs.Steps.{Step, History, FindsSession, TakesBegin, TakesEnd};
-ghost use Rattle.amqp_session_connection.specs.Told.{row, is_illegal, state_after, routed, live_after, peer_channel_max, first_given, opens_out, closes_out};
+ghost use Rattle.amqp_session_connection.specs.Told.{row, is_illegal, state_after, routed, live_after};
+ghost use Rattle.amqp_session_connection.specs.Told.{peer_channel_max, first_given, opens_out, closes_out};
 ghost use Rattle.amqp_session_connection.specs.declared.state.ConnectionState.{ConnectionState};
 ghost use Rattle.amqp_session_performatives.specs.declared.open.Open.{Open};
 ghost use Rattle.amqp_session_performatives.specs.declared.begin.Begin.{Begin};
@@ -17,7 +19,8 @@ ghost use Rattle.amqp_session_types.specs.declared.refusals.ConnectionStopReason
 /// The state is the one that the table has behind the accepted calls, and a call is refused IllegalState exactly where
 /// the table has no state behind it (part 2, 2.4.6).
 pub fn states_follow_the_table()
-    ensures followed { (start end : State) (steps : List Step) → History start steps end → state_after (Some start.local_state) steps ≡ Some end.local_state }
+    ensures followed { (start end : State) (steps : List Step) → History start steps end →
+        state_after (Some start.local_state) steps ≡ Some end.local_state }
     ensures refused { (start end : State) (steps : List Step) (step : Step) (state : ConnectionState) → History start (steps ++ step ∷ []) end
         → state_after (Some start.local_state) steps ≡ Some state → IsTrue (is_illegal step) ↔ (row step state ≡ None) }
 {}
@@ -37,7 +40,9 @@ pub fn routes_last_from_begin_to_end()
 /// 2.7.1): a session is live from where a channel was given to it until that is taken back. Once the peer's Open was
 /// taken, the smaller is that of both numbers; before, where a connection is made behind it, the own one stands alone.
 pub fn live_channels_are_apart()
-    ensures apart { (state : ConnectionState) (opening : Open) (end : State) (steps : List Step) → History (fresh state opening) steps end → IsDistinct nat_eq (keys_of (live_after [] steps)) }
+    ensures apart { (state : ConnectionState) (opening : Open) (end : State) (steps : List Step) →
+        History (fresh state opening) steps end →
+        IsDistinct nat_eq (keys_of (live_after [] steps)) }
     ensures within { (state : ConnectionState) (opening : Open) (end : State) (steps : List Step) → History (fresh state opening) steps end
         → All (λ s. s.0 ≤ highest_channel opening.channel_max (peer_channel_max None steps)) (live_after [] steps) }
     ensures allowed { (state : ConnectionState) (opening : Open) (end : State) (steps : List Step) (peer : ℕ)
@@ -56,12 +61,16 @@ pub fn begins_reach_live_sessions()
 
 /// The first stop reason that was given stays.
 pub fn first_stop_reason_stays()
-    ensures given { (state : ConnectionState) (opening : Open) (end : State) (steps : List Step) → History (fresh state opening) steps end → end.stop_reason ≡ first_given None steps }
-    ensures stays { (start end : State) (steps : List Step) (reason : ConnectionStopReason) → start.stop_reason ≡ Some reason → History start steps end → end.stop_reason ≡ Some reason }
+    ensures given { (state : ConnectionState) (opening : Open) (end : State) (steps : List Step) →
+        History (fresh state opening) steps end → end.stop_reason ≡ first_given None steps }
+    ensures stays { (start end : State) (steps : List Step) (reason : ConnectionStopReason) →
+        start.stop_reason ≡ Some reason → History start steps end → end.stop_reason ≡ Some reason }
 {}
 
 /// At most one Open and at most one Close are handed out, from whichever state on (part 2, 2.4.1, 2.4.3).
 pub fn one_open_and_one_close()
-    ensures opens { (start end : State) (steps : List Step) → History start steps end → length (opens_out steps) ≤ 1 }
-    ensures closes { (start end : State) (steps : List Step) → History start steps end → length (closes_out steps) ≤ 1 }
+    ensures opens { (start end : State) (steps : List Step) → History start steps end →
+        length (opens_out steps) ≤ 1 }
+    ensures closes { (start end : State) (steps : List Step) → History start steps end →
+        length (closes_out steps) ≤ 1 }
 {}

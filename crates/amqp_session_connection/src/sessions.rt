@@ -55,7 +55,10 @@ impl Sessions {
     /// Gives the offered channel to a session.
     #[tactic(auto, using(crate::proofs::Tables::rules))]
     pub fn insert(&mut self, session: u64) -> Result<(), AllocError>
-        ensures ok { OnOk result (self.new ≡ record self.old { sessions = map.insert self.old.sessions self.old.offered session; offered = self.new.offered }) }
+        ensures ok { OnOk result (self.new ≡ record self.old {
+          sessions = map.insert self.old.sessions self.old.offered session;
+          offered = self.new.offered;
+        }) }
         ensures err { OnErr result (self.new ≡ self.old) }
     {
         self.slab.insert(session)?;
@@ -65,7 +68,11 @@ impl Sessions {
     /// Takes a channel back and offers it next. One that no session has changes nothing.
     #[tactic(auto, using(crate::proofs::Tables::rules))]
     pub fn remove(&mut self, channel: u16)
-        ensures found { IsSome (map.get self.old.sessions channel) → self.new ≡ record { sessions = map.remove self.old.sessions channel; offered = channel } }
+        ensures found { IsSome (map.get self.old.sessions channel) →
+            self.new ≡ record {
+              sessions = map.remove self.old.sessions channel;
+              offered = channel;
+            } }
         ensures absent { map.get self.old.sessions channel ≡ None → self.new ≡ self.old }
     {
         self.slab.try_remove(usize::from(channel));

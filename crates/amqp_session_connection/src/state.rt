@@ -1,5 +1,7 @@
 ghost use Rattle.std.specs.Prelude.{◌≡◌};
-ghost use Rattle.amqp_session_connection.specs.Table.{after_send_header, after_incoming_header, after_send_open, after_incoming_open, after_send_close, after_incoming_close, refusal_of_begin};
+ghost use Rattle.amqp_session_connection.specs.Table.{after_send_header, after_incoming_header, after_send_open};
+ghost use Rattle.amqp_session_connection.specs.Table.{after_incoming_open, after_send_close, after_incoming_close};
+ghost use Rattle.amqp_session_connection.specs.Table.{refusal_of_begin};
 
 use amqp_session_types::BeginError;
 

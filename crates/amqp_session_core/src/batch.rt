@@ -102,7 +102,8 @@ impl Batch {
         performative: Transfer,
         payload: Bytes,
     ) -> Result<(), AllocError>
-        ensures ok { OnOk result (self.new ≡ self.old ++ continuation_of performative payload ∷ []) }
+        ensures ok { OnOk result (self.new ≡ self.old ++ continuation_of performative payload
+            ∷ []) }
         ensures err { OnErr result (self.new ≡ self.old) }
     {
         self.push(alloc, Part::Continuation, performative, payload)

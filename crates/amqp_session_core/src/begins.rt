@@ -3,7 +3,8 @@ ghost use Rattle.std.specs.VecDeque.{deque_len, deque_capacity};
 ghost use Rattle.amqp_session_outgoing.specs.Queues.{frames_in};
 ghost use Rattle.amqp_session_core.specs.Refusals.{RefusesBegin};
 ghost use Rattle.amqp_session_core.specs.Steps.{Steps, SendsBegin, SendsEnd, TakesEnd, own_begin};
-ghost use Rattle.amqp_session_core.specs.Table.{after_send_begin, after_incoming_begin, after_send_end, after_incoming_end};
+ghost use Rattle.amqp_session_core.specs.Table.{after_send_begin, after_incoming_begin, after_send_end};
+ghost use Rattle.amqp_session_core.specs.Table.{after_incoming_end};
 ghost use Rattle.amqp_session_core.specs.Told.{BeginTaken};
 
 use crate::fields::OUTGOING_WINDOW;
@@ -22,7 +23,8 @@ impl<R: LinkRelay> Session<R> {
     /// and nothing changes then.
     pub fn send_begin(&mut self, alloc: Global) -> Result<SessionFrame, BeginError>
         ensures ok { IfOk result (λ frame. Steps R.gives self.old (SendsBegin frame) self.new) }
-        ensures err { IfErr result (λ e. (e ≡ BeginError.IllegalState) × (after_send_begin self.old.local_state ≡ None)) }
+        ensures err { IfErr result (λ e. (e ≡ BeginError.IllegalState)
+            × (after_send_begin self.old.local_state ≡ None)) }
         ensures kept { OnErr result (self.new ≡ self.old) }
     {
         let Some(next) = self.local_state.after_send_begin() else {
@@ -64,8 +66,10 @@ impl<R: LinkRelay> Session<R> {
         channel: IncomingChannel,
         begin: &Begin,
     ) -> Result<(), BeginError>
-        ensures ok { OnOk result (BeginTaken R.gives self.old out.old.items channel begin.now self.new out.new.items) }
-        ensures err { IfErr result (λ e. RefusesBegin (after_incoming_begin self.old.local_state) e) }
+        ensures ok { OnOk result (BeginTaken R.gives self.old out.old.items channel begin.now
+            self.new out.new.items) }
+        ensures err { IfErr result (λ e. RefusesBegin (after_incoming_begin self.old.local_state)
+            e) }
         ensures kept { OnErr result ((self.new ≡ self.old) × (out.new.items ≡ out.old.items)) }
         ensures frames { OnOk result (deque_len out.new + frames_in self.new.outgoing.queues ≡
             deque_len out.old + frames_in self.old.outgoing.queues) }
@@ -94,7 +98,8 @@ impl<R: LinkRelay> Session<R> {
         error: Option<definitions::Error>,
     ) -> Result<SessionFrame, SessionError>
         ensures ok { IfOk result (λ frame. Steps R.gives self.old (SendsEnd error frame) self.new) }
-        ensures err { IfErr result (λ e. (e ≡ SessionError.IllegalState) × (after_send_end self.old.local_state ≡ None)) }
+        ensures err { IfErr result (λ e. (e ≡ SessionError.IllegalState)
+            × (after_send_end self.old.local_state ≡ None)) }
         ensures kept { OnErr result (self.new ≡ self.old) }
     {
         let Some(next) = self.local_state.after_send_end() else {
@@ -108,7 +113,8 @@ impl<R: LinkRelay> Session<R> {
     /// allows none, and nothing changes then.
     pub fn on_incoming_end(&mut self) -> Result<(), SessionError>
         ensures ok { OnOk result (Steps R.gives self.old TakesEnd self.new) }
-        ensures err { IfErr result (λ e. (e ≡ SessionError.IllegalState) × (after_incoming_end self.old.local_state ≡ None)) }
+        ensures err { IfErr result (λ e. (e ≡ SessionError.IllegalState)
+            × (after_incoming_end self.old.local_state ≡ None)) }
         ensures kept { OnErr result (self.new ≡ self.old) }
     {
         let Some(next) = self.local_state.after_incoming_end() else {

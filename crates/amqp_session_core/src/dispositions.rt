@@ -1,7 +1,9 @@
 //! How a session takes dispositions and sends them (part 2, 2.7.6).
-ghost use Rattle.std.specs.Prelude.{◌≡◌, ℕ, List, ◌≤◌, [], ◌<◌, length, map, All, IfOk, IfErr, IfSome, vec_len, vec_capacity, option_copied};
+ghost use Rattle.std.specs.Prelude.{◌≡◌, ℕ, List, ◌≤◌, [], ◌<◌, length, map, All, IfOk, IfErr, IfSome, vec_len};
+ghost use Rattle.std.specs.Prelude.{vec_capacity, option_copied};
 ghost use Rattle.amqp_session_core.specs.Echoes.{echo_of, opposite, runs_of, without};
-ghost use Rattle.amqp_session_core.specs.Disposing.{AreTouched, IsOfLink, each_number, HasRoomFor, Walked, AreCopies, behind_runs, deliveries_of, settled_own, ReachesOne};
+ghost use Rattle.amqp_session_core.specs.Disposing.{AreTouched, IsOfLink, each_number, HasRoomFor, Walked, AreCopies};
+ghost use Rattle.amqp_session_core.specs.Disposing.{behind_runs, deliveries_of, settled_own, ReachesOne};
 ghost use Rattle.amqp_session_core.specs.Steps.{table_of, with_table};
 ghost use Rattle.amqp_session_unsettled.specs.Outside.{outside};
 ghost use Rattle.amqp_session_unsettled.specs.Range.{range_of};
@@ -165,7 +167,8 @@ impl<R: LinkRelay> Session<R> {
 
     /// These deliveries are forgotten, where the peer has this role.
     fn settle(&mut self, role: Role, numbers: &[u32])
-        ensures { self.new ≡ with_table role (without (table_of role self.old) numbers.now) self.old }
+        ensures { self.new ≡ with_table role (without (table_of role self.old) numbers.now)
+            self.old }
     {
         match role {
             Role::Receiver => settle_sent(&mut self.outgoing, numbers),
@@ -184,7 +187,8 @@ impl<R: LinkRelay> Session<R> {
         requires copies { AreCopies disposition.now.state states.old.items (length numbers.now) }
         requires empty { echoed.old.items ≡ [] }
         requires room { length numbers.now ≤ vec_capacity echoed.old }
-        requires there { All (λ n. IsUnsettled (table_of disposition.now.role self.old) n) numbers.now }
+        requires there { All (λ n. IsUnsettled (table_of disposition.now.role self.old) n)
+            numbers.now }
         ensures walked { Walked R.gives.disposes disposition.now (table_of disposition.now.role self.old)
             numbers.now self.old.links echoed.new.items self.new.links }
         ensures rest { self.new ≡ record self.old { links = self.new.links } }
@@ -304,7 +308,8 @@ fn settle_sent(outgoing: &mut Outgoing<TransferFrame, BehindFrame>, numbers: &[u
 
 /// Deliveries that came are forgotten.
 fn settle_received(received: &mut Unsettled, numbers: &[u32])
-    ensures { received.new ≡ record received.old { table = without received.old.table numbers.now } }
+    ensures { received.new ≡ record received.old
+        { table = without received.old.table numbers.now } }
 {
     for number in numbers {
         received.settle(*number);

@@ -1,4 +1,5 @@
-ghost use Rattle.std.specs.Prelude.{◌≡◌, ◌≢◌, ◌+◌, ◌≤◌, ◌<◌, [], Err, Ok, OnOk, OnErr, IfErr, Result, Option, IsTrue, true, false};
+ghost use Rattle.std.specs.Prelude.{◌≡◌, ◌≢◌, ◌+◌, ◌≤◌, ◌<◌, [], Err, Ok, OnOk, OnErr, IfErr, Result, Option, IsTrue};
+ghost use Rattle.std.specs.Prelude.{true, false};
 ghost use Rattle.std.specs.VecDeque.{deque_len, deque_capacity};
 ghost use Rattle.amqp_session_outgoing.specs.Queues.{held_in, frames_in};
 ghost use Rattle.std.specs.FinMap as map;
@@ -51,7 +52,8 @@ impl<R: LinkRelay> Session<R> {
             self.old out.old.items flow result self.new out.new.items }
         ensures step { leads self.old flow.handle ≡ true → result ≢ Err SessionError.Memory →
             FlowTaken R.gives self.old out.old.items flow result self.new out.new.items }
-        ensures memory { result ≡ Err SessionError.Memory → (self.new ≡ self.old) × (out.new.items ≡ out.old.items) }
+        ensures memory { result ≡ Err SessionError.Memory →
+            (self.new ≡ self.old) × (out.new.items ≡ out.old.items) }
         ensures frames_most { deque_len out.new + frames_in self.new.outgoing.queues ≤
             deque_len out.old + frames_in self.old.outgoing.queues + 1 }
         ensures frames_least { deque_len out.old + frames_in self.old.outgoing.queues ≤
@@ -117,7 +119,8 @@ fn flow_to_link<R: LinkRelay>(
     place: &mut Place<BehindFrame>,
     flow: Flow,
 ) -> Result<Answer, SessionError>
-    ensures step { result ≢ Err SessionError.Memory → LinkFlowed R.gives outgoing.now routes.now flow links.old.slots result links.new.slots }
+    ensures step { result ≢ Err SessionError.Memory →
+        LinkFlowed R.gives outgoing.now routes.now flow links.old.slots result links.new.slots }
     ensures rest { links.new ≡ record links.old { slots = links.new.slots } }
     ensures memory { result ≡ Err SessionError.Memory → links.new ≡ links.old }
     ensures place { HasPlace outgoing.now result place.new }
@@ -139,7 +142,10 @@ fn flow_at<R: LinkRelay>(
     place: &mut Place<BehindFrame>,
     flow: LinkFlow,
 ) -> Result<Answer, SessionError>
-    ensures step { result ≢ Err SessionError.Memory → FlowedAt R.gives.flows outgoing.now flow (live_in links.old.slots (map.get routes.now (flow.handle).0)) links.old.slots result links.new.slots }
+    ensures step { result ≢ Err SessionError.Memory →
+        FlowedAt R.gives.flows outgoing.now flow
+        (live_in links.old.slots (map.get routes.now (flow.handle).0)) links.old.slots result
+        links.new.slots }
     ensures rest { links.new ≡ record links.old { slots = links.new.slots } }
     ensures memory { result ≡ Err SessionError.Memory → links.new ≡ links.old }
     ensures place { HasPlace outgoing.now result place.new }
@@ -162,7 +168,8 @@ fn step_flow<R: LinkRelay>(
     handle: OutputHandle,
     flow: LinkFlow,
 ) -> Result<Option<LinkFlow>, RelayError>
-    ensures step { LinkAnswers (λ before told after. R.gives.flows before flow told after) handle.0 links.old.slots result links.new.slots }
+    ensures step { LinkAnswers (λ before told after. R.gives.flows before flow told after) handle.0
+        links.old.slots result links.new.slots }
     ensures rest { links.new ≡ record links.old { slots = links.new.slots } }
 {
     match links.get_mut(handle.0 as usize) {
@@ -192,7 +199,8 @@ fn reply(
 ) -> (bool, Result<(), SessionError>)
     requires room { deque_len out.old + frames_in outgoing.old.queues + 1 ≤ deque_capacity out.old }
     requires place { HasPlace outgoing.old answer place.old }
-    ensures replied { Replied fields outgoing.old out.old.items answer result.0 outgoing.new out.new.items }
+    ensures replied { Replied fields outgoing.old out.old.items answer result.0 outgoing.new
+        out.new.items }
     ensures room { deque_len out.new + frames_in outgoing.new.queues ≤ deque_capacity out.new }
     ensures frames { deque_len out.new + frames_in outgoing.new.queues ≡
         deque_len out.old + frames_in outgoing.old.queues + answer_count answer }

@@ -1,4 +1,5 @@
-ghost use Rattle.std.specs.Prelude.{◌≡◌, ◌≢◌, ℕ, ◌+◌, ◌*◌, ◌<◌, ◌⊎◌, Err, Ok, Some, None, IfOk, IfErr, OnOk, OnErr, IsSome, slice_index_or, nat_le, if◌then◌else◌};
+ghost use Rattle.std.specs.Prelude.{◌≡◌, ◌≢◌, ℕ, ◌+◌, ◌*◌, ◌<◌, ◌⊎◌, Err, Ok, Some, None, IfOk, IfErr, OnOk, OnErr};
+ghost use Rattle.std.specs.Prelude.{IsSome, slice_index_or, nat_le, if◌then◌else◌};
 ghost use Rattle.std.specs.FinMap as map;
 ghost use Rattle.amqp_session_core.specs.State.{live_in};
 ghost use Rattle.amqp_session_core.specs.Steps.{registers};
@@ -117,8 +118,11 @@ fn room_for_transfer<R>(
     received: &mut Unsettled,
     handle: Handle,
 ) -> Result<OutputHandle, SessionError>
-    ensures ok { IfOk result (λ h. (live_in links.now.slots (map.get routes.now handle.0) ≡ Some h.0) × (0 < received.new.room)) }
-    ensures err { IfErr result (λ error. RefusesReach (live_in links.now.slots (map.get routes.now handle.0)) error) }
+    ensures ok { IfOk result
+        (λ h. (live_in links.now.slots (map.get routes.now handle.0) ≡ Some h.0)
+        × (0 < received.new.room)) }
+    ensures err { IfErr result (λ error. RefusesReach
+        (live_in links.now.slots (map.get routes.now handle.0)) error) }
     ensures rest { received.new.table ≡ received.old.table }
 {
     let Some(handle) = reach(routes, links, handle.0) else {
@@ -187,7 +191,8 @@ fn route_link<R: LinkRelay>(
 ) -> Result<R::Attached, RelayError>
     requires there { IsSome (slice_index_or links.old.slots handle.0 None) }
     requires vacant { map.get routes.old (attach.now.handle).0 ≡ None }
-    ensures step { LinkAnswers (λ before told after. R.gives.attaches before attach.now told after) handle.0 links.old.slots result links.new.slots }
+    ensures step { LinkAnswers (λ before told after. R.gives.attaches before attach.now told after)
+        handle.0 links.old.slots result links.new.slots }
     ensures rest { links.new ≡ record links.old { slots = links.new.slots } }
     ensures ok { OnOk result (routes.new ≡ map.insert routes.old (attach.now.handle).0 handle.0) }
     ensures err { OnErr result (routes.new ≡ routes.old) }
@@ -211,7 +216,8 @@ fn attach_link<R: LinkRelay>(
     handle: OutputHandle,
     attach: &Attach,
 ) -> Result<R::Attached, RelayError>
-    ensures step { LinkAnswers (λ before told after. R.gives.attaches before attach.now told after) handle.0 links.old.slots result links.new.slots }
+    ensures step { LinkAnswers (λ before told after. R.gives.attaches before attach.now told after)
+        handle.0 links.old.slots result links.new.slots }
     ensures rest { links.new ≡ record links.old { slots = links.new.slots } }
 {
     match links.get_mut(handle.0 as usize) {
@@ -228,7 +234,8 @@ fn transfer_to_link<R: LinkRelay>(
     transfer: Transfer,
     payload: Bytes,
 ) -> Result<(OutputHandle, TransferAnswer<R::Transferred>), SessionError>
-    ensures step { TransferAt R.gives.transfers links.old.slots place transfer payload result links.new.slots }
+    ensures step { TransferAt R.gives.transfers links.old.slots place transfer payload result
+        links.new.slots }
     ensures rest { links.new ≡ record links.old { slots = links.new.slots } }
 {
     let handle = place?;
@@ -248,7 +255,8 @@ fn detach_link<R: LinkRelay>(
     handle: OutputHandle,
     detach: &Detach,
 ) -> Result<R::Detached, RelayError>
-    ensures step { LinkAnswers (λ before told after. R.gives.detaches before detach.now told after) handle.0 links.old.slots result links.new.slots }
+    ensures step { LinkAnswers (λ before told after. R.gives.detaches before detach.now told after)
+        handle.0 links.old.slots result links.new.slots }
     ensures rest { links.new ≡ record links.old { slots = links.new.slots } }
 {
     match links.get_mut(handle.0 as usize) {

@@ -10,10 +10,13 @@ ghost use Rattle.amqp_session_outgoing.specs.History as sending;
 ghost use Rattle.amqp_session_core.specs.declared.batch.BehindFrame.{BehindFrame};
 ghost use Rattle.amqp_session_core.specs.Batch.{Transfers};
 ghost use Rattle.amqp_session_core.specs.Frames.{Left};
-ghost use Rattle.amqp_session_core.specs.Relay.{LinkHistory, OwnerKeeps, SendsBatch, SendsFrame, SendsDisposition as SendsItsDisposition, Changes as ChangesIt};
+ghost use Rattle.amqp_session_core.specs.Relay.{LinkHistory, OwnerKeeps, SendsBatch, SendsFrame};
+ghost use Rattle.amqp_session_core.specs.Relay.{SendsDisposition as SendsItsDisposition, Changes as ChangesIt};
 ghost use Rattle.amqp_session_core.specs.State.{State, fresh, link_at};
-ghost use Rattle.amqp_session_core.specs.Steps.{Step, SendsTransfers, SendsBehind, SendsDisposition, Allocates, Deallocates, Changes};
-ghost use Rattle.amqp_session_core.specs.History.{History, sending_of, own_of, is_freed, OwnersKeep, taken_since, EachTellsNext};
+ghost use Rattle.amqp_session_core.specs.Steps.{Step, SendsTransfers, SendsBehind, SendsDisposition, Allocates};
+ghost use Rattle.amqp_session_core.specs.Steps.{Deallocates, Changes};
+ghost use Rattle.amqp_session_core.specs.History.{History, sending_of, own_of, is_freed, OwnersKeep, taken_since};
+ghost use Rattle.amqp_session_core.specs.History.{EachTellsNext};
 ghost use Rattle.amqp_session_core.specs.Vacant.{IsVacant, is_given};
 
 use crate::relay::{LinkOwner, LinkRelay};

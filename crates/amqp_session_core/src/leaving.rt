@@ -3,7 +3,8 @@ ghost use Rattle.std.specs.Prelude.{◌≡◌, ◌+◌, ◌<◌, ◌≤◌, ◌�
 ghost use Rattle.std.specs.VecDeque.{deque_len, deque_capacity};
 ghost use Rattle.amqp_session_outgoing.specs.Frames.{sent_count};
 ghost use Rattle.amqp_session_outgoing.specs.Queues.{held_in, frames_in};
-ghost use Rattle.amqp_session_core.specs.Frames.{transfer_frame, behind_frame, frames_behind, frames_sent, frames_left, has_flow};
+ghost use Rattle.amqp_session_core.specs.Frames.{transfer_frame, behind_frame, frames_behind, frames_sent, frames_left};
+ghost use Rattle.amqp_session_core.specs.Frames.{has_flow};
 ghost use Rattle.amqp_session_core.specs.Flowing.{Opens, Begins};
 
 use crate::batch::{BehindFrame, TransferFrame};
@@ -37,9 +38,13 @@ pub(crate) fn make_room(
     ensures out_capacity { deque_capacity out.old ≤ deque_capacity out.new }
     ensures out_len { deque_len out.new ≡ deque_len out.old }
     ensures sent_len { vec_len sent.new ≡ vec_len sent.old }
-    ensures sent_room { OnOk result (vec_len sent.new + (held_in outgoing.now.queues + more) ≤ vec_capacity sent.new) }
-    ensures out_room { OnOk result (deque_len out.new + (frames_in outgoing.now.queues + more) ≤ deque_capacity out.new) }
-    ensures refused { OnErr result ((vec_capacity sent.old < vec_len sent.old + (held_in outgoing.now.queues + more)) ⊎ (deque_capacity out.old < deque_len out.old + (frames_in outgoing.now.queues + more))) }
+    ensures sent_room { OnOk result (vec_len sent.new + (held_in outgoing.now.queues + more)
+        ≤ vec_capacity sent.new) }
+    ensures out_room { OnOk result (deque_len out.new + (frames_in outgoing.now.queues + more)
+        ≤ deque_capacity out.new) }
+    ensures refused { OnErr result
+        ((vec_capacity sent.old < vec_len sent.old + (held_in outgoing.now.queues + more))
+        ⊎ (deque_capacity out.old < deque_len out.old + (frames_in outgoing.now.queues + more))) }
 {
     let Ok(waiting) = usize::try_from(outgoing.frames()) else {
         return Err(AllocError);
@@ -61,7 +66,8 @@ pub(crate) fn take_window(
     requires empty { sent.old.items ≡ [] }
     requires sent_room { vec_len sent.old + held_in outgoing.old.queues ≤ vec_capacity sent.old }
     requires out_room { deque_len out.old + frames_in outgoing.old.queues ≤ deque_capacity out.old }
-    ensures opens { Opens fields outgoing.old out.old.items window.base window.width result outgoing.new out.new.items }
+    ensures opens { Opens fields outgoing.old out.old.items window.base window.width result
+        outgoing.new out.new.items }
     ensures empty { sent.new.items ≡ [] }
     ensures capacity { vec_capacity sent.old ≤ vec_capacity sent.new }
     ensures frames { deque_len out.new + frames_in outgoing.new.queues ≡
@@ -85,7 +91,8 @@ pub(crate) fn take_begin(
     requires empty { sent.old.items ≡ [] }
     requires sent_room { vec_len sent.old + held_in outgoing.old.queues ≤ vec_capacity sent.old }
     requires out_room { deque_len out.old + frames_in outgoing.old.queues ≤ deque_capacity out.old }
-    ensures begins { Begins fields outgoing.old out.old.items width result outgoing.new out.new.items }
+    ensures begins { Begins fields outgoing.old out.old.items width result outgoing.new
+        out.new.items }
     ensures empty { sent.new.items ≡ [] }
     ensures capacity { vec_capacity sent.old ≤ vec_capacity sent.new }
     ensures frames { deque_len out.new + frames_in outgoing.new.queues ≡
@@ -173,7 +180,8 @@ impl SessionFields {
         out: &mut VecDeque<SessionFrame>,
     ) -> bool
         requires { deque_len out.old + length behind ≤ deque_capacity out.old }
-        ensures frames { out.new.items ≡ out.old.items ++ frames_behind self next_outgoing_id behind }
+        ensures frames { out.new.items ≡ out.old.items
+            ++ frames_behind self next_outgoing_id behind }
         ensures room { deque_capacity out.new ≡ deque_capacity out.old }
         ensures flows { result ≡ has_flow (frames_behind self next_outgoing_id behind) }
     {

@@ -1,5 +1,6 @@
 //! How links get own handles and give them back (part 2, 2.6.2).
-ghost use Rattle.std.specs.Prelude.{◌≡◌, ◌≢◌, ℕ, ◌<◌, ◌≤◌, ◌==◌, if◌then◌else◌, Some, None, option_map, IfOk, OnOk, IfErr, OnErr, IsSome};
+ghost use Rattle.std.specs.Prelude.{◌≡◌, ◌≢◌, ℕ, ◌<◌, ◌≤◌, ◌==◌, if◌then◌else◌, Some, None, option_map, IfOk, OnOk};
+ghost use Rattle.std.specs.Prelude.{IfErr, OnErr, IsSome};
 ghost use Rattle.amqp_session_core.specs.State.{live_in};
 ghost use Rattle.amqp_session_core.specs.Steps.{Steps, Allocates};
 ghost use Rattle.amqp_session_core.specs.Told.{Deallocated};
@@ -29,7 +30,8 @@ impl<R: LinkRelay> Session<R> {
     /// It is refused, and nothing changes, with `HandleMaxReached` where the vacant handle that is offered is above the
     /// peer's handle-max (part 2, 2.7.2), and with `Memory` where there is none. The link comes back then.
     pub fn allocate_link(&mut self, link: R) -> Result<OutputHandle, Unallocated<R>>
-        ensures ok { IfOk result (λ handle. Steps R.gives self.old (Allocates handle.0 link None) self.new) }
+        ensures ok { IfOk result (λ handle.
+            Steps R.gives self.old (Allocates handle.0 link None) self.new) }
         ensures err { IfErr result
             (λ refused. RefusesLink self.old None refused.error × (refused.link ≡ link)) }
         ensures kept { OnErr result (self.new ≡ self.old) }

@@ -63,7 +63,8 @@ impl Handles {
 
     /// Takes away each handle under which this one is.
     fn forget(&mut self, link: u32)
-        ensures { (handle : ℕ) → map.get self.new handle ≡ unless_to link (map.get self.old handle) }
+        ensures { (handle : ℕ) → map.get self.new handle
+            ≡ unless_to link (map.get self.old handle) }
     {
         let _ = self.handles.len();
         self.handles.retain(
@@ -135,7 +136,8 @@ impl Routes {
 
     /// Takes all routes to a link away.
     pub(crate) fn forget(&mut self, link: OutputHandle)
-        ensures { (handle : ℕ) → map.get self.new handle ≡ unless_to link.0 (map.get self.old handle) }
+        ensures { (handle : ℕ) → map.get self.new handle
+            ≡ unless_to link.0 (map.get self.old handle) }
     {
         let noted = self.noted.remove(link.0);
         if self.has_several {
@@ -149,7 +151,8 @@ impl Routes {
 /// Takes the route to a link away, where no handle leads there but the one that is noted for it.
 fn forget_noted(handles: &mut Handles, noted: Option<u32>, link: u32)
     requires sole { (handle : ℕ) → map.get handles.old handle ≡ Some link → noted ≡ Some handle }
-    ensures { (handle : ℕ) → map.get handles.new handle ≡ unless_to link (map.get handles.old handle) }
+    ensures { (handle : ℕ) → map.get handles.new handle
+        ≡ unless_to link (map.get handles.old handle) }
 {
     if let Some(handle) = noted {
         if is_to(handles.get(handle), link) {

@@ -1,4 +1,5 @@
-ghost use Rattle.std.specs.Prelude.{◌≡◌, ◌≢◌, ◌+◌, ◌-◌, ◌*◌, ◌≤◌, ◌<◌, [], Err, IfOk, IfErr, IfSome, IfNone, OnOk, OnErr, length};
+ghost use Rattle.std.specs.Prelude.{◌≡◌, ◌≢◌, ◌+◌, ◌-◌, ◌*◌, ◌≤◌, ◌<◌, [], Err, IfOk, IfErr, IfSome, IfNone, OnOk};
+ghost use Rattle.std.specs.Prelude.{OnErr, length};
 ghost use Rattle.std.specs.VecDeque.{deque_len, deque_capacity};
 ghost use Rattle.amqp_session_performatives.specs.declared.session_frame.SessionFrameBody.TheVariants as body;
 ghost use Rattle.amqp_session_outgoing.specs.Queues.{frames_in, room_behind};
@@ -29,7 +30,9 @@ impl<R: LinkRelay> Session<R> {
         handle: OutputHandle,
         attach: Attach,
     ) -> Result<SessionFrame, SessionError>
-        ensures ok { IfOk result (λ frame. frame ≡ frame_of self.now.fields (body.Attach (record attach { handle = record { 0 = handle.0 } }))) }
+        ensures ok { IfOk result (λ frame. frame
+            ≡ frame_of self.now.fields (body.Attach
+            (record attach { handle = record { 0 = handle.0 } }))) }
         ensures err { IfErr result (λ e. e ≡ SessionError.Memory) }
     {
         match Boxed::new(alloc, own_attach(handle, attach)) {
@@ -48,7 +51,9 @@ impl<R: LinkRelay> Session<R> {
         handle: OutputHandle,
         flow: LinkFlow,
     ) -> Result<Option<SessionFrame>, SessionError>
-        ensures ok { IfOk result (λ answer. BehindSent R.gives self.old handle (behind.Flow (record flow { handle = record { 0 = handle.0 } })) answer self.new) }
+        ensures ok { IfOk result (λ answer.
+            BehindSent R.gives self.old handle
+            (behind.Flow (record flow { handle = record { 0 = handle.0 } })) answer self.new) }
         ensures err { IfErr result (λ e. RefusesReach (link_at self.old handle.0) e) }
         ensures kept { OnErr result (self.new ≡ self.old) }
     {
@@ -61,7 +66,9 @@ impl<R: LinkRelay> Session<R> {
         handle: OutputHandle,
         detach: Detach,
     ) -> Result<Option<SessionFrame>, SessionError>
-        ensures ok { IfOk result (λ answer. BehindSent R.gives self.old handle (behind.Detach (record detach { handle = record { 0 = handle.0 } })) answer self.new) }
+        ensures ok { IfOk result (λ answer.
+            BehindSent R.gives self.old handle
+            (behind.Detach (record detach { handle = record { 0 = handle.0 } })) answer self.new) }
         ensures err { IfErr result (λ e. RefusesReach (link_at self.old handle.0) e) }
         ensures kept { OnErr result (self.new ≡ self.old) }
     {
@@ -97,8 +104,11 @@ impl<R: LinkRelay> Session<R> {
         detach: Detach,
     ) -> Result<Option<SessionFrame>, SessionError>
         requires { room_behind handle.0 1 (self.old.outgoing).queues ≤ place }
-        ensures ok { IfOk result (λ answer. BehindSent R.gives self.old handle (behind.Detach (record detach { handle = record { 0 = handle.0 } })) answer self.new) }
-        ensures err { IfErr result (λ e. (e ≡ SessionError.UnattachedHandle) × (link_at self.old handle.0 ≡ None)) }
+        ensures ok { IfOk result (λ answer.
+            BehindSent R.gives self.old handle
+            (behind.Detach (record detach { handle = record { 0 = handle.0 } })) answer self.new) }
+        ensures err { IfErr result (λ e. (e ≡ SessionError.UnattachedHandle)
+            × (link_at self.old handle.0 ≡ None)) }
         ensures kept { OnErr result (self.new ≡ self.old) }
     {
         let mut detach = detach;
@@ -115,8 +125,11 @@ impl<R: LinkRelay> Session<R> {
         flow: LinkFlow,
     ) -> Result<Option<SessionFrame>, SessionError>
         requires { room_behind handle.0 1 (self.old.outgoing).queues ≤ place }
-        ensures ok { IfOk result (λ answer. BehindSent R.gives self.old handle (behind.Flow (record flow { handle = record { 0 = handle.0 } })) answer self.new) }
-        ensures err { IfErr result (λ e. (e ≡ SessionError.UnattachedHandle) × (link_at self.old handle.0 ≡ None)) }
+        ensures ok { IfOk result (λ answer.
+            BehindSent R.gives self.old handle
+            (behind.Flow (record flow { handle = record { 0 = handle.0 } })) answer self.new) }
+        ensures err { IfErr result (λ e. (e ≡ SessionError.UnattachedHandle)
+            × (link_at self.old handle.0 ≡ None)) }
         ensures kept { OnErr result (self.new ≡ self.old) }
     {
         self.send_behind_in(handle, place, BehindFrame::Flow(own(handle, flow)))
@@ -137,16 +150,20 @@ impl<R: LinkRelay> Session<R> {
         handle: OutputHandle,
         batch: &mut Batch,
     ) -> Result<(), SessionError>
-        ensures ok { OnOk result (TransfersSent R.gives self.old out.old.items handle batch.old self.new out.new.items) }
+        ensures ok { OnOk result (TransfersSent R.gives self.old out.old.items handle batch.old
+            self.new out.new.items) }
         ensures emptied { OnOk result (batch.new ≡ []) }
         ensures err { IfErr result (λ e. RefusesTransfers self.old handle.0 batch.old e) }
-        ensures kept { OnErr result ((self.new ≡ self.old) × (out.new.items ≡ out.old.items) × (batch.new ≡ batch.old)) }
+        ensures kept { OnErr result ((self.new ≡ self.old) × (out.new.items ≡ out.old.items)
+            × (batch.new ≡ batch.old)) }
         ensures frames { OnOk result (deque_len out.new + frames_in self.new.outgoing.queues ≡
             deque_len out.old + frames_in self.old.outgoing.queues + length batch.old) }
         ensures capacity { deque_capacity out.old ≤ deque_capacity out.new }
         ensures used_room { OnOk result (self.new.outgoing.room ≡
             self.old.outgoing.room - length batch.old) }
-        ensures room { length batch.old ≤ (self.old.outgoing).room → deque_len out.old + (frames_in (self.old.outgoing).queues + length batch.old) ≤ deque_capacity out.old → result ≢ Err SessionError.Memory }
+        ensures room { length batch.old ≤ (self.old.outgoing).room →
+            deque_len out.old + (frames_in (self.old.outgoing).queues + length batch.old)
+            ≤ deque_capacity out.old → result ≢ Err SessionError.Memory }
     {
         if !self.links.contains(handle.0 as usize) {
             return Err(SessionError::UnattachedHandle);
@@ -190,8 +207,11 @@ impl<R: LinkRelay> Session<R> {
     /// A Flow of the session that is due: where half of the own window or more is used up since a Flow left (part 2,
     /// 2.5.6). There is none where the session has told each transfer by itself.
     pub fn maybe_outgoing_session_flow(&mut self) -> Option<SessionFrame>
-        ensures some { IfSome result (λ frame. ((self.old.fields).incoming_window ≤ 2 * self.old.taken) × Steps R.gives self.old (TellsFlow frame) self.new) }
-        ensures none { IfNone result ((2 * self.old.taken < (self.old.fields).incoming_window) × (self.new ≡ self.old)) }
+        ensures some { IfSome result (λ frame.
+            ((self.old.fields).incoming_window ≤ 2 * self.old.taken)
+            × Steps R.gives self.old (TellsFlow frame) self.new) }
+        ensures none { IfNone result ((2 * self.old.taken < (self.old.fields).incoming_window)
+            × (self.new ≡ self.old)) }
     {
         if 2 * u64::from(self.taken) < u64::from(self.fields.incoming_window) {
             return None;
@@ -207,7 +227,8 @@ impl<R: LinkRelay> Session<R> {
         handle: OutputHandle,
         frame: BehindFrame,
     ) -> Result<Option<SessionFrame>, SessionError>
-        ensures ok { IfOk result (λ answer. BehindSent R.gives self.old handle (frame) answer self.new) }
+        ensures ok { IfOk result (λ answer.
+            BehindSent R.gives self.old handle (frame) answer self.new) }
         ensures err { IfErr result (λ e. RefusesReach (link_at self.old handle.0) e) }
         ensures kept { OnErr result (self.new ≡ self.old) }
     {
@@ -232,8 +253,10 @@ impl<R: LinkRelay> Session<R> {
         frame: BehindFrame,
     ) -> Result<Option<SessionFrame>, SessionError>
         requires { room_behind handle.0 1 (self.old.outgoing).queues ≤ place }
-        ensures ok { IfOk result (λ answer. BehindSent R.gives self.old handle frame answer self.new) }
-        ensures err { IfErr result (λ e. (e ≡ SessionError.UnattachedHandle) × (link_at self.old handle.0 ≡ None)) }
+        ensures ok { IfOk result (λ answer.
+            BehindSent R.gives self.old handle frame answer self.new) }
+        ensures err { IfErr result (λ e. (e ≡ SessionError.UnattachedHandle)
+            × (link_at self.old handle.0 ≡ None)) }
         ensures kept { OnErr result (self.new ≡ self.old) }
     {
         if !self.links.contains(handle.0 as usize) {

@@ -1,5 +1,6 @@
 ghost use Rattle.std.specs.Prelude.{◌≡◌};
-ghost use Rattle.amqp_session_core.specs.Table.{after_send_begin, after_incoming_begin, after_send_end, after_incoming_end};
+ghost use Rattle.amqp_session_core.specs.Table.{after_send_begin, after_incoming_begin, after_send_end};
+ghost use Rattle.amqp_session_core.specs.Table.{after_incoming_end};
 
 /// The states of a session (part 2, 2.5.5).
 #[derive(Debug, Clone, Copy, PartialEq, Eq)]

@@ -1,10 +1,12 @@
 ghost use Rattle.std.specs.Int.{to_be_bytes, w16};
-ghost use Rattle.std.specs.Prelude.{[], ◌∷◌, ◌+◌, ◌++◌, ◌<◌, ◌≡◌, ◌≤◌, ℕ, All, IfErr, IfOk, List, OnOk, length, true, false};
+ghost use Rattle.std.specs.Prelude.{[], ◌∷◌, ◌+◌, ◌++◌, ◌<◌, ◌≡◌, ◌≤◌, ℕ, All, IfErr, IfOk, List, OnOk, length, true};
+ghost use Rattle.std.specs.Prelude.{false};
 ghost use Rattle.serde_amqp_item.specs.Canon.{canon};
 ghost use Rattle.amqp_session_performatives.specs.Continuation.{continuation};
 ghost use Rattle.amqp_session_frames.specs.Cutting.{Cuts};
 ghost use Rattle.amqp_session_frames.specs.Parts.{Continues, IsWritten, NotWritten, room, saying};
-ghost use Rattle.amqp_session_frames.specs.Sizes.{Appends, Fills, Fits, HasSize, HasText, IsOnePiece, IsWhole, NotSized, NotWhole, Overflows, PartsRefused, transfer_text};
+ghost use Rattle.amqp_session_frames.specs.Sizes.{Appends, Fills, Fits, HasSize, HasText, IsOnePiece, IsWhole};
+ghost use Rattle.amqp_session_frames.specs.Sizes.{NotSized, NotWhole, Overflows, PartsRefused, transfer_text};
 ghost use Rattle.amqp_session_frames.specs.declared.error.Error.TheVariants.{Memory, TooLarge};
 ghost use Rattle.amqp_session_frames.specs.declared.frame.FrameBody.TheVariants.{Empty, Transfer as TransferBody};
 
@@ -92,7 +94,8 @@ impl FrameEncoder {
 
     /// The piece of a frame without a performative.
     fn encode_empty(&self, alloc: Global, channel: u16) -> Result<Pieces, Error>
-        ensures text { IfOk result (λ v. IsWritten self.now (record { channel = channel; body = Empty }) v) }
+        ensures text { IfOk result (λ v. IsWritten self.now
+            (record { channel = channel; body = Empty }) v) }
         ensures limit { IfOk result (λ v. All (λ p. length p ≤ self.now) v) }
         ensures memory { IfErr result (λ e. e ≡ Memory) }
     {
@@ -326,7 +329,8 @@ fn push_middles(
     room: usize,
 ) -> Result<(), Error>
     requires { 0 < room }
-    ensures pieces { OnOk result (Cuts head.now room pieces.old.items pieces.new.items payload.old payload.new) }
+    ensures pieces { OnOk result (Cuts head.now room pieces.old.items pieces.new.items payload.old
+        payload.new) }
     ensures left { OnOk result (length payload.new ≤ room) }
     ensures memory { IfErr result (λ e. e ≡ Memory) }
 {
@@ -354,7 +358,8 @@ fn write_whole<P: Serialize>(
     payload: Bytes,
 ) -> Result<Pieces, Error>
     requires { HasText (canon (P.item performative.now)) }
-    ensures ok { IfOk result (λ v. IsOnePiece (canon (P.item performative.now)) (2 ∷ 0 ∷ to_be_bytes w16 channel) payload v) }
+    ensures ok { IfOk result (λ v. IsOnePiece (canon (P.item performative.now))
+        (2 ∷ 0 ∷ to_be_bytes w16 channel) payload v) }
     ensures memory { IfErr result (λ e. e ≡ Memory) }
 {
     let head = write_head(alloc, channel, performative, size)?;
@@ -381,7 +386,8 @@ fn write_head<T: Serialize>(
     size: usize,
 ) -> Result<Vec<u8>, Error>
     requires { HasText (canon (T.item performative.now)) }
-    ensures ok { IfOk result (λ h. Appends (canon (T.item performative.now)) (2 ∷ 0 ∷ to_be_bytes w16 channel) h.items) }
+    ensures ok { IfOk result (λ h. Appends (canon (T.item performative.now))
+        (2 ∷ 0 ∷ to_be_bytes w16 channel) h.items) }
     ensures memory { IfErr result (λ e. e ≡ Memory) }
 {
     let mut head = Vec::with_capacity(alloc, HEAD_SIZE.saturating_add(size))?;
@@ -396,7 +402,8 @@ fn write_head<T: Serialize>(
 
 /// The header of a frame on the channel, without its size field (part 2, 2.3.1).
 fn push_header(head: &mut Vec<u8>, channel: u16) -> Result<(), Error>
-    ensures ok { OnOk result (head.new.items ≡ head.old.items ++ (2 ∷ 0 ∷ to_be_bytes w16 channel)) }
+    ensures ok { OnOk result (head.new.items ≡ head.old.items
+        ++ (2 ∷ 0 ∷ to_be_bytes w16 channel)) }
     ensures memory { IfErr result (λ e. e ≡ Memory) }
 {
     head.extend_from_slice(&[DATA_OFFSET, AMQP_TYPE])?;
@@ -408,7 +415,8 @@ fn push_header(head: &mut Vec<u8>, channel: u16) -> Result<(), Error>
 #[tactic(auto, using(crate::proofs::Sized::sizing))]
 fn size_of<T: Serialize>(performative: &T) -> Result<usize, Error>
     ensures size { IfOk result (λ n. HasSize (canon (T.item performative.now)) n) }
-    ensures refused { IfErr result (λ e. (e ≡ TooLarge) × NotSized (canon (T.item performative.now))) }
+    ensures refused { IfErr result (λ e. (e ≡ TooLarge)
+        × NotSized (canon (T.item performative.now))) }
 {
     match serialized_size(performative) {
         Ok(size) => Ok(size),

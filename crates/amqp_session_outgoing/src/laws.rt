@@ -5,7 +5,8 @@ ghost use Rattle.amqp_session_unsettled.specs.Range.{ahead};
 ghost use Rattle.amqp_session_outgoing.specs.Queues.{held_in, units_of, waiting_of};
 ghost use Rattle.amqp_session_outgoing.specs.State.{State};
 ghost use Rattle.amqp_session_outgoing.specs.History.{Step, Steps, History, fresh};
-ghost use Rattle.amqp_session_outgoing.specs.Told.{out_of, accepted_of, transfers_out, InLatestWindow, latest_base, latest_width, HasCaughtUp, IsNumbered, LeavesIn, GivesFree};
+ghost use Rattle.amqp_session_outgoing.specs.Told.{out_of, accepted_of, transfers_out, InLatestWindow, latest_base};
+ghost use Rattle.amqp_session_outgoing.specs.Told.{latest_width, HasCaughtUp, IsNumbered, LeavesIn, GivesFree};
 ghost use Rattle.amqp_session_outgoing.specs.Turns.{Event, Out, events_of, Successive, WaitsThroughout, turns_of};
 ghost use Rattle.amqp_session_outgoing.specs.declared.frames.Sent.{Sent};
 

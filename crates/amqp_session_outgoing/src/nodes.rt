@@ -1,4 +1,5 @@
-ghost use Rattle.std.specs.Prelude.{◌≡◌, ◌+◌, ◌-◌, ◌<◌, ◌≤◌, ◌^◌, ◌↔◌, ◌==◌, [], ◌∷◌, ◌++◌, length, take, drop, max, IsOk, OnOk, OnErr, IfSome, IsSome, slice_index_or};
+ghost use Rattle.std.specs.Prelude.{◌≡◌, ◌+◌, ◌-◌, ◌<◌, ◌≤◌, ◌^◌, ◌↔◌, ◌==◌, [], ◌∷◌, ◌++◌, length, take, drop, max};
+ghost use Rattle.std.specs.Prelude.{IsOk, OnOk, OnErr, IfSome, IsSome, slice_index_or};
 ghost use Rattle.amqp_session_outgoing.specs.Nodes.{values_of, HoldValues, AreFree};
 ghost use Rattle.amqp_session_outgoing.specs.Frames.{last_room};
 ghost use Rattle.amqp_session_outgoing.specs.Queues.{trailed};
@@ -87,7 +88,8 @@ impl<U> Row<U> {
     /// The last value, if there is one.
     pub(crate) fn last(&self) -> Option<&U>
         ensures some { IsSome result ↔ (0 < length self.now) }
-        ensures lookup { IfSome result (λ u. u.now ≡ slice_index_or self.now (length self.now - 1) u.now) }
+        ensures lookup { IfSome result (λ u.
+            u.now ≡ slice_index_or self.now (length self.now - 1) u.now) }
     {
         self.nodes.back()?.as_ref()
     }

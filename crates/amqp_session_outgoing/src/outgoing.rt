@@ -1,11 +1,16 @@
-ghost use Rattle.std.specs.Prelude.{◌≡◌, ◌≢◌, ℕ, ◌+◌, ◌-◌, ◌<◌, ◌≤◌, ◌%◌, ◌^◌, ◌⊎◌, ◌↔◌, [], ◌++◌, length, if◌then◌else◌, IsTrue, IsOk, IfOk, IfErr, OnOk, OnErr, Err, option_copied, vec_len, vec_capacity};
+ghost use Rattle.std.specs.Prelude.{◌≡◌, ◌≢◌, ℕ, ◌+◌, ◌-◌, ◌<◌, ◌≤◌, ◌%◌, ◌^◌, ◌⊎◌, ◌↔◌, [], ◌++◌, length};
+ghost use Rattle.std.specs.Prelude.{if◌then◌else◌, IsTrue, IsOk, IfOk, IfErr, OnOk, OnErr, Err, option_copied, vec_len};
+ghost use Rattle.std.specs.Prelude.{vec_capacity};
 ghost use Rattle.amqp_session_outgoing.specs.Frames.{is_first, firsts_of, frames_count, sent_count, HaveTags};
 ghost use Rattle.amqp_session_outgoing.specs.Queues.{held_in, firsts_in, frames_in, units_of, room_behind, turn_of};
 ghost use Rattle.amqp_session_unsettled.specs.Touched.{Touches};
 ghost use Rattle.std.specs.FinMap as map;
-ghost use Rattle.amqp_session_outgoing.specs.State.{State, InWindow, Sends, Leaving, IsHeld, base_of, registered, window_left, with_alone, with_batch, with_window};
+ghost use Rattle.amqp_session_outgoing.specs.State.{State, InWindow, Sends, Leaving, IsHeld, base_of, registered};
+ghost use Rattle.amqp_session_outgoing.specs.State.{window_left, with_alone, with_batch, with_window};
 ghost use Rattle.amqp_session_unsettled.specs.Range.{ahead};
-ghost use Rattle.amqp_session_outgoing.specs.History.{Steps, Takes, TakesWindow, Accepts, Refuses, Follows, Reserves, Settles, SettlesRange, Forgets, Fails, HasFreeNumbers, IsFree, RefusesBatch, fresh};
+ghost use Rattle.amqp_session_outgoing.specs.History.{Steps, Takes, TakesWindow, Accepts, Refuses, Follows, Reserves};
+ghost use Rattle.amqp_session_outgoing.specs.History.{Settles, SettlesRange, Forgets, Fails, HasFreeNumbers, IsFree};
+ghost use Rattle.amqp_session_outgoing.specs.History.{RefusesBatch, fresh};
 
 use crate::error::TransferError;
 use crate::frames::{Outbound, Part, Sent};
@@ -154,13 +159,18 @@ impl<T: Drop, F: Drop> Outgoing<T, F> {
         out: &mut Vec<Sent<T, F>>,
         incoming_window: u32,
     ) -> Result<(), AllocError>
-        ensures ok { OnOk result (Takes (TakesWindow self.old.next_outgoing_id incoming_window) self.old out.old.items self.new out.new.items) }
-        ensures frames { OnOk result (sent_count out.new.items + frames_in self.new.queues ≡ sent_count out.old.items + frames_in self.old.queues) }
-        ensures held { OnOk result (vec_len out.new + held_in self.new.queues ≡ vec_len out.old + held_in self.old.queues) }
+        ensures ok { OnOk result (Takes (TakesWindow self.old.next_outgoing_id incoming_window)
+            self.old out.old.items self.new out.new.items) }
+        ensures frames { OnOk result (sent_count out.new.items + frames_in self.new.queues
+            ≡ sent_count out.old.items + frames_in self.old.queues) }
+        ensures held { OnOk result (vec_len out.new + held_in self.new.queues ≡ vec_len out.old
+            + held_in self.old.queues) }
         ensures capacity { vec_capacity out.old ≤ vec_capacity out.new }
         ensures kept_room { self.new.room ≡ self.old.room }
-        ensures err { OnErr result (Steps self.old Fails self.new × (out.new.items ≡ out.old.items)) }
-        ensures room { vec_len out.old + held_in self.old.queues ≤ vec_capacity out.old → IsOk result }
+        ensures err { OnErr result (Steps self.old Fails self.new
+            × (out.new.items ≡ out.old.items)) }
+        ensures room { vec_len out.old + held_in self.old.queues ≤ vec_capacity out.old →
+            IsOk result }
     {
         out.reserve(self.held_back())?;
         let base = self.next_outgoing_id;
@@ -177,13 +187,19 @@ impl<T: Drop, F: Drop> Outgoing<T, F> {
         next_incoming_id: Option<u32>,
         incoming_window: u32,
     ) -> Result<(), AllocError>
-        ensures ok { OnOk result (Takes (TakesWindow (base_of self.old next_incoming_id) incoming_window) self.old out.old.items self.new out.new.items) }
-        ensures frames { OnOk result (sent_count out.new.items + frames_in self.new.queues ≡ sent_count out.old.items + frames_in self.old.queues) }
-        ensures held { OnOk result (vec_len out.new + held_in self.new.queues ≡ vec_len out.old + held_in self.old.queues) }
+        ensures ok { OnOk result
+            (Takes (TakesWindow (base_of self.old next_incoming_id) incoming_window) self.old
+            out.old.items self.new out.new.items) }
+        ensures frames { OnOk result (sent_count out.new.items + frames_in self.new.queues
+            ≡ sent_count out.old.items + frames_in self.old.queues) }
+        ensures held { OnOk result (vec_len out.new + held_in self.new.queues ≡ vec_len out.old
+            + held_in self.old.queues) }
         ensures capacity { vec_capacity out.old ≤ vec_capacity out.new }
         ensures kept_room { self.new.room ≡ self.old.room }
-        ensures err { OnErr result (Steps self.old Fails self.new × (out.new.items ≡ out.old.items)) }
-        ensures room { vec_len out.old + held_in self.old.queues ≤ vec_capacity out.old → IsOk result }
+        ensures err { OnErr result (Steps self.old Fails self.new
+            × (out.new.items ≡ out.old.items)) }
+        ensures room { vec_len out.old + held_in self.old.queues ≤ vec_capacity out.old →
+            IsOk result }
     {
         out.reserve(self.held_back())?;
         let base = next_incoming_id.unwrap_or(self.initial_outgoing_id);
@@ -195,7 +211,8 @@ impl<T: Drop, F: Drop> Outgoing<T, F> {
     /// waits leaves no sooner than with the next window that is taken, or with the next batch that is accepted. It takes
     /// no memory.
     pub fn set_window(&mut self, next_incoming_id: Option<u32>, incoming_window: u32)
-        ensures { self.new ≡ with_window self.old (base_of self.old next_incoming_id) incoming_window }
+        ensures { self.new ≡ with_window self.old (base_of self.old next_incoming_id)
+            incoming_window }
     {
         self.window_base = next_incoming_id.unwrap_or(self.initial_outgoing_id);
         self.window_width = incoming_window;
@@ -208,7 +225,9 @@ impl<T: Drop, F: Drop> Outgoing<T, F> {
     /// where the number of a delivery that begins would be that of an unsettled one or of one that waits (part 2,
     /// 2.8.6).
     pub fn admits(&self, batch: &VecDeque<Outbound<T, F>>) -> Result<usize, TransferError>
-        ensures ok { IfOk result (λ firsts. (firsts ≡ firsts_in self.now.queues + firsts_of batch.now.items) × HaveTags batch.now.items × HasFreeNumbers self.now batch.now.items) }
+        ensures ok { IfOk result (λ firsts.
+            (firsts ≡ firsts_in self.now.queues + firsts_of batch.now.items)
+            × HaveTags batch.now.items × HasFreeNumbers self.now batch.now.items) }
         ensures err { IfErr result (λ error. RefusesBatch self.now batch.now.items error) }
         ensures told { result ≢ Err TransferError.Memory }
     {
@@ -241,16 +260,21 @@ impl<T: Drop, F: Drop> Outgoing<T, F> {
         requires firsts { firsts ≡ firsts_in self.old.queues + firsts_of batch.old.items }
         requires tags { HaveTags batch.old.items }
         requires free { HasFreeNumbers self.old batch.old.items }
-        ensures ok { OnOk result (Takes (Accepts handle batch.old.items) self.old out.old.items self.new out.new.items) }
-        ensures frames { OnOk result (sent_count out.new.items + frames_in self.new.queues ≡ sent_count out.old.items + frames_in self.old.queues + frames_count batch.old.items) }
-        ensures held { OnOk result (vec_len out.new + held_in self.new.queues ≡ vec_len out.old + held_in self.old.queues + length batch.old.items) }
+        ensures ok { OnOk result (Takes (Accepts handle batch.old.items) self.old out.old.items
+            self.new out.new.items) }
+        ensures frames { OnOk result (sent_count out.new.items + frames_in self.new.queues
+            ≡ sent_count out.old.items + frames_in self.old.queues + frames_count batch.old.items) }
+        ensures held { OnOk result (vec_len out.new + held_in self.new.queues ≡ vec_len out.old
+            + held_in self.old.queues + length batch.old.items) }
         ensures capacity { vec_capacity out.old ≤ vec_capacity out.new }
         ensures used_room { OnOk result (self.new.room ≡ self.old.room - length batch.old.items) }
         ensures err { OnErr result (Steps self.old Fails self.new) }
         ensures out { OnErr result (out.new.items ≡ out.old.items) }
         ensures emptied { OnOk result (batch.new.items ≡ []) }
         ensures batch { OnErr result (batch.new.items ≡ batch.old.items) }
-        ensures room { length batch.old.items ≤ self.old.room → vec_len out.old + held_in self.old.queues + length batch.old.items ≤ vec_capacity out.old → IsOk result }
+        ensures room { length batch.old.items ≤ self.old.room →
+            vec_len out.old + held_in self.old.queues + length batch.old.items
+            ≤ vec_capacity out.old → IsOk result }
     {
         if batch.is_empty() {
             return Ok(());
@@ -277,16 +301,22 @@ impl<T: Drop, F: Drop> Outgoing<T, F> {
         handle: OutputHandle,
         batch: &mut VecDeque<Outbound<T, F>>,
     ) -> Result<(), TransferError>
-        ensures ok { OnOk result (Takes (Accepts handle batch.old.items) self.old out.old.items self.new out.new.items) }
-        ensures frames { OnOk result (sent_count out.new.items + frames_in self.new.queues ≡ sent_count out.old.items + frames_in self.old.queues + frames_count batch.old.items) }
-        ensures held { OnOk result (vec_len out.new + held_in self.new.queues ≡ vec_len out.old + held_in self.old.queues + length batch.old.items) }
+        ensures ok { OnOk result (Takes (Accepts handle batch.old.items) self.old out.old.items
+            self.new out.new.items) }
+        ensures frames { OnOk result (sent_count out.new.items + frames_in self.new.queues
+            ≡ sent_count out.old.items + frames_in self.old.queues + frames_count batch.old.items) }
+        ensures held { OnOk result (vec_len out.new + held_in self.new.queues ≡ vec_len out.old
+            + held_in self.old.queues + length batch.old.items) }
         ensures capacity { vec_capacity out.old ≤ vec_capacity out.new }
         ensures used_room { OnOk result (self.new.room ≡ self.old.room - length batch.old.items) }
-        ensures err { IfErr result (λ error. Steps self.old (Refuses batch.old.items error) self.new) }
+        ensures err { IfErr result (λ error.
+            Steps self.old (Refuses batch.old.items error) self.new) }
         ensures out { OnErr result (out.new.items ≡ out.old.items) }
         ensures emptied { OnOk result (batch.new.items ≡ []) }
         ensures batch { OnErr result (batch.new.items ≡ batch.old.items) }
-        ensures room { length batch.old.items ≤ self.old.room → vec_len out.old + held_in self.old.queues + length batch.old.items ≤ vec_capacity out.old → result ≢ Err TransferError.Memory }
+        ensures room { length batch.old.items ≤ self.old.room →
+            vec_len out.old + held_in self.old.queues + length batch.old.items
+            ≤ vec_capacity out.old → result ≢ Err TransferError.Memory }
     {
         let firsts = self.admits(batch)?;
         self.accept(alloc, out, handle, batch, firsts)?;
@@ -465,13 +495,17 @@ impl<T: Drop, F: Drop> Outgoing<T, F> {
         requires some { 0 < length batch.old.items }
         requires firsts { firsts ≡ firsts_in self.old.queues + firsts_of batch.old.items }
         ensures ok { OnOk result (self.new ≡ with_batch self.old handle.0 batch.old.items) }
-        ensures room { OnOk result (vec_len out.new + held_in self.new.queues ≤ vec_capacity out.new) }
+        ensures room { OnOk result (vec_len out.new + held_in self.new.queues
+            ≤ vec_capacity out.new) }
         ensures err { OnErr result (self.new ≡ self.old) }
         ensures out { out.new.items ≡ out.old.items }
         ensures emptied { OnOk result (batch.new.items ≡ []) }
         ensures batch { OnErr result (batch.new.items ≡ batch.old.items) }
-        ensures refused { OnErr result ((self.old.room < length batch.old.items) ⊎ (vec_capacity out.old < vec_len out.old + held_in self.old.queues + length batch.old.items)) }
-        ensures held { OnOk result (held_in self.new.queues ≡ held_in self.old.queues + length batch.old.items) }
+        ensures refused { OnErr result ((self.old.room < length batch.old.items)
+            ⊎ (vec_capacity out.old < vec_len out.old + held_in self.old.queues
+            + length batch.old.items)) }
+        ensures held { OnOk result (held_in self.new.queues ≡ held_in self.old.queues
+            + length batch.old.items) }
         ensures capacity { vec_capacity out.old ≤ vec_capacity out.new }
     {
         make_room(&mut self.unsettled, out, self.turns.held(), batch.len())?;
@@ -490,15 +524,19 @@ impl<T: Drop, F: Drop> Outgoing<T, F> {
         requires some { 0 < length batch.old.items }
         requires empty { self.old.queues ≡ [] }
         requires window { length batch.old.items ≤ window_left self.old }
-        ensures run { OnOk result (Leaving (with_batch self.old handle.0 batch.old.items) out.old.items self.new out.new.items) }
+        ensures run { OnOk result (Leaving (with_batch self.old handle.0 batch.old.items)
+            out.old.items self.new out.new.items) }
         ensures used_room { OnOk result (self.new.room ≡ self.old.room - length batch.old.items) }
         ensures held { OnOk result (IsHeld self.new) }
-        ensures total { OnOk result (vec_len out.new + held_in self.new.queues ≡ vec_len out.old + held_in self.old.queues + length batch.old.items) }
+        ensures total { OnOk result (vec_len out.new + held_in self.new.queues ≡ vec_len out.old
+            + held_in self.old.queues + length batch.old.items) }
         ensures err { OnErr result (self.new ≡ self.old) }
         ensures out { OnErr result (out.new.items ≡ out.old.items) }
         ensures emptied { OnOk result (batch.new.items ≡ []) }
         ensures batch { OnErr result (batch.new.items ≡ batch.old.items) }
-        ensures refused { OnErr result ((self.old.room < length batch.old.items) ⊎ (vec_capacity out.old < vec_len out.old + held_in self.old.queues + length batch.old.items)) }
+        ensures refused { OnErr result ((self.old.room < length batch.old.items)
+            ⊎ (vec_capacity out.old < vec_len out.old + held_in self.old.queues
+            + length batch.old.items)) }
         ensures capacity { vec_capacity out.old ≤ vec_capacity out.new }
     {
         let count = batch.len();
@@ -518,9 +556,11 @@ impl<T: Drop, F: Drop> Outgoing<T, F> {
     /// Takes a window, where there is room for all that waits.
     fn take_window(&mut self, out: &mut Vec<Sent<T, F>>, base: u32, width: u32)
         requires room { vec_len out.old + held_in self.old.queues ≤ vec_capacity out.old }
-        ensures takes { Takes (TakesWindow base width) self.old out.old.items self.new out.new.items }
+        ensures takes { Takes (TakesWindow base width) self.old out.old.items self.new
+            out.new.items }
         ensures kept_room { self.new.room ≡ self.old.room }
-        ensures total { vec_len out.new + held_in self.new.queues ≡ vec_len out.old + held_in self.old.queues }
+        ensures total { vec_len out.new + held_in self.new.queues ≡ vec_len out.old
+            + held_in self.old.queues }
         ensures capacity { vec_capacity out.new ≡ vec_capacity out.old }
     {
         self.window_base = base;
@@ -534,7 +574,8 @@ impl<T: Drop, F: Drop> Outgoing<T, F> {
         ensures run { Leaving self.old out.old.items self.new out.new.items }
         ensures kept_room { self.new.room ≡ self.old.room }
         ensures held { IsHeld self.new }
-        ensures total { vec_len out.new + held_in self.new.queues ≡ vec_len out.old + held_in self.old.queues }
+        ensures total { vec_len out.new + held_in self.new.queues ≡ vec_len out.old
+            + held_in self.old.queues }
         ensures capacity { vec_capacity out.new ≡ vec_capacity out.old }
     {
         while self.held_back() > 0 && self.is_open() {
@@ -572,8 +613,10 @@ impl<T: Drop, F: Drop> Outgoing<T, F> {
 
 /// How many of these begin a delivery. It is refused where one of them has no tag.
 fn count_firsts<T, F>(batch: &VecDeque<Outbound<T, F>>) -> Result<usize, TransferError>
-    ensures ok { IfOk result (λ count. (count ≡ firsts_of batch.now.items) × HaveTags batch.now.items) }
-    ensures err { IfErr result (λ error. (error ≡ TransferError.IllegalState) × (HaveTags batch.now.items → ⊥)) }
+    ensures ok { IfOk result (λ count. (count ≡ firsts_of batch.now.items)
+        × HaveTags batch.now.items) }
+    ensures err { IfErr result (λ error. (error ≡ TransferError.IllegalState)
+        × (HaveTags batch.now.items → ⊥)) }
 {
     let mut count = 0;
     for i in 0..batch.len() {
@@ -599,7 +642,8 @@ fn make_room<T, F>(
     ensures grown { unsettled.old.room ≤ unsettled.new.room }
     ensures out_room { OnOk result (vec_len out.new + (held + count) ≤ vec_capacity out.new) }
     ensures room { OnOk result (held + count ≤ unsettled.new.room) }
-    ensures refused { OnErr result ((vec_capacity out.old < vec_len out.old + (held + count)) ⊎ (unsettled.old.room < held + count)) }
+    ensures refused { OnErr result ((vec_capacity out.old < vec_len out.old + (held + count))
+        ⊎ (unsettled.old.room < held + count)) }
 {
     let all = held.checked_add(count).ok_or(AllocError)?;
     out.reserve(all)?;
@@ -617,7 +661,11 @@ fn send_all<T: Drop, F: Drop>(
 )
     requires room { length batch.old.items ≤ unsettled.old.room }
     requires out_room { vec_len out.old + length batch.old.items ≤ vec_capacity out.old }
-    ensures run { (s : State T F) → s.window_width < 2 ^ 32 → ahead next.old s.window_base + length batch.old.items ≤ s.window_width → Leaving (with_alone s next.old next_delivery.old unsettled.old.table handle.0 batch.old.items) out.old.items (with_alone s next.new next_delivery.new unsettled.new.table handle.0 []) out.new.items }
+    ensures run { (s : State T F) → s.window_width < 2 ^ 32 →
+        ahead next.old s.window_base + length batch.old.items ≤ s.window_width →
+        Leaving (with_alone s next.old next_delivery.old unsettled.old.table handle.0
+        batch.old.items) out.old.items (with_alone s next.new next_delivery.new unsettled.new.table
+        handle.0 []) out.new.items }
     ensures len { vec_len out.new ≡ vec_len out.old + length batch.old.items }
     ensures emptied { batch.new.items ≡ [] }
     ensures capacity { vec_capacity out.new ≡ vec_capacity out.old }

@@ -88,7 +88,8 @@ fn widen<F: Drop>(
     ensures grown { capacity_of frames.old ≤ capacity_of frames.new }
     ensures err { OnErr result (capacity_of frames.new ≡ capacity_of frames.old) }
     ensures enough { others + count ≤ capacity_of frames.old → IsOk result }
-    ensures kept { others + count ≤ capacity_of frames.old → capacity_of frames.new ≡ capacity_of frames.old }
+    ensures kept { others + count ≤ capacity_of frames.old →
+        capacity_of frames.new ≡ capacity_of frames.old }
 {
     let room = others.checked_add(count).ok_or(AllocError)?;
     if room <= capacity(frames) {

@@ -1,7 +1,9 @@
-ghost use Rattle.std.specs.Prelude.{◌≡◌, ◌≢◌, ℕ, ◌+◌, ◌-◌, ◌^◌, ◌<◌, ◌≤◌, ◌↔◌, [], ◌∷◌, ◌++◌, length, IsTrue, IsOk, ◌⊎◌, OnOk, OnErr, IfOk, IfSome, IfNone, max, slice_index_or};
+ghost use Rattle.std.specs.Prelude.{◌≡◌, ◌≢◌, ℕ, ◌+◌, ◌-◌, ◌^◌, ◌<◌, ◌≤◌, ◌↔◌, [], ◌∷◌, ◌++◌, length, IsTrue, IsOk};
+ghost use Rattle.std.specs.Prelude.{◌⊎◌, OnOk, OnErr, IfOk, IfSome, IfNone, max, slice_index_or};
 ghost use Rattle.std.specs.VecDeque.{deque_len, deque_capacity};
 ghost use Rattle.amqp_session_outgoing.specs.Frames.{first_count, frames_count, last_room};
-ghost use Rattle.amqp_session_outgoing.specs.Queues.{held_in, firsts_in, frames_in, units_of, room_behind, TakesTurn, joined, trailed, turn_of, FollowsIn};
+ghost use Rattle.amqp_session_outgoing.specs.Queues.{held_in, firsts_in, frames_in, units_of, room_behind, TakesTurn};
+ghost use Rattle.amqp_session_outgoing.specs.Queues.{joined, trailed, turn_of, FollowsIn};
 ghost use Rattle.amqp_session_outgoing.specs.Fields.{queues_of, EachWaits, AllShort, IsPlace, IsNowhere, ChangesAt};
 ghost use Rattle.amqp_session_outgoing.specs.declared.turns.Queue.{Queue};
 
@@ -126,7 +128,8 @@ impl<T: Drop, F: Drop> Turns<T, F> {
         ensures taken { TakesTurn self.old.queues (result.0).0 result.1 self.new.queues }
         ensures room { self.new.room ≡ self.old.room }
         ensures held { held_in self.new.queues + 1 ≡ held_in self.old.queues }
-        ensures firsts { firsts_in self.new.queues + first_count result.1.part ≡ firsts_in self.old.queues }
+        ensures firsts { firsts_in self.new.queues + first_count result.1.part
+            ≡ firsts_in self.old.queues }
     {
         let (handle, unit) = take_turn(&mut self.queues, &mut self.store);
         self.held -= 1;
@@ -195,7 +198,8 @@ impl<T: Drop, F: Drop> Turns<T, F> {
         ensures grown { place.old ≤ place.new }
         ensures err { OnErr result (place.new ≡ place.old) }
         ensures enough { room_behind handle.0 count self.now.queues ≤ place.old → IsOk result }
-        ensures kept { room_behind handle.0 count self.now.queues ≤ place.old → place.new ≡ place.old }
+        ensures kept { room_behind handle.0 count self.now.queues ≤ place.old →
+            place.new ≡ place.old }
     {
         match place_of(&self.queues, handle) {
             Some(index) => widen_behind(&self.queues[index].units, alloc, count, place),
@@ -212,7 +216,8 @@ impl<T: Drop, F: Drop> Turns<T, F> {
         place: &mut Place<F>,
         frame: F,
     ) -> Result<Option<F>, AllocError>
-        ensures ok { IfOk result (λ left. FollowsIn handle.0 frame left self.old.queues self.new.queues) }
+        ensures ok { IfOk result (λ left. FollowsIn handle.0 frame left self.old.queues
+            self.new.queues) }
         ensures room { self.new.room ≡ self.old.room }
         ensures held { held_in self.new.queues ≡ held_in self.old.queues }
         ensures firsts { firsts_in self.new.queues ≡ firsts_in self.old.queues }
@@ -249,7 +254,8 @@ fn take_turn<T: Drop, F: Drop>(
     requires some { 0 < length queues.old.items }
     requires waits { EachWaits queues.old.items }
     requires short { store.old + 1 < 2 ^ 63 }
-    ensures taken { TakesTurn (queues_of queues.old.items) (result.0).0 result.1 (queues_of queues.new.items) }
+    ensures taken { TakesTurn (queues_of queues.old.items) (result.0).0 result.1
+        (queues_of queues.new.items) }
     ensures waits { EachWaits queues.new.items }
     ensures store { store.new ≡ store.old + 1 }
     ensures capacity { deque_capacity queues.new ≡ deque_capacity queues.old }
@@ -322,19 +328,22 @@ fn join<T: Drop, F: Drop>(
     requires waits { EachWaits queues.old.items }
     requires short { held_in (queues_of queues.old.items) + store.old < 2 ^ 63 }
     requires fits { held_in (queues_of queues.old.items) + length batch.old.items < 2 ^ 63 }
-    ensures ok { OnOk result (queues_of queues.new.items ≡ joined handle.0 batch.old.items (queues_of queues.old.items)) }
+    ensures ok { OnOk result (queues_of queues.new.items
+        ≡ joined handle.0 batch.old.items (queues_of queues.old.items)) }
     ensures err { OnErr result (queues_of queues.new.items ≡ queues_of queues.old.items) }
     ensures emptied { OnOk result (batch.new.items ≡ []) }
     ensures batch { OnErr result (batch.new.items ≡ batch.old.items) }
     ensures waits { EachWaits queues.new.items }
-    ensures store { OnOk result (store.new + length batch.old.items ≡ max store.old (length batch.old.items)) }
+    ensures store { OnOk result (store.new + length batch.old.items
+        ≡ max store.old (length batch.old.items)) }
     ensures kept { OnErr result (store.old ≤ store.new) }
     ensures bound { OnErr result (store.new ≤ max store.old (length batch.old.items)) }
     ensures places { OnErr result (deque_len queues.new ≡ deque_len queues.old) }
     ensures joins { OnOk result (deque_len queues.new ≤ deque_len queues.old + 1) }
     ensures within { deque_len queues.new ≤ deque_capacity queues.new }
     ensures capacity { deque_capacity queues.old ≤ deque_capacity queues.new }
-    ensures refused { OnErr result ((deque_capacity queues.old ≤ deque_len queues.old) ⊎ (store.old < length batch.old.items)) }
+    ensures refused { OnErr result ((deque_capacity queues.old ≤ deque_len queues.old)
+        ⊎ (store.old < length batch.old.items)) }
 {
     store.reserve(batch.len())?;
     match place_of(queues, handle) {
@@ -357,7 +366,8 @@ fn join_at<T: Drop, F: Drop>(
     requires waits { EachWaits queues.old.items }
     requires nodes { length batch.old.items ≤ store.old }
     requires short { held_in (queues_of queues.old.items) + store.old < 2 ^ 63 }
-    ensures changed { ChangesAt queues.old.items place (λ units. units ++ batch.old.items) queues.new.items }
+    ensures changed { ChangesAt queues.old.items place (λ units. units ++ batch.old.items)
+        queues.new.items }
     ensures emptied { batch.new.items ≡ [] }
     ensures waits { EachWaits queues.new.items }
     ensures store { store.new + length batch.old.items ≡ store.old }
@@ -381,7 +391,8 @@ fn join_last<T: Drop, F: Drop>(
     requires nodes { length batch.old.items ≤ store.old }
     requires short { store.old < 2 ^ 63 }
     ensures waits { EachWaits queues.new.items }
-    ensures ok { OnOk result ((q : Queue T F) × (queues.new.items ≡ queues.old.items ++ q ∷ []) × (q.handle ≡ handle) × (q.units ≡ batch.old.items)) }
+    ensures ok { OnOk result ((q : Queue T F) × (queues.new.items ≡ queues.old.items ++ q ∷ [])
+        × (q.handle ≡ handle) × (q.units ≡ batch.old.items)) }
     ensures err { OnErr result (queues.new.items ≡ queues.old.items) }
     ensures emptied { OnOk result (batch.new.items ≡ []) }
     ensures batch { OnErr result (batch.new.items ≡ batch.old.items) }
@@ -411,8 +422,10 @@ fn follow<T: Drop, F: Drop>(
     requires waits { EachWaits queues.old.items }
     ensures ok { OnOk result (ChangesAt queues.old.items index (trailed frame) queues.new.items) }
     ensures err { OnErr result (queues_of queues.new.items ≡ queues_of queues.old.items) }
-    ensures short { OnOk result ((d : Queue T F) → last_room 1 (slice_index_or queues.old.items index d).units < 2 ^ 64) }
-    ensures refused { OnErr result ((d : Queue T F) → place.old < last_room 1 (slice_index_or queues.old.items index d).units) }
+    ensures short { OnOk result ((d : Queue T F) →
+        last_room 1 (slice_index_or queues.old.items index d).units < 2 ^ 64) }
+    ensures refused { OnErr result ((d : Queue T F) →
+        place.old < last_room 1 (slice_index_or queues.old.items index d).units) }
     ensures waits { EachWaits queues.new.items }
     ensures len { deque_len queues.new ≡ deque_len queues.old }
     ensures capacity { deque_capacity queues.new ≡ deque_capacity queues.old }

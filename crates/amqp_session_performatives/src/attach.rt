@@ -136,7 +136,8 @@ impl Attach {
     /// Clones of the capabilities.
     #[tactic(auto, using(crate::proofs::Clones::symbols_cloned))]
     fn clone_capabilities(&self) -> Result<(Array<Symbol>, Array<Symbol>), AllocError>
-        ensures { IfOk result (λ c. (c.0 ≡ self.now.offered_capabilities) × (c.1 ≡ self.now.desired_capabilities)) }
+        ensures { IfOk result (λ c. (c.0 ≡ self.now.offered_capabilities)
+            × (c.1 ≡ self.now.desired_capabilities)) }
     {
         Ok((
             self.offered_capabilities.clone()?,
@@ -217,7 +218,8 @@ impl Attach {
         de: &mut Deserializer<R>,
     ) -> Result<Attach, serde_amqp_item::Error>
         requires { de.old.element ≡ None }
-        ensures ok { IfOk result (λ v. TookList attach_takes (at_of R.rest de.old) (at_of R.rest de.new) (attach_fields v)) }
+        ensures ok { IfOk result (λ v. TookList attach_takes (at_of R.rest de.old)
+            (at_of R.rest de.new) (attach_fields v)) }
         ensures element { OnOk result (de.new.element ≡ None) }
         ensures refused { Unless R.faulty result (RefusesList attach_takes (at_of R.rest de.old)) }
     {
@@ -235,7 +237,8 @@ impl Attach {
         de: &mut Deserializer<R>,
     ) -> Result<Boxed<Attach>, serde_amqp_item::Error>
         requires { de.old.element ≡ None }
-        ensures ok { IfOk result (λ v. TookList attach_takes (at_of R.rest de.old) (at_of R.rest de.new) (attach_fields v)) }
+        ensures ok { IfOk result (λ v. TookList attach_takes (at_of R.rest de.old)
+            (at_of R.rest de.new) (attach_fields v)) }
         ensures element { OnOk result (de.new.element ≡ None) }
         ensures refused { Unless R.faulty result (RefusesList attach_takes (at_of R.rest de.old)) }
     {

@@ -27,7 +27,8 @@ pub(crate) trait Composite: Sized {
     /// of a list that the fields take.
     fn read_fields<R: Read>(alloc: Global, de: &mut Deserializer<R>) -> Result<Self, Error>
         requires { de.old.element ≡ None }
-        ensures ok { IfOk result (λ v. TookList takes (at_of R.rest de.old) (at_of R.rest de.new) (fields v)) }
+        ensures ok { IfOk result (λ v. TookList takes (at_of R.rest de.old) (at_of R.rest de.new)
+            (fields v)) }
         ensures element { OnOk result (de.new.element ≡ None) }
         ensures refused { Unless R.faulty result (RefusesList takes (at_of R.rest de.old)) };
 }
@@ -52,9 +53,11 @@ pub(crate) fn read_composite<C: Composite + Drop, R: Read>(
     code: u64,
     name: &[u8],
 ) -> Result<C, Error>
-    ensures ok { IfOk result (λ v. Took (record_taken code name.now C.takes) de.old.element (at_of R.rest de.old) (at_of R.rest de.new) (record_item code (C.fields v))) }
+    ensures ok { IfOk result (λ v. Took (record_taken code name.now C.takes) de.old.element
+        (at_of R.rest de.old) (at_of R.rest de.new) (record_item code (C.fields v))) }
     ensures element { OnOk result (de.new.element ≡ de.old.element) }
-    ensures refused { Unless R.faulty result (Refuses (record_taken code name.now C.takes) de.old.element (at_of R.rest de.old)) }
+    ensures refused { Unless R.faulty result
+        (Refuses (record_taken code name.now C.takes) de.old.element (at_of R.rest de.old)) }
 {
     let outer = de.element;
     de.described()?;

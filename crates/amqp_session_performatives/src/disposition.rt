@@ -1,7 +1,9 @@
 //! The disposition performative (part 2, 2.7.6).
 ghost use Rattle.std.specs.Prelude.{◌≡◌, refl};
-ghost use Rattle.amqp_session_performatives.specs.Disposition.{disposition_fields, disposition_item, disposition_takes, disposition_taken};
-ghost use Rattle.amqp_session_performatives.specs.DispositionLaws.{disposition_decided, disposition_again, disposition_same};
+ghost use Rattle.amqp_session_performatives.specs.Disposition.{disposition_fields, disposition_item, disposition_takes};
+ghost use Rattle.amqp_session_performatives.specs.Disposition.{disposition_taken};
+ghost use Rattle.amqp_session_performatives.specs.DispositionLaws.{disposition_decided, disposition_again};
+ghost use Rattle.amqp_session_performatives.specs.DispositionLaws.{disposition_same};
 
 use crate::composite::{Composite, Performs, read_composite};
 use crate::performative::Performative;

@@ -12,7 +12,9 @@ ghost use Rattle.amqp_session_performatives.specs.Flow.{flow_item, flow_taken};
 ghost use Rattle.amqp_session_performatives.specs.Open.{open_item, open_taken};
 ghost use Rattle.amqp_session_performatives.specs.Performative.{performative_item, performative_taken};
 ghost use Rattle.amqp_session_performatives.specs.Transfer.{transfer_item, transfer_taken};
-ghost use Rattle.amqp_session_performatives.specs.Short.{IsShort, IsShortAttach, IsShortBegin, IsShortClose, IsShortDetach, IsShortDisposition, IsShortEnd, IsShortFlow, IsShortOpen, IsShortTransfer};
+ghost use Rattle.amqp_session_performatives.specs.Short.{IsShort, IsShortAttach, IsShortBegin, IsShortClose};
+ghost use Rattle.amqp_session_performatives.specs.Short.{IsShortDetach, IsShortDisposition, IsShortEnd, IsShortFlow};
+ghost use Rattle.amqp_session_performatives.specs.Short.{IsShortOpen, IsShortTransfer};
 ghost use Rattle.amqp_session_performatives.specs.declared.attach.Attach.{Attach};
 ghost use Rattle.amqp_session_performatives.specs.declared.begin.Begin.{Begin};
 ghost use Rattle.amqp_session_performatives.specs.declared.close.Close.{Close};
@@ -61,15 +63,18 @@ pub fn flow_is_read_back()
 pub fn transfer_is_read_back()
     ensures same { (t : Transfer) → transfer_taken (transfer_item t) ≡ Some (transfer_item t) }
     ensures apart { (t u : Transfer) → transfer_item t ≡ transfer_item u → t ≡ u }
-    ensures within_caps { (t : Transfer) → IsShortTransfer t → AllWithin IsCapped (transfer_item t) }
+    ensures within_caps { (t : Transfer) → IsShortTransfer t →
+        AllWithin IsCapped (transfer_item t) }
 {}
 
 /// What a disposition is written as is read as this disposition, two dispositions are written as two items, and no list, array or map of
 /// one that is short is longer than may be read.
 pub fn disposition_is_read_back()
-    ensures same { (d : Disposition) → disposition_taken (disposition_item d) ≡ Some (disposition_item d) }
+    ensures same { (d : Disposition) → disposition_taken (disposition_item d)
+        ≡ Some (disposition_item d) }
     ensures apart { (d e : Disposition) → disposition_item d ≡ disposition_item e → d ≡ e }
-    ensures within_caps { (d : Disposition) → IsShortDisposition d → AllWithin IsCapped (disposition_item d) }
+    ensures within_caps { (d : Disposition) → IsShortDisposition d →
+        AllWithin IsCapped (disposition_item d) }
 {}
 
 /// What a detach is written as is read as this detach, two detaches are written as two items, and no list, array or map of
@@ -99,7 +104,9 @@ pub fn close_is_read_back()
 /// What a performative is written as is read as this performative, two performatives are written as two items, and no list, array or map of
 /// one that is short is longer than may be read.
 pub fn performative_is_read_back()
-    ensures same { (p : Performative) → performative_taken (performative_item p) ≡ Some (performative_item p) }
+    ensures same { (p : Performative) → performative_taken (performative_item p)
+        ≡ Some (performative_item p) }
     ensures apart { (p q : Performative) → performative_item p ≡ performative_item q → p ≡ q }
-    ensures within_caps { (p : Performative) → IsShort p → AllWithin IsCapped (performative_item p) }
+    ensures within_caps { (p : Performative) → IsShort p →
+        AllWithin IsCapped (performative_item p) }
 {}

@@ -68,7 +68,8 @@ impl Open {
     /// Clones of the locales.
     #[tactic(auto, using(crate::proofs::Clones::symbols_cloned))]
     fn clone_locales(&self) -> Result<(Array<Symbol>, Array<Symbol>), AllocError>
-        ensures { IfOk result (λ c. (c.0 ≡ self.now.outgoing_locales) × (c.1 ≡ self.now.incoming_locales)) }
+        ensures { IfOk result (λ c. (c.0 ≡ self.now.outgoing_locales)
+            × (c.1 ≡ self.now.incoming_locales)) }
     {
         Ok((
             self.outgoing_locales.clone()?,
@@ -79,7 +80,8 @@ impl Open {
     /// Clones of the capabilities.
     #[tactic(auto, using(crate::proofs::Clones::symbols_cloned))]
     fn clone_capabilities(&self) -> Result<(Array<Symbol>, Array<Symbol>), AllocError>
-        ensures { IfOk result (λ c. (c.0 ≡ self.now.offered_capabilities) × (c.1 ≡ self.now.desired_capabilities)) }
+        ensures { IfOk result (λ c. (c.0 ≡ self.now.offered_capabilities)
+            × (c.1 ≡ self.now.desired_capabilities)) }
     {
         Ok((
             self.offered_capabilities.clone()?,

@@ -5,8 +5,11 @@ ghost use Rattle.serde_amqp_de.specs.Reads.{at_of};
 ghost use Rattle.serde_amqp_choice.specs.Choice.{RefusesList};
 ghost use Rattle.amqp_session_performatives.specs.Reading.{TookRecord};
 ghost use Rattle.amqp_session_performatives.specs.Attach.{attach_takes};
-ghost use Rattle.amqp_session_performatives.specs.Performative.{performative_item, performative_table, performative_taken};
-ghost use Rattle.amqp_session_performatives.specs.PerformativeLaws.{performatives_decided, performatives_differ, performative_decided, performative_again, performative_same, performative_present};
+ghost use Rattle.amqp_session_performatives.specs.Performative.{performative_item, performative_table};
+ghost use Rattle.amqp_session_performatives.specs.Performative.{performative_taken};
+ghost use Rattle.amqp_session_performatives.specs.PerformativeLaws.{performatives_decided, performatives_differ};
+ghost use Rattle.amqp_session_performatives.specs.PerformativeLaws.{performative_decided, performative_again};
+ghost use Rattle.amqp_session_performatives.specs.PerformativeLaws.{performative_same, performative_present};
 
 use crate::attach::{self, Attach};
 use crate::begin::{self, Begin};
@@ -164,7 +167,8 @@ fn read_as<C: Performs, R: Read>(
     de: &mut Deserializer<R>,
 ) -> Result<Performative, Error>
     requires { de.old.element ≡ None }
-    ensures ok { IfOk result (λ p. TookRecord C.Composite.takes C.code (at_of R.rest de.old) (at_of R.rest de.new) (performative_item p)) }
+    ensures ok { IfOk result (λ p. TookRecord C.Composite.takes C.code (at_of R.rest de.old)
+        (at_of R.rest de.new) (performative_item p)) }
     ensures element { OnOk result (de.new.element ≡ None) }
     ensures refused { Unless R.faulty result (RefusesList C.Composite.takes (at_of R.rest de.old)) }
 {
@@ -179,7 +183,8 @@ fn read_as<C: Performs, R: Read>(
 #[tactic(auto, using(crate::proofs::Reading::composed))]
 fn read_attach<R: Read>(alloc: Global, de: &mut Deserializer<R>) -> Result<Performative, Error>
     requires { de.old.element ≡ None }
-    ensures ok { IfOk result (λ p. TookRecord attach_takes 0x12 (at_of R.rest de.old) (at_of R.rest de.new) (performative_item p)) }
+    ensures ok { IfOk result (λ p. TookRecord attach_takes 0x12 (at_of R.rest de.old)
+        (at_of R.rest de.new) (performative_item p)) }
     ensures element { OnOk result (de.new.element ≡ None) }
     ensures refused { Unless R.faulty result (RefusesList attach_takes (at_of R.rest de.old)) }
 {

@@ -1,6 +1,7 @@
 //! The transfer performative (part 2, 2.7.5).
 ghost use Rattle.std.specs.Prelude.{◌≡◌, refl};
-ghost use Rattle.amqp_session_performatives.specs.Transfer.{transfer_fields, transfer_item, transfer_takes, transfer_taken};
+ghost use Rattle.amqp_session_performatives.specs.Transfer.{transfer_fields, transfer_item, transfer_takes};
+ghost use Rattle.amqp_session_performatives.specs.Transfer.{transfer_taken};
 ghost use Rattle.amqp_session_performatives.specs.TransferLaws.{transfer_decided, transfer_again, transfer_same};
 
 use crate::composite::{Composite, Performs, read_composite};

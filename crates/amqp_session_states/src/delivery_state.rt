@@ -3,8 +3,11 @@ ghost use Rattle.std.specs.Prelude.{◌≡◌, ◌≢◌, IfOk, MatchResult, OnO
 ghost use Rattle.serde_amqp_read.specs.Reads.{Unless};
 ghost use Rattle.serde_amqp_de.specs.Reads.{Refuses, Took, at_of};
 ghost use Rattle.serde_amqp_choice.specs.Choice.{fields_chosen};
-ghost use Rattle.amqp_session_states.specs.DeliveryStateLaws.{delivery_state_rows_decided, delivery_state_rows_differ, delivery_state_decided, delivery_state_again, delivery_state_same, delivery_state_present};
-ghost use Rattle.amqp_session_states.specs.DeliveryState.{delivery_state_item, delivery_state_rows, delivery_state_taken};
+ghost use Rattle.amqp_session_states.specs.DeliveryStateLaws.{delivery_state_rows_decided, delivery_state_rows_differ};
+ghost use Rattle.amqp_session_states.specs.DeliveryStateLaws.{delivery_state_decided, delivery_state_again};
+ghost use Rattle.amqp_session_states.specs.DeliveryStateLaws.{delivery_state_same, delivery_state_present};
+ghost use Rattle.amqp_session_states.specs.DeliveryState.{delivery_state_item, delivery_state_rows};
+ghost use Rattle.amqp_session_states.specs.DeliveryState.{delivery_state_taken};
 ghost use Rattle.amqp_session_states.specs.Terminal.{is_terminal, terminal_state, state_outcome};
 ghost use Rattle.amqp_session_states.specs.declared.delivery_state.DeliveryState.TheVariants.{Received as ReceivedState};
 
@@ -47,7 +50,8 @@ impl DeliveryState {
     ///
     /// A state that isn't terminal is handed back.
     pub fn into_outcome(self) -> Result<Outcome, Received>
-        ensures { MatchResult result (λ o. state_outcome self ≡ Some o) (λ r. self ≡ ReceivedState r) }
+        ensures { MatchResult result (λ o. state_outcome self ≡ Some o)
+            (λ r. self ≡ ReceivedState r) }
     {
         match self {
             DeliveryState::Received(received) => Err(received),
@@ -142,9 +146,11 @@ fn read_received<R: Read>(
 ) -> Result<DeliveryState, Error>
     requires bare { de.old.element ≡ None }
     requires received { code ≡ 0x23 }
-    ensures ok { IfOk result (λ s. Took (fields_chosen delivery_state_rows code) None (at_of R.rest de.old) (at_of R.rest de.new) (delivery_state_item s)) }
+    ensures ok { IfOk result (λ s. Took (fields_chosen delivery_state_rows code) None
+        (at_of R.rest de.old) (at_of R.rest de.new) (delivery_state_item s)) }
     ensures element { OnOk result (de.new.element ≡ None) }
-    ensures refused { Unless R.faulty result (Refuses (fields_chosen delivery_state_rows code) None (at_of R.rest de.old)) }
+    ensures refused { Unless R.faulty result
+        (Refuses (fields_chosen delivery_state_rows code) None (at_of R.rest de.old)) }
 {
     let (section_number, (section_offset, ())) = read_fields_of::<received::Fields, R>(alloc, de)?;
     Ok(DeliveryState::Received(Received {
@@ -163,9 +169,11 @@ fn read_outcome<R: Read>(
 ) -> Result<DeliveryState, Error>
     requires bare { de.old.element ≡ None }
     requires other { code ≢ 0x23 }
-    ensures ok { IfOk result (λ s. Took (fields_chosen delivery_state_rows code) None (at_of R.rest de.old) (at_of R.rest de.new) (delivery_state_item s)) }
+    ensures ok { IfOk result (λ s. Took (fields_chosen delivery_state_rows code) None
+        (at_of R.rest de.old) (at_of R.rest de.new) (delivery_state_item s)) }
     ensures element { OnOk result (de.new.element ≡ None) }
-    ensures refused { Unless R.faulty result (Refuses (fields_chosen delivery_state_rows code) None (at_of R.rest de.old)) }
+    ensures refused { Unless R.faulty result
+        (Refuses (fields_chosen delivery_state_rows code) None (at_of R.rest de.old)) }
 {
     let outcome = Outcome::read_fields(alloc, de, code)?;
     Ok(DeliveryState::from(outcome))

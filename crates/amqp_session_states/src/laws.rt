@@ -62,8 +62,10 @@ pub fn outcome_is_its_item()
 
 /// What a delivery state is written as is read as it, and two delivery states are written as two items.
 pub fn delivery_state_is_its_item()
-    ensures read_back { (x : DeliveryState) → delivery_state_taken (delivery_state_item x) ≡ Some (delivery_state_item x) }
-    ensures told_apart { (x y : DeliveryState) → delivery_state_item x ≡ delivery_state_item y → x ≡ y }
+    ensures read_back { (x : DeliveryState) →
+        delivery_state_taken (delivery_state_item x) ≡ Some (delivery_state_item x) }
+    ensures told_apart { (x y : DeliveryState) → delivery_state_item x ≡ delivery_state_item y →
+        x ≡ y }
 {}
 
 /// What a source is written as is read as it, and two sources are written as two items.
@@ -80,11 +82,14 @@ pub fn target_is_its_item()
 
 /// What an archetype of a target is written as is read as it, and two archetypes are written as two items.
 pub fn target_archetype_is_its_item()
-    ensures read_back { (x : TargetArchetype) → target_archetype_taken (target_archetype_item x) ≡ Some (target_archetype_item x) }
-    ensures told_apart { (x y : TargetArchetype) → target_archetype_item x ≡ target_archetype_item y → x ≡ y }
+    ensures read_back { (x : TargetArchetype) →
+        target_archetype_taken (target_archetype_item x) ≡ Some (target_archetype_item x) }
+    ensures told_apart { (x y : TargetArchetype) →
+        target_archetype_item x ≡ target_archetype_item y → x ≡ y }
 {}
 
 /// No form of a target is kept as another described value.
 pub fn target_is_no_other()
-    ensures { (x u : Item) (bytes : List ℕ) → target_taken x ≡ Some u → Wire x None bytes → is_other bytes ≡ false }
+    ensures { (x u : Item) (bytes : List ℕ) → target_taken x ≡ Some u → Wire x None bytes →
+        is_other bytes ≡ false }
 {}

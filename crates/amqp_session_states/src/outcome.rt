@@ -3,7 +3,8 @@ ghost use Rattle.std.specs.Prelude.{◌≡◌, IfOk, OnOk, None, refl};
 ghost use Rattle.serde_amqp_read.specs.Reads.{Unless};
 ghost use Rattle.serde_amqp_de.specs.Reads.{Refuses, Took, at_of};
 ghost use Rattle.serde_amqp_choice.specs.Choice.{fields_chosen};
-ghost use Rattle.amqp_session_states.specs.OutcomeLaws.{outcome_rows_decided, outcome_rows_differ, outcome_decided, outcome_again, outcome_same, outcome_present};
+ghost use Rattle.amqp_session_states.specs.OutcomeLaws.{outcome_rows_decided, outcome_rows_differ, outcome_decided};
+ghost use Rattle.amqp_session_states.specs.OutcomeLaws.{outcome_again, outcome_same, outcome_present};
 ghost use Rattle.amqp_session_states.specs.Outcome.{outcome_item, outcome_rows, outcome_taken};
 
 use crate::accepted::{self, Accepted};
@@ -111,9 +112,11 @@ fn read_accepted<R: Read>(
 ) -> Result<Outcome, Error>
     requires bare { de.old.element ≡ None }
     requires coded { code ≡ 0x24 }
-    ensures ok { IfOk result (λ o. Took (fields_chosen outcome_rows code) None (at_of R.rest de.old) (at_of R.rest de.new) (outcome_item o)) }
+    ensures ok { IfOk result (λ o. Took (fields_chosen outcome_rows code) None (at_of R.rest de.old)
+        (at_of R.rest de.new) (outcome_item o)) }
     ensures element { OnOk result (de.new.element ≡ None) }
-    ensures refused { Unless R.faulty result (Refuses (fields_chosen outcome_rows code) None (at_of R.rest de.old)) }
+    ensures refused { Unless R.faulty result
+        (Refuses (fields_chosen outcome_rows code) None (at_of R.rest de.old)) }
 {
     read_fields_of::<accepted::Fields, R>(alloc, de)?;
     Ok(Outcome::Accepted(Accepted {}))
@@ -129,9 +132,11 @@ fn read_rejected<R: Read>(
 ) -> Result<Outcome, Error>
     requires bare { de.old.element ≡ None }
     requires coded { code ≡ 0x25 }
-    ensures ok { IfOk result (λ o. Took (fields_chosen outcome_rows code) None (at_of R.rest de.old) (at_of R.rest de.new) (outcome_item o)) }
+    ensures ok { IfOk result (λ o. Took (fields_chosen outcome_rows code) None (at_of R.rest de.old)
+        (at_of R.rest de.new) (outcome_item o)) }
     ensures element { OnOk result (de.new.element ≡ None) }
-    ensures refused { Unless R.faulty result (Refuses (fields_chosen outcome_rows code) None (at_of R.rest de.old)) }
+    ensures refused { Unless R.faulty result
+        (Refuses (fields_chosen outcome_rows code) None (at_of R.rest de.old)) }
 {
     let (Aside(error), ()) = read_fields_of::<rejected::Fields, R>(alloc, de)?;
     Ok(Outcome::Rejected(Rejected { error }))
@@ -147,9 +152,11 @@ fn read_released<R: Read>(
 ) -> Result<Outcome, Error>
     requires bare { de.old.element ≡ None }
     requires coded { code ≡ 0x26 }
-    ensures ok { IfOk result (λ o. Took (fields_chosen outcome_rows code) None (at_of R.rest de.old) (at_of R.rest de.new) (outcome_item o)) }
+    ensures ok { IfOk result (λ o. Took (fields_chosen outcome_rows code) None (at_of R.rest de.old)
+        (at_of R.rest de.new) (outcome_item o)) }
     ensures element { OnOk result (de.new.element ≡ None) }
-    ensures refused { Unless R.faulty result (Refuses (fields_chosen outcome_rows code) None (at_of R.rest de.old)) }
+    ensures refused { Unless R.faulty result
+        (Refuses (fields_chosen outcome_rows code) None (at_of R.rest de.old)) }
 {
     read_fields_of::<released::Fields, R>(alloc, de)?;
     Ok(Outcome::Released(Released {}))
@@ -165,9 +172,11 @@ fn read_modified<R: Read>(
 ) -> Result<Outcome, Error>
     requires bare { de.old.element ≡ None }
     requires coded { code ≡ 0x27 }
-    ensures ok { IfOk result (λ o. Took (fields_chosen outcome_rows code) None (at_of R.rest de.old) (at_of R.rest de.new) (outcome_item o)) }
+    ensures ok { IfOk result (λ o. Took (fields_chosen outcome_rows code) None (at_of R.rest de.old)
+        (at_of R.rest de.new) (outcome_item o)) }
     ensures element { OnOk result (de.new.element ≡ None) }
-    ensures refused { Unless R.faulty result (Refuses (fields_chosen outcome_rows code) None (at_of R.rest de.old)) }
+    ensures refused { Unless R.faulty result
+        (Refuses (fields_chosen outcome_rows code) None (at_of R.rest de.old)) }
 {
     let (delivery_failed, (undeliverable_here, (Aside(message_annotations), ()))) =
         read_fields_of::<modified::Fields, R>(alloc, de)?;

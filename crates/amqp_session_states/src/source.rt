@@ -118,7 +118,8 @@ impl Source {
     /// Clones of the address and of what the node is to be like.
     #[tactic(auto, using(amqp_session_types::proofs::Clones::clones))]
     fn clone_node(&self) -> Result<(Option<Text>, Option<Properties>), AllocError>
-        ensures { IfOk result (λ c. (c.0 ≡ self.now.address) × (c.1 ≡ self.now.dynamic_node_properties)) }
+        ensures { IfOk result (λ c. (c.0 ≡ self.now.address)
+            × (c.1 ≡ self.now.dynamic_node_properties)) }
     {
         Ok((self.address.clone()?, self.dynamic_node_properties.clone()?))
     }

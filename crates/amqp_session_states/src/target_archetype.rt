@@ -1,7 +1,9 @@
 //! What stands as a link's target (part 2, 2.7.3).
 ghost use Rattle.std.specs.Prelude.{◌≡◌, refl};
-ghost use Rattle.amqp_session_states.specs.ArchetypeLaws.{target_archetype_decided, target_archetype_again, target_archetype_same, target_archetype_present};
-ghost use Rattle.amqp_session_states.specs.TargetArchetype.{begins_with_one, is_other, target_archetype_item, target_archetype_taken, target_descriptors};
+ghost use Rattle.amqp_session_states.specs.ArchetypeLaws.{target_archetype_decided, target_archetype_again};
+ghost use Rattle.amqp_session_states.specs.ArchetypeLaws.{target_archetype_same, target_archetype_present};
+ghost use Rattle.amqp_session_states.specs.TargetArchetype.{begins_with_one, is_other, target_archetype_item};
+ghost use Rattle.amqp_session_states.specs.TargetArchetype.{target_archetype_taken, target_descriptors};
 
 use crate::target::Target;
 use serde_amqp_de::{Deserialize, Deserializer, Faithful, NeverNull, Read, RoundTrip};

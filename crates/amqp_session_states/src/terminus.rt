@@ -4,8 +4,14 @@ ghost use Rattle.serde_amqp_de.specs.Deciding.{symbol_decided, uint_decided};
 ghost use Rattle.serde_amqp_de.specs.Takes.{symbol_taken, uint_taken, is_uint};
 ghost use Rattle.amqp_session_types.specs.Limits.{is_uint_upto, is_symbol_among, is_symbol_of};
 ghost use Rattle.amqp_session_types.specs.LimitLaws.{limited_decided};
-ghost use Rattle.amqp_session_states.specs.Terminus.{durability_item, durability_taken, expiry_policy_name, expiry_policy_names, expiry_policy_item, expiry_policy_taken, session_end_name, distribution_mode_name, distribution_mode_names, distribution_mode_item, distribution_mode_taken};
-ghost use Rattle.amqp_session_states.specs.TerminusLaws.{durability_again, durability_same, durability_present, durability_one, expiry_policy_again, expiry_policy_same, expiry_policy_one, distribution_mode_again, distribution_mode_same};
+ghost use Rattle.amqp_session_states.specs.Terminus.{durability_item, durability_taken, expiry_policy_name};
+ghost use Rattle.amqp_session_states.specs.Terminus.{expiry_policy_names, expiry_policy_item, expiry_policy_taken};
+ghost use Rattle.amqp_session_states.specs.Terminus.{session_end_name, distribution_mode_name, distribution_mode_names};
+ghost use Rattle.amqp_session_states.specs.Terminus.{distribution_mode_item, distribution_mode_taken};
+ghost use Rattle.amqp_session_states.specs.TerminusLaws.{durability_again, durability_same, durability_present};
+ghost use Rattle.amqp_session_states.specs.TerminusLaws.{durability_one, expiry_policy_again, expiry_policy_same};
+ghost use Rattle.amqp_session_states.specs.TerminusLaws.{expiry_policy_one, distribution_mode_again};
+ghost use Rattle.amqp_session_states.specs.TerminusLaws.{distribution_mode_same};
 
 use amqp_session_types::HasDefault;
 use serde_amqp_de::{Deserialize, Deserializer, Faithful, NeverNull, Read, RoundTrip};

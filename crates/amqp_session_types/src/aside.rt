@@ -48,7 +48,8 @@ fn read_boxed<T: Deserialize + Drop, R: Read>(
     alloc: Global,
     de: &mut Deserializer<R>,
 ) -> Result<Boxed<T>, Error>
-    ensures ok { IfOk result (λ v. Took T.take de.old.element (at_of R.rest de.old) (at_of R.rest de.new) (T.item v)) }
+    ensures ok { IfOk result (λ v. Took T.take de.old.element (at_of R.rest de.old)
+        (at_of R.rest de.new) (T.item v)) }
     ensures element { OnOk result (de.new.element ≡ de.old.element) }
     ensures refused { Unless R.faulty result (Refuses T.take de.old.element (at_of R.rest de.old)) }
 {

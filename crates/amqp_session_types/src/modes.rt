@@ -5,8 +5,13 @@ ghost use Rattle.serde_amqp_de.specs.Takes.{ubyte_taken};
 ghost use Rattle.serde_amqp_types.specs.Takes.{is_ubyte};
 ghost use Rattle.amqp_session_types.specs.Limits.{is_ubyte_upto};
 ghost use Rattle.amqp_session_types.specs.LimitLaws.{limited_decided};
-ghost use Rattle.amqp_session_types.specs.Modes.{role_item, role_taken, sender_settle_mode_item, sender_settle_mode_taken, receiver_settle_mode_item, receiver_settle_mode_taken};
-ghost use Rattle.amqp_session_types.specs.ModeLaws.{role_again, role_same, role_present, sender_mode_again, sender_mode_same, sender_mode_present, sender_mode_one, receiver_mode_again, receiver_mode_same, receiver_mode_present, receiver_mode_one};
+ghost use Rattle.amqp_session_types.specs.Modes.{role_item, role_taken, sender_settle_mode_item};
+ghost use Rattle.amqp_session_types.specs.Modes.{sender_settle_mode_taken, receiver_settle_mode_item};
+ghost use Rattle.amqp_session_types.specs.Modes.{receiver_settle_mode_taken};
+ghost use Rattle.amqp_session_types.specs.ModeLaws.{role_again, role_same, role_present, sender_mode_again};
+ghost use Rattle.amqp_session_types.specs.ModeLaws.{sender_mode_same, sender_mode_present, sender_mode_one};
+ghost use Rattle.amqp_session_types.specs.ModeLaws.{receiver_mode_again, receiver_mode_same, receiver_mode_present};
+ghost use Rattle.amqp_session_types.specs.ModeLaws.{receiver_mode_one};
 
 use crate::or_default::HasDefault;
 use serde_amqp_de::{Deserialize, Deserializer, Faithful, NeverNull, Read, RoundTrip};

@@ -1,4 +1,5 @@
-ghost use Rattle.std.specs.Prelude.{◌≡◌, ℕ, ◌+◌, ◌-◌, ◌<◌, ◌≤◌, ◌==◌, ◌^◌, ◌↔◌, not, IsTrue, IfOk, OnOk, OnErr, IsOk, max, option_copied};
+ghost use Rattle.std.specs.Prelude.{◌≡◌, ℕ, ◌+◌, ◌-◌, ◌<◌, ◌≤◌, ◌==◌, ◌^◌, ◌↔◌, not, IsTrue, IfOk, OnOk, OnErr, IsOk};
+ghost use Rattle.std.specs.Prelude.{max, option_copied};
 ghost use Rattle.std.specs.FinMap as map;
 ghost use Rattle.amqp_session_unsettled.specs.Table.{IsUnsettled, unless_of};
 ghost use Rattle.amqp_session_unsettled.specs.Touched.{Touches, number_at};
@@ -84,7 +85,10 @@ impl Unsettled {
     #[tactic(auto, using(crate::proofs::Tables::rules))]
     pub fn register_reserved(&mut self, number: u32, delivery: Delivery)
         requires { 0 < self.old.room }
-        ensures { self.new ≡ record { table = map.insert self.old.table number delivery; room = self.old.room - 1 } }
+        ensures { self.new ≡ record {
+          table = map.insert self.old.table number delivery;
+          room = self.old.room - 1;
+        } }
     {
         let _ = self.deliveries.insert(number, delivery);
         self.room -= 1;
@@ -101,7 +105,8 @@ impl Unsettled {
     /// Registers a delivery. It takes the place of an earlier one of its number. It is refused where there is no memory,
     /// and nothing changes then.
     pub fn register(&mut self, number: u32, delivery: Delivery) -> Result<(), AllocError>
-        ensures ok { OnOk result (self.new ≡ record { table = map.insert self.old.table number delivery; room = self.old.room - 1 }) }
+        ensures ok { OnOk result (self.new ≡ record
+            { table = map.insert self.old.table number delivery; room = self.old.room - 1 }) }
         ensures err { OnErr result (self.new ≡ self.old) }
         ensures room { 0 < self.old.room → IsOk result }
     {
@@ -145,13 +150,15 @@ impl Unsettled {
 
     /// Takes out all deliveries of the link with this own handle.
     pub fn forget(&mut self, handle: OutputHandle)
-        ensures others { (number : ℕ) → map.get self.new.table number ≡ unless_of handle.0 (map.get self.old.table number) }
+        ensures others { (number : ℕ) → map.get self.new.table number
+            ≡ unless_of handle.0 (map.get self.old.table number) }
         ensures room { self.new.room ≡ self.old.room }
     {
         let _ = self.deliveries.len();
         self.deliveries.retain(
             |_number: &u32, delivery: &mut Delivery| -> bool
-                ensures { (result ≡ not ((delivery.old.handle).0 == handle.0)) × (delivery.new ≡ delivery.old) }
+                ensures { (result ≡ not ((delivery.old.handle).0 == handle.0))
+                    × (delivery.new ≡ delivery.old) }
             { delivery.handle != handle },
         );
     }
@@ -197,7 +204,9 @@ impl Unsettled {
     /// How far the unsettled deliveries among so many numbers are from the first of these.
     fn distances(&self, alloc: Global, first: u32, count: u32) -> Result<BTreeSet<u32>, AllocError>
         ensures ordered { IfOk result (λ set. IsOrdered nat_cmp set) }
-        ensures each { IfOk result (λ set. (d : ℕ) → IsTrue (contains nat_cmp set d) ↔ ((d < count) × IsUnsettled self.now.table (number_at first d))) }
+        ensures each { IfOk result (λ set. (d : ℕ) →
+            IsTrue (contains nat_cmp set d) ↔
+            ((d < count) × IsUnsettled self.now.table (number_at first d))) }
     {
         let mut distances = BTreeSet::new(alloc);
         for i in 0..self.deliveries.len() {

@@ -51,7 +51,8 @@ pub(crate) fn decoded(alloc: Global, bytes: &[u8]) -> Result<Frame, FrameError>
 /// What is shown of the frame.
 fn shown(alloc: Global, frame: &Frame) -> Result<SeenFrame, FrameError>
     ensures shown { IfOk result (λ s. Shows frame.now s) }
-    ensures refused { IfErr result (λ e. NotWritten (performative_text (performative_of frame.now.body)) e) }
+    ensures refused { IfErr result (λ e. NotWritten
+        (performative_text (performative_of frame.now.body)) e) }
 {
     let performative = performative_text(alloc, frame.body())?;
     let payload = payload_of(frame.body())?;
@@ -65,7 +66,8 @@ fn shown(alloc: Global, frame: &Frame) -> Result<SeenFrame, FrameError>
 /// What the body's performative is written as.
 fn performative_text(alloc: Global, body: &FrameBody) -> Result<Vec<u8>, FrameError>
     ensures text { IfOk result (λ b. performative_text (performative_of body.now) ≡ Some b.items) }
-    ensures refused { IfErr result (λ e. NotWritten (performative_text (performative_of body.now)) e) }
+    ensures refused { IfErr result (λ e. NotWritten (performative_text (performative_of body.now))
+        e) }
 {
     match body {
         FrameBody::Empty => Ok(Vec::new(alloc)),

@@ -23,8 +23,10 @@ pub fn rewritten_message<B: WriteBody + ReadBody + Drop>(
     alloc: Global,
     bytes: &[u8],
 ) -> Result<Bytes, Error>
-    ensures ok { IfOk result (λ t. IsRewritten B.takes B.ReadBody.items B.WriteBody.items bytes.now t) }
-    ensures refused { Unless faultless result (NotRewritten B.takes B.ReadBody.items B.WriteBody.items bytes.now) }
+    ensures ok { IfOk result (λ t. IsRewritten B.takes B.ReadBody.items B.WriteBody.items bytes.now
+        t) }
+    ensures refused { Unless faultless result
+        (NotRewritten B.takes B.ReadBody.items B.WriteBody.items bytes.now) }
 {
     let message = read_payload::<B>(alloc, bytes)?;
     message.to_payload(alloc)

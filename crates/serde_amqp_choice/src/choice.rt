@@ -4,7 +4,8 @@ ghost use Rattle.serde_amqp_item.specs.Item.{Item, scalar, ulong};
 ghost use Rattle.serde_amqp_read.specs.Reads.{Unless};
 ghost use Rattle.serde_amqp_de.specs.Reads.{Took, Refuses, TookSized, RefusesSized, at_of};
 ghost use Rattle.serde_amqp_de.specs.Takes.{fields_taken};
-ghost use Rattle.serde_amqp_choice.specs.Choice.{Row, code_named, code_said, name_said, fields_chosen, choice_taken, TookList, RefusesList, RowsDecided, codes_differ};
+ghost use Rattle.serde_amqp_choice.specs.Choice.{Row, code_named, code_said, name_said, fields_chosen, choice_taken};
+ghost use Rattle.serde_amqp_choice.specs.Choice.{TookList, RefusesList, RowsDecided, codes_differ};
 
 use serde_amqp_de::{Deserializer, Read, ReadFields};
 use serde_amqp_item::{EncodingCodes, Error};
@@ -34,9 +35,11 @@ pub trait Choice: Sized {
         code: u64,
     ) -> Result<Self, Error>
         requires { de.old.element ≡ None }
-        ensures ok { IfOk result (λ v. Took (fields_chosen table code) None (at_of R.rest de.old) (at_of R.rest de.new) (item v)) }
+        ensures ok { IfOk result (λ v. Took (fields_chosen table code) None (at_of R.rest de.old)
+            (at_of R.rest de.new) (item v)) }
         ensures element { OnOk result (de.new.element ≡ None) }
-        ensures refused { Unless R.faulty result (Refuses (fields_chosen table code) None (at_of R.rest de.old)) };
+        ensures refused { Unless R.faulty result
+            (Refuses (fields_chosen table code) None (at_of R.rest de.old)) };
 
     /// Bytes give one value of each field.
     ghost decided: { RowsDecided table };
@@ -57,7 +60,8 @@ pub fn read_fields_of<F: ReadFields + Drop, R: Read>(
     de: &mut Deserializer<R>,
 ) -> Result<F, Error>
     requires { de.old.element ≡ None }
-    ensures ok { IfOk result (λ v. TookList F.takes (at_of R.rest de.old) (at_of R.rest de.new) (F.items v)) }
+    ensures ok { IfOk result (λ v. TookList F.takes (at_of R.rest de.old) (at_of R.rest de.new)
+        (F.items v)) }
     ensures element { OnOk result (de.new.element ≡ None) }
     ensures refused { Unless R.faulty result (RefusesList F.takes (at_of R.rest de.old)) }
 {
@@ -73,9 +77,11 @@ fn read_sized<F: ReadFields + Drop, R: Read>(
     size: usize,
 ) -> Result<F, Error>
     requires { de.old.element ≡ None }
-    ensures ok { IfOk result (λ v. TookSized (fields_taken F.takes) count size None (at_of R.rest de.old) (at_of R.rest de.new) (F.items v)) }
+    ensures ok { IfOk result (λ v. TookSized (fields_taken F.takes) count size None
+        (at_of R.rest de.old) (at_of R.rest de.new) (F.items v)) }
     ensures element { OnOk result (de.new.element ≡ None) }
-    ensures refused { Unless R.faulty result (RefusesSized (fields_taken F.takes) count size None (at_of R.rest de.old)) }
+    ensures refused { Unless R.faulty result
+        (RefusesSized (fields_taken F.takes) count size None (at_of R.rest de.old)) }
 {
     let start = de.pos;
     let fields = F::read(alloc, de, count)?;
@@ -95,9 +101,11 @@ pub fn read_choice<C: Choice + Drop, R: Read>(
     alloc: Global,
     de: &mut Deserializer<R>,
 ) -> Result<C, Error>
-    ensures ok { IfOk result (λ v. Took (choice_taken C.table) de.old.element (at_of R.rest de.old) (at_of R.rest de.new) (C.item v)) }
+    ensures ok { IfOk result (λ v. Took (choice_taken C.table) de.old.element (at_of R.rest de.old)
+        (at_of R.rest de.new) (C.item v)) }
     ensures element { OnOk result (de.new.element ≡ de.old.element) }
-    ensures refused { Unless R.faulty result (Refuses (choice_taken C.table) de.old.element (at_of R.rest de.old)) }
+    ensures refused { Unless R.faulty result
+        (Refuses (choice_taken C.table) de.old.element (at_of R.rest de.old)) }
 {
     let outer = de.element;
     de.described()?;
@@ -111,9 +119,11 @@ pub fn read_choice<C: Choice + Drop, R: Read>(
 /// code. Any code is read; a name is that of one of these types.
 #[tactic(auto, using(crate::proofs::Choosing::codes))]
 fn read_code<C: Choice, R: Read>(alloc: Global, de: &mut Deserializer<R>) -> Result<u64, Error>
-    ensures ok { IfOk result (λ code. Took (code_said C.table) de.old.element (at_of R.rest de.old) (at_of R.rest de.new) (scalar (ulong code))) }
+    ensures ok { IfOk result (λ code. Took (code_said C.table) de.old.element (at_of R.rest de.old)
+        (at_of R.rest de.new) (scalar (ulong code))) }
     ensures element { OnOk result (de.new.element ≡ de.old.element) }
-    ensures refused { Unless R.faulty result (Refuses (code_said C.table) de.old.element (at_of R.rest de.old)) }
+    ensures refused { Unless R.faulty result
+        (Refuses (code_said C.table) de.old.element (at_of R.rest de.old)) }
 {
     match de.peek()? {
         EncodingCodes::Sym8 | EncodingCodes::Sym32 => read_name::<C, R>(alloc, de),
@@ -124,9 +134,11 @@ fn read_code<C: Choice, R: Read>(alloc: Global, de: &mut Deserializer<R>) -> Res
 /// Reads a descriptor as the name of one of these composite types, and gives its code.
 #[tactic(auto, using(crate::proofs::Choosing::names))]
 fn read_name<C: Choice, R: Read>(alloc: Global, de: &mut Deserializer<R>) -> Result<u64, Error>
-    ensures ok { IfOk result (λ code. Took (name_said C.table) de.old.element (at_of R.rest de.old) (at_of R.rest de.new) (scalar (ulong code))) }
+    ensures ok { IfOk result (λ code. Took (name_said C.table) de.old.element (at_of R.rest de.old)
+        (at_of R.rest de.new) (scalar (ulong code))) }
     ensures element { OnOk result (de.new.element ≡ de.old.element) }
-    ensures refused { Unless R.faulty result (Refuses (name_said C.table) de.old.element (at_of R.rest de.old)) }
+    ensures refused { Unless R.faulty result
+        (Refuses (name_said C.table) de.old.element (at_of R.rest de.old)) }
 {
     let name = de.deserialize_symbol(alloc)?;
     match C::code_of_name(name.as_bytes()) {

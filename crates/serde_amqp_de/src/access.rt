@@ -1,12 +1,14 @@
 //! Lists, arrays and maps that are read item by item, and described values.
-ghost use Rattle.std.specs.Prelude.{◌≡◌, ◌≢◌, ◌⊎◌, ◌%◌, ◌∷◌, [], ℕ, List, IfOk, IfErr, OnOk, OnErr, MatchOption, Option, Some, None};
+ghost use Rattle.std.specs.Prelude.{◌≡◌, ◌≢◌, ◌⊎◌, ◌%◌, ◌∷◌, [], ℕ, List, IfOk, IfErr, OnOk, OnErr, MatchOption};
+ghost use Rattle.std.specs.Prelude.{Option, Some, None};
 ghost use Rattle.std.specs.Borrow.{RestsIfErr, sem};
 ghost use Rattle.serde_amqp_item.specs.Item.{Item, items_of, pairs_of, scalar, uint, list, array, map, described};
 ghost use Rattle.serde_amqp_read.specs.Reads.{Unless};
 ghost use Rattle.serde_amqp_de.specs.Reads.{At, Reads, Refuses, HasFailed, at_of};
 ghost use Rattle.serde_amqp_de.specs.Takes.{uint_taken, list_taken, array_taken, described_taken};
 ghost use Rattle.serde_amqp_de.specs.Maps.{map_taken, RefusesPairs};
-ghost use Rattle.serde_amqp_de.specs.Open.{a_list, an_array, a_map, a_described_value, counted_taken, variant_taken, in_turn, HasRead, TookNext, TookEntry, IsNot, NamesEnd};
+ghost use Rattle.serde_amqp_de.specs.Open.{a_list, an_array, a_map, a_described_value, counted_taken, variant_taken};
+ghost use Rattle.serde_amqp_de.specs.Open.{in_turn, HasRead, TookNext, TookEntry, IsNot, NamesEnd};
 ghost use Rattle.serde_amqp_de.specs.contracts.deserializer.Deserializer.{the_row};
 
 use crate::content::Content;
@@ -28,10 +30,14 @@ impl<R: Read> Deserializer<R> {
     ///
     /// Errors: as for `list_head`. After an error the reader has failed.
     pub fn deserialize_seq<'a>(&'a mut self) -> Result<ListAccess<'a, R>, Error>
-        ensures* failed { sem 𝓛 (RestsIfErr (the_row R.row) self.entry (λ a. a.content.de.ghost_name) result (λ d. HasFailed R.rest d)) }
-        ensures same_reference { IfOk result (λ a. a.content.de.ghost_name ≡ self.entry.ghost_name) }
-        ensures begun { IfOk result (λ a. HasRead R.rest a_list None self.old.element (at_of R.rest self.old) [] a.content) }
-        ensures refused { Unless R.faulty result (Refuses list_taken self.old.element (at_of R.rest self.old)) }
+        ensures* failed { sem 𝓛 (RestsIfErr (the_row R.row) self.entry
+            (λ a. a.content.de.ghost_name) result (λ d. HasFailed R.rest d)) }
+        ensures same_reference { IfOk result
+            (λ a. a.content.de.ghost_name ≡ self.entry.ghost_name) }
+        ensures begun { IfOk result (λ a. HasRead R.rest a_list None self.old.element
+            (at_of R.rest self.old) [] a.content) }
+        ensures refused { Unless R.faulty result
+            (Refuses list_taken self.old.element (at_of R.rest self.old)) }
     {
         let outer = self.element;
         let head = self.list_head();
@@ -53,11 +59,15 @@ impl<R: Read> Deserializer<R> {
     /// error the reader has failed.
     #[tactic(auto, using(crate::proofs::Opened::others))]
     pub fn deserialize_tuple<'a>(&'a mut self, len: usize) -> Result<ListAccess<'a, R>, Error>
-        ensures* failed { sem 𝓛 (RestsIfErr (the_row R.row) self.entry (λ a. a.content.de.ghost_name) result (λ d. HasFailed R.rest d)) }
-        ensures same_reference { IfOk result (λ a. a.content.de.ghost_name ≡ self.entry.ghost_name) }
-        ensures begun { IfOk result (λ a. HasRead R.rest a_list None self.old.element (at_of R.rest self.old) [] a.content) }
+        ensures* failed { sem 𝓛 (RestsIfErr (the_row R.row) self.entry
+            (λ a. a.content.de.ghost_name) result (λ d. HasFailed R.rest d)) }
+        ensures same_reference { IfOk result
+            (λ a. a.content.de.ghost_name ≡ self.entry.ghost_name) }
+        ensures begun { IfOk result (λ a. HasRead R.rest a_list None self.old.element
+            (at_of R.rest self.old) [] a.content) }
         ensures left { IfOk result (λ a. a.content.left ≡ len) }
-        ensures refused { Unless R.faulty result (Refuses (counted_taken len) self.old.element (at_of R.rest self.old)) }
+        ensures refused { Unless R.faulty result
+            (Refuses (counted_taken len) self.old.element (at_of R.rest self.old)) }
     {
         let outer = self.element;
         let head = self.list_head();
@@ -84,9 +94,14 @@ impl<'a, R: Read> ListAccess<'a, R> {
     /// Errors: as for `T::read`. After an error the reader has failed.
     pub fn next_element<T: Deserialize>(&mut self, alloc: Global) -> Result<Option<T>, Error>
         ensures same_reference { self.new.content.de.ghost_name ≡ self.old.content.de.ghost_name }
-        ensures ok { IfOk result (λ o. MatchOption o ((self.old.content.left ≡ 0) × (self.new ≡ self.old)) (λ v. TookNext R.rest T.take self.old.content self.new.content (T.item v))) }
-        ensures refused { Unless R.faulty result ((self.old.content.left ≢ 0) × Refuses T.take self.old.content.de.now.element (at_of R.rest self.old.content.de.now)) }
-        ensures failed { OnErr result (HasFailed R.rest self.new.content.de.now × (self.new.content.left ≢ 0)) }
+        ensures ok { IfOk result (λ o. MatchOption o
+            ((self.old.content.left ≡ 0) × (self.new ≡ self.old))
+            (λ v. TookNext R.rest T.take self.old.content self.new.content (T.item v))) }
+        ensures refused { Unless R.faulty result
+            ((self.old.content.left ≢ 0) × Refuses T.take self.old.content.de.now.element
+            (at_of R.rest self.old.content.de.now)) }
+        ensures failed { OnErr result (HasFailed R.rest self.new.content.de.now
+            × (self.new.content.left ≢ 0)) }
     {
         self.content.next(alloc)
     }
@@ -95,10 +110,16 @@ impl<'a, R: Read> ListAccess<'a, R> {
     /// that isn't theirs with `InvalidLength`. After an error the reader has failed.
     pub fn end(self) -> Result<(), Error>
         ensures all { OnOk result (self.entry.content.left ≡ 0) }
-        ensures ok { OnOk result ((j k : Option ℕ) (old : At) (xs : List Item) → HasRead R.rest a_list j k old xs self.entry.content → Reads k old (at_of R.rest self.exit.0.0.now) (list (items_of xs)) × (self.exit.0.0.now.element ≡ k)) }
-        ensures refused { OnErr result ((j k : Option ℕ) (old : At) (xs : List Item) → HasRead R.rest a_list j k old xs self.entry.content → IsNot k old (list (items_of xs))) }
+        ensures ok { OnOk result ((j k : Option ℕ) (old : At) (xs : List Item) →
+            HasRead R.rest a_list j k old xs self.entry.content →
+            Reads k old (at_of R.rest self.exit.0.0.now) (list (items_of xs))
+            × (self.exit.0.0.now.element ≡ k)) }
+        ensures refused { OnErr result ((j k : Option ℕ) (old : At) (xs : List Item) →
+            HasRead R.rest a_list j k old xs self.entry.content →
+            IsNot k old (list (items_of xs))) }
         ensures failed { OnErr result (HasFailed R.rest self.exit.0.0.now) }
-        ensures named { IfErr result (λ e. NamesEnd self.entry.content.left self.entry.content.end self.entry.content.de.now.pos e) }
+        ensures named { IfErr result (λ e. NamesEnd self.entry.content.left self.entry.content.end
+            self.entry.content.de.now.pos e) }
     {
         let outer = self.content.outer;
         let left = self.content.left;
@@ -119,10 +140,14 @@ impl<R: Read> Deserializer<R> {
     ///
     /// Errors: as for `array_head`. After an error the reader has failed.
     pub fn deserialize_array<'a>(&'a mut self) -> Result<ArrayAccess<'a, R>, Error>
-        ensures* failed { sem 𝓛 (RestsIfErr (the_row R.row) self.entry (λ a. a.content.de.ghost_name) result (λ d. HasFailed R.rest d)) }
-        ensures same_reference { IfOk result (λ a. a.content.de.ghost_name ≡ self.entry.ghost_name) }
-        ensures begun { IfOk result (λ a. HasRead R.rest an_array a.content.de.now.element self.old.element (at_of R.rest self.old) [] a.content) }
-        ensures refused { Unless R.faulty result (Refuses array_taken self.old.element (at_of R.rest self.old)) }
+        ensures* failed { sem 𝓛 (RestsIfErr (the_row R.row) self.entry
+            (λ a. a.content.de.ghost_name) result (λ d. HasFailed R.rest d)) }
+        ensures same_reference { IfOk result
+            (λ a. a.content.de.ghost_name ≡ self.entry.ghost_name) }
+        ensures begun { IfOk result (λ a. HasRead R.rest an_array a.content.de.now.element
+            self.old.element (at_of R.rest self.old) [] a.content) }
+        ensures refused { Unless R.faulty result
+            (Refuses array_taken self.old.element (at_of R.rest self.old)) }
     {
         let outer = self.element;
         let head = self.array_head();
@@ -144,9 +169,14 @@ impl<'a, R: Read> ArrayAccess<'a, R> {
     /// Errors: as for `T::read`. After an error the reader has failed.
     pub fn next_element<T: Deserialize>(&mut self, alloc: Global) -> Result<Option<T>, Error>
         ensures same_reference { self.new.content.de.ghost_name ≡ self.old.content.de.ghost_name }
-        ensures ok { IfOk result (λ o. MatchOption o ((self.old.content.left ≡ 0) × (self.new ≡ self.old)) (λ v. TookNext R.rest T.take self.old.content self.new.content (T.item v))) }
-        ensures refused { Unless R.faulty result ((self.old.content.left ≢ 0) × Refuses T.take self.old.content.de.now.element (at_of R.rest self.old.content.de.now)) }
-        ensures failed { OnErr result (HasFailed R.rest self.new.content.de.now × (self.new.content.left ≢ 0)) }
+        ensures ok { IfOk result (λ o. MatchOption o
+            ((self.old.content.left ≡ 0) × (self.new ≡ self.old))
+            (λ v. TookNext R.rest T.take self.old.content self.new.content (T.item v))) }
+        ensures refused { Unless R.faulty result
+            ((self.old.content.left ≢ 0) × Refuses T.take self.old.content.de.now.element
+            (at_of R.rest self.old.content.de.now)) }
+        ensures failed { OnErr result (HasFailed R.rest self.new.content.de.now
+            × (self.new.content.left ≢ 0)) }
     {
         self.content.next(alloc)
     }
@@ -155,10 +185,16 @@ impl<'a, R: Read> ArrayAccess<'a, R> {
     /// that isn't theirs with `InvalidLength`. After an error the reader has failed.
     pub fn end(self) -> Result<(), Error>
         ensures all { OnOk result (self.entry.content.left ≡ 0) }
-        ensures ok { OnOk result ((j k : Option ℕ) (old : At) (xs : List Item) → HasRead R.rest an_array j k old xs self.entry.content → Reads k old (at_of R.rest self.exit.0.0.now) (array (items_of xs)) × (self.exit.0.0.now.element ≡ k)) }
-        ensures refused { OnErr result ((j k : Option ℕ) (old : At) (xs : List Item) → HasRead R.rest an_array j k old xs self.entry.content → IsNot k old (array (items_of xs))) }
+        ensures ok { OnOk result ((j k : Option ℕ) (old : At) (xs : List Item) →
+            HasRead R.rest an_array j k old xs self.entry.content →
+            Reads k old (at_of R.rest self.exit.0.0.now) (array (items_of xs))
+            × (self.exit.0.0.now.element ≡ k)) }
+        ensures refused { OnErr result ((j k : Option ℕ) (old : At) (xs : List Item) →
+            HasRead R.rest an_array j k old xs self.entry.content →
+            IsNot k old (array (items_of xs))) }
         ensures failed { OnErr result (HasFailed R.rest self.exit.0.0.now) }
-        ensures named { IfErr result (λ e. NamesEnd self.entry.content.left self.entry.content.end self.entry.content.de.now.pos e) }
+        ensures named { IfErr result (λ e. NamesEnd self.entry.content.left self.entry.content.end
+            self.entry.content.de.now.pos e) }
     {
         let outer = self.content.outer;
         let left = self.content.left;
@@ -179,11 +215,15 @@ impl<R: Read> Deserializer<R> {
     ///
     /// Errors: as for `map_head`. After an error the reader has failed.
     pub fn deserialize_map<'a>(&'a mut self) -> Result<MapAccess<'a, R>, Error>
-        ensures* failed { sem 𝓛 (RestsIfErr (the_row R.row) self.entry (λ a. a.content.de.ghost_name) result (λ d. HasFailed R.rest d)) }
-        ensures same_reference { IfOk result (λ a. a.content.de.ghost_name ≡ self.entry.ghost_name) }
-        ensures begun { IfOk result (λ a. HasRead R.rest a_map None self.old.element (at_of R.rest self.old) [] a.content) }
+        ensures* failed { sem 𝓛 (RestsIfErr (the_row R.row) self.entry
+            (λ a. a.content.de.ghost_name) result (λ d. HasFailed R.rest d)) }
+        ensures same_reference { IfOk result
+            (λ a. a.content.de.ghost_name ≡ self.entry.ghost_name) }
+        ensures begun { IfOk result (λ a. HasRead R.rest a_map None self.old.element
+            (at_of R.rest self.old) [] a.content) }
         ensures even { IfOk result (λ a. a.content.left % 2 ≡ 0) }
-        ensures refused { Unless R.faulty result (Refuses map_taken self.old.element (at_of R.rest self.old)) }
+        ensures refused { Unless R.faulty result
+            (Refuses map_taken self.old.element (at_of R.rest self.old)) }
     {
         let outer = self.element;
         let head = self.map_head();
@@ -209,9 +249,15 @@ impl<'a, R: Read> MapAccess<'a, R> {
     pub fn next_key<K: Deserialize>(&mut self, alloc: Global) -> Result<Option<K>, Error>
         ensures same_reference { self.new.content.de.ghost_name ≡ self.old.content.de.ghost_name }
         ensures due { OnOk result (self.old.content.left % 2 ≡ 0) }
-        ensures ok { IfOk result (λ o. MatchOption o ((self.old.content.left ≡ 0) × (self.new ≡ self.old)) (λ v. TookNext R.rest K.take self.old.content self.new.content (K.item v))) }
-        ensures refused { Unless R.faulty result ((self.old.content.left % 2 ≢ 0) ⊎ ((self.old.content.left ≢ 0) × Refuses K.take self.old.content.de.now.element (at_of R.rest self.old.content.de.now))) }
-        ensures failed { OnErr result (HasFailed R.rest self.new.content.de.now × (self.new.content.left ≢ 0)) }
+        ensures ok { IfOk result (λ o. MatchOption o
+            ((self.old.content.left ≡ 0) × (self.new ≡ self.old))
+            (λ v. TookNext R.rest K.take self.old.content self.new.content (K.item v))) }
+        ensures refused { Unless R.faulty result
+            ((self.old.content.left % 2 ≢ 0)
+            ⊎ ((self.old.content.left ≢ 0) × Refuses K.take self.old.content.de.now.element
+            (at_of R.rest self.old.content.de.now))) }
+        ensures failed { OnErr result (HasFailed R.rest self.new.content.de.now
+            × (self.new.content.left ≢ 0)) }
     {
         if self.content.left % 2 != 0 {
             self.content.fail();
@@ -228,9 +274,14 @@ impl<'a, R: Read> MapAccess<'a, R> {
     pub fn next_value<V: Deserialize>(&mut self, alloc: Global) -> Result<V, Error>
         ensures same_reference { self.new.content.de.ghost_name ≡ self.old.content.de.ghost_name }
         ensures due { OnOk result (self.old.content.left % 2 ≢ 0) }
-        ensures ok { IfOk result (λ v. TookNext R.rest V.take self.old.content self.new.content (V.item v)) }
-        ensures refused { Unless R.faulty result ((self.old.content.left % 2 ≡ 0) ⊎ Refuses V.take self.old.content.de.now.element (at_of R.rest self.old.content.de.now)) }
-        ensures failed { OnErr result (HasFailed R.rest self.new.content.de.now × (self.new.content.left ≢ 0)) }
+        ensures ok { IfOk result (λ v. TookNext R.rest V.take self.old.content self.new.content
+            (V.item v)) }
+        ensures refused { Unless R.faulty result
+            ((self.old.content.left % 2 ≡ 0)
+            ⊎ Refuses V.take self.old.content.de.now.element
+            (at_of R.rest self.old.content.de.now)) }
+        ensures failed { OnErr result (HasFailed R.rest self.new.content.de.now
+            × (self.new.content.left ≢ 0)) }
     {
         if self.content.left % 2 == 0 {
             self.content.fail();
@@ -249,9 +300,16 @@ impl<'a, R: Read> MapAccess<'a, R> {
     ) -> Result<Option<(K, V)>, Error>
         ensures same_reference { self.new.content.de.ghost_name ≡ self.old.content.de.ghost_name }
         ensures due { OnOk result (self.old.content.left % 2 ≡ 0) }
-        ensures ok { IfOk result (λ o. MatchOption o ((self.old.content.left ≡ 0) × (self.new ≡ self.old)) (λ p. TookEntry R.rest K.take V.take self.old.content self.new.content (K.item p.0) (V.item p.1))) }
-        ensures refused { Unless R.faulty result ((self.old.content.left % 2 ≢ 0) ⊎ ((self.old.content.left ≢ 0) × (self.old.content.de.now.element ≡ None → RefusesPairs K.take V.take 1 (at_of R.rest self.old.content.de.now)))) }
-        ensures failed { OnErr result (HasFailed R.rest self.new.content.de.now × (self.new.content.left ≢ 0)) }
+        ensures ok { IfOk result (λ o. MatchOption o
+            ((self.old.content.left ≡ 0) × (self.new ≡ self.old))
+            (λ p. TookEntry R.rest K.take V.take self.old.content self.new.content (K.item p.0)
+            (V.item p.1))) }
+        ensures refused { Unless R.faulty result
+            ((self.old.content.left % 2 ≢ 0)
+            ⊎ ((self.old.content.left ≢ 0) × (self.old.content.de.now.element ≡ None →
+            RefusesPairs K.take V.take 1 (at_of R.rest self.old.content.de.now)))) }
+        ensures failed { OnErr result (HasFailed R.rest self.new.content.de.now
+            × (self.new.content.left ≢ 0)) }
     {
         let Some(key) = self.next_key::<K>(alloc)? else {
             return Ok(None);
@@ -264,10 +322,16 @@ impl<'a, R: Read> MapAccess<'a, R> {
     /// that isn't theirs with `InvalidLength`. After an error the reader has failed.
     pub fn end(self) -> Result<(), Error>
         ensures all { OnOk result (self.entry.content.left ≡ 0) }
-        ensures ok { OnOk result ((j k : Option ℕ) (old : At) (ps : List (Item × Item)) → HasRead R.rest a_map j k old (in_turn ps) self.entry.content → Reads k old (at_of R.rest self.exit.0.0.now) (map (pairs_of ps)) × (self.exit.0.0.now.element ≡ k)) }
-        ensures refused { OnErr result ((j k : Option ℕ) (old : At) (ps : List (Item × Item)) → HasRead R.rest a_map j k old (in_turn ps) self.entry.content → IsNot k old (map (pairs_of ps))) }
+        ensures ok { OnOk result ((j k : Option ℕ) (old : At) (ps : List (Item × Item)) →
+            HasRead R.rest a_map j k old (in_turn ps) self.entry.content →
+            Reads k old (at_of R.rest self.exit.0.0.now) (map (pairs_of ps))
+            × (self.exit.0.0.now.element ≡ k)) }
+        ensures refused { OnErr result ((j k : Option ℕ) (old : At) (ps : List (Item × Item)) →
+            HasRead R.rest a_map j k old (in_turn ps) self.entry.content →
+            IsNot k old (map (pairs_of ps))) }
         ensures failed { OnErr result (HasFailed R.rest self.exit.0.0.now) }
-        ensures named { IfErr result (λ e. NamesEnd self.entry.content.left self.entry.content.end self.entry.content.de.now.pos e) }
+        ensures named { IfErr result (λ e. NamesEnd self.entry.content.left self.entry.content.end
+            self.entry.content.de.now.pos e) }
     {
         let outer = self.content.outer;
         let left = self.content.left;
@@ -290,11 +354,15 @@ impl<R: Read> Deserializer<R> {
     /// reader has failed.
     #[tactic(auto, using(crate::proofs::Opened::others))]
     pub fn deserialize_enum<'a>(&'a mut self) -> Result<VariantAccess<'a, R>, Error>
-        ensures* failed { sem 𝓛 (RestsIfErr (the_row R.row) self.entry (λ a. a.content.de.ghost_name) result (λ d. HasFailed R.rest d)) }
-        ensures same_reference { IfOk result (λ a. a.content.de.ghost_name ≡ self.entry.ghost_name) }
-        ensures begun { IfOk result (λ a. HasRead R.rest a_map None self.old.element (at_of R.rest self.old) [] a.content) }
+        ensures* failed { sem 𝓛 (RestsIfErr (the_row R.row) self.entry
+            (λ a. a.content.de.ghost_name) result (λ d. HasFailed R.rest d)) }
+        ensures same_reference { IfOk result
+            (λ a. a.content.de.ghost_name ≡ self.entry.ghost_name) }
+        ensures begun { IfOk result (λ a. HasRead R.rest a_map None self.old.element
+            (at_of R.rest self.old) [] a.content) }
         ensures left { IfOk result (λ a. a.content.left ≡ 2) }
-        ensures refused { Unless R.faulty result (Refuses variant_taken self.old.element (at_of R.rest self.old)) }
+        ensures refused { Unless R.faulty result
+            (Refuses variant_taken self.old.element (at_of R.rest self.old)) }
     {
         let outer = self.element;
         let head = self.map_head();
@@ -324,9 +392,11 @@ impl<'a, R: Read> VariantAccess<'a, R> {
     pub fn variant_index(&mut self, alloc: Global) -> Result<u32, Error>
         ensures same_reference { self.new.content.de.ghost_name ≡ self.old.content.de.ghost_name }
         ensures due { OnOk result (self.old.content.left ≡ 2) }
-        ensures ok { IfOk result (λ n. TookNext R.rest uint_taken self.old.content self.new.content (scalar (uint n))) }
+        ensures ok { IfOk result (λ n. TookNext R.rest uint_taken self.old.content self.new.content
+            (scalar (uint n))) }
         ensures refused { Unless R.faulty result ((self.old.content.left ≢ 2) ⊎ Refuses uint_taken self.old.content.de.now.element (at_of R.rest self.old.content.de.now)) }
-        ensures failed { OnErr result (HasFailed R.rest self.new.content.de.now × (self.new.content.left ≢ 0)) }
+        ensures failed { OnErr result (HasFailed R.rest self.new.content.de.now
+            × (self.new.content.left ≢ 0)) }
     {
         if self.content.left != 2 {
             self.content.fail();
@@ -343,9 +413,13 @@ impl<'a, R: Read> VariantAccess<'a, R> {
     pub fn newtype<T: Deserialize>(&mut self, alloc: Global) -> Result<T, Error>
         ensures same_reference { self.new.content.de.ghost_name ≡ self.old.content.de.ghost_name }
         ensures due { OnOk result (self.old.content.left ≡ 1) }
-        ensures ok { IfOk result (λ v. TookNext R.rest T.take self.old.content self.new.content (T.item v)) }
-        ensures refused { Unless R.faulty result ((self.old.content.left ≢ 1) ⊎ Refuses T.take self.old.content.de.now.element (at_of R.rest self.old.content.de.now)) }
-        ensures failed { OnErr result (HasFailed R.rest self.new.content.de.now × (self.new.content.left ≢ 0)) }
+        ensures ok { IfOk result (λ v. TookNext R.rest T.take self.old.content self.new.content
+            (T.item v)) }
+        ensures refused { Unless R.faulty result
+            ((self.old.content.left ≢ 1) ⊎ Refuses T.take self.old.content.de.now.element
+            (at_of R.rest self.old.content.de.now)) }
+        ensures failed { OnErr result (HasFailed R.rest self.new.content.de.now
+            × (self.new.content.left ≢ 0)) }
     {
         if self.content.left != 1 {
             self.content.fail();
@@ -358,10 +432,16 @@ impl<'a, R: Read> VariantAccess<'a, R> {
     /// that isn't theirs with `InvalidLength`. After an error the reader has failed.
     pub fn end(self) -> Result<(), Error>
         ensures all { OnOk result (self.entry.content.left ≡ 0) }
-        ensures ok { OnOk result ((j k : Option ℕ) (old : At) (x y : Item) → HasRead R.rest a_map j k old (x ∷ y ∷ []) self.entry.content → Reads k old (at_of R.rest self.exit.0.0.now) (map (pairs_of ((x, y) ∷ []))) × (self.exit.0.0.now.element ≡ k)) }
-        ensures refused { OnErr result ((j k : Option ℕ) (old : At) (x y : Item) → HasRead R.rest a_map j k old (x ∷ y ∷ []) self.entry.content → IsNot k old (map (pairs_of ((x, y) ∷ [])))) }
+        ensures ok { OnOk result ((j k : Option ℕ) (old : At) (x y : Item) →
+            HasRead R.rest a_map j k old (x ∷ y ∷ []) self.entry.content →
+            Reads k old (at_of R.rest self.exit.0.0.now) (map (pairs_of ((x, y) ∷ [])))
+            × (self.exit.0.0.now.element ≡ k)) }
+        ensures refused { OnErr result ((j k : Option ℕ) (old : At) (x y : Item) →
+            HasRead R.rest a_map j k old (x ∷ y ∷ []) self.entry.content →
+            IsNot k old (map (pairs_of ((x, y) ∷ [])))) }
         ensures failed { OnErr result (HasFailed R.rest self.exit.0.0.now) }
-        ensures named { IfErr result (λ e. NamesEnd self.entry.content.left self.entry.content.end self.entry.content.de.now.pos e) }
+        ensures named { IfErr result (λ e. NamesEnd self.entry.content.left self.entry.content.end
+            self.entry.content.de.now.pos e) }
     {
         let outer = self.content.outer;
         let left = self.content.left;
@@ -383,11 +463,15 @@ impl<R: Read> Deserializer<R> {
     /// Errors: `Io` where the input ends; `InvalidFormatCode` for any other type. After an error the
     /// reader has failed.
     pub fn deserialize_described<'a>(&'a mut self) -> Result<DescribedAccess<'a, R>, Error>
-        ensures* failed { sem 𝓛 (RestsIfErr (the_row R.row) self.entry (λ a. a.content.de.ghost_name) result (λ d. HasFailed R.rest d)) }
-        ensures same_reference { IfOk result (λ a. a.content.de.ghost_name ≡ self.entry.ghost_name) }
-        ensures begun { IfOk result (λ a. HasRead R.rest a_described_value None self.old.element (at_of R.rest self.old) [] a.content) }
+        ensures* failed { sem 𝓛 (RestsIfErr (the_row R.row) self.entry
+            (λ a. a.content.de.ghost_name) result (λ d. HasFailed R.rest d)) }
+        ensures same_reference { IfOk result
+            (λ a. a.content.de.ghost_name ≡ self.entry.ghost_name) }
+        ensures begun { IfOk result (λ a. HasRead R.rest a_described_value None self.old.element
+            (at_of R.rest self.old) [] a.content) }
         ensures left { IfOk result (λ a. a.content.left ≡ 2) }
-        ensures refused { Unless R.faulty result (Refuses described_taken self.old.element (at_of R.rest self.old)) }
+        ensures refused { Unless R.faulty result
+            (Refuses described_taken self.old.element (at_of R.rest self.old)) }
     {
         let outer = self.element;
         match self.described() {
@@ -416,9 +500,11 @@ impl<'a, R: Read> DescribedAccess<'a, R> {
     pub fn descriptor<T: Deserialize>(&mut self, alloc: Global) -> Result<T, Error>
         ensures same_reference { self.new.content.de.ghost_name ≡ self.old.content.de.ghost_name }
         ensures due { OnOk result (self.old.content.left ≡ 2) }
-        ensures ok { IfOk result (λ v. TookNext R.rest T.take self.old.content self.new.content (T.item v)) }
+        ensures ok { IfOk result (λ v. TookNext R.rest T.take self.old.content self.new.content
+            (T.item v)) }
         ensures refused { Unless R.faulty result ((self.old.content.left ≢ 2) ⊎ Refuses T.take self.old.content.de.now.element (at_of R.rest self.old.content.de.now)) }
-        ensures failed { OnErr result (HasFailed R.rest self.new.content.de.now × (self.new.content.left ≢ 0)) }
+        ensures failed { OnErr result (HasFailed R.rest self.new.content.de.now
+            × (self.new.content.left ≢ 0)) }
     {
         if self.content.left != 2 {
             self.content.fail();
@@ -435,9 +521,13 @@ impl<'a, R: Read> DescribedAccess<'a, R> {
     pub fn value<T: Deserialize>(&mut self, alloc: Global) -> Result<T, Error>
         ensures same_reference { self.new.content.de.ghost_name ≡ self.old.content.de.ghost_name }
         ensures due { OnOk result (self.old.content.left ≡ 1) }
-        ensures ok { IfOk result (λ v. TookNext R.rest T.take self.old.content self.new.content (T.item v)) }
-        ensures refused { Unless R.faulty result ((self.old.content.left ≢ 1) ⊎ Refuses T.take self.old.content.de.now.element (at_of R.rest self.old.content.de.now)) }
-        ensures failed { OnErr result (HasFailed R.rest self.new.content.de.now × (self.new.content.left ≢ 0)) }
+        ensures ok { IfOk result (λ v. TookNext R.rest T.take self.old.content self.new.content
+            (T.item v)) }
+        ensures refused { Unless R.faulty result
+            ((self.old.content.left ≢ 1) ⊎ Refuses T.take self.old.content.de.now.element
+            (at_of R.rest self.old.content.de.now)) }
+        ensures failed { OnErr result (HasFailed R.rest self.new.content.de.now
+            × (self.new.content.left ≢ 0)) }
     {
         if self.content.left != 1 {
             self.content.fail();
@@ -450,10 +540,16 @@ impl<'a, R: Read> DescribedAccess<'a, R> {
     /// `SequenceLengthMismatch`. After an error the reader has failed.
     pub fn end(self) -> Result<(), Error>
         ensures all { OnOk result (self.entry.content.left ≡ 0) }
-        ensures ok { OnOk result ((j k : Option ℕ) (old : At) (d v : Item) → HasRead R.rest a_described_value j k old (d ∷ v ∷ []) self.entry.content → Reads k old (at_of R.rest self.exit.0.0.now) (described d v) × (self.exit.0.0.now.element ≡ k)) }
-        ensures refused { OnErr result ((j k : Option ℕ) (old : At) (d v : Item) → HasRead R.rest a_described_value j k old (d ∷ v ∷ []) self.entry.content → IsNot k old (described d v)) }
+        ensures ok { OnOk result ((j k : Option ℕ) (old : At) (d v : Item) →
+            HasRead R.rest a_described_value j k old (d ∷ v ∷ []) self.entry.content →
+            Reads k old (at_of R.rest self.exit.0.0.now) (described d v)
+            × (self.exit.0.0.now.element ≡ k)) }
+        ensures refused { OnErr result ((j k : Option ℕ) (old : At) (d v : Item) →
+            HasRead R.rest a_described_value j k old (d ∷ v ∷ []) self.entry.content →
+            IsNot k old (described d v)) }
         ensures failed { OnErr result (HasFailed R.rest self.exit.0.0.now) }
-        ensures named { IfErr result (λ e. NamesEnd self.entry.content.left self.entry.content.end self.entry.content.de.now.pos e) }
+        ensures named { IfErr result (λ e. NamesEnd self.entry.content.left self.entry.content.end
+            self.entry.content.de.now.pos e) }
     {
         let outer = self.content.outer;
         let left = self.content.left;

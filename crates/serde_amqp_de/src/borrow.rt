@@ -1,5 +1,6 @@
 //! Values that are lent from the slice that they are read from.
-ghost use Rattle.std.specs.Prelude.{◌≡◌, ◌≢◌, ◌<◌, ◌∷◌, ◌++◌, [], ℕ, List, length, IfOk, IfErr, OnOk, OnErr, Option, Some, None, true, false};
+ghost use Rattle.std.specs.Prelude.{◌≡◌, ◌≢◌, ◌<◌, ◌∷◌, ◌++◌, [], ℕ, List, length, IfOk, IfErr, OnOk, OnErr, Option};
+ghost use Rattle.std.specs.Prelude.{Some, None, true, false};
 ghost use Rattle.std.specs.Int.{w32, to_be_bytes};
 ghost use Rattle.std.specs.Str.{is_utf8};
 ghost use Rattle.serde_amqp_item.specs.declared.error.Error.TheVariants.{InvalidUtf8Encoding, Memory};
@@ -7,7 +8,8 @@ ghost use Rattle.serde_amqp_item.specs.Item.{Item, scalar, binary, string, symbo
 ghost use Rattle.serde_amqp_item.specs.Wire.{Wire, one_byte, four_bytes};
 ghost use Rattle.serde_amqp_item.specs.Kind.{Kind, binary_kind, string_kind, symbol_kind};
 ghost use Rattle.serde_amqp_read.specs.Reads.{Unless, faultless};
-ghost use Rattle.serde_amqp_de.specs.Reads.{Moves, Head, NoHead, ReadSized, NoSized, ReadText, NoText, Reads, Refuses, Took};
+ghost use Rattle.serde_amqp_de.specs.Reads.{Moves, Head, NoHead, ReadSized, NoSized, ReadText, NoText, Reads, Refuses};
+ghost use Rattle.serde_amqp_de.specs.Reads.{Took};
 ghost use Rattle.serde_amqp_de.specs.Lent.{slice_at, NoWant, SliceFailed};
 ghost use Rattle.serde_amqp_de.specs.Names.{Names, NamesText, Named};
 ghost use Rattle.serde_amqp_de.specs.Takes.{binary_taken, string_taken, symbol_taken};
@@ -29,7 +31,8 @@ pub trait BorrowDeserialize<'de>: Sized {
     /// Errors: exactly where no front of what is left is a wire form of an item that the type takes;
     /// `Memory` only where no 64 bits can count the bytes that were read and those that are left.
     fn read_borrowed(de: &mut Deserializer<SliceReader<'de>>) -> Result<Self, Error>
-        ensures ok { IfOk result (λ v. Took take de.old.element (slice_at de.old) (slice_at de.new) (item v)) }
+        ensures ok { IfOk result (λ v. Took take de.old.element (slice_at de.old) (slice_at de.new)
+            (item v)) }
         ensures element { OnOk result (de.new.element ≡ de.old.element) }
         ensures refused { Unless faultless result (Refuses take de.old.element (slice_at de.old)) }
         ensures plain { IfErr result (λ e. NoWant (slice_at de.old) e) };
@@ -53,8 +56,11 @@ impl<'de> BorrowDeserialize<'de> for &'de str {
 /// `Memory`.
 #[tactic(auto, using(crate::proofs::Lending::fresh))]
 pub fn borrow_from_slice<'de, T: BorrowDeserialize<'de>>(bytes: &'de [u8]) -> Result<T, Error>
-    ensures ok { IfOk result (λ v. (x : Item) × (front : List ℕ) × (more : List ℕ) × Wire x None front × (bytes.now ≡ front ++ more) × (T.take x ≡ Some (T.item v))) }
-    ensures refused { Unless faultless result ((x : Item) (front more : List ℕ) → Wire x None front → bytes.now ≡ front ++ more → T.take x ≡ None) }
+    ensures ok { IfOk result (λ v. (x : Item) × (front : List ℕ) × (more : List ℕ)
+        × Wire x None front × (bytes.now ≡ front ++ more) × (T.take x ≡ Some (T.item v))) }
+    ensures refused { Unless faultless result
+        ((x : Item) (front more : List ℕ) → Wire x None front → bytes.now ≡ front ++ more →
+        T.take x ≡ None) }
     ensures memory { IfErr result (λ e. e ≢ Memory) }
 {
     let mut de = Deserializer::new(SliceReader::new(bytes));
@@ -112,7 +118,8 @@ impl<'de> Deserializer<SliceReader<'de>> {
 
     /// The next number of four bytes.
     fn lend_u32(&mut self) -> Result<u32, Error>
-        ensures ok { IfOk result (λ n. Moves (slice_at self.old) (slice_at self.new) (to_be_bytes w32 n)) }
+        ensures ok { IfOk result (λ n. Moves (slice_at self.old) (slice_at self.new)
+            (to_be_bytes w32 n)) }
         ensures element { OnOk result (self.new.element ≡ self.old.element) }
         ensures end { Unless faultless result (length self.old.reader.rest < 4) }
         ensures plain { IfErr result (λ e. NoWant (slice_at self.old) e) }
@@ -125,12 +132,14 @@ impl<'de> Deserializer<SliceReader<'de>> {
     /// The constructor of the next value.
     #[tactic(auto, using(crate::proofs::Lending::lending))]
     fn lend_code(&mut self) -> Result<EncodingCodes, Error>
-        ensures ok { IfOk result (λ code. Head self.old.element (slice_at self.old) (slice_at self.new) code) }
+        ensures ok { IfOk result (λ code. Head self.old.element (slice_at self.old)
+            (slice_at self.new) code) }
         ensures element { OnOk result (self.new.element ≡ self.old.element) }
         ensures refused { Unless faultless result (NoHead self.old.element self.old.reader.rest) }
         ensures plain { IfErr result (λ e. NoWant (slice_at self.old) e) }
         ensures failed { OnErr result (SliceFailed self.new) }
-        ensures named { (t : Kind) → Named faultless result (Names t self.old.element self.old.reader.rest) }
+        ensures named { (t : Kind) → Named faultless result
+            (Names t self.old.element self.old.reader.rest) }
     {
         let byte = match self.element {
             Some(c) => c,
@@ -145,7 +154,8 @@ impl<'de> Deserializer<SliceReader<'de>> {
     /// Reads a size of one byte, and lends so many bytes.
     #[tactic(auto, using(crate::proofs::Lending::lending, crate::proofs::Sized::sizing))]
     fn lend8(&mut self) -> Result<&'de [u8], Error>
-        ensures ok { IfOk result (λ s. ReadSized one_byte (slice_at self.old) (slice_at self.new) s.now) }
+        ensures ok { IfOk result (λ s. ReadSized one_byte (slice_at self.old) (slice_at self.new)
+            s.now) }
         ensures element { OnOk result (self.new.element ≡ self.old.element) }
         ensures refused { Unless faultless result (NoSized one_byte self.old.reader.rest) }
         ensures plain { IfErr result (λ e. NoWant (slice_at self.old) e) }
@@ -158,7 +168,8 @@ impl<'de> Deserializer<SliceReader<'de>> {
     /// Reads a size of four bytes, and lends so many bytes.
     #[tactic(auto, using(crate::proofs::Lending::lending, crate::proofs::Sized::sizing))]
     fn lend32(&mut self) -> Result<&'de [u8], Error>
-        ensures ok { IfOk result (λ s. ReadSized four_bytes (slice_at self.old) (slice_at self.new) s.now) }
+        ensures ok { IfOk result (λ s. ReadSized four_bytes (slice_at self.old) (slice_at self.new)
+            s.now) }
         ensures element { OnOk result (self.new.element ≡ self.old.element) }
         ensures refused { Unless faultless result (NoSized four_bytes self.old.reader.rest) }
         ensures plain { IfErr result (λ e. NoWant (slice_at self.old) e) }
@@ -175,12 +186,15 @@ impl<'de> Deserializer<SliceReader<'de>> {
     /// failed.
     #[tactic(auto, using(crate::proofs::Lending::lending, crate::proofs::Heads::refusing, crate::proofs::Sized::binaries))]
     pub fn borrow_bytes(&mut self) -> Result<&'de [u8], Error>
-        ensures ok { IfOk result (λ s. Reads self.old.element (slice_at self.old) (slice_at self.new) (scalar (binary s.now))) }
+        ensures ok { IfOk result (λ s. Reads self.old.element (slice_at self.old)
+            (slice_at self.new) (scalar (binary s.now))) }
         ensures element { OnOk result (self.new.element ≡ self.old.element) }
-        ensures refused { Unless faultless result (Refuses binary_taken self.old.element (slice_at self.old)) }
+        ensures refused { Unless faultless result
+            (Refuses binary_taken self.old.element (slice_at self.old)) }
         ensures plain { IfErr result (λ e. NoWant (slice_at self.old) e) }
         ensures failed { OnErr result (SliceFailed self.new) }
-        ensures named { Named faultless result (Names binary_kind self.old.element self.old.reader.rest) }
+        ensures named { Named faultless result
+            (Names binary_kind self.old.element self.old.reader.rest) }
     {
         match self.lend_code()? {
             EncodingCodes::Vbin8 => Ok(self.lend8()?),
@@ -192,7 +206,8 @@ impl<'de> Deserializer<SliceReader<'de>> {
     /// Reads a size of one byte, and lends a text of so many bytes.
     #[tactic(auto, using(crate::proofs::Lending::lending, crate::proofs::Sized::texts))]
     fn lend_text8(&mut self) -> Result<&'de str, Error>
-        ensures ok { IfOk result (λ s. ReadText one_byte (slice_at self.old) (slice_at self.new) s.now) }
+        ensures ok { IfOk result (λ s. ReadText one_byte (slice_at self.old) (slice_at self.new)
+            s.now) }
         ensures element { OnOk result (self.new.element ≡ self.old.element) }
         ensures refused { Unless faultless result (NoText one_byte self.old.reader.rest) }
         ensures plain { IfErr result (λ e. NoWant (slice_at self.old) e) }
@@ -209,7 +224,8 @@ impl<'de> Deserializer<SliceReader<'de>> {
     /// Reads a size of four bytes, and lends a text of so many bytes.
     #[tactic(auto, using(crate::proofs::Lending::lending, crate::proofs::Sized::texts))]
     fn lend_text32(&mut self) -> Result<&'de str, Error>
-        ensures ok { IfOk result (λ s. ReadText four_bytes (slice_at self.old) (slice_at self.new) s.now) }
+        ensures ok { IfOk result (λ s. ReadText four_bytes (slice_at self.old) (slice_at self.new)
+            s.now) }
         ensures element { OnOk result (self.new.element ≡ self.old.element) }
         ensures refused { Unless faultless result (NoText four_bytes self.old.reader.rest) }
         ensures plain { IfErr result (λ e. NoWant (slice_at self.old) e) }
@@ -230,12 +246,15 @@ impl<'de> Deserializer<SliceReader<'de>> {
     /// those that are left. After an error the reader has failed.
     #[tactic(auto, using(crate::proofs::Lending::lending, crate::proofs::Heads::refusing, crate::proofs::Sized::strings))]
     pub fn borrow_str(&mut self) -> Result<&'de str, Error>
-        ensures ok { IfOk result (λ s. Reads self.old.element (slice_at self.old) (slice_at self.new) (scalar (string s.now))) }
+        ensures ok { IfOk result (λ s. Reads self.old.element (slice_at self.old)
+            (slice_at self.new) (scalar (string s.now))) }
         ensures element { OnOk result (self.new.element ≡ self.old.element) }
-        ensures refused { Unless faultless result (Refuses string_taken self.old.element (slice_at self.old)) }
+        ensures refused { Unless faultless result
+            (Refuses string_taken self.old.element (slice_at self.old)) }
         ensures plain { IfErr result (λ e. NoWant (slice_at self.old) e) }
         ensures failed { OnErr result (SliceFailed self.new) }
-        ensures named { Named faultless result (Names string_kind self.old.element self.old.reader.rest) }
+        ensures named { Named faultless result
+            (Names string_kind self.old.element self.old.reader.rest) }
     {
         match self.lend_code()? {
             EncodingCodes::Str8 => Ok(self.lend_text8()?),
@@ -251,12 +270,15 @@ impl<'de> Deserializer<SliceReader<'de>> {
     /// those that are left. After an error the reader has failed.
     #[tactic(auto, using(crate::proofs::Lending::lending, crate::proofs::Heads::refusing, crate::proofs::Sized::symbols))]
     pub fn borrow_symbol(&mut self) -> Result<&'de str, Error>
-        ensures ok { IfOk result (λ s. Reads self.old.element (slice_at self.old) (slice_at self.new) (scalar (symbol s.now))) }
+        ensures ok { IfOk result (λ s. Reads self.old.element (slice_at self.old)
+            (slice_at self.new) (scalar (symbol s.now))) }
         ensures element { OnOk result (self.new.element ≡ self.old.element) }
-        ensures refused { Unless faultless result (Refuses symbol_taken self.old.element (slice_at self.old)) }
+        ensures refused { Unless faultless result
+            (Refuses symbol_taken self.old.element (slice_at self.old)) }
         ensures plain { IfErr result (λ e. NoWant (slice_at self.old) e) }
         ensures failed { OnErr result (SliceFailed self.new) }
-        ensures named { Named faultless result (Names symbol_kind self.old.element self.old.reader.rest) }
+        ensures named { Named faultless result
+            (Names symbol_kind self.old.element self.old.reader.rest) }
     {
         match self.lend_code()? {
             EncodingCodes::Sym8 => Ok(self.lend_text8()?),

@@ -1,5 +1,6 @@
 //! What the accesses share.
-ghost use Rattle.std.specs.Prelude.{◌≡◌, ◌≢◌, ◌⊎◌, ◌+◌, ◌∷◌, [], ℕ, List, Bool, true, false, Result, Ok, IfOk, IfErr, OnOk, OnErr, MatchOption, Option, Some, None};
+ghost use Rattle.std.specs.Prelude.{◌≡◌, ◌≢◌, ◌⊎◌, ◌+◌, ◌∷◌, [], ℕ, List, Bool, true, false, Result, Ok, IfOk, IfErr};
+ghost use Rattle.std.specs.Prelude.{OnOk, OnErr, MatchOption, Option, Some, None};
 ghost use Rattle.serde_amqp_item.specs.Item.{Item};
 ghost use Rattle.serde_amqp_read.specs.Reads.{Unless};
 ghost use Rattle.serde_amqp_de.specs.Reads.{At, Refuses, HasFailed, at_of};
@@ -40,7 +41,9 @@ impl<'a, R: Read> Content<'a, R> {
     pub(crate) fn item<T: Deserialize>(&mut self, alloc: Global) -> Result<T, Error>
         ensures same_reference { self.new.de.ghost_name ≡ self.old.de.ghost_name }
         ensures ok { IfOk result (λ v. TookNext R.rest T.take self.old self.new (T.item v)) }
-        ensures refused { Unless R.faulty result ((self.old.left ≡ 0) ⊎ Refuses T.take self.old.de.now.element (at_of R.rest self.old.de.now)) }
+        ensures refused { Unless R.faulty result
+            ((self.old.left ≡ 0) ⊎ Refuses T.take self.old.de.now.element
+            (at_of R.rest self.old.de.now)) }
         ensures failed { OnErr result (HasFailed R.rest self.new.de.now × (self.new.left ≢ 0)) }
     {
         let Some(left) = self.left.checked_sub(1) else {
@@ -63,8 +66,11 @@ impl<'a, R: Read> Content<'a, R> {
     #[tactic(auto, using(crate::proofs::Opened::opening))]
     pub(crate) fn next<T: Deserialize>(&mut self, alloc: Global) -> Result<Option<T>, Error>
         ensures same_reference { self.new.de.ghost_name ≡ self.old.de.ghost_name }
-        ensures ok { IfOk result (λ o. MatchOption o ((self.old.left ≡ 0) × (self.new ≡ self.old)) (λ v. TookNext R.rest T.take self.old self.new (T.item v))) }
-        ensures refused { Unless R.faulty result ((self.old.left ≢ 0) × Refuses T.take self.old.de.now.element (at_of R.rest self.old.de.now)) }
+        ensures ok { IfOk result (λ o. MatchOption o ((self.old.left ≡ 0) × (self.new ≡ self.old))
+            (λ v. TookNext R.rest T.take self.old self.new (T.item v))) }
+        ensures refused { Unless R.faulty result
+            ((self.old.left ≢ 0) × Refuses T.take self.old.de.now.element
+            (at_of R.rest self.old.de.now)) }
         ensures failed { OnErr result (HasFailed R.rest self.new.de.now × (self.new.left ≢ 0)) }
     {
         if self.left == 0 {
@@ -81,9 +87,12 @@ impl<R: Read> Deserializer<R> {
         &mut self,
         head: Result<(usize, usize), Error>,
     ) -> Result<(usize, usize), Error>
-        ensures ok { IfOk result (λ h. (size : ℕ) × (head ≡ Ok (h.0, size)) × (h.1 ≡ self.old.pos + size)) }
+        ensures ok { IfOk result (λ h. (size : ℕ) × (head ≡ Ok (h.0, size))
+            × (h.1 ≡ self.old.pos + size)) }
         ensures same { OnOk result (self.new ≡ self.old) }
-        ensures refused { (take : Item → Option Item) (k : Option ℕ) (old : At) → Unless R.faulty head (Refuses take k old) → Unless R.faulty result (Refuses take k old) }
+        ensures refused { (take : Item → Option Item) (k : Option ℕ) (old : At) →
+            Unless R.faulty head (Refuses take k old) →
+            Unless R.faulty result (Refuses take k old) }
         ensures failed { OnErr result (HasFailed R.rest self.new) }
     {
         match head {
@@ -108,7 +117,8 @@ impl<R: Read> Deserializer<R> {
         left: usize,
         end: Option<usize>,
     ) -> Result<(), Error>
-        ensures ok { OnOk result ((left ≡ 0) × AtEnd end self.old.pos × (at_of R.rest self.new ≡ at_of R.rest self.old) × (self.new.element ≡ outer)) }
+        ensures ok { OnOk result ((left ≡ 0) × AtEnd end self.old.pos
+            × (at_of R.rest self.new ≡ at_of R.rest self.old) × (self.new.element ≡ outer)) }
         ensures refused { OnErr result ((left ≢ 0) ⊎ ((left ≡ 0) × (AtEnd end self.old.pos → ⊥))) }
         ensures failed { OnErr result (HasFailed R.rest self.new) }
         ensures named { IfErr result (λ e. NamesEnd left end self.old.pos e) }

@@ -1,14 +1,18 @@
 //! What can be read.
-ghost use Rattle.std.specs.Prelude.{◌≡◌, ◌++◌, ℕ, List, IfOk, OnOk, OnErr, MatchOption, Option, Some, None, Bool, false, refl, string_bytes};
+ghost use Rattle.std.specs.Prelude.{◌≡◌, ◌++◌, ℕ, List, IfOk, OnOk, OnErr, MatchOption, Option, Some, None, Bool};
+ghost use Rattle.std.specs.Prelude.{false, refl, string_bytes};
 ghost use Rattle.serde_amqp_item.specs.Item.{Item, scalar, null, boolean, ushort, uint, ulong, string};
 ghost use Rattle.serde_amqp_item.specs.Wire.{Wire};
 ghost use Rattle.serde_amqp_item.specs.Record.{option_item};
 ghost use Rattle.serde_amqp_read.specs.Reads.{Unless, faultless};
 ghost use Rattle.serde_amqp_de.specs.Reads.{Took, Refuses, at_of, HasFailed};
-ghost use Rattle.serde_amqp_de.specs.Takes.{null_taken, boolean_taken, ushort_taken, uint_taken, ulong_taken, string_taken, option_taken, reads_as_null};
+ghost use Rattle.serde_amqp_de.specs.Takes.{null_taken, boolean_taken, ushort_taken, uint_taken, ulong_taken};
+ghost use Rattle.serde_amqp_de.specs.Takes.{string_taken, option_taken, reads_as_null};
 ghost use Rattle.serde_amqp_de.specs.Decides.{Decided};
-ghost use Rattle.serde_amqp_de.specs.Deciding.{null_decided, boolean_decided, ushort_decided, uint_decided, ulong_decided, string_decided, option_decided};
-ghost use Rattle.serde_amqp_de.specs.Again.{option_same_item, option_again, option_faithful, boolean_faithful, ushort_faithful, uint_faithful, ulong_faithful};
+ghost use Rattle.serde_amqp_de.specs.Deciding.{null_decided, boolean_decided, ushort_decided, uint_decided};
+ghost use Rattle.serde_amqp_de.specs.Deciding.{ulong_decided, string_decided, option_decided};
+ghost use Rattle.serde_amqp_de.specs.Again.{option_same_item, option_again, option_faithful, boolean_faithful};
+ghost use Rattle.serde_amqp_de.specs.Again.{ushort_faithful, uint_faithful, ulong_faithful};
 
 use crate::deserializer::Deserializer;
 use serde_amqp_item::{EncodingCodes, Error};
@@ -27,24 +31,29 @@ pub trait Deserialize: Sized {
     /// The value of a field that is absent, which is null (part 1, section 1.4); none where the field
     /// is mandatory.
     fn absent(alloc: Global) -> Option<Self>
-        ensures { MatchOption result (take (scalar null) ≡ None) (λ v. take (scalar null) ≡ Some (item v)) };
+        ensures { MatchOption result (take (scalar null) ≡ None)
+            (λ v. take (scalar null) ≡ Some (item v)) };
 
     /// Reads a value. After an error use the reader no more: `deserialize` sees to that.
     ///
     /// Errors: `Memory`; a fault of the reader itself; any other exactly where no front of what is left
     /// is a wire form of an item that the type takes.
     fn read<R: Read>(alloc: Global, de: &mut Deserializer<R>) -> Result<Self, Error>
-        ensures ok { IfOk result (λ v. Took take de.old.element (at_of R.rest de.old) (at_of R.rest de.new) (item v)) }
+        ensures ok { IfOk result (λ v. Took take de.old.element (at_of R.rest de.old)
+            (at_of R.rest de.new) (item v)) }
         ensures element { OnOk result (de.new.element ≡ de.old.element) }
-        ensures refused { Unless R.faulty result (Refuses take de.old.element (at_of R.rest de.old)) };
+        ensures refused { Unless R.faulty result
+            (Refuses take de.old.element (at_of R.rest de.old)) };
 
     /// Reads a value. After an error the reader has failed, so that each later call is refused.
     ///
     /// Errors: as for `read`.
     final fn deserialize<R: Read>(alloc: Global, de: &mut Deserializer<R>) -> Result<Self, Error>
-        ensures ok { IfOk result (λ v. Took take de.old.element (at_of R.rest de.old) (at_of R.rest de.new) (item v)) }
+        ensures ok { IfOk result (λ v. Took take de.old.element (at_of R.rest de.old)
+            (at_of R.rest de.new) (item v)) }
         ensures element { OnOk result (de.new.element ≡ de.old.element) }
-        ensures refused { Unless R.faulty result (Refuses take de.old.element (at_of R.rest de.old)) }
+        ensures refused { Unless R.faulty result
+            (Refuses take de.old.element (at_of R.rest de.old)) }
         ensures failed { OnErr result (HasFailed R.rest de.new) }
     {
         match Self::read(alloc, de) {
@@ -214,9 +223,11 @@ impl<R: Read> Deserializer<R> {
     ///
     /// Errors: as for the value's `read`. After an error the reader has failed.
     pub fn deserialize_option<T: Deserialize>(&mut self, alloc: Global) -> Result<Option<T>, Error>
-        ensures ok { IfOk result (λ o. Took (option_taken T.take) self.old.element (at_of R.rest self.old) (at_of R.rest self.new) (option_item T.item o)) }
+        ensures ok { IfOk result (λ o. Took (option_taken T.take) self.old.element
+            (at_of R.rest self.old) (at_of R.rest self.new) (option_item T.item o)) }
         ensures element { OnOk result (self.new.element ≡ self.old.element) }
-        ensures refused { Unless R.faulty result (Refuses (option_taken T.take) self.old.element (at_of R.rest self.old)) }
+        ensures refused { Unless R.faulty result
+            (Refuses (option_taken T.take) self.old.element (at_of R.rest self.old)) }
         ensures failed { OnErr result (HasFailed R.rest self.new) }
     {
         <Option<T> as Deserialize>::deserialize(alloc, self)
@@ -314,8 +325,11 @@ impl<T: Faithful + NeverNull> Faithful for Option<T> {
 /// Errors: `Memory`; any other exactly where no front of the bytes is a wire form of an item that the
 /// type takes.
 pub fn from_slice<T: Deserialize>(alloc: Global, bytes: &[u8]) -> Result<T, Error>
-    ensures ok { IfOk result (λ v. (x : Item) × (front : List ℕ) × (more : List ℕ) × Wire x None front × (bytes.now ≡ front ++ more) × (T.take x ≡ Some (T.item v))) }
-    ensures refused { Unless faultless result ((x : Item) (front more : List ℕ) → Wire x None front → bytes.now ≡ front ++ more → T.take x ≡ None) }
+    ensures ok { IfOk result (λ v. (x : Item) × (front : List ℕ) × (more : List ℕ)
+        × Wire x None front × (bytes.now ≡ front ++ more) × (T.take x ≡ Some (T.item v))) }
+    ensures refused { Unless faultless result
+        ((x : Item) (front more : List ℕ) → Wire x None front → bytes.now ≡ front ++ more →
+        T.take x ≡ None) }
 {
     let mut de = Deserializer::new(SliceReader::new(bytes));
     T::deserialize(alloc, &mut de)
@@ -331,8 +345,11 @@ pub fn from_reader<T: Deserialize, R: Read + Drop>(
     alloc: Global,
     reader: R,
 ) -> Result<(T, R), Error>
-    ensures ok { IfOk result (λ p. (x : Item) × (front : List ℕ) × Wire x None front × (R.rest reader ≡ front ++ R.rest p.1) × (T.take x ≡ Some (T.item p.0))) }
-    ensures refused { Unless faultless result ((x : Item) (front more : List ℕ) → Wire x None front → R.rest reader ≡ front ++ more → T.take x ≡ None) }
+    ensures ok { IfOk result (λ p. (x : Item) × (front : List ℕ) × Wire x None front
+        × (R.rest reader ≡ front ++ R.rest p.1) × (T.take x ≡ Some (T.item p.0))) }
+    ensures refused { Unless faultless result
+        ((x : Item) (front more : List ℕ) → Wire x None front → R.rest reader ≡ front ++ more →
+        T.take x ≡ None) }
 {
     let mut de = Deserializer::new(reader);
     let value = T::deserialize(alloc, &mut de)?;

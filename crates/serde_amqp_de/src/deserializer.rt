@@ -1,16 +1,20 @@
 //! The tokens of wire forms: constructors, scalars, and the heads of lists and arrays.
-ghost use Rattle.std.specs.Prelude.{◌≡◌, ◌≢◌, ◌<◌, ◌∷◌, ◌++◌, [], ℕ, List, length, IfOk, IfErr, OnOk, OnErr, Option, Some, None, true, false, string_bytes};
+ghost use Rattle.std.specs.Prelude.{◌≡◌, ◌≢◌, ◌<◌, ◌∷◌, ◌++◌, [], ℕ, List, length, IfOk, IfErr, OnOk, OnErr, Option};
+ghost use Rattle.std.specs.Prelude.{Some, None, true, false, string_bytes};
 ghost use Rattle.std.specs.Int.{w16, w32, w64, to_be_bytes};
 ghost use Rattle.std.specs.Str.{is_utf8};
 ghost use Rattle.serde_amqp_item.specs.declared.error.Error.TheVariants.{InvalidUtf8Encoding};
 ghost use Rattle.serde_amqp_item.specs.Item.{scalar, null, boolean, ushort, uint, ulong, string, symbol, list, array};
 ghost use Rattle.serde_amqp_item.specs.declared.codes.EncodingCodes.TheVariants.{DescribedType};
 ghost use Rattle.serde_amqp_item.specs.Wire.{one_byte, four_bytes, IsElementCode};
-ghost use Rattle.serde_amqp_item.specs.Kind.{Kind, null_kind, boolean_kind, ushort_kind, uint_kind, ulong_kind, string_kind, symbol_kind, list_kind, array_kind, described_kind};
+ghost use Rattle.serde_amqp_item.specs.Kind.{Kind, null_kind, boolean_kind, ushort_kind, uint_kind, ulong_kind};
+ghost use Rattle.serde_amqp_item.specs.Kind.{string_kind, symbol_kind, list_kind, array_kind, described_kind};
 ghost use Rattle.serde_amqp_read.specs.Reads.{Unless, faultless};
-ghost use Rattle.serde_amqp_de.specs.Reads.{At, Moves, Head, Foresees, NoHead, ReadSized, NoSized, ReadText, NoText, ReadCount, NoElementCode, Reads, Refuses, at_of, Opens, HasFailed};
+ghost use Rattle.serde_amqp_de.specs.Reads.{At, Moves, Head, Foresees, NoHead, ReadSized, NoSized, ReadText, NoText};
+ghost use Rattle.serde_amqp_de.specs.Reads.{ReadCount, NoElementCode, Reads, Refuses, at_of, Opens, HasFailed};
 ghost use Rattle.serde_amqp_de.specs.Names.{Names, NamesText, NamesElement, Named};
-ghost use Rattle.serde_amqp_de.specs.Takes.{null_taken, boolean_taken, ushort_taken, uint_taken, ulong_taken, string_taken, symbol_taken, list_taken, array_taken, described_taken};
+ghost use Rattle.serde_amqp_de.specs.Takes.{null_taken, boolean_taken, ushort_taken, uint_taken, ulong_taken};
+ghost use Rattle.serde_amqp_de.specs.Takes.{string_taken, symbol_taken, list_taken, array_taken, described_taken};
 
 use crate::constructor::constructor_of;
 use serde_amqp_item::{EncodingCodes, Error, MAX_ARRAY_COUNT, code_of};
@@ -67,7 +71,8 @@ impl<R: Read> Deserializer<R> {
 
     #[inline(always)]
     pub(crate) fn next_byte(&mut self) -> Result<u8, Error>
-        ensures ok { IfOk result (λ b. Moves (at_of R.rest self.old) (at_of R.rest self.new) (b ∷ [])) }
+        ensures ok { IfOk result (λ b. Moves (at_of R.rest self.old) (at_of R.rest self.new)
+            (b ∷ [])) }
         ensures element { OnOk result (self.new.element ≡ self.old.element) }
         ensures end { Unless R.faulty result (R.rest self.old.reader ≡ []) }
         ensures failed { OnErr result (HasFailed R.rest self.new) }
@@ -102,7 +107,8 @@ impl<R: Read> Deserializer<R> {
     }
 
     pub(crate) fn next_u16(&mut self) -> Result<u16, Error>
-        ensures ok { IfOk result (λ n. Moves (at_of R.rest self.old) (at_of R.rest self.new) (to_be_bytes w16 n)) }
+        ensures ok { IfOk result (λ n. Moves (at_of R.rest self.old) (at_of R.rest self.new)
+            (to_be_bytes w16 n)) }
         ensures element { OnOk result (self.new.element ≡ self.old.element) }
         ensures end { Unless R.faulty result (length (R.rest self.old.reader) < 2) }
         ensures failed { OnErr result (HasFailed R.rest self.new) }
@@ -112,7 +118,8 @@ impl<R: Read> Deserializer<R> {
     }
 
     pub(crate) fn next_u32(&mut self) -> Result<u32, Error>
-        ensures ok { IfOk result (λ n. Moves (at_of R.rest self.old) (at_of R.rest self.new) (to_be_bytes w32 n)) }
+        ensures ok { IfOk result (λ n. Moves (at_of R.rest self.old) (at_of R.rest self.new)
+            (to_be_bytes w32 n)) }
         ensures element { OnOk result (self.new.element ≡ self.old.element) }
         ensures end { Unless R.faulty result (length (R.rest self.old.reader) < 4) }
         ensures failed { OnErr result (HasFailed R.rest self.new) }
@@ -122,7 +129,8 @@ impl<R: Read> Deserializer<R> {
     }
 
     pub(crate) fn next_u64(&mut self) -> Result<u64, Error>
-        ensures ok { IfOk result (λ n. Moves (at_of R.rest self.old) (at_of R.rest self.new) (to_be_bytes w64 n)) }
+        ensures ok { IfOk result (λ n. Moves (at_of R.rest self.old) (at_of R.rest self.new)
+            (to_be_bytes w64 n)) }
         ensures element { OnOk result (self.new.element ≡ self.old.element) }
         ensures end { Unless R.faulty result (length (R.rest self.old.reader) < 8) }
         ensures failed { OnErr result (HasFailed R.rest self.new) }
@@ -133,7 +141,8 @@ impl<R: Read> Deserializer<R> {
 
     /// Reads so many bytes.
     fn bytes(&mut self, alloc: Global, count: usize) -> Result<Vec<u8>, Error>
-        ensures ok { IfOk result (λ v. Moves (at_of R.rest self.old) (at_of R.rest self.new) v.items) }
+        ensures ok { IfOk result (λ v. Moves (at_of R.rest self.old) (at_of R.rest self.new)
+            v.items) }
         ensures len { IfOk result (λ v. length v.items ≡ count) }
         ensures element { OnOk result (self.new.element ≡ self.old.element) }
         ensures end { Unless R.faulty result (length (R.rest self.old.reader) < count) }
@@ -160,9 +169,11 @@ impl<R: Read> Deserializer<R> {
         ensures ok { IfOk result (λ code. Foresees self.old.element (at_of R.rest self.old) code) }
         ensures same { OnOk result (at_of R.rest self.new ≡ at_of R.rest self.old) }
         ensures element { OnOk result (self.new.element ≡ self.old.element) }
-        ensures refused { Unless R.faulty result (NoHead self.old.element (R.rest self.old.reader)) }
+        ensures refused { Unless R.faulty result
+            (NoHead self.old.element (R.rest self.old.reader)) }
         ensures failed { OnErr result (HasFailed R.rest self.new) }
-        ensures named { (t : Kind) → Named R.faulty result (Names t self.old.element (R.rest self.old.reader)) }
+        ensures named { (t : Kind) → Named R.faulty result
+            (Names t self.old.element (R.rest self.old.reader)) }
     {
         let byte = match self.element {
             Some(c) => c,
@@ -177,11 +188,14 @@ impl<R: Read> Deserializer<R> {
     /// Reads the constructor of the next value.
     #[inline(always)]
     pub(crate) fn code(&mut self) -> Result<EncodingCodes, Error>
-        ensures ok { IfOk result (λ code. Head self.old.element (at_of R.rest self.old) (at_of R.rest self.new) code) }
+        ensures ok { IfOk result (λ code. Head self.old.element (at_of R.rest self.old)
+            (at_of R.rest self.new) code) }
         ensures element { OnOk result (self.new.element ≡ self.old.element) }
-        ensures refused { Unless R.faulty result (NoHead self.old.element (R.rest self.old.reader)) }
+        ensures refused { Unless R.faulty result
+            (NoHead self.old.element (R.rest self.old.reader)) }
         ensures failed { OnErr result (HasFailed R.rest self.new) }
-        ensures named { (t : Kind) → Named R.faulty result (Names t self.old.element (R.rest self.old.reader)) }
+        ensures named { (t : Kind) → Named R.faulty result
+            (Names t self.old.element (R.rest self.old.reader)) }
     {
         let byte = match self.element {
             Some(c) => c,
@@ -199,11 +213,14 @@ impl<R: Read> Deserializer<R> {
     /// reader has failed.
     #[tactic(auto, using(crate::proofs::Heads::refusing, crate::proofs::Scalars::nulls))]
     pub fn deserialize_unit(&mut self) -> Result<(), Error>
-        ensures ok { OnOk result (Reads self.old.element (at_of R.rest self.old) (at_of R.rest self.new) (scalar null)) }
+        ensures ok { OnOk result (Reads self.old.element (at_of R.rest self.old)
+            (at_of R.rest self.new) (scalar null)) }
         ensures element { OnOk result (self.new.element ≡ self.old.element) }
-        ensures refused { Unless R.faulty result (Refuses null_taken self.old.element (at_of R.rest self.old)) }
+        ensures refused { Unless R.faulty result
+            (Refuses null_taken self.old.element (at_of R.rest self.old)) }
         ensures failed { OnErr result (HasFailed R.rest self.new) }
-        ensures named { Named R.faulty result (Names null_kind self.old.element (R.rest self.old.reader)) }
+        ensures named { Named R.faulty result
+            (Names null_kind self.old.element (R.rest self.old.reader)) }
     {
         match self.code()? {
             EncodingCodes::Null => Ok(()),
@@ -217,11 +234,14 @@ impl<R: Read> Deserializer<R> {
     /// a byte that is neither 0 nor 1. After an error the reader has failed.
     #[tactic(auto, using(crate::proofs::Heads::refusing, crate::proofs::Scalars::booleans))]
     pub fn deserialize_bool(&mut self) -> Result<bool, Error>
-        ensures ok { IfOk result (λ b. Reads self.old.element (at_of R.rest self.old) (at_of R.rest self.new) (scalar (boolean b))) }
+        ensures ok { IfOk result (λ b. Reads self.old.element (at_of R.rest self.old)
+            (at_of R.rest self.new) (scalar (boolean b))) }
         ensures element { OnOk result (self.new.element ≡ self.old.element) }
-        ensures refused { Unless R.faulty result (Refuses boolean_taken self.old.element (at_of R.rest self.old)) }
+        ensures refused { Unless R.faulty result
+            (Refuses boolean_taken self.old.element (at_of R.rest self.old)) }
         ensures failed { OnErr result (HasFailed R.rest self.new) }
-        ensures named { Named R.faulty result (Names boolean_kind self.old.element (R.rest self.old.reader)) }
+        ensures named { Named R.faulty result
+            (Names boolean_kind self.old.element (R.rest self.old.reader)) }
     {
         match self.code()? {
             EncodingCodes::BooleanTrue => Ok(true),
@@ -243,11 +263,14 @@ impl<R: Read> Deserializer<R> {
     /// has failed.
     #[tactic(auto, using(crate::proofs::Heads::refusing, crate::proofs::Scalars::ushorts))]
     pub fn deserialize_u16(&mut self) -> Result<u16, Error>
-        ensures ok { IfOk result (λ n. Reads self.old.element (at_of R.rest self.old) (at_of R.rest self.new) (scalar (ushort n))) }
+        ensures ok { IfOk result (λ n. Reads self.old.element (at_of R.rest self.old)
+            (at_of R.rest self.new) (scalar (ushort n))) }
         ensures element { OnOk result (self.new.element ≡ self.old.element) }
-        ensures refused { Unless R.faulty result (Refuses ushort_taken self.old.element (at_of R.rest self.old)) }
+        ensures refused { Unless R.faulty result
+            (Refuses ushort_taken self.old.element (at_of R.rest self.old)) }
         ensures failed { OnErr result (HasFailed R.rest self.new) }
-        ensures named { Named R.faulty result (Names ushort_kind self.old.element (R.rest self.old.reader)) }
+        ensures named { Named R.faulty result
+            (Names ushort_kind self.old.element (R.rest self.old.reader)) }
     {
         match self.code()? {
             EncodingCodes::UShort => Ok(self.next_u16()?),
@@ -262,11 +285,14 @@ impl<R: Read> Deserializer<R> {
     #[inline(always)]
     #[tactic(auto, using(crate::proofs::Heads::refusing, crate::proofs::Scalars::uints))]
     pub fn deserialize_u32(&mut self) -> Result<u32, Error>
-        ensures ok { IfOk result (λ n. Reads self.old.element (at_of R.rest self.old) (at_of R.rest self.new) (scalar (uint n))) }
+        ensures ok { IfOk result (λ n. Reads self.old.element (at_of R.rest self.old)
+            (at_of R.rest self.new) (scalar (uint n))) }
         ensures element { OnOk result (self.new.element ≡ self.old.element) }
-        ensures refused { Unless R.faulty result (Refuses uint_taken self.old.element (at_of R.rest self.old)) }
+        ensures refused { Unless R.faulty result
+            (Refuses uint_taken self.old.element (at_of R.rest self.old)) }
         ensures failed { OnErr result (HasFailed R.rest self.new) }
-        ensures named { Named R.faulty result (Names uint_kind self.old.element (R.rest self.old.reader)) }
+        ensures named { Named R.faulty result
+            (Names uint_kind self.old.element (R.rest self.old.reader)) }
     {
         match self.code()? {
             EncodingCodes::UInt0 => Ok(0),
@@ -283,11 +309,14 @@ impl<R: Read> Deserializer<R> {
     #[inline(always)]
     #[tactic(auto, using(crate::proofs::Heads::refusing, crate::proofs::Scalars::ulongs))]
     pub fn deserialize_u64(&mut self) -> Result<u64, Error>
-        ensures ok { IfOk result (λ n. Reads self.old.element (at_of R.rest self.old) (at_of R.rest self.new) (scalar (ulong n))) }
+        ensures ok { IfOk result (λ n. Reads self.old.element (at_of R.rest self.old)
+            (at_of R.rest self.new) (scalar (ulong n))) }
         ensures element { OnOk result (self.new.element ≡ self.old.element) }
-        ensures refused { Unless R.faulty result (Refuses ulong_taken self.old.element (at_of R.rest self.old)) }
+        ensures refused { Unless R.faulty result
+            (Refuses ulong_taken self.old.element (at_of R.rest self.old)) }
         ensures failed { OnErr result (HasFailed R.rest self.new) }
-        ensures named { Named R.faulty result (Names ulong_kind self.old.element (R.rest self.old.reader)) }
+        ensures named { Named R.faulty result
+            (Names ulong_kind self.old.element (R.rest self.old.reader)) }
     {
         match self.code()? {
             EncodingCodes::ULong0 => Ok(0),
@@ -300,7 +329,8 @@ impl<R: Read> Deserializer<R> {
     /// Reads a size of one byte, and so many bytes.
     #[tactic(auto, using(crate::proofs::Sized::sizing))]
     pub(crate) fn sized8(&mut self, alloc: Global) -> Result<Vec<u8>, Error>
-        ensures ok { IfOk result (λ v. ReadSized one_byte (at_of R.rest self.old) (at_of R.rest self.new) v.items) }
+        ensures ok { IfOk result (λ v. ReadSized one_byte (at_of R.rest self.old)
+            (at_of R.rest self.new) v.items) }
         ensures element { OnOk result (self.new.element ≡ self.old.element) }
         ensures refused { Unless R.faulty result (NoSized one_byte (R.rest self.old.reader)) }
         ensures failed { OnErr result (HasFailed R.rest self.new) }
@@ -312,7 +342,8 @@ impl<R: Read> Deserializer<R> {
     /// Reads a size of four bytes, and so many bytes.
     #[tactic(auto, using(crate::proofs::Sized::sizing))]
     pub(crate) fn sized32(&mut self, alloc: Global) -> Result<Vec<u8>, Error>
-        ensures ok { IfOk result (λ v. ReadSized four_bytes (at_of R.rest self.old) (at_of R.rest self.new) v.items) }
+        ensures ok { IfOk result (λ v. ReadSized four_bytes (at_of R.rest self.old)
+            (at_of R.rest self.new) v.items) }
         ensures element { OnOk result (self.new.element ≡ self.old.element) }
         ensures refused { Unless R.faulty result (NoSized four_bytes (R.rest self.old.reader)) }
         ensures failed { OnErr result (HasFailed R.rest self.new) }
@@ -324,7 +355,8 @@ impl<R: Read> Deserializer<R> {
     /// Reads a size of one byte, and a text of so many bytes.
     #[tactic(auto, using(crate::proofs::Sized::texts))]
     fn text8(&mut self, alloc: Global) -> Result<String, Error>
-        ensures ok { IfOk result (λ s. ReadText one_byte (at_of R.rest self.old) (at_of R.rest self.new) (string_bytes s)) }
+        ensures ok { IfOk result (λ s. ReadText one_byte (at_of R.rest self.old)
+            (at_of R.rest self.new) (string_bytes s)) }
         ensures element { OnOk result (self.new.element ≡ self.old.element) }
         ensures refused { Unless R.faulty result (NoText one_byte (R.rest self.old.reader)) }
         ensures failed { OnErr result (HasFailed R.rest self.new) }
@@ -340,7 +372,8 @@ impl<R: Read> Deserializer<R> {
     /// Reads a size of four bytes, and a text of so many bytes.
     #[tactic(auto, using(crate::proofs::Sized::texts))]
     fn text32(&mut self, alloc: Global) -> Result<String, Error>
-        ensures ok { IfOk result (λ s. ReadText four_bytes (at_of R.rest self.old) (at_of R.rest self.new) (string_bytes s)) }
+        ensures ok { IfOk result (λ s. ReadText four_bytes (at_of R.rest self.old)
+            (at_of R.rest self.new) (string_bytes s)) }
         ensures element { OnOk result (self.new.element ≡ self.old.element) }
         ensures refused { Unless R.faulty result (NoText four_bytes (R.rest self.old.reader)) }
         ensures failed { OnErr result (HasFailed R.rest self.new) }
@@ -359,11 +392,14 @@ impl<R: Read> Deserializer<R> {
     /// for bytes that are not UTF-8; `Memory`. After an error the reader has failed.
     #[tactic(auto, using(crate::proofs::Heads::refusing, crate::proofs::Sized::strings))]
     pub fn deserialize_string(&mut self, alloc: Global) -> Result<String, Error>
-        ensures ok { IfOk result (λ s. Reads self.old.element (at_of R.rest self.old) (at_of R.rest self.new) (scalar (string (string_bytes s)))) }
+        ensures ok { IfOk result (λ s. Reads self.old.element (at_of R.rest self.old)
+            (at_of R.rest self.new) (scalar (string (string_bytes s)))) }
         ensures element { OnOk result (self.new.element ≡ self.old.element) }
-        ensures refused { Unless R.faulty result (Refuses string_taken self.old.element (at_of R.rest self.old)) }
+        ensures refused { Unless R.faulty result
+            (Refuses string_taken self.old.element (at_of R.rest self.old)) }
         ensures failed { OnErr result (HasFailed R.rest self.new) }
-        ensures named { Named R.faulty result (Names string_kind self.old.element (R.rest self.old.reader)) }
+        ensures named { Named R.faulty result
+            (Names string_kind self.old.element (R.rest self.old.reader)) }
     {
         match self.code()? {
             EncodingCodes::Str8 => Ok(self.text8(alloc)?),
@@ -378,11 +414,14 @@ impl<R: Read> Deserializer<R> {
     /// for bytes that are not UTF-8; `Memory`. After an error the reader has failed.
     #[tactic(auto, using(crate::proofs::Heads::refusing, crate::proofs::Sized::symbols))]
     pub fn deserialize_symbol(&mut self, alloc: Global) -> Result<String, Error>
-        ensures ok { IfOk result (λ s. Reads self.old.element (at_of R.rest self.old) (at_of R.rest self.new) (scalar (symbol (string_bytes s)))) }
+        ensures ok { IfOk result (λ s. Reads self.old.element (at_of R.rest self.old)
+            (at_of R.rest self.new) (scalar (symbol (string_bytes s)))) }
         ensures element { OnOk result (self.new.element ≡ self.old.element) }
-        ensures refused { Unless R.faulty result (Refuses symbol_taken self.old.element (at_of R.rest self.old)) }
+        ensures refused { Unless R.faulty result
+            (Refuses symbol_taken self.old.element (at_of R.rest self.old)) }
         ensures failed { OnErr result (HasFailed R.rest self.new) }
-        ensures named { Named R.faulty result (Names symbol_kind self.old.element (R.rest self.old.reader)) }
+        ensures named { Named R.faulty result
+            (Names symbol_kind self.old.element (R.rest self.old.reader)) }
     {
         match self.code()? {
             EncodingCodes::Sym8 => Ok(self.text8(alloc)?),
@@ -397,11 +436,14 @@ impl<R: Read> Deserializer<R> {
     /// has failed.
     #[tactic(auto, using(crate::proofs::Heads::refusing, crate::proofs::Heads::describing))]
     pub fn described(&mut self) -> Result<(), Error>
-        ensures ok { OnOk result (Head self.old.element (at_of R.rest self.old) (at_of R.rest self.new) DescribedType) }
+        ensures ok { OnOk result (Head self.old.element (at_of R.rest self.old)
+            (at_of R.rest self.new) DescribedType) }
         ensures element { OnOk result (self.new.element ≡ None) }
-        ensures refused { Unless R.faulty result (Refuses described_taken self.old.element (at_of R.rest self.old)) }
+        ensures refused { Unless R.faulty result
+            (Refuses described_taken self.old.element (at_of R.rest self.old)) }
         ensures failed { OnErr result (HasFailed R.rest self.new) }
-        ensures named { Named R.faulty result (Names described_kind self.old.element (R.rest self.old.reader)) }
+        ensures named { Named R.faulty result
+            (Names described_kind self.old.element (R.rest self.old.reader)) }
     {
         match self.code()? {
             EncodingCodes::DescribedType => {
@@ -415,7 +457,8 @@ impl<R: Read> Deserializer<R> {
     /// Reads a size and a count of one byte each.
     #[tactic(auto, using(crate::proofs::Lists::counting))]
     pub(crate) fn count8(&mut self) -> Result<(u8, u8), Error>
-        ensures ok { IfOk result (λ s. ReadCount one_byte (at_of R.rest self.old) (at_of R.rest self.new) s.0 s.1) }
+        ensures ok { IfOk result (λ s. ReadCount one_byte (at_of R.rest self.old)
+            (at_of R.rest self.new) s.0 s.1) }
         ensures element { OnOk result (self.new.element ≡ self.old.element) }
         ensures end { Unless R.faulty result (length (R.rest self.old.reader) < 2) }
         ensures failed { OnErr result (HasFailed R.rest self.new) }
@@ -428,7 +471,8 @@ impl<R: Read> Deserializer<R> {
     /// Reads a size and a count of four bytes each.
     #[tactic(auto, using(crate::proofs::Lists::counting))]
     pub(crate) fn count32(&mut self) -> Result<(u32, u32), Error>
-        ensures ok { IfOk result (λ s. ReadCount four_bytes (at_of R.rest self.old) (at_of R.rest self.new) s.0 s.1) }
+        ensures ok { IfOk result (λ s. ReadCount four_bytes (at_of R.rest self.old)
+            (at_of R.rest self.new) s.0 s.1) }
         ensures element { OnOk result (self.new.element ≡ self.old.element) }
         ensures end { Unless R.faulty result (length (R.rest self.old.reader) < 8) }
         ensures failed { OnErr result (HasFailed R.rest self.new) }
@@ -445,11 +489,14 @@ impl<R: Read> Deserializer<R> {
     /// a size that is too small, and for more than 65,536 items. After an error the reader has failed.
     #[tactic(auto, using(crate::proofs::Heads::refusing, crate::proofs::Lists::lists))]
     pub fn list_head(&mut self) -> Result<(usize, usize), Error>
-        ensures ok { IfOk result (λ h. Opens list None self.old.element (at_of R.rest self.old) (at_of R.rest self.new) h.0 h.1) }
+        ensures ok { IfOk result (λ h. Opens list None self.old.element (at_of R.rest self.old)
+            (at_of R.rest self.new) h.0 h.1) }
         ensures element { OnOk result (self.new.element ≡ self.old.element) }
-        ensures refused { Unless R.faulty result (Refuses list_taken self.old.element (at_of R.rest self.old)) }
+        ensures refused { Unless R.faulty result
+            (Refuses list_taken self.old.element (at_of R.rest self.old)) }
         ensures failed { OnErr result (HasFailed R.rest self.new) }
-        ensures named { Named R.faulty result (Names list_kind self.old.element (R.rest self.old.reader)) }
+        ensures named { Named R.faulty result
+            (Names list_kind self.old.element (R.rest self.old.reader)) }
     {
         match self.code()? {
             EncodingCodes::List0 => Ok((0, 0)),
@@ -478,7 +525,8 @@ impl<R: Read> Deserializer<R> {
     /// Reads the constructor of so many elements of an array (part 1, section 1.6.24).
     #[tactic(auto, using(crate::proofs::Arrays::element_codes))]
     fn element_code(&mut self, count: usize) -> Result<u8, Error>
-        ensures ok { IfOk result (λ c. Moves (at_of R.rest self.old) (at_of R.rest self.new) (c ∷ [])) }
+        ensures ok { IfOk result (λ c. Moves (at_of R.rest self.old) (at_of R.rest self.new)
+            (c ∷ [])) }
         ensures plain { IfOk result (λ c. IsElementCode count c) }
         ensures refused { Unless R.faulty result (NoElementCode count (R.rest self.old.reader)) }
         ensures failed { OnErr result (HasFailed R.rest self.new) }
@@ -508,10 +556,13 @@ impl<R: Read> Deserializer<R> {
     /// 65,536 elements. After an error the reader has failed.
     #[tactic(auto, using(crate::proofs::Heads::refusing, crate::proofs::Arrays::arrays))]
     pub fn array_head(&mut self) -> Result<(usize, usize), Error>
-        ensures ok { IfOk result (λ h. Opens array self.new.element self.old.element (at_of R.rest self.old) (at_of R.rest self.new) h.0 h.1) }
-        ensures refused { Unless R.faulty result (Refuses array_taken self.old.element (at_of R.rest self.old)) }
+        ensures ok { IfOk result (λ h. Opens array self.new.element self.old.element
+            (at_of R.rest self.old) (at_of R.rest self.new) h.0 h.1) }
+        ensures refused { Unless R.faulty result
+            (Refuses array_taken self.old.element (at_of R.rest self.old)) }
         ensures failed { OnErr result (HasFailed R.rest self.new) }
-        ensures named { Named R.faulty result (Names array_kind self.old.element (R.rest self.old.reader)) }
+        ensures named { Named R.faulty result
+            (Names array_kind self.old.element (R.rest self.old.reader)) }
     {
         match self.code()? {
             EncodingCodes::Array8 => {

@@ -5,7 +5,8 @@ ghost use Rattle.serde_amqp_item.specs.Kind.{map_kind};
 ghost use Rattle.serde_amqp_read.specs.Reads.{Unless};
 ghost use Rattle.serde_amqp_de.specs.Reads.{At, Opens, Took, Refuses, HasFailed, at_of};
 ghost use Rattle.serde_amqp_de.specs.Names.{Names, Named};
-ghost use Rattle.serde_amqp_de.specs.Maps.{map_in, map_taken, pairs_taken, pair_items, map_item, TookPairs, RefusesPairs, TookSizedPairs, RefusesSizedPairs};
+ghost use Rattle.serde_amqp_de.specs.Maps.{map_in, map_taken, pairs_taken, pair_items, map_item, TookPairs};
+ghost use Rattle.serde_amqp_de.specs.Maps.{RefusesPairs, TookSizedPairs, RefusesSizedPairs};
 
 use crate::deserialize::Deserialize;
 use crate::deserializer::Deserializer;
@@ -22,12 +23,15 @@ impl<R: Read> Deserializer<R> {
     /// the reader has failed.
     #[tactic(auto, using(crate::proofs::Heads::refusing, crate::proofs::Maps::maps))]
     pub fn map_head(&mut self) -> Result<(usize, usize), Error>
-        ensures ok { IfOk result (λ h. Opens map_in None self.old.element (at_of R.rest self.old) (at_of R.rest self.new) h.0 h.1) }
+        ensures ok { IfOk result (λ h. Opens map_in None self.old.element (at_of R.rest self.old)
+            (at_of R.rest self.new) h.0 h.1) }
         ensures even { IfOk result (λ h. h.0 % 2 ≡ 0) }
         ensures element { OnOk result (self.new.element ≡ self.old.element) }
-        ensures refused { Unless R.faulty result (Refuses map_taken self.old.element (at_of R.rest self.old)) }
+        ensures refused { Unless R.faulty result
+            (Refuses map_taken self.old.element (at_of R.rest self.old)) }
         ensures failed { OnErr result (HasFailed R.rest self.new) }
-        ensures named { Named R.faulty result (Names map_kind self.old.element (R.rest self.old.reader)) }
+        ensures named { Named R.faulty result
+            (Names map_kind self.old.element (R.rest self.old.reader)) }
     {
         match self.code()? {
             EncodingCodes::Map8 => {
@@ -66,9 +70,11 @@ fn read_pairs<K: Deserialize + Drop, V: Deserialize + Drop, R: Read>(
     count: usize,
 ) -> Result<Vec<(K, V)>, Error>
     requires { de.old.element ≡ None }
-    ensures ok { IfOk result (λ v. TookPairs K.take V.take count (at_of R.rest de.old) (at_of R.rest de.new) (pair_items K.item V.item v.items)) }
+    ensures ok { IfOk result (λ v. TookPairs K.take V.take count (at_of R.rest de.old)
+        (at_of R.rest de.new) (pair_items K.item V.item v.items)) }
     ensures element { OnOk result (de.new.element ≡ None) }
-    ensures refused { Unless R.faulty result (RefusesPairs K.take V.take count (at_of R.rest de.old)) }
+    ensures refused { Unless R.faulty result
+        (RefusesPairs K.take V.take count (at_of R.rest de.old)) }
 {
     let mut pairs = Vec::new(alloc);
     for _ in 0..count {
@@ -88,8 +94,10 @@ fn read_sized_pairs<K: Deserialize + Drop, V: Deserialize + Drop, R: Read>(
     size: usize,
 ) -> Result<Vec<(K, V)>, Error>
     requires { de.old.element ≡ None }
-    ensures ok { IfOk result (λ v. TookSizedPairs K.take V.take count size (at_of R.rest de.old) (at_of R.rest de.new) (pair_items K.item V.item v.items)) }
-    ensures refused { Unless R.faulty result (RefusesSizedPairs K.take V.take count size (at_of R.rest de.old)) }
+    ensures ok { IfOk result (λ v. TookSizedPairs K.take V.take count size (at_of R.rest de.old)
+        (at_of R.rest de.new) (pair_items K.item V.item v.items)) }
+    ensures refused { Unless R.faulty result
+        (RefusesSizedPairs K.take V.take count size (at_of R.rest de.old)) }
 {
     let start = de.pos;
     let pairs = read_pairs(alloc, de, count)?;
@@ -109,9 +117,11 @@ pub fn read_map<K: Deserialize + Drop, V: Deserialize + Drop, R: Read>(
     alloc: Global,
     de: &mut Deserializer<R>,
 ) -> Result<Vec<(K, V)>, Error>
-    ensures ok { IfOk result (λ v. Took (pairs_taken K.take V.take) de.old.element (at_of R.rest de.old) (at_of R.rest de.new) (map_item K.item V.item v.items)) }
+    ensures ok { IfOk result (λ v. Took (pairs_taken K.take V.take) de.old.element
+        (at_of R.rest de.old) (at_of R.rest de.new) (map_item K.item V.item v.items)) }
     ensures element { OnOk result (de.new.element ≡ de.old.element) }
-    ensures refused { Unless R.faulty result (Refuses (pairs_taken K.take V.take) de.old.element (at_of R.rest de.old)) }
+    ensures refused { Unless R.faulty result
+        (Refuses (pairs_taken K.take V.take) de.old.element (at_of R.rest de.old)) }
 {
     let outer = de.element;
     let (count, size) = de.map_head()?;

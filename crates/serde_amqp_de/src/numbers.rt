@@ -1,9 +1,12 @@
 //! Numbers and characters as values.
 ghost use Rattle.std.specs.Prelude.{Option, refl};
 ghost use Rattle.serde_amqp_item.specs.Item.{scalar, ubyte, byte, short, int, long, float, double, char};
-ghost use Rattle.serde_amqp_de.specs.Takes.{ubyte_taken, byte_taken, short_taken, int_taken, long_taken, float_taken, double_taken, char_taken};
-ghost use Rattle.serde_amqp_de.specs.Deciding.{ubyte_decided, byte_decided, short_decided, int_decided, long_decided, float_decided, double_decided, char_decided};
-ghost use Rattle.serde_amqp_de.specs.Again.{ubyte_faithful, byte_faithful, short_faithful, int_faithful, long_faithful, float_faithful, double_faithful, char_faithful};
+ghost use Rattle.serde_amqp_de.specs.Takes.{ubyte_taken, byte_taken, short_taken, int_taken, long_taken, float_taken};
+ghost use Rattle.serde_amqp_de.specs.Takes.{double_taken, char_taken};
+ghost use Rattle.serde_amqp_de.specs.Deciding.{ubyte_decided, byte_decided, short_decided, int_decided, long_decided};
+ghost use Rattle.serde_amqp_de.specs.Deciding.{float_decided, double_decided, char_decided};
+ghost use Rattle.serde_amqp_de.specs.Again.{ubyte_faithful, byte_faithful, short_faithful, int_faithful, long_faithful};
+ghost use Rattle.serde_amqp_de.specs.Again.{float_faithful, double_faithful, char_faithful};
 
 use crate::deserialize::{Deserialize, Faithful, NeverNull, RoundTrip};
 use crate::deserializer::Deserializer;

@@ -1,11 +1,16 @@
 //! More values that hold no others.
 ghost use Rattle.std.specs.Prelude.{◌≡◌, IfOk, OnOk, OnErr};
-ghost use Rattle.serde_amqp_item.specs.Item.{scalar, ubyte, byte, short, int, long, float, double, decimal32, decimal64, decimal128, char, timestamp, uuid, binary};
-ghost use Rattle.serde_amqp_item.specs.Kind.{ubyte_kind, byte_kind, short_kind, int_kind, long_kind, float_kind, double_kind, decimal32_kind, decimal64_kind, decimal128_kind, char_kind, timestamp_kind, uuid_kind, binary_kind};
+ghost use Rattle.serde_amqp_item.specs.Item.{scalar, ubyte, byte, short, int, long, float, double, decimal32};
+ghost use Rattle.serde_amqp_item.specs.Item.{decimal64, decimal128, char, timestamp, uuid, binary};
+ghost use Rattle.serde_amqp_item.specs.Kind.{ubyte_kind, byte_kind, short_kind, int_kind, long_kind, float_kind};
+ghost use Rattle.serde_amqp_item.specs.Kind.{double_kind, decimal32_kind, decimal64_kind, decimal128_kind, char_kind};
+ghost use Rattle.serde_amqp_item.specs.Kind.{timestamp_kind, uuid_kind, binary_kind};
 ghost use Rattle.serde_amqp_read.specs.Reads.{Unless};
 ghost use Rattle.serde_amqp_de.specs.Reads.{Reads, Refuses, HasFailed, at_of};
 ghost use Rattle.serde_amqp_de.specs.Names.{Names, Named};
-ghost use Rattle.serde_amqp_de.specs.Takes.{ubyte_taken, byte_taken, short_taken, int_taken, long_taken, float_taken, double_taken, decimal32_taken, decimal64_taken, decimal128_taken, char_taken, timestamp_taken, uuid_taken, binary_taken};
+ghost use Rattle.serde_amqp_de.specs.Takes.{ubyte_taken, byte_taken, short_taken, int_taken, long_taken, float_taken};
+ghost use Rattle.serde_amqp_de.specs.Takes.{double_taken, decimal32_taken, decimal64_taken, decimal128_taken};
+ghost use Rattle.serde_amqp_de.specs.Takes.{char_taken, timestamp_taken, uuid_taken, binary_taken};
 
 use crate::deserializer::Deserializer;
 use serde_amqp_item::{Double, EncodingCodes, Error, Float};
@@ -19,11 +24,14 @@ impl<R: Read> Deserializer<R> {
     /// has failed.
     #[tactic(auto, using(crate::proofs::Heads::refusing, crate::proofs::Fixed::ubytes))]
     pub fn deserialize_u8(&mut self) -> Result<u8, Error>
-        ensures ok { IfOk result (λ n. Reads self.old.element (at_of R.rest self.old) (at_of R.rest self.new) (scalar (ubyte n))) }
+        ensures ok { IfOk result (λ n. Reads self.old.element (at_of R.rest self.old)
+            (at_of R.rest self.new) (scalar (ubyte n))) }
         ensures element { OnOk result (self.new.element ≡ self.old.element) }
-        ensures refused { Unless R.faulty result (Refuses ubyte_taken self.old.element (at_of R.rest self.old)) }
+        ensures refused { Unless R.faulty result
+            (Refuses ubyte_taken self.old.element (at_of R.rest self.old)) }
         ensures failed { OnErr result (HasFailed R.rest self.new) }
-        ensures named { Named R.faulty result (Names ubyte_kind self.old.element (R.rest self.old.reader)) }
+        ensures named { Named R.faulty result
+            (Names ubyte_kind self.old.element (R.rest self.old.reader)) }
     {
         match self.code()? {
             EncodingCodes::UByte => Ok(self.next_byte()?),
@@ -37,11 +45,14 @@ impl<R: Read> Deserializer<R> {
     /// has failed.
     #[tactic(auto, using(crate::proofs::Heads::refusing, crate::proofs::Fixed::bytes))]
     pub fn deserialize_i8(&mut self) -> Result<i8, Error>
-        ensures ok { IfOk result (λ z. Reads self.old.element (at_of R.rest self.old) (at_of R.rest self.new) (scalar (byte z))) }
+        ensures ok { IfOk result (λ z. Reads self.old.element (at_of R.rest self.old)
+            (at_of R.rest self.new) (scalar (byte z))) }
         ensures element { OnOk result (self.new.element ≡ self.old.element) }
-        ensures refused { Unless R.faulty result (Refuses byte_taken self.old.element (at_of R.rest self.old)) }
+        ensures refused { Unless R.faulty result
+            (Refuses byte_taken self.old.element (at_of R.rest self.old)) }
         ensures failed { OnErr result (HasFailed R.rest self.new) }
-        ensures named { Named R.faulty result (Names byte_kind self.old.element (R.rest self.old.reader)) }
+        ensures named { Named R.faulty result
+            (Names byte_kind self.old.element (R.rest self.old.reader)) }
     {
         match self.code()? {
             EncodingCodes::Byte => Ok(self.next_byte()?.cast_signed()),
@@ -55,11 +66,14 @@ impl<R: Read> Deserializer<R> {
     /// has failed.
     #[tactic(auto, using(crate::proofs::Heads::refusing, crate::proofs::Fixed::shorts))]
     pub fn deserialize_i16(&mut self) -> Result<i16, Error>
-        ensures ok { IfOk result (λ z. Reads self.old.element (at_of R.rest self.old) (at_of R.rest self.new) (scalar (short z))) }
+        ensures ok { IfOk result (λ z. Reads self.old.element (at_of R.rest self.old)
+            (at_of R.rest self.new) (scalar (short z))) }
         ensures element { OnOk result (self.new.element ≡ self.old.element) }
-        ensures refused { Unless R.faulty result (Refuses short_taken self.old.element (at_of R.rest self.old)) }
+        ensures refused { Unless R.faulty result
+            (Refuses short_taken self.old.element (at_of R.rest self.old)) }
         ensures failed { OnErr result (HasFailed R.rest self.new) }
-        ensures named { Named R.faulty result (Names short_kind self.old.element (R.rest self.old.reader)) }
+        ensures named { Named R.faulty result
+            (Names short_kind self.old.element (R.rest self.old.reader)) }
     {
         match self.code()? {
             EncodingCodes::Short => Ok(self.next_u16()?.cast_signed()),
@@ -73,11 +87,14 @@ impl<R: Read> Deserializer<R> {
     /// has failed.
     #[tactic(auto, using(crate::proofs::Heads::refusing, crate::proofs::Fixed::ints))]
     pub fn deserialize_i32(&mut self) -> Result<i32, Error>
-        ensures ok { IfOk result (λ z. Reads self.old.element (at_of R.rest self.old) (at_of R.rest self.new) (scalar (int z))) }
+        ensures ok { IfOk result (λ z. Reads self.old.element (at_of R.rest self.old)
+            (at_of R.rest self.new) (scalar (int z))) }
         ensures element { OnOk result (self.new.element ≡ self.old.element) }
-        ensures refused { Unless R.faulty result (Refuses int_taken self.old.element (at_of R.rest self.old)) }
+        ensures refused { Unless R.faulty result
+            (Refuses int_taken self.old.element (at_of R.rest self.old)) }
         ensures failed { OnErr result (HasFailed R.rest self.new) }
-        ensures named { Named R.faulty result (Names int_kind self.old.element (R.rest self.old.reader)) }
+        ensures named { Named R.faulty result
+            (Names int_kind self.old.element (R.rest self.old.reader)) }
     {
         match self.code()? {
             EncodingCodes::SmallInt => Ok(i32::from(self.next_byte()?.cast_signed())),
@@ -92,11 +109,14 @@ impl<R: Read> Deserializer<R> {
     /// has failed.
     #[tactic(auto, using(crate::proofs::Heads::refusing, crate::proofs::Fixed::longs))]
     pub fn deserialize_i64(&mut self) -> Result<i64, Error>
-        ensures ok { IfOk result (λ z. Reads self.old.element (at_of R.rest self.old) (at_of R.rest self.new) (scalar (long z))) }
+        ensures ok { IfOk result (λ z. Reads self.old.element (at_of R.rest self.old)
+            (at_of R.rest self.new) (scalar (long z))) }
         ensures element { OnOk result (self.new.element ≡ self.old.element) }
-        ensures refused { Unless R.faulty result (Refuses long_taken self.old.element (at_of R.rest self.old)) }
+        ensures refused { Unless R.faulty result
+            (Refuses long_taken self.old.element (at_of R.rest self.old)) }
         ensures failed { OnErr result (HasFailed R.rest self.new) }
-        ensures named { Named R.faulty result (Names long_kind self.old.element (R.rest self.old.reader)) }
+        ensures named { Named R.faulty result
+            (Names long_kind self.old.element (R.rest self.old.reader)) }
     {
         match self.code()? {
             EncodingCodes::SmallLong => Ok(i64::from(self.next_byte()?.cast_signed())),
@@ -111,11 +131,14 @@ impl<R: Read> Deserializer<R> {
     /// has failed.
     #[tactic(auto, using(crate::proofs::Heads::refusing, crate::proofs::Fixed::floats))]
     pub fn deserialize_f32(&mut self) -> Result<Float, Error>
-        ensures ok { IfOk result (λ x. Reads self.old.element (at_of R.rest self.old) (at_of R.rest self.new) (scalar (float x.0))) }
+        ensures ok { IfOk result (λ x. Reads self.old.element (at_of R.rest self.old)
+            (at_of R.rest self.new) (scalar (float x.0))) }
         ensures element { OnOk result (self.new.element ≡ self.old.element) }
-        ensures refused { Unless R.faulty result (Refuses float_taken self.old.element (at_of R.rest self.old)) }
+        ensures refused { Unless R.faulty result
+            (Refuses float_taken self.old.element (at_of R.rest self.old)) }
         ensures failed { OnErr result (HasFailed R.rest self.new) }
-        ensures named { Named R.faulty result (Names float_kind self.old.element (R.rest self.old.reader)) }
+        ensures named { Named R.faulty result
+            (Names float_kind self.old.element (R.rest self.old.reader)) }
     {
         match self.code()? {
             EncodingCodes::Float => Ok(Float::from_bits(self.next_u32()?)),
@@ -129,11 +152,14 @@ impl<R: Read> Deserializer<R> {
     /// has failed.
     #[tactic(auto, using(crate::proofs::Heads::refusing, crate::proofs::Fixed::doubles))]
     pub fn deserialize_f64(&mut self) -> Result<Double, Error>
-        ensures ok { IfOk result (λ x. Reads self.old.element (at_of R.rest self.old) (at_of R.rest self.new) (scalar (double x.0))) }
+        ensures ok { IfOk result (λ x. Reads self.old.element (at_of R.rest self.old)
+            (at_of R.rest self.new) (scalar (double x.0))) }
         ensures element { OnOk result (self.new.element ≡ self.old.element) }
-        ensures refused { Unless R.faulty result (Refuses double_taken self.old.element (at_of R.rest self.old)) }
+        ensures refused { Unless R.faulty result
+            (Refuses double_taken self.old.element (at_of R.rest self.old)) }
         ensures failed { OnErr result (HasFailed R.rest self.new) }
-        ensures named { Named R.faulty result (Names double_kind self.old.element (R.rest self.old.reader)) }
+        ensures named { Named R.faulty result
+            (Names double_kind self.old.element (R.rest self.old.reader)) }
     {
         match self.code()? {
             EncodingCodes::Double => Ok(Double::from_bits(self.next_u64()?)),
@@ -147,11 +173,14 @@ impl<R: Read> Deserializer<R> {
     /// has failed.
     #[tactic(auto, using(crate::proofs::Heads::refusing, crate::proofs::Fixed::decimal32s))]
     pub fn deserialize_decimal32(&mut self) -> Result<[u8; 4], Error>
-        ensures ok { IfOk result (λ bs. Reads self.old.element (at_of R.rest self.old) (at_of R.rest self.new) (scalar (decimal32 bs))) }
+        ensures ok { IfOk result (λ bs. Reads self.old.element (at_of R.rest self.old)
+            (at_of R.rest self.new) (scalar (decimal32 bs))) }
         ensures element { OnOk result (self.new.element ≡ self.old.element) }
-        ensures refused { Unless R.faulty result (Refuses decimal32_taken self.old.element (at_of R.rest self.old)) }
+        ensures refused { Unless R.faulty result
+            (Refuses decimal32_taken self.old.element (at_of R.rest self.old)) }
         ensures failed { OnErr result (HasFailed R.rest self.new) }
-        ensures named { Named R.faulty result (Names decimal32_kind self.old.element (R.rest self.old.reader)) }
+        ensures named { Named R.faulty result
+            (Names decimal32_kind self.old.element (R.rest self.old.reader)) }
     {
         match self.code()? {
             EncodingCodes::Decimal32 => Ok(self.next_bytes::<4>()?),
@@ -165,11 +194,14 @@ impl<R: Read> Deserializer<R> {
     /// has failed.
     #[tactic(auto, using(crate::proofs::Heads::refusing, crate::proofs::Fixed::decimal64s))]
     pub fn deserialize_decimal64(&mut self) -> Result<[u8; 8], Error>
-        ensures ok { IfOk result (λ bs. Reads self.old.element (at_of R.rest self.old) (at_of R.rest self.new) (scalar (decimal64 bs))) }
+        ensures ok { IfOk result (λ bs. Reads self.old.element (at_of R.rest self.old)
+            (at_of R.rest self.new) (scalar (decimal64 bs))) }
         ensures element { OnOk result (self.new.element ≡ self.old.element) }
-        ensures refused { Unless R.faulty result (Refuses decimal64_taken self.old.element (at_of R.rest self.old)) }
+        ensures refused { Unless R.faulty result
+            (Refuses decimal64_taken self.old.element (at_of R.rest self.old)) }
         ensures failed { OnErr result (HasFailed R.rest self.new) }
-        ensures named { Named R.faulty result (Names decimal64_kind self.old.element (R.rest self.old.reader)) }
+        ensures named { Named R.faulty result
+            (Names decimal64_kind self.old.element (R.rest self.old.reader)) }
     {
         match self.code()? {
             EncodingCodes::Decimal64 => Ok(self.next_bytes::<8>()?),
@@ -183,11 +215,14 @@ impl<R: Read> Deserializer<R> {
     /// has failed.
     #[tactic(auto, using(crate::proofs::Heads::refusing, crate::proofs::Fixed::decimal128s))]
     pub fn deserialize_decimal128(&mut self) -> Result<[u8; 16], Error>
-        ensures ok { IfOk result (λ bs. Reads self.old.element (at_of R.rest self.old) (at_of R.rest self.new) (scalar (decimal128 bs))) }
+        ensures ok { IfOk result (λ bs. Reads self.old.element (at_of R.rest self.old)
+            (at_of R.rest self.new) (scalar (decimal128 bs))) }
         ensures element { OnOk result (self.new.element ≡ self.old.element) }
-        ensures refused { Unless R.faulty result (Refuses decimal128_taken self.old.element (at_of R.rest self.old)) }
+        ensures refused { Unless R.faulty result
+            (Refuses decimal128_taken self.old.element (at_of R.rest self.old)) }
         ensures failed { OnErr result (HasFailed R.rest self.new) }
-        ensures named { Named R.faulty result (Names decimal128_kind self.old.element (R.rest self.old.reader)) }
+        ensures named { Named R.faulty result
+            (Names decimal128_kind self.old.element (R.rest self.old.reader)) }
     {
         match self.code()? {
             EncodingCodes::Decimal128 => Ok(self.next_bytes::<16>()?),
@@ -201,11 +236,14 @@ impl<R: Read> Deserializer<R> {
     /// a number that is no Unicode scalar value. After an error the reader has failed.
     #[tactic(auto, using(crate::proofs::Heads::refusing, crate::proofs::Fixed::chars))]
     pub fn deserialize_char(&mut self) -> Result<char, Error>
-        ensures ok { IfOk result (λ c. Reads self.old.element (at_of R.rest self.old) (at_of R.rest self.new) (scalar (char c))) }
+        ensures ok { IfOk result (λ c. Reads self.old.element (at_of R.rest self.old)
+            (at_of R.rest self.new) (scalar (char c))) }
         ensures element { OnOk result (self.new.element ≡ self.old.element) }
-        ensures refused { Unless R.faulty result (Refuses char_taken self.old.element (at_of R.rest self.old)) }
+        ensures refused { Unless R.faulty result
+            (Refuses char_taken self.old.element (at_of R.rest self.old)) }
         ensures failed { OnErr result (HasFailed R.rest self.new) }
-        ensures named { Named R.faulty result (Names char_kind self.old.element (R.rest self.old.reader)) }
+        ensures named { Named R.faulty result
+            (Names char_kind self.old.element (R.rest self.old.reader)) }
     {
         match self.code()? {
             EncodingCodes::Char => {
@@ -225,11 +263,14 @@ impl<R: Read> Deserializer<R> {
     /// has failed.
     #[tactic(auto, using(crate::proofs::Heads::refusing, crate::proofs::Fixed::timestamps))]
     pub fn deserialize_timestamp(&mut self) -> Result<i64, Error>
-        ensures ok { IfOk result (λ z. Reads self.old.element (at_of R.rest self.old) (at_of R.rest self.new) (scalar (timestamp z))) }
+        ensures ok { IfOk result (λ z. Reads self.old.element (at_of R.rest self.old)
+            (at_of R.rest self.new) (scalar (timestamp z))) }
         ensures element { OnOk result (self.new.element ≡ self.old.element) }
-        ensures refused { Unless R.faulty result (Refuses timestamp_taken self.old.element (at_of R.rest self.old)) }
+        ensures refused { Unless R.faulty result
+            (Refuses timestamp_taken self.old.element (at_of R.rest self.old)) }
         ensures failed { OnErr result (HasFailed R.rest self.new) }
-        ensures named { Named R.faulty result (Names timestamp_kind self.old.element (R.rest self.old.reader)) }
+        ensures named { Named R.faulty result
+            (Names timestamp_kind self.old.element (R.rest self.old.reader)) }
     {
         match self.code()? {
             EncodingCodes::Timestamp => Ok(self.next_u64()?.cast_signed()),
@@ -243,11 +284,14 @@ impl<R: Read> Deserializer<R> {
     /// has failed.
     #[tactic(auto, using(crate::proofs::Heads::refusing, crate::proofs::Fixed::uuids))]
     pub fn deserialize_uuid(&mut self) -> Result<[u8; 16], Error>
-        ensures ok { IfOk result (λ bs. Reads self.old.element (at_of R.rest self.old) (at_of R.rest self.new) (scalar (uuid bs))) }
+        ensures ok { IfOk result (λ bs. Reads self.old.element (at_of R.rest self.old)
+            (at_of R.rest self.new) (scalar (uuid bs))) }
         ensures element { OnOk result (self.new.element ≡ self.old.element) }
-        ensures refused { Unless R.faulty result (Refuses uuid_taken self.old.element (at_of R.rest self.old)) }
+        ensures refused { Unless R.faulty result
+            (Refuses uuid_taken self.old.element (at_of R.rest self.old)) }
         ensures failed { OnErr result (HasFailed R.rest self.new) }
-        ensures named { Named R.faulty result (Names uuid_kind self.old.element (R.rest self.old.reader)) }
+        ensures named { Named R.faulty result
+            (Names uuid_kind self.old.element (R.rest self.old.reader)) }
     {
         match self.code()? {
             EncodingCodes::Uuid => Ok(self.next_bytes::<16>()?),
@@ -261,11 +305,14 @@ impl<R: Read> Deserializer<R> {
     /// the reader has failed.
     #[tactic(auto, using(crate::proofs::Heads::refusing, crate::proofs::Sized::binaries))]
     pub fn deserialize_byte_buf(&mut self, alloc: Global) -> Result<Vec<u8>, Error>
-        ensures ok { IfOk result (λ v. Reads self.old.element (at_of R.rest self.old) (at_of R.rest self.new) (scalar (binary v.items))) }
+        ensures ok { IfOk result (λ v. Reads self.old.element (at_of R.rest self.old)
+            (at_of R.rest self.new) (scalar (binary v.items))) }
         ensures element { OnOk result (self.new.element ≡ self.old.element) }
-        ensures refused { Unless R.faulty result (Refuses binary_taken self.old.element (at_of R.rest self.old)) }
+        ensures refused { Unless R.faulty result
+            (Refuses binary_taken self.old.element (at_of R.rest self.old)) }
         ensures failed { OnErr result (HasFailed R.rest self.new) }
-        ensures named { Named R.faulty result (Names binary_kind self.old.element (R.rest self.old.reader)) }
+        ensures named { Named R.faulty result
+            (Names binary_kind self.old.element (R.rest self.old.reader)) }
     {
         match self.code()? {
             EncodingCodes::Vbin8 => Ok(self.sized8(alloc)?),

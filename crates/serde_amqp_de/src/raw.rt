@@ -19,10 +19,12 @@ impl<R: Read> Deserializer<R> {
     /// constructor; `Memory`. After an error the reader has failed.
     #[tactic(auto, using(crate::proofs::Kept::keeping))]
     pub fn deserialize_raw(&mut self, alloc: Global) -> Result<Vec<u8>, Error>
-        ensures ok { IfOk result (λ v. Reads self.old.element (at_of R.rest self.old) (at_of R.rest self.new) (raw v.items)) }
+        ensures ok { IfOk result (λ v. Reads self.old.element (at_of R.rest self.old)
+            (at_of R.rest self.new) (raw v.items)) }
         ensures strict { IfOk result (λ v. StrictBytes v.items) }
         ensures element { OnOk result (self.new.element ≡ self.old.element) }
-        ensures refused { Unless R.faulty result (Refuses raw_taken self.old.element (at_of R.rest self.old)) }
+        ensures refused { Unless R.faulty result
+            (Refuses raw_taken self.old.element (at_of R.rest self.old)) }
         ensures failed { OnErr result (HasFailed R.rest self.new) }
     {
         if self.element.is_some() {
@@ -40,9 +42,11 @@ impl<R: Read> Deserializer<R> {
     ///
     /// Errors: as for `deserialize_raw`. After an error the reader has failed.
     pub fn deserialize_ignored_any(&mut self, alloc: Global) -> Result<(), Error>
-        ensures ok { OnOk result ((text : List ℕ) × Reads self.old.element (at_of R.rest self.old) (at_of R.rest self.new) (raw text)) }
+        ensures ok { OnOk result ((text : List ℕ)
+            × Reads self.old.element (at_of R.rest self.old) (at_of R.rest self.new) (raw text)) }
         ensures element { OnOk result (self.new.element ≡ self.old.element) }
-        ensures refused { Unless R.faulty result (Refuses raw_taken self.old.element (at_of R.rest self.old)) }
+        ensures refused { Unless R.faulty result
+            (Refuses raw_taken self.old.element (at_of R.rest self.old)) }
         ensures failed { OnErr result (HasFailed R.rest self.new) }
     {
         let _bytes = self.deserialize_raw(alloc)?;

@@ -24,7 +24,8 @@ pub trait ReadFields: Sized {
 
     /// The values of fields that are all absent; none where one of them is mandatory.
     fn absent(alloc: Global) -> Option<Self>
-        ensures { MatchOption result (fields_taken takes no_items ≡ None) (λ v. fields_taken takes no_items ≡ Some (items v)) };
+        ensures { MatchOption result (fields_taken takes no_items ≡ None)
+            (λ v. fields_taken takes no_items ≡ Some (items v)) };
 
     /// Reads so many fields. The others are absent.
     ///
@@ -32,9 +33,11 @@ pub trait ReadFields: Sized {
     /// is so many items that the fields take.
     fn read<R: Read>(alloc: Global, de: &mut Deserializer<R>, count: usize) -> Result<Self, Error>
         requires { de.old.element ≡ None }
-        ensures ok { IfOk result (λ v. TookAll (fields_taken takes) count None (at_of R.rest de.old) (at_of R.rest de.new) (items v)) }
+        ensures ok { IfOk result (λ v. TookAll (fields_taken takes) count None (at_of R.rest de.old)
+            (at_of R.rest de.new) (items v)) }
         ensures element { OnOk result (de.new.element ≡ None) }
-        ensures refused { Unless R.faulty result (RefusesAll (fields_taken takes) count None (at_of R.rest de.old)) };
+        ensures refused { Unless R.faulty result
+            (RefusesAll (fields_taken takes) count None (at_of R.rest de.old)) };
 
     /// Bytes give one value of each field.
     ghost decided: { AllDecided takes };
@@ -113,9 +116,11 @@ pub fn read_descriptor<R: Read>(
     code: u64,
     name: &[u8],
 ) -> Result<(), Error>
-    ensures ok { OnOk result (Took (descriptor_taken code name.now) de.old.element (at_of R.rest de.old) (at_of R.rest de.new) (scalar (ulong code))) }
+    ensures ok { OnOk result (Took (descriptor_taken code name.now) de.old.element
+        (at_of R.rest de.old) (at_of R.rest de.new) (scalar (ulong code))) }
     ensures element { OnOk result (de.new.element ≡ de.old.element) }
-    ensures refused { Unless R.faulty result (Refuses (descriptor_taken code name.now) de.old.element (at_of R.rest de.old)) }
+    ensures refused { Unless R.faulty result
+        (Refuses (descriptor_taken code name.now) de.old.element (at_of R.rest de.old)) }
 {
     if is_symbol(de.peek()?) {
         let text = de.deserialize_symbol(alloc)?;
@@ -144,9 +149,11 @@ pub fn read_record<F: ReadFields + Drop, R: Read>(
     code: u64,
     name: &[u8],
 ) -> Result<F, Error>
-    ensures ok { IfOk result (λ v. Took (record_taken code name.now F.takes) de.old.element (at_of R.rest de.old) (at_of R.rest de.new) (record_item code (F.items v))) }
+    ensures ok { IfOk result (λ v. Took (record_taken code name.now F.takes) de.old.element
+        (at_of R.rest de.old) (at_of R.rest de.new) (record_item code (F.items v))) }
     ensures element { OnOk result (de.new.element ≡ de.old.element) }
-    ensures refused { Unless R.faulty result (Refuses (record_taken code name.now F.takes) de.old.element (at_of R.rest de.old)) }
+    ensures refused { Unless R.faulty result
+        (Refuses (record_taken code name.now F.takes) de.old.element (at_of R.rest de.old)) }
 {
     let outer = de.element;
     de.described()?;
@@ -166,8 +173,10 @@ fn read_fields<F: ReadFields + Drop, R: Read>(
     size: usize,
 ) -> Result<F, Error>
     requires { de.old.element ≡ None }
-    ensures ok { IfOk result (λ v. TookSized (fields_taken F.takes) count size None (at_of R.rest de.old) (at_of R.rest de.new) (F.items v)) }
-    ensures refused { Unless R.faulty result (RefusesSized (fields_taken F.takes) count size None (at_of R.rest de.old)) }
+    ensures ok { IfOk result (λ v. TookSized (fields_taken F.takes) count size None
+        (at_of R.rest de.old) (at_of R.rest de.new) (F.items v)) }
+    ensures refused { Unless R.faulty result
+        (RefusesSized (fields_taken F.takes) count size None (at_of R.rest de.old)) }
 {
     let start = de.pos;
     let fields = F::read(alloc, de, count)?;

@@ -2,8 +2,10 @@
 ghost use Rattle.std.specs.Prelude.{◌≡◌, ◌++◌, ℕ, List, map, IfOk, OnOk, MatchOption, Option, Some, None};
 ghost use Rattle.serde_amqp_item.specs.Item.{Item, scalar, null, list, array, items_of};
 ghost use Rattle.serde_amqp_read.specs.Reads.{Unless};
-ghost use Rattle.serde_amqp_de.specs.Reads.{At, Took, Refuses, at_of, TookAll, RefusesAll, TookOne, TookSized, RefusesSized};
-ghost use Rattle.serde_amqp_de.specs.Takes.{each_taken, elements_taken, items_taken, sequence_taken, several, multiple_taken};
+ghost use Rattle.serde_amqp_de.specs.Reads.{At, Took, Refuses, at_of, TookAll, RefusesAll, TookOne, TookSized};
+ghost use Rattle.serde_amqp_de.specs.Reads.{RefusesSized};
+ghost use Rattle.serde_amqp_de.specs.Takes.{each_taken, elements_taken, items_taken, sequence_taken, several};
+ghost use Rattle.serde_amqp_de.specs.Takes.{multiple_taken};
 ghost use Rattle.serde_amqp_de.specs.Deciding.{sequence_decided};
 ghost use Rattle.serde_amqp_de.specs.Again.{list_same_item, sequence_again};
 
@@ -19,9 +21,11 @@ fn read_items<T: Deserialize + Drop, R: Read>(
     de: &mut Deserializer<R>,
     count: usize,
 ) -> Result<Vec<T>, Error>
-    ensures ok { IfOk result (λ v. TookAll (each_taken T.take) count de.old.element (at_of R.rest de.old) (at_of R.rest de.new) (map T.item v.items)) }
+    ensures ok { IfOk result (λ v. TookAll (each_taken T.take) count de.old.element
+        (at_of R.rest de.old) (at_of R.rest de.new) (map T.item v.items)) }
     ensures element { OnOk result (de.new.element ≡ de.old.element) }
-    ensures refused { Unless R.faulty result (RefusesAll (each_taken T.take) count de.old.element (at_of R.rest de.old)) }
+    ensures refused { Unless R.faulty result
+        (RefusesAll (each_taken T.take) count de.old.element (at_of R.rest de.old)) }
 {
     let mut values = Vec::new(alloc);
     for _ in 0..count {
@@ -39,9 +43,11 @@ fn read_sized<T: Deserialize + Drop, R: Read>(
     count: usize,
     size: usize,
 ) -> Result<Vec<T>, Error>
-    ensures ok { IfOk result (λ v. TookSized (each_taken T.take) count size de.old.element (at_of R.rest de.old) (at_of R.rest de.new) (map T.item v.items)) }
+    ensures ok { IfOk result (λ v. TookSized (each_taken T.take) count size de.old.element
+        (at_of R.rest de.old) (at_of R.rest de.new) (map T.item v.items)) }
     ensures element { OnOk result (de.new.element ≡ de.old.element) }
-    ensures refused { Unless R.faulty result (RefusesSized (each_taken T.take) count size de.old.element (at_of R.rest de.old)) }
+    ensures refused { Unless R.faulty result
+        (RefusesSized (each_taken T.take) count size de.old.element (at_of R.rest de.old)) }
 {
     let start = de.pos;
     let values = read_items(alloc, de, count)?;
@@ -60,9 +66,11 @@ pub fn read_list<T: Deserialize + Drop, R: Read>(
     alloc: Global,
     de: &mut Deserializer<R>,
 ) -> Result<Vec<T>, Error>
-    ensures ok { IfOk result (λ v. Took (items_taken T.take) de.old.element (at_of R.rest de.old) (at_of R.rest de.new) (list (items_of (map T.item v.items)))) }
+    ensures ok { IfOk result (λ v. Took (items_taken T.take) de.old.element (at_of R.rest de.old)
+        (at_of R.rest de.new) (list (items_of (map T.item v.items)))) }
     ensures element { OnOk result (de.new.element ≡ de.old.element) }
-    ensures refused { Unless R.faulty result (Refuses (items_taken T.take) de.old.element (at_of R.rest de.old)) }
+    ensures refused { Unless R.faulty result
+        (Refuses (items_taken T.take) de.old.element (at_of R.rest de.old)) }
 {
     let outer = de.element;
     let (count, size) = de.list_head()?;
@@ -81,9 +89,11 @@ pub fn read_array<T: Deserialize + Drop, R: Read>(
     alloc: Global,
     de: &mut Deserializer<R>,
 ) -> Result<Vec<T>, Error>
-    ensures ok { IfOk result (λ v. Took (elements_taken T.take) de.old.element (at_of R.rest de.old) (at_of R.rest de.new) (array (items_of (map T.item v.items)))) }
+    ensures ok { IfOk result (λ v. Took (elements_taken T.take) de.old.element (at_of R.rest de.old)
+        (at_of R.rest de.new) (array (items_of (map T.item v.items)))) }
     ensures element { OnOk result (de.new.element ≡ de.old.element) }
-    ensures refused { Unless R.faulty result (Refuses (elements_taken T.take) de.old.element (at_of R.rest de.old)) }
+    ensures refused { Unless R.faulty result
+        (Refuses (elements_taken T.take) de.old.element (at_of R.rest de.old)) }
 {
     let outer = de.element;
     let (count, size) = de.array_head()?;
@@ -98,7 +108,8 @@ fn read_one<T: Deserialize + Drop, R: Read>(
     alloc: Global,
     de: &mut Deserializer<R>,
 ) -> Result<Vec<T>, Error>
-    ensures ok { IfOk result (λ v. TookOne T.take de.old.element (at_of R.rest de.old) (at_of R.rest de.new) (map T.item v.items)) }
+    ensures ok { IfOk result (λ v. TookOne T.take de.old.element (at_of R.rest de.old)
+        (at_of R.rest de.new) (map T.item v.items)) }
     ensures element { OnOk result (de.new.element ≡ de.old.element) }
     ensures refused { Unless R.faulty result (Refuses T.take de.old.element (at_of R.rest de.old)) }
 {
@@ -118,9 +129,11 @@ pub fn read_multiple<T: Deserialize + Drop, R: Read>(
     alloc: Global,
     de: &mut Deserializer<R>,
 ) -> Result<Vec<T>, Error>
-    ensures ok { IfOk result (λ v. Took (multiple_taken T.take) de.old.element (at_of R.rest de.old) (at_of R.rest de.new) (several (map T.item v.items))) }
+    ensures ok { IfOk result (λ v. Took (multiple_taken T.take) de.old.element (at_of R.rest de.old)
+        (at_of R.rest de.new) (several (map T.item v.items))) }
     ensures element { OnOk result (de.new.element ≡ de.old.element) }
-    ensures refused { Unless R.faulty result (Refuses (multiple_taken T.take) de.old.element (at_of R.rest de.old)) }
+    ensures refused { Unless R.faulty result
+        (Refuses (multiple_taken T.take) de.old.element (at_of R.rest de.old)) }
 {
     match de.peek()? {
         EncodingCodes::Null => {

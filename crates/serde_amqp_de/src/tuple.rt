@@ -5,7 +5,8 @@ ghost use Rattle.serde_amqp_read.specs.Reads.{Unless};
 ghost use Rattle.serde_amqp_de.specs.Reads.{Took, Refuses, at_of, TookAll, RefusesAll, TookSized, RefusesSized};
 ghost use Rattle.serde_amqp_de.specs.Takes.{row_taken, tuple_taken};
 ghost use Rattle.serde_amqp_de.specs.Deciding.{tuple_decided};
-ghost use Rattle.serde_amqp_de.specs.Again.{tuple_same_item, tuple_again, one_faithful, two_faithful, three_faithful, four_faithful};
+ghost use Rattle.serde_amqp_de.specs.Again.{tuple_same_item, tuple_again, one_faithful, two_faithful, three_faithful};
+ghost use Rattle.serde_amqp_de.specs.Again.{four_faithful};
 
 use crate::deserialize::{Deserialize, Faithful, NeverNull, RoundTrip};
 use crate::deserializer::Deserializer;
@@ -24,9 +25,11 @@ trait ReadParts: Sized {
     /// Reads the parts, one behind the other.
     fn read<R: Read>(alloc: Global, de: &mut Deserializer<R>) -> Result<Self, Error>
         requires { de.old.element ≡ None }
-        ensures ok { IfOk result (λ v. TookAll (row_taken takes) (length takes) None (at_of R.rest de.old) (at_of R.rest de.new) (items v)) }
+        ensures ok { IfOk result (λ v. TookAll (row_taken takes) (length takes) None
+            (at_of R.rest de.old) (at_of R.rest de.new) (items v)) }
         ensures element { OnOk result (de.new.element ≡ None) }
-        ensures refused { Unless R.faulty result (RefusesAll (row_taken takes) (length takes) None (at_of R.rest de.old)) };
+        ensures refused { Unless R.faulty result
+            (RefusesAll (row_taken takes) (length takes) None (at_of R.rest de.old)) };
 }
 
 impl ReadParts for () {
@@ -61,8 +64,10 @@ fn read_sized_parts<P: ReadParts + Drop, R: Read>(
     size: usize,
 ) -> Result<P, Error>
     requires { de.old.element ≡ None }
-    ensures ok { IfOk result (λ v. TookSized (row_taken P.takes) (length P.takes) size None (at_of R.rest de.old) (at_of R.rest de.new) (P.items v)) }
-    ensures refused { Unless R.faulty result (RefusesSized (row_taken P.takes) (length P.takes) size None (at_of R.rest de.old)) }
+    ensures ok { IfOk result (λ v. TookSized (row_taken P.takes) (length P.takes) size None
+        (at_of R.rest de.old) (at_of R.rest de.new) (P.items v)) }
+    ensures refused { Unless R.faulty result
+        (RefusesSized (row_taken P.takes) (length P.takes) size None (at_of R.rest de.old)) }
 {
     let start = de.pos;
     let parts = P::read(alloc, de)?;
@@ -80,9 +85,11 @@ fn read_parts<P: ReadParts + Drop, R: Read>(
     parts: usize,
 ) -> Result<P, Error>
     requires { parts ≡ length P.takes }
-    ensures ok { IfOk result (λ v. Took (tuple_taken P.takes) de.old.element (at_of R.rest de.old) (at_of R.rest de.new) (list (items_of (P.items v)))) }
+    ensures ok { IfOk result (λ v. Took (tuple_taken P.takes) de.old.element (at_of R.rest de.old)
+        (at_of R.rest de.new) (list (items_of (P.items v)))) }
     ensures element { OnOk result (de.new.element ≡ de.old.element) }
-    ensures refused { Unless R.faulty result (Refuses (tuple_taken P.takes) de.old.element (at_of R.rest de.old)) }
+    ensures refused { Unless R.faulty result
+        (Refuses (tuple_taken P.takes) de.old.element (at_of R.rest de.old)) }
 {
     let outer = de.element;
     let (count, size) = de.list_head()?;

@@ -26,7 +26,8 @@ impl<K: Eq + Hash, V> OrderedMap<K, V> {
         K: Drop,
         ensures earlier { IfOk result (λ v. v ≡ lookup (K.eq key) self.old) }
         ensures pairs { OnOk result (self.new ≡ pairs_inserted K.eq self.old key value) }
-        ensures values { OnOk result ((k : K) → lookup (K.eq k) self.new ≡ cond (K.eq key k) (Some value) (lookup (K.eq k) self.old)) }
+        ensures values { OnOk result ((k : K) →
+            lookup (K.eq k) self.new ≡ cond (K.eq key k) (Some value) (lookup (K.eq k) self.old)) }
         ensures returned { IfErr result (λ e. e.value ≡ (key, value)) }
         ensures kept { OnErr result (self.new ≡ self.old) }
         ensures absent { OnErr result (lookup (K.eq key) self.old ≡ None) }
@@ -43,7 +44,8 @@ impl<K: Eq + Hash, V> OrderedMap<K, V> {
         K: Drop,
         ensures value { result ≡ lookup (K.eq key.now) self.old }
         ensures pairs { self.new ≡ pairs_swapped K.eq self.old key.now }
-        ensures values { (k : K) → lookup (K.eq k) self.new ≡ cond (K.eq key.now k) None (lookup (K.eq k) self.old) }
+        ensures values { (k : K) → lookup (K.eq k) self.new
+            ≡ cond (K.eq key.now k) None (lookup (K.eq k) self.old) }
         ensures apart { KeysApart K.eq self.new }
     {
         self.as_inner_mut().swap_remove(key)
@@ -56,7 +58,8 @@ impl<K: Eq + Hash, V> OrderedMap<K, V> {
         K: Drop,
         ensures value { result ≡ lookup (K.eq key.now) self.old }
         ensures pairs { self.new ≡ pairs_shifted K.eq self.old key.now }
-        ensures values { (k : K) → lookup (K.eq k) self.new ≡ cond (K.eq key.now k) None (lookup (K.eq k) self.old) }
+        ensures values { (k : K) → lookup (K.eq k) self.new
+            ≡ cond (K.eq key.now k) None (lookup (K.eq k) self.old) }
         ensures apart { KeysApart K.eq self.new }
     {
         self.as_inner_mut().shift_remove(key)
@@ -67,7 +70,8 @@ impl<K: Eq + Hash, V> OrderedMap<K, V> {
     pub fn swap_remove_entry(&mut self, key: &K) -> Option<(K, V)>
         ensures entry { result ≡ lookup_entry (K.eq key.now) self.old }
         ensures pairs { self.new ≡ pairs_swapped K.eq self.old key.now }
-        ensures values { (k : K) → lookup (K.eq k) self.new ≡ cond (K.eq key.now k) None (lookup (K.eq k) self.old) }
+        ensures values { (k : K) → lookup (K.eq k) self.new
+            ≡ cond (K.eq key.now k) None (lookup (K.eq k) self.old) }
         ensures apart { KeysApart K.eq self.new }
     {
         self.as_inner_mut().swap_remove_entry(key)
@@ -78,7 +82,8 @@ impl<K: Eq + Hash, V> OrderedMap<K, V> {
     pub fn shift_remove_entry(&mut self, key: &K) -> Option<(K, V)>
         ensures entry { result ≡ lookup_entry (K.eq key.now) self.old }
         ensures pairs { self.new ≡ pairs_shifted K.eq self.old key.now }
-        ensures values { (k : K) → lookup (K.eq k) self.new ≡ cond (K.eq key.now k) None (lookup (K.eq k) self.old) }
+        ensures values { (k : K) → lookup (K.eq k) self.new
+            ≡ cond (K.eq key.now k) None (lookup (K.eq k) self.old) }
         ensures apart { KeysApart K.eq self.new }
     {
         self.as_inner_mut().shift_remove_entry(key)
@@ -101,11 +106,15 @@ impl<K: Eq + Hash, V> OrderedMap<K, V> {
         K: Drop,
         V: Drop,
         requires known { R.has_bounds range }
-        requires in_order { start_index (R.start_bound range) ≤ end_index (R.end_bound range) (length self.old) }
+        requires in_order { start_index (R.start_bound range)
+            ≤ end_index (R.end_bound range) (length self.old) }
         requires within { end_index (R.end_bound range) (length self.old) ≤ length self.old }
-        ensures* writes_back { sem 𝓛 (lends_inner_to K.row V.row K.Hash self.entry (drain_lender result)) }
-        ensures rest { drain_rest result ≡ items_in_range self.old (R.start_bound range) (R.end_bound range) }
-        ensures kept { drain_kept result ≡ remove_range self.old (start_index (R.start_bound range)) (end_index (R.end_bound range) (length self.old)) }
+        ensures* writes_back { sem 𝓛 (lends_inner_to K.row V.row K.Hash self.entry
+            (drain_lender result)) }
+        ensures rest { drain_rest result ≡ items_in_range self.old (R.start_bound range)
+            (R.end_bound range) }
+        ensures kept { drain_kept result ≡ remove_range self.old (start_index (R.start_bound range))
+            (end_index (R.end_bound range) (length self.old)) }
         ensures fits { length (drain_rest result) < 2 ^ 63 }
         ensures runs { DrainsInOrder K V }
         ensures runs_back { DrainsInReverse K V }

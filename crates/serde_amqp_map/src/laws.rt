@@ -23,10 +23,13 @@ pub fn no_map_has_no_form()
 
 /// Where no key stands twice, two places have pairs with different keys, so that each pair comes once.
 pub fn each_pair_once<K: Eq + Hash, V>()
-    ensures { (ps : List (K × V)) (i j : ℕ) (p q : K × V) → KeysApart K.eq ps → i < j → slice_get ps i ≡ Some p → slice_get ps j ≡ Some q → K.eq p.0 q.0 ≡ false }
+    ensures { (ps : List (K × V)) (i j : ℕ) (p q : K × V) → KeysApart K.eq ps → i < j →
+        slice_get ps i ≡ Some p → slice_get ps j ≡ Some q → K.eq p.0 q.0 ≡ false }
 {}
 
 /// A map's clone equals it, where keys and values equal their clones.
 pub fn clone_is_equal<K: Clone, V: Clone>()
-    ensures { ((x y : K) → K.is_clone x y → y ≡ x) → ((x y : V) → V.is_clone x y → y ≡ x) → (ps qs : List (K × V)) → AllZip (λ p q. K.is_clone p.0 q.0 × V.is_clone p.1 q.1) ps qs → qs ≡ ps }
+    ensures { ((x y : K) → K.is_clone x y → y ≡ x) → ((x y : V) → V.is_clone x y → y ≡ x) →
+        (ps qs : List (K × V)) → AllZip (λ p q. K.is_clone p.0 q.0 × V.is_clone p.1 q.1) ps qs →
+        qs ≡ ps }
 {}

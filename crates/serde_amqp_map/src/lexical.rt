@@ -69,7 +69,8 @@ fn partial_order_of_pairs<K: PartialOrd, V: PartialOrd>(
     b: &K,
     y: &V,
 ) -> Option<Ordering>
-    ensures { result ≡ partial_pair_order K.partial_cmp V.partial_cmp (a.now, x.now) (b.now, y.now) }
+    ensures { result ≡ partial_pair_order K.partial_cmp V.partial_cmp (a.now, x.now)
+        (b.now, y.now) }
 {
     match a.partial_cmp(b) {
         Some(found) => match found {
@@ -86,7 +87,8 @@ pub(crate) fn partial_order<K: PartialOrd, V: PartialOrd>(
     left: Iter<'_, K, V>,
     right: Iter<'_, K, V>,
 ) -> Option<Ordering>
-    ensures { result ≡ slice_partial_cmp (partial_pair_order K.partial_cmp V.partial_cmp) left.entry right.entry }
+    ensures { result ≡ slice_partial_cmp (partial_pair_order K.partial_cmp V.partial_cmp) left.entry
+        right.entry }
 {
     let mut left = left;
     let mut right = right;
@@ -111,7 +113,8 @@ pub(crate) fn partial_order<K: PartialOrd, V: PartialOrd>(
 
 /// Feeds the length, and then each key with its value.
 pub(crate) fn feed<K: Hash, V: Hash, H: Hasher>(pairs: Iter<'_, K, V>, state: &mut H)
-    ensures { state.new ≡ fold H.write state.old (fed.slice (pair_fed K.hash_input V.hash_input) pairs.entry) }
+    ensures { state.new ≡ fold H.write state.old
+        (fed.slice (pair_fed K.hash_input V.hash_input) pairs.entry) }
 {
     let mut pairs = pairs;
     state.write_usize(pairs.len());

@@ -25,7 +25,8 @@ impl<K: Eq + Hash, V> OrderedMap<K, V> {
 
     /// The value of the key, which can be changed; none where no pair has it.
     pub fn get_mut(&mut self, key: &K) -> Option<&mut V>
-        ensures* writes_back { sem 𝓛 (lends_value K.row V.row K.Hash self.entry (K.eq key.now) result) }
+        ensures* writes_back { sem 𝓛 (lends_value K.row V.row K.Hash self.entry (K.eq key.now)
+            result) }
         ensures value { option_copied_mut result ≡ lookup (K.eq key.now) self.old }
     {
         self.as_inner_mut().get_mut(key)

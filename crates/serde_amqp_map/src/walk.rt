@@ -2,7 +2,8 @@
 ghost use Rattle.std.specs.Prelude.{◌≡◌, ◌<◌, ◌^◌, length};
 ghost use Rattle.std.specs.Iterator.Runs.{YieldsMutRefsInOrder};
 ghost use Rattle.std.specs.Map.{keys_of, values_of};
-ghost use Rattle.std.specs.Map.Iter.{ShowsInOrder, ShowsInReverse, ShowsValuesInOrder, LendsValuesInOrder, GivesInOrder, GivesInReverse, deref, deref_pair};
+ghost use Rattle.std.specs.Map.Iter.{ShowsInOrder, ShowsInReverse, ShowsValuesInOrder, LendsValuesInOrder};
+ghost use Rattle.std.specs.Map.Iter.{GivesInOrder, GivesInReverse, deref, deref_pair};
 ghost use Rattle.indexmap.specs.Iter.{iter_mut_rest, values_mut_rest, values_mut_steps, IterMutCanStep};
 ghost use Rattle.serde_amqp_map.specs.Pairs.{KeysApart};
 

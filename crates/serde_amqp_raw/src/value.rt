@@ -74,7 +74,8 @@ impl RawValue {
     #[tactic(auto, using(crate::proofs::Strict::stricts))]
     pub fn of<T: Serialize>(alloc: Global, value: &T) -> Result<Self, Error>
         ensures ok { IfOk result (λ v. canon (T.item value.now) ≡ Some v) }
-        ensures refused { Unless faultless result ((bytes : List ℕ) → canon (T.item value.now) ≡ Some bytes → StrictBytes bytes → ⊥) }
+        ensures refused { Unless faultless result
+            ((bytes : List ℕ) → canon (T.item value.now) ≡ Some bytes → StrictBytes bytes → ⊥) }
     {
         let text = to_vec(alloc, value)?;
         RawValue::from_bytes(alloc, text.as_slice())
@@ -106,8 +107,10 @@ impl RawValue {
     ///
     /// Errors: `Memory`; any other exactly where the bytes are a wire form of no item that the type takes.
     pub fn read<T: Deserialize>(&self, alloc: Global) -> Result<T, Error>
-        ensures ok { IfOk result (λ v. (x : Item) × Wire x None self.now × (T.take x ≡ Some (T.item v))) }
-        ensures refused { Unless faultless result ((x : Item) → Wire x None self.now → T.take x ≡ None) }
+        ensures ok { IfOk result (λ v. (x : Item) × Wire x None self.now
+            × (T.take x ≡ Some (T.item v))) }
+        ensures refused { Unless faultless result
+            ((x : Item) → Wire x None self.now → T.take x ≡ None) }
     {
         from_slice(alloc, self.as_bytes())
     }

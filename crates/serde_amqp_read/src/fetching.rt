@@ -1,8 +1,10 @@
 //! Readers of std as sources.
-ghost use Rattle.std.specs.Prelude.{◌≡◌, ◌≤◌, ◌<◌, ◌+◌, ◌-◌, ◌∷◌, ◌++◌, [], List, length, take, max, IfOk, IfErr, OnOk, OnErr, MatchOption, MatchResult, refl, Some, true, false};
+ghost use Rattle.std.specs.Prelude.{◌≡◌, ◌≤◌, ◌<◌, ◌+◌, ◌-◌, ◌∷◌, ◌++◌, [], List, length, take, max, IfOk, IfErr, OnOk};
+ghost use Rattle.std.specs.Prelude.{OnErr, MatchOption, MatchResult, refl, Some, true, false};
 ghost use Rattle.serde_amqp_item.specs.declared.error.Error.TheVariants.{Io};
 ghost use Rattle.serde_amqp_read.specs.Reads.{Unless, Named, Leads, counted, faultless, with_more};
-ghost use Rattle.serde_amqp_read.specs.Fetching.{Fetching, unless_failed, fault_unless_failed, left_of, told_as, broken};
+ghost use Rattle.serde_amqp_read.specs.Fetching.{Fetching, unless_failed, fault_unless_failed, left_of, told_as};
+ghost use Rattle.serde_amqp_read.specs.Fetching.{broken};
 
 use crate::in_memory::InMemory;
 use crate::private::Sealed;
@@ -44,7 +46,13 @@ impl<R: InMemory> Model for IoReader<R> {
 impl<R: InMemory> IoReader<R> {
     /// Reads from the reader.
     pub fn new(alloc: Global, inner: R) -> IoReader<R>
-        ensures { result ≡ record { failed = false; fetched = []; behind = R.bytes inner; fault = R.fault inner; consumed = 0 } }
+        ensures { result ≡ record {
+          failed = false;
+          fetched = [];
+          behind = R.bytes inner;
+          fault = R.fault inner;
+          consumed = 0;
+        } }
     {
         IoReader {
             inner,
@@ -102,7 +110,8 @@ impl<R: InMemory> IoReader<R> {
     pub fn fill_buffer(&mut self, count: usize) -> Result<(), Error>
         ensures same { OnOk result (left_of self.new ≡ left_of self.old) }
         ensures len { OnOk result (length self.new.fetched ≡ max count (length self.old.fetched)) }
-        ensures kept { OnOk result ((self.new.failed ≡ self.old.failed) × (self.new.fault ≡ self.old.fault)) }
+        ensures kept { OnOk result ((self.new.failed ≡ self.old.failed)
+            × (self.new.fault ≡ self.old.fault)) }
         ensures end { Unless faultless result (length (left_of self.old) < count) }
         ensures named { IfErr result (Named (told_as self.old.fault)) }
         ensures failed { OnErr result (self.new ≡ broken self.old) }
@@ -120,7 +129,8 @@ impl<R: InMemory> IoReader<R> {
     fn take_into(&mut self, buffer: &mut [u8]) -> Result<(), Error>
         ensures ok { OnOk result (left_of self.old ≡ buffer.new ++ left_of self.new) }
         ensures len { length buffer.new ≡ length buffer.old }
-        ensures end { IfErr result (λ e. (e ≡ told_as self.old.fault) × (length (left_of self.old) < length buffer.old)) }
+        ensures end { IfErr result (λ e. (e ≡ told_as self.old.fault)
+            × (length (left_of self.old) < length buffer.old)) }
         ensures kept { (self.new.failed ≡ self.old.failed) × (self.new.fault ≡ self.old.fault) }
         ensures ahead { length self.new.fetched ≡ length self.old.fetched - length buffer.old }
         ensures uncounted { self.new.consumed ≡ self.old.consumed }
@@ -136,7 +146,8 @@ impl<R: InMemory> IoReader<R> {
 
     /// Takes so many bytes, without counting them.
     fn take_onto(&mut self, count: usize, bytes: &mut Vec<u8>) -> Result<(), Error>
-        ensures ok { OnOk result (bytes.new.items ++ left_of self.new ≡ bytes.old.items ++ left_of self.old) }
+        ensures ok { OnOk result (bytes.new.items ++ left_of self.new ≡ bytes.old.items
+            ++ left_of self.old) }
         ensures len { OnOk result (length bytes.new.items ≡ length bytes.old.items + count) }
         ensures kept { Leads bytes.old.items bytes.new.items }
         ensures end { Unless faultless result (length (left_of self.old) < count) }
@@ -163,7 +174,8 @@ impl<R: InMemory> IoReader<R> {
 fn fill<S: InMemory>(source: &mut S, buffer: &mut [u8]) -> Result<(), Error>
     ensures ok { OnOk result (S.bytes source.old ≡ buffer.new ++ S.bytes source.new) }
     ensures len { length buffer.new ≡ length buffer.old }
-    ensures end { IfErr result (λ e. (e ≡ told_as (S.fault source.old)) × (length (S.bytes source.old) < length buffer.old)) }
+    ensures end { IfErr result (λ e. (e ≡ told_as (S.fault source.old))
+        × (length (S.bytes source.old) < length buffer.old)) }
     ensures lasting { S.fault source.new ≡ S.fault source.old }
 {
     let mut at = 0;
@@ -189,9 +201,11 @@ fn fault_of(kind: ErrorKind) -> Error
 
 /// Fetches until so many bytes are in the queue.
 fn fetch<S: InMemory>(source: &mut S, fetched: &mut VecDeque<u8>, count: usize) -> Result<(), Error>
-    ensures same { OnOk result (fetched.new.items ++ S.bytes source.new ≡ fetched.old.items ++ S.bytes source.old) }
+    ensures same { OnOk result (fetched.new.items ++ S.bytes source.new ≡ fetched.old.items
+        ++ S.bytes source.old) }
     ensures len { OnOk result (length fetched.new.items ≡ max count (length fetched.old.items)) }
-    ensures end { Unless faultless result (length (fetched.old.items ++ S.bytes source.old) < count) }
+    ensures end { Unless faultless result
+        (length (fetched.old.items ++ S.bytes source.old) < count) }
     ensures named { IfErr result (Named (told_as (S.fault source.old))) }
     ensures lasting { S.fault source.new ≡ S.fault source.old }
 {

@@ -22,8 +22,10 @@ pub trait InMemory: io::Read {
     fn give(&mut self, buffer: &mut [u8]) -> io::Result<usize>
         ensures bound { ReadsAtMost result buffer.new }
         ensures given { IfOk result (λ n. bytes self.old ≡ take n buffer.new ++ bytes self.new) }
-        ensures some { IfOk result (λ n. n ≡ 0 → 0 < length buffer.old → (bytes self.old ≡ []) × (fault self.old ≡ None)) }
-        ensures failed { IfErr result (λ e. (bytes self.old ≡ []) × (bytes self.new ≡ []) × (fault self.old ≡ Some (error_kind e))) }
+        ensures some { IfOk result (λ n. n ≡ 0 → 0 < length buffer.old →
+            (bytes self.old ≡ []) × (fault self.old ≡ None)) }
+        ensures failed { IfErr result (λ e. (bytes self.old ≡ []) × (bytes self.new ≡ [])
+            × (fault self.old ≡ Some (error_kind e))) }
         ensures lasting { fault self.new ≡ fault self.old };
 
     /// Its bytes are those that std's trait says to remain.

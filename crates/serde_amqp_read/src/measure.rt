@@ -1,11 +1,14 @@
 //! Strict forms of any size, taken by a loop.
-ghost use Rattle.std.specs.Prelude.{◌≡◌, ◌≢◌, ◌<◌, ◌+◌, ◌∷◌, ◌++◌, [], ℕ, List, length, IfOk, IfErr, OnOk, Option, Some, None, true, false, if◌then◌else◌, nat_lt, ◌==◌, is_some};
+ghost use Rattle.std.specs.Prelude.{◌≡◌, ◌≢◌, ◌<◌, ◌+◌, ◌∷◌, ◌++◌, [], ℕ, List, length, IfOk, IfErr, OnOk, Option};
+ghost use Rattle.std.specs.Prelude.{Some, None, true, false, if◌then◌else◌, nat_lt, ◌==◌, is_some};
 ghost use Rattle.std.specs.Int.{w32, from_be_bytes, to_be_bytes};
 ghost use Rattle.std.specs.Str.{is_utf8};
 ghost use Rattle.serde_amqp_item.specs.Wire.{Width, field_width, row_at, category_of, code_of, boolean_at, char_of};
 ghost use Rattle.serde_amqp_item.specs.declared.codes.Category.TheVariants.{Fixed, Variable, Compound, Array};
 ghost use Rattle.serde_amqp_read.specs.Reads.{Unless, NamedIfIo, NoStrict};
-ghost use Rattle.serde_amqp_read.specs.Pending.{place_of, Moves, TookField, TookContent, NoContent, is_read, is_element, Bare, admits, Taken, Opens, NoRow, Headed, Enters, NoForm, plain_at, plain_width, Finishes, Unfinished, NeedsBytes, TookStrict};
+ghost use Rattle.serde_amqp_read.specs.Pending.{place_of, Moves, TookField, TookContent, NoContent, is_read};
+ghost use Rattle.serde_amqp_read.specs.Pending.{is_element, Bare, admits, Taken, Opens, NoRow, Headed, Enters, NoForm};
+ghost use Rattle.serde_amqp_read.specs.Pending.{plain_at, plain_width, Finishes, Unfinished, NeedsBytes, TookStrict};
 
 use crate::reader::Read;
 use serde_amqp_item::{Category, EncodingCodes, Error, code_of};
@@ -24,7 +27,9 @@ pub struct Frame {
 
 /// Takes a strict form.
 pub(crate) fn take_form<R: Read>(reader: &mut R, alloc: Global) -> Result<Vec<u8>, Error>
-    ensures ok { IfOk result (λ v. TookStrict (place_of R.rest R.consumed R.ending R.ahead reader.old []) (place_of R.rest R.consumed R.ending R.ahead reader.new v.items)) }
+    ensures ok { IfOk result (λ v. TookStrict
+        (place_of R.rest R.consumed R.ending R.ahead reader.old [])
+        (place_of R.rest R.consumed R.ending R.ahead reader.new v.items)) }
     ensures refused { Unless R.faulty result (NoStrict (R.rest reader.old)) }
     ensures named { IfErr result (NamedIfIo (R.ending reader.old)) }
 {
@@ -76,8 +81,12 @@ fn take_plain<R: Read>(
     frame: Frame,
     width: usize,
 ) -> Result<(), Error>
-    ensures ok { OnOk result (Finishes frame width (place_of R.rest R.consumed R.ending R.ahead reader.old bytes.old.items) (place_of R.rest R.consumed R.ending R.ahead reader.new bytes.new.items)) }
-    ensures refused { Unless R.faulty result (Unfinished frame width (place_of R.rest R.consumed R.ending R.ahead reader.old bytes.old.items)) }
+    ensures ok { OnOk result (Finishes frame width
+        (place_of R.rest R.consumed R.ending R.ahead reader.old bytes.old.items)
+        (place_of R.rest R.consumed R.ending R.ahead reader.new bytes.new.items)) }
+    ensures refused { Unless R.faulty result
+        (Unfinished frame width (place_of R.rest R.consumed R.ending R.ahead reader.old
+        bytes.old.items)) }
     ensures named { IfErr result (NamedIfIo (R.ending reader.old)) }
 {
     let Some(count) = frame.left.checked_mul(width) else {
@@ -98,7 +107,9 @@ fn enter<R: Read>(
     inherited: Option<u8>,
 ) -> Result<Frame, Error>
     requires { NeedsBytes inherited }
-    ensures ok { IfOk result (λ f. Enters inherited (place_of R.rest R.consumed R.ending R.ahead reader.old bytes.old.items) (place_of R.rest R.consumed R.ending R.ahead reader.new bytes.new.items) f) }
+    ensures ok { IfOk result (λ f. Enters inherited
+        (place_of R.rest R.consumed R.ending R.ahead reader.old bytes.old.items)
+        (place_of R.rest R.consumed R.ending R.ahead reader.new bytes.new.items) f) }
     ensures refused { Unless R.faulty result (NoForm inherited (R.rest reader.old)) }
     ensures named { IfErr result (NamedIfIo (R.ending reader.old)) }
 {
@@ -113,7 +124,9 @@ fn take_code<R: Read>(
     bytes: &mut Vec<u8>,
     inherited: Option<u8>,
 ) -> Result<EncodingCodes, Error>
-    ensures ok { IfOk result (λ code. Headed inherited (place_of R.rest R.consumed R.ending R.ahead reader.old bytes.old.items) (place_of R.rest R.consumed R.ending R.ahead reader.new bytes.new.items) code) }
+    ensures ok { IfOk result (λ code. Headed inherited
+        (place_of R.rest R.consumed R.ending R.ahead reader.old bytes.old.items)
+        (place_of R.rest R.consumed R.ending R.ahead reader.new bytes.new.items) code) }
     ensures refused { Unless R.faulty result (NoForm inherited (R.rest reader.old)) }
     ensures named { IfErr result (NamedIfIo (R.ending reader.old)) }
 {
@@ -130,7 +143,9 @@ fn take_code<R: Read>(
 /// Takes what stands behind a constructor, but for the forms that it holds.
 #[tactic(auto, using(crate::proofs::Opened::opening))]
 fn open<R: Read>(reader: &mut R, bytes: &mut Vec<u8>, code: EncodingCodes) -> Result<Frame, Error>
-    ensures ok { IfOk result (λ f. Opens (row_at (Some code)) (place_of R.rest R.consumed R.ending R.ahead reader.old bytes.old.items) (place_of R.rest R.consumed R.ending R.ahead reader.new bytes.new.items) f) }
+    ensures ok { IfOk result (λ f. Opens (row_at (Some code))
+        (place_of R.rest R.consumed R.ending R.ahead reader.old bytes.old.items)
+        (place_of R.rest R.consumed R.ending R.ahead reader.new bytes.new.items) f) }
     ensures refused { Unless R.faulty result (NoRow (row_at (Some code)) (R.rest reader.old)) }
     ensures named { IfErr result (NamedIfIo (R.ending reader.old)) }
 {
@@ -170,7 +185,9 @@ fn open_items<R: Read>(
     width: usize,
 ) -> Result<Frame, Error>
     requires { category_of (row_at (Some code)) ≡ Some (Compound width) }
-    ensures ok { IfOk result (λ f. Opens (row_at (Some code)) (place_of R.rest R.consumed R.ending R.ahead reader.old bytes.old.items) (place_of R.rest R.consumed R.ending R.ahead reader.new bytes.new.items) f) }
+    ensures ok { IfOk result (λ f. Opens (row_at (Some code))
+        (place_of R.rest R.consumed R.ending R.ahead reader.old bytes.old.items)
+        (place_of R.rest R.consumed R.ending R.ahead reader.new bytes.new.items) f) }
     ensures refused { Unless R.faulty result (NoRow (row_at (Some code)) (R.rest reader.old)) }
     ensures named { IfErr result (NamedIfIo (R.ending reader.old)) }
 {
@@ -197,7 +214,9 @@ fn open_array<R: Read>(
     width: usize,
 ) -> Result<Frame, Error>
     requires { category_of (row_at (Some code)) ≡ Some (Array width) }
-    ensures ok { IfOk result (λ f. Opens (row_at (Some code)) (place_of R.rest R.consumed R.ending R.ahead reader.old bytes.old.items) (place_of R.rest R.consumed R.ending R.ahead reader.new bytes.new.items) f) }
+    ensures ok { IfOk result (λ f. Opens (row_at (Some code))
+        (place_of R.rest R.consumed R.ending R.ahead reader.old bytes.old.items)
+        (place_of R.rest R.consumed R.ending R.ahead reader.new bytes.new.items) f) }
     ensures refused { Unless R.faulty result (NoRow (row_at (Some code)) (R.rest reader.old)) }
     ensures named { IfErr result (NamedIfIo (R.ending reader.old)) }
 {
@@ -254,7 +273,8 @@ fn is_admitted(code: EncodingCodes, count: usize) -> bool
 /// Do the bytes mean a value behind this constructor?
 #[tactic(auto, using(crate::proofs::Numbers::validating))]
 fn is_valid(code: EncodingCodes, content: &[u8]) -> bool
-    requires { (n : ℕ) → category_of (row_at (Some code)) ≡ Some (Fixed n) → length content.now ≡ n }
+    requires { (n : ℕ) → category_of (row_at (Some code)) ≡ Some (Fixed n) →
+        length content.now ≡ n }
     ensures { result ≡ is_read (row_at (Some code)) content.now }
 {
     match code {
@@ -308,8 +328,11 @@ fn take_content<R: Read>(
     count: usize,
 ) -> Result<(), Error>
     requires { (n : ℕ) → category_of (row_at (Some code)) ≡ Some (Fixed n) → count ≡ n }
-    ensures ok { OnOk result (TookContent (row_at (Some code)) count (place_of R.rest R.consumed R.ending R.ahead reader.old bytes.old.items) (place_of R.rest R.consumed R.ending R.ahead reader.new bytes.new.items)) }
-    ensures refused { Unless R.faulty result (NoContent (row_at (Some code)) count (R.rest reader.old)) }
+    ensures ok { OnOk result (TookContent (row_at (Some code)) count
+        (place_of R.rest R.consumed R.ending R.ahead reader.old bytes.old.items)
+        (place_of R.rest R.consumed R.ending R.ahead reader.new bytes.new.items)) }
+    ensures refused { Unless R.faulty result
+        (NoContent (row_at (Some code)) count (R.rest reader.old)) }
     ensures named { IfErr result (NamedIfIo (R.ending reader.old)) }
 {
     let start = bytes.len();
@@ -326,8 +349,11 @@ fn take_content<R: Read>(
 /// Takes a number field of one or of four bytes.
 #[tactic(auto, using(crate::proofs::Numbers::numbering))]
 fn take_number<R: Read>(reader: &mut R, bytes: &mut Vec<u8>, width: usize) -> Result<usize, Error>
-    ensures ok { IfOk result (λ n. (w : Width) → field_width w ≡ width → TookField w (place_of R.rest R.consumed R.ending R.ahead reader.old bytes.old.items) (place_of R.rest R.consumed R.ending R.ahead reader.new bytes.new.items) n) }
-    ensures refused { Unless R.faulty result ((w : Width) → field_width w ≡ width → length (R.rest reader.old) < field_width w) }
+    ensures ok { IfOk result (λ n. (w : Width) → field_width w ≡ width →
+        TookField w (place_of R.rest R.consumed R.ending R.ahead reader.old bytes.old.items)
+        (place_of R.rest R.consumed R.ending R.ahead reader.new bytes.new.items) n) }
+    ensures refused { Unless R.faulty result
+        ((w : Width) → field_width w ≡ width → length (R.rest reader.old) < field_width w) }
     ensures lasting { OnOk result (R.ending reader.new ≡ R.ending reader.old) }
     ensures named { IfErr result (NamedIfIo (R.ending reader.old)) }
 {
@@ -341,7 +367,10 @@ fn take_number<R: Read>(reader: &mut R, bytes: &mut Vec<u8>, width: usize) -> Re
 
 /// Takes a number of four bytes.
 fn take_u32<R: Read>(reader: &mut R, bytes: &mut Vec<u8>) -> Result<u32, Error>
-    ensures ok { IfOk result (λ n. Moves (place_of R.rest R.consumed R.ending R.ahead reader.old bytes.old.items) (place_of R.rest R.consumed R.ending R.ahead reader.new bytes.new.items) (to_be_bytes w32 n)) }
+    ensures ok { IfOk result
+        (λ n. Moves (place_of R.rest R.consumed R.ending R.ahead reader.old bytes.old.items)
+        (place_of R.rest R.consumed R.ending R.ahead reader.new bytes.new.items)
+        (to_be_bytes w32 n)) }
     ensures end { Unless R.faulty result (length (R.rest reader.old) < 4) }
     ensures named { IfErr result (NamedIfIo (R.ending reader.old)) }
 {
@@ -352,7 +381,9 @@ fn take_u32<R: Read>(reader: &mut R, bytes: &mut Vec<u8>) -> Result<u32, Error>
 
 /// Takes the next byte.
 fn take_byte<R: Read>(reader: &mut R, bytes: &mut Vec<u8>) -> Result<u8, Error>
-    ensures ok { IfOk result (λ b. Moves (place_of R.rest R.consumed R.ending R.ahead reader.old bytes.old.items) (place_of R.rest R.consumed R.ending R.ahead reader.new bytes.new.items) (b ∷ [])) }
+    ensures ok { IfOk result
+        (λ b. Moves (place_of R.rest R.consumed R.ending R.ahead reader.old bytes.old.items)
+        (place_of R.rest R.consumed R.ending R.ahead reader.new bytes.new.items) (b ∷ [])) }
     ensures end { Unless R.faulty result (R.rest reader.old ≡ []) }
     ensures named { IfErr result (NamedIfIo (R.ending reader.old)) }
 {
@@ -364,7 +395,9 @@ fn take_byte<R: Read>(reader: &mut R, bytes: &mut Vec<u8>) -> Result<u8, Error>
 /// Takes so many bytes.
 #[tactic(auto, using(crate::proofs::Numbers::numbering))]
 fn take_bytes<R: Read>(reader: &mut R, bytes: &mut Vec<u8>, count: usize) -> Result<(), Error>
-    ensures ok { OnOk result (Taken count (place_of R.rest R.consumed R.ending R.ahead reader.old bytes.old.items) (place_of R.rest R.consumed R.ending R.ahead reader.new bytes.new.items)) }
+    ensures ok { OnOk result (Taken count
+        (place_of R.rest R.consumed R.ending R.ahead reader.old bytes.old.items)
+        (place_of R.rest R.consumed R.ending R.ahead reader.new bytes.new.items)) }
     ensures end { Unless R.faulty result (length (R.rest reader.old) < count) }
     ensures named { IfErr result (NamedIfIo (R.ending reader.old)) }
 {

@@ -1,9 +1,11 @@
 //! What is read from.
-ghost use Rattle.std.specs.Prelude.{◌≡◌, ◌<◌, ◌≤◌, ◌+◌, ◌-◌, ◌∷◌, ◌++◌, [], ℕ, max, Bool, List, length, IfOk, IfErr, OnOk, OnErr, string_bytes, false};
+ghost use Rattle.std.specs.Prelude.{◌≡◌, ◌<◌, ◌≤◌, ◌+◌, ◌-◌, ◌∷◌, ◌++◌, [], ℕ, max, Bool, List, length, IfOk, IfErr};
+ghost use Rattle.std.specs.Prelude.{OnOk, OnErr, string_bytes, false};
 ghost use Rattle.std.specs.Str.{is_utf8};
 ghost use Rattle.serde_amqp_item.specs.declared.error.Error.{Error};
 ghost use Rattle.serde_amqp_item.specs.declared.error.Error.TheVariants.{InvalidUtf8Encoding};
-ghost use Rattle.serde_amqp_read.specs.Reads.{Begins, Leads, Named, NamedIfIo, Unless, ending_behind, faultless, counted, just_ends, with_more, StrictBytes, NoStrict};
+ghost use Rattle.serde_amqp_read.specs.Reads.{Begins, Leads, Named, NamedIfIo, Unless, ending_behind, faultless};
+ghost use Rattle.serde_amqp_read.specs.Reads.{counted, just_ends, with_more, StrictBytes, NoStrict};
 
 use crate::measure::take_form;
 use crate::private::Sealed;
@@ -84,7 +86,8 @@ pub trait Read: Sealed {
         ensures len { length buffer.new ≡ length buffer.old }
         ensures end { Unless faulty result (length (rest self.old) < length buffer.old) }
         ensures failed { OnErr result (rest self.new ≡ []) }
-        ensures counted { consumed self.new ≡ counted result (length buffer.old) (consumed self.old) }
+        ensures counted { consumed self.new
+            ≡ counted result (length buffer.old) (consumed self.old) }
         ensures named { IfErr result (λ e. e ≡ ending self.old) }
         ensures lasting { ending self.new ≡ ending_behind result (ending self.old) }
         ensures ahead { ahead self.new ≤ ahead self.old - length buffer.old };
@@ -94,7 +97,8 @@ pub trait Read: Sealed {
     ///
     /// Errors: `Io` where fewer are left; `Memory`.
     fn append_bytes(&mut self, count: usize, bytes: &mut Vec<u8>) -> Result<(), Error>
-        ensures ok { OnOk result (bytes.new.items ++ rest self.new ≡ bytes.old.items ++ rest self.old) }
+        ensures ok { OnOk result (bytes.new.items ++ rest self.new ≡ bytes.old.items
+            ++ rest self.old) }
         ensures len { OnOk result (length bytes.new.items ≡ length bytes.old.items + count) }
         ensures kept { OnErr result (bytes.new.items ≡ bytes.old.items) }
         ensures end { Unless faulty result (length (rest self.old) < count) }
@@ -174,7 +178,9 @@ pub trait Read: Sealed {
     final fn forward_read_str(&mut self, alloc: Global, count: usize) -> Result<String, Error>
         ensures ok { IfOk result (λ s. rest self.old ≡ string_bytes s ++ rest self.new) }
         ensures len { IfOk result (λ s. length (string_bytes s) ≡ count) }
-        ensures refused { Unless faulty result ((front more : List ℕ) → rest self.old ≡ front ++ more → length front ≡ count → is_utf8 front ≡ false) }
+        ensures refused { Unless faulty result
+            ((front more : List ℕ) → rest self.old ≡ front ++ more → length front ≡ count →
+            is_utf8 front ≡ false) }
         ensures failed { OnErr result (rest self.new ≡ []) }
         ensures counted { OnOk result (consumed self.new ≡ with_more (consumed self.old) count) }
         ensures named { IfErr result (NamedIfIo (ending self.old)) }
@@ -203,7 +209,8 @@ pub trait Read: Sealed {
         ensures strict { IfOk result (λ v. StrictBytes v.items) }
         ensures refused { Unless faulty result (NoStrict (rest self.old)) }
         ensures failed { OnErr result (rest self.new ≡ []) }
-        ensures counted { IfOk result (λ v. with_more (consumed self.new) 0 ≡ with_more (consumed self.old) (length v.items)) }
+        ensures counted { IfOk result (λ v.
+            with_more (consumed self.new) 0 ≡ with_more (consumed self.old) (length v.items)) }
         ensures named { IfErr result (NamedIfIo (ending self.old)) }
         ensures lasting { ending self.new ≡ ending_behind result (ending self.old) }
         ensures ahead { IfOk result (λ v. ahead self.new ≤ ahead self.old - length v.items) }

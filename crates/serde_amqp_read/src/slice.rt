@@ -50,7 +50,8 @@ impl<'a> SliceReader<'a> {
     pub fn get_byte_slice(&mut self, count: usize) -> Result<&'a [u8], Error>
         ensures ok { IfOk result (λ s. self.old.rest ≡ s.now ++ self.new.rest) }
         ensures len { IfOk result (λ s. length s.now ≡ count) }
-        ensures end { IfErr result (λ e. (e ≡ Io ErrorKind.UnexpectedEof) × (length self.old.rest < count)) }
+        ensures end { IfErr result (λ e. (e ≡ Io ErrorKind.UnexpectedEof)
+            × (length self.old.rest < count)) }
         ensures failed { OnErr result (self.new.rest ≡ []) }
         ensures counted { self.new.consumed ≡ counted result count self.old.consumed }
     {

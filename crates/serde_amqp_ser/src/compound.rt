@@ -4,7 +4,8 @@ ghost use Rattle.serde_amqp_item.specs.Item.{Item, Items, list, array, items_of,
 ghost use Rattle.serde_amqp_item.specs.Canon.{settled, elements};
 ghost use Rattle.std.specs.Int.{w32, to_be_bytes};
 ghost use Rattle.serde_amqp_ser.specs.Written.{Written, extended, inside, Keeps};
-ghost use Rattle.serde_amqp_ser.specs.Puts.{State, behind, serialized, counted_placed, listed, OnlyWhere, WantsMemory, place_of, state_of};
+ghost use Rattle.serde_amqp_ser.specs.Puts.{State, behind, serialized, counted_placed, listed, OnlyWhere, WantsMemory};
+ghost use Rattle.serde_amqp_ser.specs.Puts.{place_of, state_of};
 
 use crate::place::IsArrayElement;
 use crate::serialize::Serialize;
@@ -16,9 +17,20 @@ impl<W: Sink> Serializer<W> {
     /// Puts a constructor, a size and a count of four bytes each in front of content.
     #[tactic(auto, using(crate::proofs::Grown::growing))]
     fn close_wide(&mut self, start: u128, code: u8, size: u32, count: u32) -> Result<(), Error>
-        ensures ok { OnOk result ((w : Written) (content : List ℕ) → W.written self.old.writer ≡ extended (inside W.begins w) content → w.size ≡ start → behind (record { written = w; place = place_of self.old.element }) (settled (place_of self.old.element) (code, to_be_bytes w32 size ++ to_be_bytes w32 count ++ content)) ≡ Some (state_of W.written self.new)) }
-        ensures kept { (w : Written) (content : List ℕ) → W.written self.old.writer ≡ extended (inside W.begins w) content → w.size ≡ start → Keeps w (W.written self.new.writer) }
-        ensures refused { (w : Written) (content : List ℕ) → W.written self.old.writer ≡ extended (inside W.begins w) content → w.size ≡ start → OnlyWhere result (behind (record { written = w; place = place_of self.old.element }) (settled (place_of self.old.element) (code, to_be_bytes w32 size ++ to_be_bytes w32 count ++ content))) }
+        ensures ok { OnOk result ((w : Written) (content : List ℕ) →
+            W.written self.old.writer ≡ extended (inside W.begins w) content → w.size ≡ start →
+            behind (record { written = w; place = place_of self.old.element })
+            (settled (place_of self.old.element)
+            (code, to_be_bytes w32 size ++ to_be_bytes w32 count ++ content))
+            ≡ Some (state_of W.written self.new)) }
+        ensures kept { (w : Written) (content : List ℕ) →
+            W.written self.old.writer ≡ extended (inside W.begins w) content → w.size ≡ start →
+            Keeps w (W.written self.new.writer) }
+        ensures refused { (w : Written) (content : List ℕ) →
+            W.written self.old.writer ≡ extended (inside W.begins w) content → w.size ≡ start →
+            OnlyWhere result (behind (record { written = w; place = place_of self.old.element })
+            (settled (place_of self.old.element)
+            (code, to_be_bytes w32 size ++ to_be_bytes w32 count ++ content))) }
         ensures memory { WantsMemory W.takes_memory result }
     {
         let [s0, s1, s2, s3] = size.to_be_bytes();
@@ -55,9 +67,19 @@ impl<W: Sink> Serializer<W> {
         narrow: u8,
         wide: u8,
     ) -> Result<(), Error>
-        ensures ok { OnOk result ((w : Written) (content : List ℕ) → W.written self.old.writer ≡ extended (inside W.begins w) content → w.size ≡ start → behind (record { written = w; place = place_of self.old.element }) (counted_placed (place_of self.old.element) narrow wide count content) ≡ Some (state_of W.written self.new)) }
-        ensures kept { (w : Written) (content : List ℕ) → W.written self.old.writer ≡ extended (inside W.begins w) content → w.size ≡ start → Keeps w (W.written self.new.writer) }
-        ensures refused { (w : Written) (content : List ℕ) → W.written self.old.writer ≡ extended (inside W.begins w) content → w.size ≡ start → count ≤ length content → OnlyWhere result (behind (record { written = w; place = place_of self.old.element }) (counted_placed (place_of self.old.element) narrow wide count content)) }
+        ensures ok { OnOk result ((w : Written) (content : List ℕ) →
+            W.written self.old.writer ≡ extended (inside W.begins w) content → w.size ≡ start →
+            behind (record { written = w; place = place_of self.old.element })
+            (counted_placed (place_of self.old.element) narrow wide count content)
+            ≡ Some (state_of W.written self.new)) }
+        ensures kept { (w : Written) (content : List ℕ) →
+            W.written self.old.writer ≡ extended (inside W.begins w) content → w.size ≡ start →
+            Keeps w (W.written self.new.writer) }
+        ensures refused { (w : Written) (content : List ℕ) →
+            W.written self.old.writer ≡ extended (inside W.begins w) content → w.size ≡ start →
+            count ≤ length content → OnlyWhere result
+            (behind (record { written = w; place = place_of self.old.element })
+            (counted_placed (place_of self.old.element) narrow wide count content)) }
         ensures memory { WantsMemory W.takes_memory result }
     {
         let Some(len) = self.writer.content_len(start) else {
@@ -81,9 +103,18 @@ impl<W: Sink> Serializer<W> {
     /// Ends a list that began there, by the number of its items.
     #[tactic(auto, using(crate::proofs::Grown::growing))]
     pub(crate) fn close_list(&mut self, start: u128, count: usize) -> Result<(), Error>
-        ensures ok { OnOk result ((w : Written) (xs : Items) → listed (inside W.begins w) xs ≡ Some (W.written self.old.writer) → w.size ≡ start → item_count xs ≡ count → serialized (record { written = w; place = place_of self.old.element }) (list xs) ≡ Some (state_of W.written self.new)) }
-        ensures kept { (w : Written) (xs : Items) → listed (inside W.begins w) xs ≡ Some (W.written self.old.writer) → w.size ≡ start → Keeps w (W.written self.new.writer) }
-        ensures refused { (w : Written) (xs : Items) → listed (inside W.begins w) xs ≡ Some (W.written self.old.writer) → w.size ≡ start → item_count xs ≡ count → OnlyWhere result (serialized (record { written = w; place = place_of self.old.element }) (list xs)) }
+        ensures ok { OnOk result ((w : Written) (xs : Items) →
+            listed (inside W.begins w) xs ≡ Some (W.written self.old.writer) → w.size ≡ start →
+            item_count xs ≡ count → serialized
+            (record { written = w; place = place_of self.old.element }) (list xs)
+            ≡ Some (state_of W.written self.new)) }
+        ensures kept { (w : Written) (xs : Items) →
+            listed (inside W.begins w) xs ≡ Some (W.written self.old.writer) → w.size ≡ start →
+            Keeps w (W.written self.new.writer) }
+        ensures refused { (w : Written) (xs : Items) →
+            listed (inside W.begins w) xs ≡ Some (W.written self.old.writer) → w.size ≡ start →
+            item_count xs ≡ count → OnlyWhere result
+            (serialized (record { written = w; place = place_of self.old.element }) (list xs)) }
         ensures memory { WantsMemory W.takes_memory result }
     {
         if let IsArrayElement::False = self.element {
@@ -98,9 +129,19 @@ impl<W: Sink> Serializer<W> {
     /// Ends an array that began there, by the number of its elements.
     #[tactic(auto, using(crate::proofs::Grown::growing))]
     fn close_array(&mut self, start: u128, count: usize) -> Result<(), Error>
-        ensures ok { OnOk result ((w : Written) (xs : Items) (content : List ℕ) → elements xs ≡ Some content → W.written self.old.writer ≡ extended (inside W.begins w) content → w.size ≡ start → item_count xs ≡ count → serialized (record { written = w; place = place_of self.old.element }) (array xs) ≡ Some (state_of W.written self.new)) }
-        ensures kept { (w : Written) (content : List ℕ) → W.written self.old.writer ≡ extended (inside W.begins w) content → w.size ≡ start → Keeps w (W.written self.new.writer) }
-        ensures refused { (w : Written) (xs : Items) (content : List ℕ) → elements xs ≡ Some content → W.written self.old.writer ≡ extended (inside W.begins w) content → w.size ≡ start → item_count xs ≡ count → OnlyWhere result (serialized (record { written = w; place = place_of self.old.element }) (array xs)) }
+        ensures ok { OnOk result ((w : Written) (xs : Items) (content : List ℕ) →
+            elements xs ≡ Some content → W.written self.old.writer
+            ≡ extended (inside W.begins w) content → w.size ≡ start → item_count xs ≡ count →
+            serialized (record { written = w; place = place_of self.old.element }) (array xs)
+            ≡ Some (state_of W.written self.new)) }
+        ensures kept { (w : Written) (content : List ℕ) →
+            W.written self.old.writer ≡ extended (inside W.begins w) content → w.size ≡ start →
+            Keeps w (W.written self.new.writer) }
+        ensures refused { (w : Written) (xs : Items) (content : List ℕ) →
+            elements xs ≡ Some content → W.written self.old.writer
+            ≡ extended (inside W.begins w) content → w.size ≡ start → item_count xs ≡ count →
+            OnlyWhere result (serialized (record { written = w; place = place_of self.old.element })
+            (array xs)) }
         ensures memory { WantsMemory W.takes_memory result }
     {
         self.close_counted(start, count, 0xe0, 0xf0)
@@ -109,9 +150,11 @@ impl<W: Sink> Serializer<W> {
     /// Writes a list of these items. After an error the beginning of it may stand there.
     #[tactic(auto, using(crate::proofs::Grown::growing))]
     fn put_list<T: Serialize>(&mut self, items: &[T]) -> Result<(), Error>
-        ensures ok { OnOk result (serialized (state_of W.written self.old) (list (items_of (map T.item items.now))) ≡ Some (state_of W.written self.new)) }
+        ensures ok { OnOk result (serialized (state_of W.written self.old)
+            (list (items_of (map T.item items.now))) ≡ Some (state_of W.written self.new)) }
         ensures kept { Keeps (W.written self.old.writer) (W.written self.new.writer) }
-        ensures refused { OnlyWhere result (serialized (state_of W.written self.old) (list (items_of (map T.item items.now)))) }
+        ensures refused { OnlyWhere result (serialized (state_of W.written self.old)
+            (list (items_of (map T.item items.now)))) }
         ensures memory { WantsMemory W.takes_memory result }
     {
         let outer = self.element;
@@ -128,10 +171,12 @@ impl<W: Sink> Serializer<W> {
     /// where they take 2^32 - 4 bytes or more.
     #[tactic(auto, using(crate::proofs::Grown::growing))]
     pub fn serialize_list<T: Serialize>(&mut self, items: &[T]) -> Result<(), Error>
-        ensures ok { OnOk result (serialized (state_of W.written self.old) (list (items_of (map T.item items.now))) ≡ Some (state_of W.written self.new)) }
+        ensures ok { OnOk result (serialized (state_of W.written self.old)
+            (list (items_of (map T.item items.now))) ≡ Some (state_of W.written self.new)) }
         ensures err { OnErr result (state_of W.written self.new ≡ state_of W.written self.old) }
         ensures kept { Keeps (W.written self.old.writer) (W.written self.new.writer) }
-        ensures refused { OnlyWhere result (serialized (state_of W.written self.old) (list (items_of (map T.item items.now)))) }
+        ensures refused { OnlyWhere result (serialized (state_of W.written self.old)
+            (list (items_of (map T.item items.now)))) }
         ensures memory { WantsMemory W.takes_memory result }
     {
         let mark = self.mark();
@@ -144,9 +189,11 @@ impl<W: Sink> Serializer<W> {
     /// Writes an array of these elements. After an error the beginning of it may stand there.
     #[tactic(auto, using(crate::proofs::Grown::growing))]
     fn put_array<T: Serialize>(&mut self, elements: &[T]) -> Result<(), Error>
-        ensures ok { OnOk result (serialized (state_of W.written self.old) (array (items_of (map T.item elements.now))) ≡ Some (state_of W.written self.new)) }
+        ensures ok { OnOk result (serialized (state_of W.written self.old)
+            (array (items_of (map T.item elements.now))) ≡ Some (state_of W.written self.new)) }
         ensures kept { Keeps (W.written self.old.writer) (W.written self.new.writer) }
-        ensures refused { OnlyWhere result (serialized (state_of W.written self.old) (array (items_of (map T.item elements.now)))) }
+        ensures refused { OnlyWhere result (serialized (state_of W.written self.old)
+            (array (items_of (map T.item elements.now)))) }
         ensures memory { WantsMemory W.takes_memory result }
     {
         let outer = self.element;
@@ -168,10 +215,12 @@ impl<W: Sink> Serializer<W> {
     /// wide form or another constructor, `InvalidLength` where they take 2^32 - 4 bytes or more.
     #[tactic(auto, using(crate::proofs::Grown::growing))]
     pub fn serialize_array<T: Serialize>(&mut self, elements: &[T]) -> Result<(), Error>
-        ensures ok { OnOk result (serialized (state_of W.written self.old) (array (items_of (map T.item elements.now))) ≡ Some (state_of W.written self.new)) }
+        ensures ok { OnOk result (serialized (state_of W.written self.old)
+            (array (items_of (map T.item elements.now))) ≡ Some (state_of W.written self.new)) }
         ensures err { OnErr result (state_of W.written self.new ≡ state_of W.written self.old) }
         ensures kept { Keeps (W.written self.old.writer) (W.written self.new.writer) }
-        ensures refused { OnlyWhere result (serialized (state_of W.written self.old) (array (items_of (map T.item elements.now)))) }
+        ensures refused { OnlyWhere result (serialized (state_of W.written self.old)
+            (array (items_of (map T.item elements.now)))) }
         ensures memory { WantsMemory W.takes_memory result }
     {
         let mark = self.mark();

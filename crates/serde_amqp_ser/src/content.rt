@@ -25,7 +25,8 @@ pub struct Content {
 impl<W: Sink> Serializer<W> {
     /// Begins a list or a map.
     pub(crate) fn begin_content(&mut self) -> Content
-        ensures { Holds W.begins (state_of W.written self.old) [] result (state_of W.written self.new) }
+        ensures { Holds W.begins (state_of W.written self.old) [] result
+            (state_of W.written self.new) }
     {
         Content {
             opened: self.begin_compound(),
@@ -39,10 +40,14 @@ impl<W: Sink> Serializer<W> {
         content: Content,
         item: &T,
     ) -> Result<Content, Error>
-        ensures ok { IfOk result (λ more. (s : State) (xs : List Item) → Holds W.begins s xs content (state_of W.written self.old) → Holds W.begins s (xs ++ T.item item.now ∷ []) more (state_of W.written self.new)) }
+        ensures ok { IfOk result (λ more. (s : State) (xs : List Item) →
+            Holds W.begins s xs content (state_of W.written self.old) →
+            Holds W.begins s (xs ++ T.item item.now ∷ []) more (state_of W.written self.new)) }
         ensures err { OnErr result (state_of W.written self.new ≡ state_of W.written self.old) }
         ensures kept { Keeps (W.written self.old.writer) (W.written self.new.writer) }
-        ensures refused { (s : State) (xs : List Item) → Holds W.begins s xs content (state_of W.written self.old) → OnlyWhere result (canon (T.item item.now)) }
+        ensures refused { (s : State) (xs : List Item) →
+            Holds W.begins s xs content (state_of W.written self.old) →
+            OnlyWhere result (canon (T.item item.now)) }
         ensures memory { WantsMemory W.takes_memory result }
     {
         item.serialize(self)?;
@@ -104,9 +109,15 @@ impl<W: Sink> Serializer<W> {
 
     /// Ends a list. After an error its items may stand there.
     pub(crate) fn close_list_content(&mut self, content: Content) -> Result<(), Error>
-        ensures ok { OnOk result ((s : State) (xs : List Item) → Holds W.begins s xs content (state_of W.written self.old) → serialized s (list (items_of xs)) ≡ Some (state_of W.written self.new)) }
-        ensures kept { (s : State) (xs : List Item) → Holds W.begins s xs content (state_of W.written self.old) → Keeps s.written (W.written self.new.writer) }
-        ensures refused { (s : State) (xs : List Item) → Holds W.begins s xs content (state_of W.written self.old) → OnlyWhere result (serialized s (list (items_of xs))) }
+        ensures ok { OnOk result ((s : State) (xs : List Item) →
+            Holds W.begins s xs content (state_of W.written self.old) →
+            serialized s (list (items_of xs)) ≡ Some (state_of W.written self.new)) }
+        ensures kept { (s : State) (xs : List Item) →
+            Holds W.begins s xs content (state_of W.written self.old) →
+            Keeps s.written (W.written self.new.writer) }
+        ensures refused { (s : State) (xs : List Item) →
+            Holds W.begins s xs content (state_of W.written self.old) →
+            OnlyWhere result (serialized s (list (items_of xs))) }
         ensures memory { WantsMemory W.takes_memory result }
     {
         if content.count == usize::MAX {
@@ -117,11 +128,15 @@ impl<W: Sink> Serializer<W> {
 
     /// Ends a list. After an error all is as before it began.
     pub(crate) fn finish_list(&mut self, content: Content) -> Result<(), Error>
-        ensures ok { OnOk result ((s : State) (xs : List Item) → Holds W.begins s xs content (state_of W.written self.old) → serialized s (list (items_of xs)) ≡ Some (state_of W.written self.new)) }
+        ensures ok { OnOk result ((s : State) (xs : List Item) →
+            Holds W.begins s xs content (state_of W.written self.old) →
+            serialized s (list (items_of xs)) ≡ Some (state_of W.written self.new)) }
         ensures err { OnErr result ((s : Serializer W) (xs : List Item)
             → Holds W.begins (state_of W.written s) xs content (state_of W.written self.old)
             → state_of W.written self.new ≡ state_of W.written s) }
-        ensures refused { (s : State) (xs : List Item) → Holds W.begins s xs content (state_of W.written self.old) → OnlyWhere result (serialized s (list (items_of xs))) }
+        ensures refused { (s : State) (xs : List Item) →
+            Holds W.begins s xs content (state_of W.written self.old) →
+            OnlyWhere result (serialized s (list (items_of xs))) }
         ensures memory { WantsMemory W.takes_memory result }
     {
         match self.close_list_content(content) {
@@ -132,9 +147,15 @@ impl<W: Sink> Serializer<W> {
 
     /// Ends a map. After an error its keys and values may stand there.
     pub(crate) fn close_map_content(&mut self, content: Content) -> Result<(), Error>
-        ensures ok { OnOk result ((s : State) (ps : List (Item × Item)) → Holds W.begins s (in_turn ps) content (state_of W.written self.old) → serialized s (map (pairs_of ps)) ≡ Some (state_of W.written self.new)) }
-        ensures kept { (s : State) (xs : List Item) → Holds W.begins s xs content (state_of W.written self.old) → Keeps s.written (W.written self.new.writer) }
-        ensures refused { (s : State) (ps : List (Item × Item)) → Holds W.begins s (in_turn ps) content (state_of W.written self.old) → OnlyWhere result (serialized s (map (pairs_of ps))) }
+        ensures ok { OnOk result ((s : State) (ps : List (Item × Item)) →
+            Holds W.begins s (in_turn ps) content (state_of W.written self.old) →
+            serialized s (map (pairs_of ps)) ≡ Some (state_of W.written self.new)) }
+        ensures kept { (s : State) (xs : List Item) →
+            Holds W.begins s xs content (state_of W.written self.old) →
+            Keeps s.written (W.written self.new.writer) }
+        ensures refused { (s : State) (ps : List (Item × Item)) →
+            Holds W.begins s (in_turn ps) content (state_of W.written self.old) →
+            OnlyWhere result (serialized s (map (pairs_of ps))) }
         ensures memory { WantsMemory W.takes_memory result }
     {
         if content.count == usize::MAX {
@@ -145,11 +166,15 @@ impl<W: Sink> Serializer<W> {
 
     /// Ends a map. After an error all is as before it began.
     pub(crate) fn finish_map(&mut self, content: Content) -> Result<(), Error>
-        ensures ok { OnOk result ((s : State) (ps : List (Item × Item)) → Holds W.begins s (in_turn ps) content (state_of W.written self.old) → serialized s (map (pairs_of ps)) ≡ Some (state_of W.written self.new)) }
+        ensures ok { OnOk result ((s : State) (ps : List (Item × Item)) →
+            Holds W.begins s (in_turn ps) content (state_of W.written self.old) →
+            serialized s (map (pairs_of ps)) ≡ Some (state_of W.written self.new)) }
         ensures err { OnErr result ((s : Serializer W) (xs : List Item)
             → Holds W.begins (state_of W.written s) xs content (state_of W.written self.old)
             → state_of W.written self.new ≡ state_of W.written s) }
-        ensures refused { (s : State) (ps : List (Item × Item)) → Holds W.begins s (in_turn ps) content (state_of W.written self.old) → OnlyWhere result (serialized s (map (pairs_of ps))) }
+        ensures refused { (s : State) (ps : List (Item × Item)) →
+            Holds W.begins s (in_turn ps) content (state_of W.written self.old) →
+            OnlyWhere result (serialized s (map (pairs_of ps))) }
         ensures memory { WantsMemory W.takes_memory result }
     {
         match self.close_map_content(content) {

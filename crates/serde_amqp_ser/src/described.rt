@@ -15,9 +15,11 @@ impl<W: Sink> Serializer<W> {
     /// Writes a descriptor by its code. After an error the beginning of it may stand there.
     #[tactic(auto, using(crate::proofs::Grown::growing, crate::proofs::Composed::described_rules))]
     fn put_descriptor(&mut self, code: u64) -> Result<(), Error>
-        ensures ok { OnOk result (IsDescribed (state_of W.written self.old) code (state_of W.written self.new)) }
+        ensures ok { OnOk result (IsDescribed (state_of W.written self.old) code
+            (state_of W.written self.new)) }
         ensures kept { Keeps (W.written self.old.writer) (W.written self.new.writer) }
-        ensures refused { (value : Item) → OnlyWhere result (serialized (state_of W.written self.old) (described (scalar (ulong code)) value)) }
+        ensures refused { (value : Item) → OnlyWhere result
+            (serialized (state_of W.written self.old) (described (scalar (ulong code)) value)) }
         ensures memory { WantsMemory W.takes_memory result }
     {
         if let IsArrayElement::False = self.element {
@@ -30,10 +32,12 @@ impl<W: Sink> Serializer<W> {
     /// Writes a descriptor by its code. The value that it describes is written next.
     #[tactic(auto, using(crate::proofs::Grown::growing, crate::proofs::Composed::described_rules))]
     pub(crate) fn begin_described(&mut self, code: u64) -> Result<(), Error>
-        ensures ok { OnOk result (IsDescribed (state_of W.written self.old) code (state_of W.written self.new)) }
+        ensures ok { OnOk result (IsDescribed (state_of W.written self.old) code
+            (state_of W.written self.new)) }
         ensures err { OnErr result (state_of W.written self.new ≡ state_of W.written self.old) }
         ensures kept { Keeps (W.written self.old.writer) (W.written self.new.writer) }
-        ensures refused { (value : Item) → OnlyWhere result (serialized (state_of W.written self.old) (described (scalar (ulong code)) value)) }
+        ensures refused { (value : Item) → OnlyWhere result
+            (serialized (state_of W.written self.old) (described (scalar (ulong code)) value)) }
         ensures memory { WantsMemory W.takes_memory result }
     {
         let mark = self.mark();
@@ -46,9 +50,12 @@ impl<W: Sink> Serializer<W> {
     /// Writes a value with a descriptor. After an error the descriptor may stand there.
     #[tactic(auto, using(crate::proofs::Grown::growing, crate::proofs::Composed::described_rules))]
     fn put_described<T: Serialize>(&mut self, code: u64, value: &T) -> Result<(), Error>
-        ensures ok { OnOk result (serialized (state_of W.written self.old) (described (scalar (ulong code)) (T.item value.now)) ≡ Some (state_of W.written self.new)) }
+        ensures ok { OnOk result (serialized (state_of W.written self.old)
+            (described (scalar (ulong code)) (T.item value.now))
+            ≡ Some (state_of W.written self.new)) }
         ensures kept { Keeps (W.written self.old.writer) (W.written self.new.writer) }
-        ensures refused { OnlyWhere result (serialized (state_of W.written self.old) (described (scalar (ulong code)) (T.item value.now))) }
+        ensures refused { OnlyWhere result (serialized (state_of W.written self.old)
+            (described (scalar (ulong code)) (T.item value.now))) }
         ensures memory { WantsMemory W.takes_memory result }
     {
         self.put_descriptor(code)?;
@@ -59,10 +66,13 @@ impl<W: Sink> Serializer<W> {
     /// since a described item has no wide form.
     #[tactic(auto, using(crate::proofs::Grown::growing, crate::proofs::Composed::described_rules))]
     pub fn described_basic<T: Serialize>(&mut self, code: u64, value: &T) -> Result<(), Error>
-        ensures ok { OnOk result (serialized (state_of W.written self.old) (described (scalar (ulong code)) (T.item value.now)) ≡ Some (state_of W.written self.new)) }
+        ensures ok { OnOk result (serialized (state_of W.written self.old)
+            (described (scalar (ulong code)) (T.item value.now))
+            ≡ Some (state_of W.written self.new)) }
         ensures err { OnErr result (state_of W.written self.new ≡ state_of W.written self.old) }
         ensures kept { Keeps (W.written self.old.writer) (W.written self.new.writer) }
-        ensures refused { OnlyWhere result (serialized (state_of W.written self.old) (described (scalar (ulong code)) (T.item value.now))) }
+        ensures refused { OnlyWhere result (serialized (state_of W.written self.old)
+            (described (scalar (ulong code)) (T.item value.now))) }
         ensures memory { WantsMemory W.takes_memory result }
     {
         let mark = self.mark();

@@ -1,5 +1,6 @@
 //! Whole values, as texts of their own.
-ghost use Rattle.std.specs.Prelude.{◌≡◌, ◌≢◌, ◌≤◌, ◌^◌, ◌⊎◌, ◌++◌, ℕ, List, length, Option, Some, None, IsSome, OnOk, IfOk, IfErr, OnErr};
+ghost use Rattle.std.specs.Prelude.{◌≡◌, ◌≢◌, ◌≤◌, ◌^◌, ◌⊎◌, ◌++◌, ℕ, List, length, Option, Some, None, IsSome, OnOk};
+ghost use Rattle.std.specs.Prelude.{IfOk, IfErr, OnErr};
 ghost use Rattle.serde_amqp_item.specs.Canon.{canon};
 ghost use Rattle.serde_amqp_ser.specs.Written.{capped};
 ghost use Rattle.serde_amqp_ser.specs.Sizes.{HasLength, IsTooLong};
@@ -13,7 +14,8 @@ use std::alloc::Global;
 
 /// How many bytes the canonical text of a value has, up to 2^64.
 fn counted<T: Serialize>(value: &T) -> Result<u128, Error>
-    ensures ok { IfOk result (λ n. (text : List ℕ) × (canon (T.item value.now) ≡ Some text) × (n ≡ capped (length text))) }
+    ensures ok { IfOk result (λ n. (text : List ℕ) × (canon (T.item value.now) ≡ Some text)
+        × (n ≡ capped (length text))) }
     ensures refused { IfErr result (λ e. (e ≢ Error.Memory) × (canon (T.item value.now) ≡ None)) }
 {
     let mut s = Serializer::new(Counter::new());
@@ -25,7 +27,8 @@ fn counted<T: Serialize>(value: &T) -> Result<u128, Error>
 /// none, and answers `InvalidLength` where it has 2^64 bytes or more.
 pub fn serialized_size<T: Serialize>(value: &T) -> Result<usize, Error>
     ensures ok { IfOk result (λ n. HasLength (canon (T.item value.now)) n) }
-    ensures refused { IfErr result (λ e. (canon (T.item value.now) ≡ None) ⊎ (IsTooLong (canon (T.item value.now)) × (e ≡ Error.InvalidLength))) }
+    ensures refused { IfErr result (λ e. (canon (T.item value.now) ≡ None)
+        ⊎ (IsTooLong (canon (T.item value.now)) × (e ≡ Error.InvalidLength))) }
     ensures memory { IfErr result (λ e. e ≢ Error.Memory) }
 {
     let Ok(size) = usize::try_from(counted(value)?) else {
@@ -57,7 +60,8 @@ pub fn append_to_vec<T: Serialize>(
     value: &T,
     bytes: &mut Vec<u8>,
 ) -> Result<(), Error>
-    ensures ok { OnOk result ((text : List ℕ) × (canon (T.item value.now) ≡ Some text) × (bytes.new.items ≡ bytes.old.items ++ text)) }
+    ensures ok { OnOk result ((text : List ℕ) × (canon (T.item value.now) ≡ Some text)
+        × (bytes.new.items ≡ bytes.old.items ++ text)) }
     ensures err { OnErr result (bytes.new.items ≡ bytes.old.items) }
     ensures refused { IfErr result (λ e. e ≢ Error.Memory → canon (T.item value.now) ≡ None) }
     ensures memory { IfErr result (λ e. e ≡ Error.Memory → IsSome (canon (T.item value.now))) }
@@ -81,9 +85,12 @@ impl Serializer<Vec<u8>> {
     /// next value is written where this one was to be. Any error but `Memory` comes exactly where the value's
     /// item has no canonical text, in an array no wide form.
     pub fn write_value<T: Serialize>(&mut self, value: &T) -> Result<(), Error>
-        ensures ok { OnOk result (serialized (bytes_state self.old.writer.items self.old.element) (T.item value.now) ≡ Some (bytes_state self.new.writer.items self.new.element)) }
-        ensures err { OnErr result ((self.new.writer.items ≡ self.old.writer.items) × (self.new.element ≡ self.old.element)) }
-        ensures refused { OnlyWhere result (serialized (bytes_state self.old.writer.items self.old.element) (T.item value.now)) }
+        ensures ok { OnOk result (serialized (bytes_state self.old.writer.items self.old.element)
+            (T.item value.now) ≡ Some (bytes_state self.new.writer.items self.new.element)) }
+        ensures err { OnErr result ((self.new.writer.items ≡ self.old.writer.items)
+            × (self.new.element ≡ self.old.element)) }
+        ensures refused { OnlyWhere result (serialized
+            (bytes_state self.old.writer.items self.old.element) (T.item value.now)) }
     {
         let len = self.writer.len();
         let element = self.element;

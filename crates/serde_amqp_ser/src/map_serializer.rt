@@ -28,7 +28,8 @@ impl<W: Sink> Serializer<W> {
     pub fn serialize_map<'a>(&'a mut self) -> MapSerializer<'a, W>
         ensures same_reference { result.serializer.ghost_name ≡ self.entry.ghost_name }
         ensures kept { Keeps (W.written self.old.writer) (W.written result.serializer.now.writer) }
-        ensures begun { HoldsPairs W.begins (state_of W.written self.old) [] None result.content result.keyed (state_of W.written result.serializer.now) }
+        ensures begun { HoldsPairs W.begins (state_of W.written self.old) [] None result.content
+            result.keyed (state_of W.written result.serializer.now) }
     {
         let content = self.begin_content();
         MapSerializer {
@@ -45,13 +46,22 @@ impl<'a, W: Sink> MapSerializer<'a, W> {
     #[tactic(auto, using(crate::proofs::Grown::growing, crate::proofs::Held::holding))]
     pub fn serialize_key<K: Serialize>(&mut self, key: &K) -> Result<(), Error>
         ensures same_reference { self.new.serializer.ghost_name ≡ self.old.serializer.ghost_name }
-        ensures ok { OnOk result ((s : State) (ps : List (Item × Item)) → HoldsPairs W.begins s ps None self.old.content self.old.keyed (state_of W.written self.old.serializer.now) → HoldsPairs W.begins s ps (Some (K.item key.now)) self.new.content self.new.keyed (state_of W.written self.new.serializer.now)) }
+        ensures ok { OnOk result ((s : State) (ps : List (Item × Item)) →
+            HoldsPairs W.begins s ps None self.old.content self.old.keyed
+            (state_of W.written self.old.serializer.now) →
+            HoldsPairs W.begins s ps (Some (K.item key.now)) self.new.content self.new.keyed
+            (state_of W.written self.new.serializer.now)) }
         ensures err { OnErr result ((self.new.content ≡ self.old.content) × (self.new.keyed ≡ self.old.keyed)
             × (state_of W.written self.new.serializer.now
             ≡ state_of W.written self.old.serializer.now)) }
-        ensures kept { Keeps (W.written self.old.serializer.now.writer) (W.written self.new.serializer.now.writer) }
-        ensures refused { (s : State) (ps qs : List (Item × Item)) (value : Item) → HoldsPairs W.begins s ps None self.old.content self.old.keyed (state_of W.written self.old.serializer.now) → OnlyWhere result (serialized s (map (pairs_of (ps ++ (K.item key.now, value) ∷ qs)))) }
-        ensures out_of_turn { self.old.keyed ≡ true → (result ≡ Err Error.SequenceLengthMismatch) × (self.new ≡ self.old) }
+        ensures kept { Keeps (W.written self.old.serializer.now.writer)
+            (W.written self.new.serializer.now.writer) }
+        ensures refused { (s : State) (ps qs : List (Item × Item)) (value : Item) →
+            HoldsPairs W.begins s ps None self.old.content self.old.keyed
+            (state_of W.written self.old.serializer.now) →
+            OnlyWhere result (serialized s (map (pairs_of (ps ++ (K.item key.now, value) ∷ qs)))) }
+        ensures out_of_turn { self.old.keyed ≡ true →
+            (result ≡ Err Error.SequenceLengthMismatch) × (self.new ≡ self.old) }
         ensures memory { WantsMemory W.takes_memory result }
     {
         if self.keyed {
@@ -68,13 +78,22 @@ impl<'a, W: Sink> MapSerializer<'a, W> {
     #[tactic(auto, using(crate::proofs::Grown::growing, crate::proofs::Held::holding))]
     pub fn serialize_value<V: Serialize>(&mut self, value: &V) -> Result<(), Error>
         ensures same_reference { self.new.serializer.ghost_name ≡ self.old.serializer.ghost_name }
-        ensures ok { OnOk result ((s : State) (ps : List (Item × Item)) (key : Item) → HoldsPairs W.begins s ps (Some key) self.old.content self.old.keyed (state_of W.written self.old.serializer.now) → HoldsPairs W.begins s (ps ++ (key, V.item value.now) ∷ []) None self.new.content self.new.keyed (state_of W.written self.new.serializer.now)) }
+        ensures ok { OnOk result ((s : State) (ps : List (Item × Item)) (key : Item) →
+            HoldsPairs W.begins s ps (Some key) self.old.content self.old.keyed
+            (state_of W.written self.old.serializer.now) →
+            HoldsPairs W.begins s (ps ++ (key, V.item value.now) ∷ []) None self.new.content
+            self.new.keyed (state_of W.written self.new.serializer.now)) }
         ensures err { OnErr result ((self.new.content ≡ self.old.content) × (self.new.keyed ≡ self.old.keyed)
             × (state_of W.written self.new.serializer.now
             ≡ state_of W.written self.old.serializer.now)) }
-        ensures kept { Keeps (W.written self.old.serializer.now.writer) (W.written self.new.serializer.now.writer) }
-        ensures refused { (s : State) (ps qs : List (Item × Item)) (key : Item) → HoldsPairs W.begins s ps (Some key) self.old.content self.old.keyed (state_of W.written self.old.serializer.now) → OnlyWhere result (serialized s (map (pairs_of (ps ++ (key, V.item value.now) ∷ qs)))) }
-        ensures out_of_turn { self.old.keyed ≡ false → (result ≡ Err Error.SequenceLengthMismatch) × (self.new ≡ self.old) }
+        ensures kept { Keeps (W.written self.old.serializer.now.writer)
+            (W.written self.new.serializer.now.writer) }
+        ensures refused { (s : State) (ps qs : List (Item × Item)) (key : Item) →
+            HoldsPairs W.begins s ps (Some key) self.old.content self.old.keyed
+            (state_of W.written self.old.serializer.now) →
+            OnlyWhere result (serialized s (map (pairs_of (ps ++ (key, V.item value.now) ∷ qs)))) }
+        ensures out_of_turn { self.old.keyed ≡ false →
+            (result ≡ Err Error.SequenceLengthMismatch) × (self.new ≡ self.old) }
         ensures memory { WantsMemory W.takes_memory result }
     {
         if !self.keyed {
@@ -94,13 +113,23 @@ impl<'a, W: Sink> MapSerializer<'a, W> {
         value: &V,
     ) -> Result<(), Error>
         ensures same_reference { self.new.serializer.ghost_name ≡ self.old.serializer.ghost_name }
-        ensures ok { OnOk result ((s : State) (ps : List (Item × Item)) → HoldsPairs W.begins s ps None self.old.content self.old.keyed (state_of W.written self.old.serializer.now) → HoldsPairs W.begins s (ps ++ (K.item key.now, V.item value.now) ∷ []) None self.new.content self.new.keyed (state_of W.written self.new.serializer.now)) }
+        ensures ok { OnOk result ((s : State) (ps : List (Item × Item)) →
+            HoldsPairs W.begins s ps None self.old.content self.old.keyed
+            (state_of W.written self.old.serializer.now) →
+            HoldsPairs W.begins s (ps ++ (K.item key.now, V.item value.now) ∷ []) None
+            self.new.content self.new.keyed (state_of W.written self.new.serializer.now)) }
         ensures err { OnErr result ((self.new.content ≡ self.old.content) × (self.new.keyed ≡ self.old.keyed)
             × (state_of W.written self.new.serializer.now
             ≡ state_of W.written self.old.serializer.now)) }
-        ensures kept { Keeps (W.written self.old.serializer.now.writer) (W.written self.new.serializer.now.writer) }
-        ensures refused { (s : State) (ps qs : List (Item × Item)) → HoldsPairs W.begins s ps None self.old.content self.old.keyed (state_of W.written self.old.serializer.now) → OnlyWhere result (serialized s (map (pairs_of (ps ++ (K.item key.now, V.item value.now) ∷ qs)))) }
-        ensures out_of_turn { self.old.keyed ≡ true → (result ≡ Err Error.SequenceLengthMismatch) × (self.new ≡ self.old) }
+        ensures kept { Keeps (W.written self.old.serializer.now.writer)
+            (W.written self.new.serializer.now.writer) }
+        ensures refused { (s : State) (ps qs : List (Item × Item)) →
+            HoldsPairs W.begins s ps None self.old.content self.old.keyed
+            (state_of W.written self.old.serializer.now) →
+            OnlyWhere result
+            (serialized s (map (pairs_of (ps ++ (K.item key.now, V.item value.now) ∷ qs)))) }
+        ensures out_of_turn { self.old.keyed ≡ true →
+            (result ≡ Err Error.SequenceLengthMismatch) × (self.new ≡ self.old) }
         ensures memory { WantsMemory W.takes_memory result }
     {
         if self.keyed {
@@ -115,12 +144,18 @@ impl<'a, W: Sink> MapSerializer<'a, W> {
     /// element is no map. After an error all is as before the map began.
     #[tactic(auto, using(crate::proofs::Grown::growing, crate::proofs::Held::holding))]
     pub fn end(self) -> Result<(), Error>
-        ensures ok { OnOk result ((s : State) (ps : List (Item × Item)) → HoldsPairs W.begins s ps None self.entry.content self.entry.keyed (state_of W.written self.entry.serializer.now) → serialized s (map (pairs_of ps)) ≡ Some (state_of W.written self.exit.0.now)) }
+        ensures ok { OnOk result ((s : State) (ps : List (Item × Item)) →
+            HoldsPairs W.begins s ps None self.entry.content self.entry.keyed
+            (state_of W.written self.entry.serializer.now) →
+            serialized s (map (pairs_of ps)) ≡ Some (state_of W.written self.exit.0.now)) }
         ensures err { OnErr result ((s : Serializer W) (ps : List (Item × Item)) (key : Option Item)
             → HoldsPairs W.begins (state_of W.written s) ps key self.entry.content
             self.entry.keyed (state_of W.written self.entry.serializer.now)
             → state_of W.written self.exit.0.now ≡ state_of W.written s) }
-        ensures refused { (s : State) (ps : List (Item × Item)) → HoldsPairs W.begins s ps None self.entry.content self.entry.keyed (state_of W.written self.entry.serializer.now) → OnlyWhere result (serialized s (map (pairs_of ps))) }
+        ensures refused { (s : State) (ps : List (Item × Item)) →
+            HoldsPairs W.begins s ps None self.entry.content self.entry.keyed
+            (state_of W.written self.entry.serializer.now) →
+            OnlyWhere result (serialized s (map (pairs_of ps))) }
         ensures unpaired { self.entry.keyed ≡ true → result ≡ Err Error.SequenceLengthMismatch }
         ensures memory { WantsMemory W.takes_memory result }
     {

@@ -25,7 +25,8 @@ impl<W: Sink> Serializer<W> {
     /// [`Serializer::end_list`] or [`Serializer::end_map`] ends it.
     #[tactic(auto, using(crate::proofs::Grown::growing, crate::proofs::Begun::opening))]
     pub fn begin_compound(&mut self) -> Opened
-        ensures open { IsOpen W.begins (W.written self.old.writer) [] (state_of W.written self.new) }
+        ensures open { IsOpen W.begins (W.written self.old.writer) []
+            (state_of W.written self.new) }
         ensures mark { IsMark (state_of W.written self.old) result }
         ensures kept { Keeps (W.written self.old.writer) (W.written self.new.writer) }
     {
@@ -42,9 +43,15 @@ impl<W: Sink> Serializer<W> {
         key: &K,
         value: &V,
     ) -> Result<(), Error>
-        ensures ok { OnOk result ((w : Written) (ps : List (Item × Item)) → IsOpen W.begins w (in_turn ps) (state_of W.written self.old) → IsOpen W.begins w (in_turn (ps ++ (K.item key.now, V.item value.now) ∷ [])) (state_of W.written self.new)) }
+        ensures ok { OnOk result ((w : Written) (ps : List (Item × Item)) →
+            IsOpen W.begins w (in_turn ps) (state_of W.written self.old) →
+            IsOpen W.begins w (in_turn (ps ++ (K.item key.now, V.item value.now) ∷ []))
+            (state_of W.written self.new)) }
         ensures kept { Keeps (W.written self.old.writer) (W.written self.new.writer) }
-        ensures refused { (w : Written) (ps qs : List (Item × Item)) (t : State) → IsOpen W.begins w (in_turn ps) (state_of W.written self.old) → OnlyWhere result (serialized t (map (pairs_of (ps ++ (K.item key.now, V.item value.now) ∷ qs)))) }
+        ensures refused { (w : Written) (ps qs : List (Item × Item)) (t : State) →
+            IsOpen W.begins w (in_turn ps) (state_of W.written self.old) →
+            OnlyWhere result
+            (serialized t (map (pairs_of (ps ++ (K.item key.now, V.item value.now) ∷ qs)))) }
         ensures memory { WantsMemory W.takes_memory result }
     {
         key.serialize(self)?;
@@ -59,10 +66,16 @@ impl<W: Sink> Serializer<W> {
         key: &K,
         value: &V,
     ) -> Result<(), Error>
-        ensures ok { OnOk result ((w : Written) (ps : List (Item × Item)) → IsOpen W.begins w (in_turn ps) (state_of W.written self.old) → IsOpen W.begins w (in_turn (ps ++ (K.item key.now, V.item value.now) ∷ [])) (state_of W.written self.new)) }
+        ensures ok { OnOk result ((w : Written) (ps : List (Item × Item)) →
+            IsOpen W.begins w (in_turn ps) (state_of W.written self.old) →
+            IsOpen W.begins w (in_turn (ps ++ (K.item key.now, V.item value.now) ∷ []))
+            (state_of W.written self.new)) }
         ensures err { OnErr result (state_of W.written self.new ≡ state_of W.written self.old) }
         ensures kept { Keeps (W.written self.old.writer) (W.written self.new.writer) }
-        ensures refused { (w : Written) (ps qs : List (Item × Item)) (t : State) → IsOpen W.begins w (in_turn ps) (state_of W.written self.old) → OnlyWhere result (serialized t (map (pairs_of (ps ++ (K.item key.now, V.item value.now) ∷ qs)))) }
+        ensures refused { (w : Written) (ps qs : List (Item × Item)) (t : State) →
+            IsOpen W.begins w (in_turn ps) (state_of W.written self.old) →
+            OnlyWhere result
+            (serialized t (map (pairs_of (ps ++ (K.item key.now, V.item value.now) ∷ qs)))) }
         ensures memory { WantsMemory W.takes_memory result }
     {
         let mark = self.mark();
@@ -75,9 +88,15 @@ impl<W: Sink> Serializer<W> {
     /// Puts the head of a list in front of its items. After an error the items may stand there.
     #[tactic(auto, using(crate::proofs::Grown::growing, crate::proofs::Begun::opening))]
     pub(crate) fn put_list_head(&mut self, opened: Opened, items: usize) -> Result<(), Error>
-        ensures ok { OnOk result ((s : State) (xs : List Item) → IsMark s opened → IsOpen W.begins s.written xs (state_of W.written self.old) → length xs ≡ items → serialized s (list (items_of xs)) ≡ Some (state_of W.written self.new)) }
-        ensures kept { (s : State) (xs : List Item) → IsMark s opened → IsOpen W.begins s.written xs (state_of W.written self.old) → Keeps s.written (W.written self.new.writer) }
-        ensures refused { (s : State) (xs : List Item) → IsMark s opened → IsOpen W.begins s.written xs (state_of W.written self.old) → length xs ≡ items → OnlyWhere result (serialized s (list (items_of xs))) }
+        ensures ok { OnOk result ((s : State) (xs : List Item) → IsMark s opened →
+            IsOpen W.begins s.written xs (state_of W.written self.old) → length xs ≡ items →
+            serialized s (list (items_of xs)) ≡ Some (state_of W.written self.new)) }
+        ensures kept { (s : State) (xs : List Item) → IsMark s opened →
+            IsOpen W.begins s.written xs (state_of W.written self.old) →
+            Keeps s.written (W.written self.new.writer) }
+        ensures refused { (s : State) (xs : List Item) → IsMark s opened →
+            IsOpen W.begins s.written xs (state_of W.written self.old) → length xs ≡ items →
+            OnlyWhere result (serialized s (list (items_of xs))) }
         ensures memory { WantsMemory W.takes_memory result }
     {
         self.element = opened.outer;
@@ -89,14 +108,18 @@ impl<W: Sink> Serializer<W> {
     /// an error all is as before the list began.
     #[tactic(auto, using(crate::proofs::Grown::growing, crate::proofs::Begun::opening))]
     pub fn end_list(&mut self, opened: Opened, items: usize) -> Result<(), Error>
-        ensures ok { OnOk result ((s : State) (xs : List Item) → IsMark s opened → IsOpen W.begins s.written xs (state_of W.written self.old) → length xs ≡ items → serialized s (list (items_of xs)) ≡ Some (state_of W.written self.new)) }
+        ensures ok { OnOk result ((s : State) (xs : List Item) → IsMark s opened →
+            IsOpen W.begins s.written xs (state_of W.written self.old) → length xs ≡ items →
+            serialized s (list (items_of xs)) ≡ Some (state_of W.written self.new)) }
         ensures err { OnErr result ((s : Serializer W) (xs : List Item) → IsMark (state_of W.written s) opened
             → IsOpen W.begins (W.written s.writer) xs (state_of W.written self.old)
             → state_of W.written self.new ≡ state_of W.written s) }
         ensures kept { (s : Serializer W) (xs : List Item) → IsMark (state_of W.written s) opened
             → IsOpen W.begins (W.written s.writer) xs (state_of W.written self.old)
             → Keeps (W.written s.writer) (W.written self.new.writer) }
-        ensures refused { (s : State) (xs : List Item) → IsMark s opened → IsOpen W.begins s.written xs (state_of W.written self.old) → length xs ≡ items → OnlyWhere result (serialized s (list (items_of xs))) }
+        ensures refused { (s : State) (xs : List Item) → IsMark s opened →
+            IsOpen W.begins s.written xs (state_of W.written self.old) → length xs ≡ items →
+            OnlyWhere result (serialized s (list (items_of xs))) }
         ensures memory { WantsMemory W.takes_memory result }
     {
         match self.put_list_head(opened, items) {
@@ -108,9 +131,16 @@ impl<W: Sink> Serializer<W> {
     /// Puts the head of a map in front of its keys and values. After an error these may stand there.
     #[tactic(auto, using(crate::proofs::Grown::growing, crate::proofs::Begun::opening))]
     pub(crate) fn put_map_head(&mut self, opened: Opened, pairs: usize) -> Result<(), Error>
-        ensures ok { OnOk result ((s : State) (ps : List (Item × Item)) → IsMark s opened → IsOpen W.begins s.written (in_turn ps) (state_of W.written self.old) → length ps ≡ pairs → serialized s (map (pairs_of ps)) ≡ Some (state_of W.written self.new)) }
-        ensures kept { (s : State) (xs : List Item) → IsMark s opened → IsOpen W.begins s.written xs (state_of W.written self.old) → Keeps s.written (W.written self.new.writer) }
-        ensures refused { (s : State) (ps : List (Item × Item)) → IsMark s opened → IsOpen W.begins s.written (in_turn ps) (state_of W.written self.old) → length ps ≡ pairs → OnlyWhere result (serialized s (map (pairs_of ps))) }
+        ensures ok { OnOk result ((s : State) (ps : List (Item × Item)) → IsMark s opened →
+            IsOpen W.begins s.written (in_turn ps) (state_of W.written self.old) →
+            length ps ≡ pairs → serialized s (map (pairs_of ps))
+            ≡ Some (state_of W.written self.new)) }
+        ensures kept { (s : State) (xs : List Item) → IsMark s opened →
+            IsOpen W.begins s.written xs (state_of W.written self.old) →
+            Keeps s.written (W.written self.new.writer) }
+        ensures refused { (s : State) (ps : List (Item × Item)) → IsMark s opened →
+            IsOpen W.begins s.written (in_turn ps) (state_of W.written self.old) →
+            length ps ≡ pairs → OnlyWhere result (serialized s (map (pairs_of ps))) }
         ensures memory { WantsMemory W.takes_memory result }
     {
         let Some(count) = pairs.checked_mul(2) else {
@@ -125,14 +155,19 @@ impl<W: Sink> Serializer<W> {
     /// an error all is as before the map began.
     #[tactic(auto, using(crate::proofs::Grown::growing, crate::proofs::Begun::opening))]
     pub fn end_map(&mut self, opened: Opened, pairs: usize) -> Result<(), Error>
-        ensures ok { OnOk result ((s : State) (ps : List (Item × Item)) → IsMark s opened → IsOpen W.begins s.written (in_turn ps) (state_of W.written self.old) → length ps ≡ pairs → serialized s (map (pairs_of ps)) ≡ Some (state_of W.written self.new)) }
+        ensures ok { OnOk result ((s : State) (ps : List (Item × Item)) → IsMark s opened →
+            IsOpen W.begins s.written (in_turn ps) (state_of W.written self.old) →
+            length ps ≡ pairs → serialized s (map (pairs_of ps))
+            ≡ Some (state_of W.written self.new)) }
         ensures err { OnErr result ((s : Serializer W) (xs : List Item) → IsMark (state_of W.written s) opened
             → IsOpen W.begins (W.written s.writer) xs (state_of W.written self.old)
             → state_of W.written self.new ≡ state_of W.written s) }
         ensures kept { (s : Serializer W) (xs : List Item) → IsMark (state_of W.written s) opened
             → IsOpen W.begins (W.written s.writer) xs (state_of W.written self.old)
             → Keeps (W.written s.writer) (W.written self.new.writer) }
-        ensures refused { (s : State) (ps : List (Item × Item)) → IsMark s opened → IsOpen W.begins s.written (in_turn ps) (state_of W.written self.old) → length ps ≡ pairs → OnlyWhere result (serialized s (map (pairs_of ps))) }
+        ensures refused { (s : State) (ps : List (Item × Item)) → IsMark s opened →
+            IsOpen W.begins s.written (in_turn ps) (state_of W.written self.old) →
+            length ps ≡ pairs → OnlyWhere result (serialized s (map (pairs_of ps))) }
         ensures memory { WantsMemory W.takes_memory result }
     {
         match self.put_map_head(opened, pairs) {

@@ -26,10 +26,13 @@ pub trait Fields {
     fn put<W: Sink>(&self, s: &mut Serializer<W>) -> Result<u32, Error>
         requires { place_of s.old.element ≡ alone }
         ensures place { OnOk result (place_of s.new.element ≡ alone) }
-        ensures count { IfOk result (λ n. n ≡ min (length (trimmed (items self.now))) (2 ^ 32 - 1)) }
-        ensures ok { OnOk result (listed (W.written s.old.writer) (items_of (trimmed (items self.now))) ≡ Some (W.written s.new.writer)) }
+        ensures count { IfOk result (λ n. n
+            ≡ min (length (trimmed (items self.now))) (2 ^ 32 - 1)) }
+        ensures ok { OnOk result (listed (W.written s.old.writer)
+            (items_of (trimmed (items self.now))) ≡ Some (W.written s.new.writer)) }
         ensures kept { Keeps (W.written s.old.writer) (W.written s.new.writer) }
-        ensures refused { OnlyWhere result (listed (W.written s.old.writer) (items_of (trimmed (items self.now)))) }
+        ensures refused { OnlyWhere result (listed (W.written s.old.writer)
+            (items_of (trimmed (items self.now)))) }
         ensures memory { WantsMemory W.takes_memory result };
 }
 
@@ -69,9 +72,11 @@ impl<H: Serialize, T: Fields> Fields for (H, T) {
 /// Writes a composite value. After an error the beginning of it may stand there.
 #[tactic(auto, using(crate::proofs::Grown::growing))]
 fn put_record<W: Sink, F: Fields>(s: &mut Serializer<W>, code: u64, fields: &F) -> Result<(), Error>
-    ensures ok { OnOk result (serialized (state_of W.written s.old) (record_item code (F.items fields.now)) ≡ Some (state_of W.written s.new)) }
+    ensures ok { OnOk result (serialized (state_of W.written s.old)
+        (record_item code (F.items fields.now)) ≡ Some (state_of W.written s.new)) }
     ensures kept { Keeps (W.written s.old.writer) (W.written s.new.writer) }
-    ensures refused { OnlyWhere result (serialized (state_of W.written s.old) (record_item code (F.items fields.now))) }
+    ensures refused { OnlyWhere result (serialized (state_of W.written s.old)
+        (record_item code (F.items fields.now))) }
     ensures memory { WantsMemory W.takes_memory result }
 {
     if let IsArrayElement::False = s.element {
@@ -95,10 +100,12 @@ pub fn serialize_record<W: Sink, F: Fields>(
     code: u64,
     fields: &F,
 ) -> Result<(), Error>
-    ensures ok { OnOk result (serialized (state_of W.written s.old) (record_item code (F.items fields.now)) ≡ Some (state_of W.written s.new)) }
+    ensures ok { OnOk result (serialized (state_of W.written s.old)
+        (record_item code (F.items fields.now)) ≡ Some (state_of W.written s.new)) }
     ensures err { OnErr result (state_of W.written s.new ≡ state_of W.written s.old) }
     ensures kept { Keeps (W.written s.old.writer) (W.written s.new.writer) }
-    ensures refused { OnlyWhere result (serialized (state_of W.written s.old) (record_item code (F.items fields.now))) }
+    ensures refused { OnlyWhere result (serialized (state_of W.written s.old)
+        (record_item code (F.items fields.now))) }
     ensures memory { WantsMemory W.takes_memory result }
 {
     let mark = s.mark();

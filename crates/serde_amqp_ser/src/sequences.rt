@@ -26,7 +26,8 @@ impl<W: Sink> Serializer<W> {
     pub fn serialize_seq<'a>(&'a mut self) -> SeqSerializer<'a, W>
         ensures same_reference { result.serializer.ghost_name ≡ self.entry.ghost_name }
         ensures kept { Keeps (W.written self.old.writer) (W.written result.serializer.now.writer) }
-        ensures begun { Holds W.begins (state_of W.written self.old) [] result.content (state_of W.written result.serializer.now) }
+        ensures begun { Holds W.begins (state_of W.written self.old) [] result.content
+            (state_of W.written result.serializer.now) }
     {
         let content = self.begin_content();
         SeqSerializer {
@@ -42,12 +43,18 @@ impl<'a, W: Sink> SeqSerializer<'a, W> {
     #[tactic(auto, using(crate::proofs::Held::holding))]
     pub fn serialize_element<T: Serialize>(&mut self, item: &T) -> Result<(), Error>
         ensures same_reference { self.new.serializer.ghost_name ≡ self.old.serializer.ghost_name }
-        ensures ok { OnOk result ((s : State) (xs : List Item) → Holds W.begins s xs self.old.content (state_of W.written self.old.serializer.now) → Holds W.begins s (xs ++ T.item item.now ∷ []) self.new.content (state_of W.written self.new.serializer.now)) }
+        ensures ok { OnOk result ((s : State) (xs : List Item) →
+            Holds W.begins s xs self.old.content (state_of W.written self.old.serializer.now) →
+            Holds W.begins s (xs ++ T.item item.now ∷ []) self.new.content
+            (state_of W.written self.new.serializer.now)) }
         ensures err { OnErr result ((self.new.content ≡ self.old.content)
             × (state_of W.written self.new.serializer.now
             ≡ state_of W.written self.old.serializer.now)) }
-        ensures kept { Keeps (W.written self.old.serializer.now.writer) (W.written self.new.serializer.now.writer) }
-        ensures refused { (s : State) (xs ys : List Item) → Holds W.begins s xs self.old.content (state_of W.written self.old.serializer.now) → OnlyWhere result (serialized s (list (items_of (xs ++ T.item item.now ∷ ys)))) }
+        ensures kept { Keeps (W.written self.old.serializer.now.writer)
+            (W.written self.new.serializer.now.writer) }
+        ensures refused { (s : State) (xs ys : List Item) →
+            Holds W.begins s xs self.old.content (state_of W.written self.old.serializer.now) →
+            OnlyWhere result (serialized s (list (items_of (xs ++ T.item item.now ∷ ys)))) }
         ensures memory { WantsMemory W.takes_memory result }
     {
         self.content = self.serializer.put_item(self.content, item)?;
@@ -57,12 +64,16 @@ impl<'a, W: Sink> SeqSerializer<'a, W> {
     /// Ends the list, or answers `InvalidLength` where its items take 2^32 - 4 bytes or more, and
     /// `InvalidValue` in an array whose first element is no list. After an error all is as before it began.
     pub fn end(self) -> Result<(), Error>
-        ensures ok { OnOk result ((s : State) (xs : List Item) → Holds W.begins s xs self.entry.content (state_of W.written self.entry.serializer.now) → serialized s (list (items_of xs)) ≡ Some (state_of W.written self.exit.0.now)) }
+        ensures ok { OnOk result ((s : State) (xs : List Item) →
+            Holds W.begins s xs self.entry.content (state_of W.written self.entry.serializer.now) →
+            serialized s (list (items_of xs)) ≡ Some (state_of W.written self.exit.0.now)) }
         ensures err { OnErr result ((s : Serializer W) (xs : List Item)
             → Holds W.begins (state_of W.written s) xs self.entry.content
             (state_of W.written self.entry.serializer.now)
             → state_of W.written self.exit.0.now ≡ state_of W.written s) }
-        ensures refused { (s : State) (xs : List Item) → Holds W.begins s xs self.entry.content (state_of W.written self.entry.serializer.now) → OnlyWhere result (serialized s (list (items_of xs))) }
+        ensures refused { (s : State) (xs : List Item) →
+            Holds W.begins s xs self.entry.content (state_of W.written self.entry.serializer.now) →
+            OnlyWhere result (serialized s (list (items_of xs))) }
         ensures memory { WantsMemory W.takes_memory result }
     {
         let SeqSerializer {
@@ -88,7 +99,8 @@ impl<W: Sink> Serializer<W> {
     pub fn serialize_tuple<'a>(&'a mut self) -> TupleSerializer<'a, W>
         ensures same_reference { result.serializer.ghost_name ≡ self.entry.ghost_name }
         ensures kept { Keeps (W.written self.old.writer) (W.written result.serializer.now.writer) }
-        ensures begun { Holds W.begins (state_of W.written self.old) [] result.content (state_of W.written result.serializer.now) }
+        ensures begun { Holds W.begins (state_of W.written self.old) [] result.content
+            (state_of W.written result.serializer.now) }
     {
         let content = self.begin_content();
         TupleSerializer {
@@ -104,12 +116,18 @@ impl<'a, W: Sink> TupleSerializer<'a, W> {
     #[tactic(auto, using(crate::proofs::Held::holding))]
     pub fn serialize_element<T: Serialize>(&mut self, part: &T) -> Result<(), Error>
         ensures same_reference { self.new.serializer.ghost_name ≡ self.old.serializer.ghost_name }
-        ensures ok { OnOk result ((s : State) (xs : List Item) → Holds W.begins s xs self.old.content (state_of W.written self.old.serializer.now) → Holds W.begins s (xs ++ T.item part.now ∷ []) self.new.content (state_of W.written self.new.serializer.now)) }
+        ensures ok { OnOk result ((s : State) (xs : List Item) →
+            Holds W.begins s xs self.old.content (state_of W.written self.old.serializer.now) →
+            Holds W.begins s (xs ++ T.item part.now ∷ []) self.new.content
+            (state_of W.written self.new.serializer.now)) }
         ensures err { OnErr result ((self.new.content ≡ self.old.content)
             × (state_of W.written self.new.serializer.now
             ≡ state_of W.written self.old.serializer.now)) }
-        ensures kept { Keeps (W.written self.old.serializer.now.writer) (W.written self.new.serializer.now.writer) }
-        ensures refused { (s : State) (xs ys : List Item) → Holds W.begins s xs self.old.content (state_of W.written self.old.serializer.now) → OnlyWhere result (serialized s (list (items_of (xs ++ T.item part.now ∷ ys)))) }
+        ensures kept { Keeps (W.written self.old.serializer.now.writer)
+            (W.written self.new.serializer.now.writer) }
+        ensures refused { (s : State) (xs ys : List Item) →
+            Holds W.begins s xs self.old.content (state_of W.written self.old.serializer.now) →
+            OnlyWhere result (serialized s (list (items_of (xs ++ T.item part.now ∷ ys)))) }
         ensures memory { WantsMemory W.takes_memory result }
     {
         self.content = self.serializer.put_item(self.content, part)?;
@@ -119,12 +137,16 @@ impl<'a, W: Sink> TupleSerializer<'a, W> {
     /// Ends the list, or answers `InvalidLength` where its items take 2^32 - 4 bytes or more, and
     /// `InvalidValue` in an array whose first element is no list. After an error all is as before it began.
     pub fn end(self) -> Result<(), Error>
-        ensures ok { OnOk result ((s : State) (xs : List Item) → Holds W.begins s xs self.entry.content (state_of W.written self.entry.serializer.now) → serialized s (list (items_of xs)) ≡ Some (state_of W.written self.exit.0.now)) }
+        ensures ok { OnOk result ((s : State) (xs : List Item) →
+            Holds W.begins s xs self.entry.content (state_of W.written self.entry.serializer.now) →
+            serialized s (list (items_of xs)) ≡ Some (state_of W.written self.exit.0.now)) }
         ensures err { OnErr result ((s : Serializer W) (xs : List Item)
             → Holds W.begins (state_of W.written s) xs self.entry.content
             (state_of W.written self.entry.serializer.now)
             → state_of W.written self.exit.0.now ≡ state_of W.written s) }
-        ensures refused { (s : State) (xs : List Item) → Holds W.begins s xs self.entry.content (state_of W.written self.entry.serializer.now) → OnlyWhere result (serialized s (list (items_of xs))) }
+        ensures refused { (s : State) (xs : List Item) →
+            Holds W.begins s xs self.entry.content (state_of W.written self.entry.serializer.now) →
+            OnlyWhere result (serialized s (list (items_of xs))) }
         ensures memory { WantsMemory W.takes_memory result }
     {
         let TupleSerializer {
@@ -150,7 +172,8 @@ impl<W: Sink> Serializer<W> {
     pub fn serialize_tuple_struct<'a>(&'a mut self) -> TupleStructSerializer<'a, W>
         ensures same_reference { result.serializer.ghost_name ≡ self.entry.ghost_name }
         ensures kept { Keeps (W.written self.old.writer) (W.written result.serializer.now.writer) }
-        ensures begun { Holds W.begins (state_of W.written self.old) [] result.content (state_of W.written result.serializer.now) }
+        ensures begun { Holds W.begins (state_of W.written self.old) [] result.content
+            (state_of W.written result.serializer.now) }
     {
         let content = self.begin_content();
         TupleStructSerializer {
@@ -166,12 +189,18 @@ impl<'a, W: Sink> TupleStructSerializer<'a, W> {
     #[tactic(auto, using(crate::proofs::Held::holding))]
     pub fn serialize_field<T: Serialize>(&mut self, field: &T) -> Result<(), Error>
         ensures same_reference { self.new.serializer.ghost_name ≡ self.old.serializer.ghost_name }
-        ensures ok { OnOk result ((s : State) (xs : List Item) → Holds W.begins s xs self.old.content (state_of W.written self.old.serializer.now) → Holds W.begins s (xs ++ T.item field.now ∷ []) self.new.content (state_of W.written self.new.serializer.now)) }
+        ensures ok { OnOk result ((s : State) (xs : List Item) →
+            Holds W.begins s xs self.old.content (state_of W.written self.old.serializer.now) →
+            Holds W.begins s (xs ++ T.item field.now ∷ []) self.new.content
+            (state_of W.written self.new.serializer.now)) }
         ensures err { OnErr result ((self.new.content ≡ self.old.content)
             × (state_of W.written self.new.serializer.now
             ≡ state_of W.written self.old.serializer.now)) }
-        ensures kept { Keeps (W.written self.old.serializer.now.writer) (W.written self.new.serializer.now.writer) }
-        ensures refused { (s : State) (xs ys : List Item) → Holds W.begins s xs self.old.content (state_of W.written self.old.serializer.now) → OnlyWhere result (serialized s (list (items_of (xs ++ T.item field.now ∷ ys)))) }
+        ensures kept { Keeps (W.written self.old.serializer.now.writer)
+            (W.written self.new.serializer.now.writer) }
+        ensures refused { (s : State) (xs ys : List Item) →
+            Holds W.begins s xs self.old.content (state_of W.written self.old.serializer.now) →
+            OnlyWhere result (serialized s (list (items_of (xs ++ T.item field.now ∷ ys)))) }
         ensures memory { WantsMemory W.takes_memory result }
     {
         self.content = self.serializer.put_item(self.content, field)?;
@@ -181,12 +210,16 @@ impl<'a, W: Sink> TupleStructSerializer<'a, W> {
     /// Ends the list, or answers `InvalidLength` where its items take 2^32 - 4 bytes or more, and
     /// `InvalidValue` in an array whose first element is no list. After an error all is as before it began.
     pub fn end(self) -> Result<(), Error>
-        ensures ok { OnOk result ((s : State) (xs : List Item) → Holds W.begins s xs self.entry.content (state_of W.written self.entry.serializer.now) → serialized s (list (items_of xs)) ≡ Some (state_of W.written self.exit.0.now)) }
+        ensures ok { OnOk result ((s : State) (xs : List Item) →
+            Holds W.begins s xs self.entry.content (state_of W.written self.entry.serializer.now) →
+            serialized s (list (items_of xs)) ≡ Some (state_of W.written self.exit.0.now)) }
         ensures err { OnErr result ((s : Serializer W) (xs : List Item)
             → Holds W.begins (state_of W.written s) xs self.entry.content
             (state_of W.written self.entry.serializer.now)
             → state_of W.written self.exit.0.now ≡ state_of W.written s) }
-        ensures refused { (s : State) (xs : List Item) → Holds W.begins s xs self.entry.content (state_of W.written self.entry.serializer.now) → OnlyWhere result (serialized s (list (items_of xs))) }
+        ensures refused { (s : State) (xs : List Item) →
+            Holds W.begins s xs self.entry.content (state_of W.written self.entry.serializer.now) →
+            OnlyWhere result (serialized s (list (items_of xs))) }
         ensures memory { WantsMemory W.takes_memory result }
     {
         let TupleStructSerializer {

@@ -1,6 +1,7 @@
 //! What can be written.
 ghost use Rattle.std.specs.Prelude.{◌≡◌, ℕ, List, map, Some, None, OnOk, OnErr};
-ghost use Rattle.serde_amqp_item.specs.Item.{Item, scalar, null, boolean, ubyte, ushort, uint, ulong, byte, short, int, long, float, double, char, string, list, items_of};
+ghost use Rattle.serde_amqp_item.specs.Item.{Item, scalar, null, boolean, ubyte, ushort, uint, ulong, byte, short, int};
+ghost use Rattle.serde_amqp_item.specs.Item.{long, float, double, char, string, list, items_of};
 ghost use Rattle.serde_amqp_item.specs.Record.{is_null, option_item};
 ghost use Rattle.std.specs.String.{string_bytes};
 ghost use Rattle.serde_amqp_ser.specs.Written.{Written, Keeps};
@@ -22,7 +23,8 @@ pub trait Serialize {
     /// Writes the canonical text of the value's item, in an array its wide form. Any error but `Memory`
     /// comes exactly where the item has none. A value that is refused leaves the serializer as before.
     fn serialize<W: Sink>(&self, s: &mut Serializer<W>) -> Result<(), Error>
-        ensures ok { OnOk result (serialized (state_of W.written s.old) (item self.now) ≡ Some (state_of W.written s.new)) }
+        ensures ok { OnOk result (serialized (state_of W.written s.old) (item self.now)
+            ≡ Some (state_of W.written s.new)) }
         ensures err { OnErr result (state_of W.written s.new ≡ state_of W.written s.old) }
         ensures kept { Keeps (W.written s.old.writer) (W.written s.new.writer) }
         ensures refused { OnlyWhere result (serialized (state_of W.written s.old) (item self.now)) }

@@ -4,7 +4,8 @@ ghost use Rattle.serde_amqp_item.specs.Item.{scalar, null, boolean, ushort, uint
 ghost use Rattle.serde_amqp_item.specs.Canon.{settled};
 ghost use Rattle.serde_amqp_ser.specs.Written.{Written, extended, inside, Keeps};
 ghost use Rattle.serde_amqp_ser.specs.Open.{IsMark};
-ghost use Rattle.serde_amqp_ser.specs.Puts.{State, behind, begun, serialized, sized_placed, counted_placed, OnlyWhere, WantsMemory, place_of, state_of};
+ghost use Rattle.serde_amqp_ser.specs.Puts.{State, behind, begun, serialized, sized_placed, counted_placed, OnlyWhere};
+ghost use Rattle.serde_amqp_ser.specs.Puts.{WantsMemory, place_of, state_of};
 
 use crate::opened::Opened;
 use crate::place::IsArrayElement;
@@ -67,7 +68,8 @@ impl<W: Sink> Serializer<W> {
     /// Writes the constructor of a wide form, where one stands at this place.
     #[tactic(auto, using(crate::proofs::Grown::growing))]
     fn begin_wide(&mut self, code: u8) -> Result<(), Error>
-        ensures ok { OnOk result (begun (state_of W.written self.old) code ≡ Some (state_of W.written self.new)) }
+        ensures ok { OnOk result (begun (state_of W.written self.old) code
+            ≡ Some (state_of W.written self.new)) }
         ensures err { OnErr result (state_of W.written self.new ≡ state_of W.written self.old) }
         ensures kept { Keeps (W.written self.old.writer) (W.written self.new.writer) }
         ensures refused { OnlyWhere result (begun (state_of W.written self.old) code) }
@@ -95,9 +97,12 @@ impl<W: Sink> Serializer<W> {
     /// Writes the constructor and the bytes of a wide form. After an error the constructor may stand there.
     #[tactic(auto, using(crate::proofs::Grown::growing, crate::proofs::Heads::begins))]
     fn put_wide_parts(&mut self, code: u8, body: &[u8]) -> Result<(), Error>
-        ensures ok { OnOk result (behind (state_of W.written self.old) (settled (place_of self.old.element) (code, body.now)) ≡ Some (state_of W.written self.new)) }
+        ensures ok { OnOk result (behind (state_of W.written self.old)
+            (settled (place_of self.old.element) (code, body.now))
+            ≡ Some (state_of W.written self.new)) }
         ensures kept { Keeps (W.written self.old.writer) (W.written self.new.writer) }
-        ensures refused { OnlyWhere result (behind (state_of W.written self.old) (settled (place_of self.old.element) (code, body.now))) }
+        ensures refused { OnlyWhere result (behind (state_of W.written self.old)
+            (settled (place_of self.old.element) (code, body.now))) }
         ensures memory { WantsMemory W.takes_memory result }
     {
         self.begin_wide(code)?;
@@ -108,10 +113,13 @@ impl<W: Sink> Serializer<W> {
     /// Writes a wide form.
     #[tactic(auto, using(crate::proofs::Grown::growing, crate::proofs::Heads::begins))]
     pub(crate) fn put_wide(&mut self, code: u8, body: &[u8]) -> Result<(), Error>
-        ensures ok { OnOk result (behind (state_of W.written self.old) (settled (place_of self.old.element) (code, body.now)) ≡ Some (state_of W.written self.new)) }
+        ensures ok { OnOk result (behind (state_of W.written self.old)
+            (settled (place_of self.old.element) (code, body.now))
+            ≡ Some (state_of W.written self.new)) }
         ensures err { OnErr result (state_of W.written self.new ≡ state_of W.written self.old) }
         ensures kept { Keeps (W.written self.old.writer) (W.written self.new.writer) }
-        ensures refused { OnlyWhere result (behind (state_of W.written self.old) (settled (place_of self.old.element) (code, body.now))) }
+        ensures refused { OnlyWhere result (behind (state_of W.written self.old)
+            (settled (place_of self.old.element) (code, body.now))) }
         ensures memory { WantsMemory W.takes_memory result }
     {
         let mark = self.mark();
@@ -124,9 +132,12 @@ impl<W: Sink> Serializer<W> {
     /// Writes the head and the content of a value with a size. After an error the head may stand there.
     #[tactic(auto, using(crate::proofs::Grown::growing, crate::proofs::Heads::begins))]
     fn put_sized_parts(&mut self, narrow: u8, wide: u8, content: &[u8]) -> Result<(), Error>
-        ensures ok { OnOk result (behind (state_of W.written self.old) (sized_placed (place_of self.old.element) narrow wide content.now) ≡ Some (state_of W.written self.new)) }
+        ensures ok { OnOk result (behind (state_of W.written self.old)
+            (sized_placed (place_of self.old.element) narrow wide content.now)
+            ≡ Some (state_of W.written self.new)) }
         ensures kept { Keeps (W.written self.old.writer) (W.written self.new.writer) }
-        ensures refused { OnlyWhere result (behind (state_of W.written self.old) (sized_placed (place_of self.old.element) narrow wide content.now)) }
+        ensures refused { OnlyWhere result (behind (state_of W.written self.old)
+            (sized_placed (place_of self.old.element) narrow wide content.now)) }
         ensures memory { WantsMemory W.takes_memory result }
     {
         let Ok(len) = u32::try_from(content.len()) else {
@@ -148,10 +159,13 @@ impl<W: Sink> Serializer<W> {
     /// Writes a value with a size: the size in one byte up to 254 bytes and outside of arrays, else in four.
     #[tactic(auto, using(crate::proofs::Grown::growing, crate::proofs::Heads::begins))]
     pub(crate) fn put_sized(&mut self, narrow: u8, wide: u8, content: &[u8]) -> Result<(), Error>
-        ensures ok { OnOk result (behind (state_of W.written self.old) (sized_placed (place_of self.old.element) narrow wide content.now) ≡ Some (state_of W.written self.new)) }
+        ensures ok { OnOk result (behind (state_of W.written self.old)
+            (sized_placed (place_of self.old.element) narrow wide content.now)
+            ≡ Some (state_of W.written self.new)) }
         ensures err { OnErr result (state_of W.written self.new ≡ state_of W.written self.old) }
         ensures kept { Keeps (W.written self.old.writer) (W.written self.new.writer) }
-        ensures refused { OnlyWhere result (behind (state_of W.written self.old) (sized_placed (place_of self.old.element) narrow wide content.now)) }
+        ensures refused { OnlyWhere result (behind (state_of W.written self.old)
+            (sized_placed (place_of self.old.element) narrow wide content.now)) }
         ensures memory { WantsMemory W.takes_memory result }
     {
         let mark = self.mark();
@@ -165,10 +179,12 @@ impl<W: Sink> Serializer<W> {
     #[inline(always)]
     #[tactic(auto, using(crate::proofs::Grown::growing))]
     pub fn serialize_unit(&mut self) -> Result<(), Error>
-        ensures ok { OnOk result (serialized (state_of W.written self.old) (scalar null) ≡ Some (state_of W.written self.new)) }
+        ensures ok { OnOk result (serialized (state_of W.written self.old) (scalar null)
+            ≡ Some (state_of W.written self.new)) }
         ensures err { OnErr result (state_of W.written self.new ≡ state_of W.written self.old) }
         ensures kept { Keeps (W.written self.old.writer) (W.written self.new.writer) }
-        ensures refused { OnlyWhere result (serialized (state_of W.written self.old) (scalar null)) }
+        ensures refused { OnlyWhere result (serialized (state_of W.written self.old)
+            (scalar null)) }
         ensures memory { WantsMemory W.takes_memory result }
     {
         if let IsArrayElement::False = self.element {
@@ -182,10 +198,12 @@ impl<W: Sink> Serializer<W> {
     #[inline(always)]
     #[tactic(auto, using(crate::proofs::Grown::growing))]
     pub fn serialize_bool(&mut self, value: bool) -> Result<(), Error>
-        ensures ok { OnOk result (serialized (state_of W.written self.old) (scalar (boolean value)) ≡ Some (state_of W.written self.new)) }
+        ensures ok { OnOk result (serialized (state_of W.written self.old) (scalar (boolean value))
+            ≡ Some (state_of W.written self.new)) }
         ensures err { OnErr result (state_of W.written self.new ≡ state_of W.written self.old) }
         ensures kept { Keeps (W.written self.old.writer) (W.written self.new.writer) }
-        ensures refused { OnlyWhere result (serialized (state_of W.written self.old) (scalar (boolean value))) }
+        ensures refused { OnlyWhere result (serialized (state_of W.written self.old)
+            (scalar (boolean value))) }
         ensures memory { WantsMemory W.takes_memory result }
     {
         if let IsArrayElement::False = self.element {
@@ -198,10 +216,12 @@ impl<W: Sink> Serializer<W> {
     /// Writes a ushort (part 1, 1.6.4).
     #[tactic(auto, using(crate::proofs::Grown::growing))]
     pub fn serialize_u16(&mut self, value: u16) -> Result<(), Error>
-        ensures ok { OnOk result (serialized (state_of W.written self.old) (scalar (ushort value)) ≡ Some (state_of W.written self.new)) }
+        ensures ok { OnOk result (serialized (state_of W.written self.old) (scalar (ushort value))
+            ≡ Some (state_of W.written self.new)) }
         ensures err { OnErr result (state_of W.written self.new ≡ state_of W.written self.old) }
         ensures kept { Keeps (W.written self.old.writer) (W.written self.new.writer) }
-        ensures refused { OnlyWhere result (serialized (state_of W.written self.old) (scalar (ushort value))) }
+        ensures refused { OnlyWhere result (serialized (state_of W.written self.old)
+            (scalar (ushort value))) }
         ensures memory { WantsMemory W.takes_memory result }
     {
         self.put_wide(0x60, &value.to_be_bytes())
@@ -211,10 +231,12 @@ impl<W: Sink> Serializer<W> {
     #[inline(always)]
     #[tactic(auto, using(crate::proofs::Grown::growing))]
     pub fn serialize_u32(&mut self, value: u32) -> Result<(), Error>
-        ensures ok { OnOk result (serialized (state_of W.written self.old) (scalar (uint value)) ≡ Some (state_of W.written self.new)) }
+        ensures ok { OnOk result (serialized (state_of W.written self.old) (scalar (uint value))
+            ≡ Some (state_of W.written self.new)) }
         ensures err { OnErr result (state_of W.written self.new ≡ state_of W.written self.old) }
         ensures kept { Keeps (W.written self.old.writer) (W.written self.new.writer) }
-        ensures refused { OnlyWhere result (serialized (state_of W.written self.old) (scalar (uint value))) }
+        ensures refused { OnlyWhere result (serialized (state_of W.written self.old)
+            (scalar (uint value))) }
         ensures memory { WantsMemory W.takes_memory result }
     {
         if let IsArrayElement::False = self.element {
@@ -235,10 +257,12 @@ impl<W: Sink> Serializer<W> {
     #[inline(always)]
     #[tactic(auto, using(crate::proofs::Grown::growing))]
     pub fn serialize_u64(&mut self, value: u64) -> Result<(), Error>
-        ensures ok { OnOk result (serialized (state_of W.written self.old) (scalar (ulong value)) ≡ Some (state_of W.written self.new)) }
+        ensures ok { OnOk result (serialized (state_of W.written self.old) (scalar (ulong value))
+            ≡ Some (state_of W.written self.new)) }
         ensures err { OnErr result (state_of W.written self.new ≡ state_of W.written self.old) }
         ensures kept { Keeps (W.written self.old.writer) (W.written self.new.writer) }
-        ensures refused { OnlyWhere result (serialized (state_of W.written self.old) (scalar (ulong value))) }
+        ensures refused { OnlyWhere result (serialized (state_of W.written self.old)
+            (scalar (ulong value))) }
         ensures memory { WantsMemory W.takes_memory result }
     {
         if let IsArrayElement::False = self.element {
@@ -257,10 +281,12 @@ impl<W: Sink> Serializer<W> {
 
     /// Writes a string (part 1, 1.6.20), or answers `InvalidLength` where it has 2^32 bytes or more.
     pub fn serialize_str(&mut self, value: &str) -> Result<(), Error>
-        ensures ok { OnOk result (serialized (state_of W.written self.old) (scalar (string value.now)) ≡ Some (state_of W.written self.new)) }
+        ensures ok { OnOk result (serialized (state_of W.written self.old)
+            (scalar (string value.now)) ≡ Some (state_of W.written self.new)) }
         ensures err { OnErr result (state_of W.written self.new ≡ state_of W.written self.old) }
         ensures kept { Keeps (W.written self.old.writer) (W.written self.new.writer) }
-        ensures refused { OnlyWhere result (serialized (state_of W.written self.old) (scalar (string value.now))) }
+        ensures refused { OnlyWhere result (serialized (state_of W.written self.old)
+            (scalar (string value.now))) }
         ensures memory { WantsMemory W.takes_memory result }
     {
         self.put_sized(0xa1, 0xb1, value.as_bytes())
@@ -268,10 +294,12 @@ impl<W: Sink> Serializer<W> {
 
     /// Writes a symbol (part 1, 1.6.21), or answers `InvalidLength` where it has 2^32 bytes or more.
     pub fn symbol(&mut self, value: &str) -> Result<(), Error>
-        ensures ok { OnOk result (serialized (state_of W.written self.old) (scalar (symbol value.now)) ≡ Some (state_of W.written self.new)) }
+        ensures ok { OnOk result (serialized (state_of W.written self.old)
+            (scalar (symbol value.now)) ≡ Some (state_of W.written self.new)) }
         ensures err { OnErr result (state_of W.written self.new ≡ state_of W.written self.old) }
         ensures kept { Keeps (W.written self.old.writer) (W.written self.new.writer) }
-        ensures refused { OnlyWhere result (serialized (state_of W.written self.old) (scalar (symbol value.now))) }
+        ensures refused { OnlyWhere result (serialized (state_of W.written self.old)
+            (scalar (symbol value.now))) }
         ensures memory { WantsMemory W.takes_memory result }
     {
         self.put_sized(0xa3, 0xb3, value.as_bytes())

@@ -1,5 +1,6 @@
 //! What a serializer writes to.
-ghost use Rattle.std.specs.Prelude.{◌≡◌, ◌≢◌, ◌<◌, ◌+◌, ℕ, Bool, true, false, List, [], ◌++◌, length, if◌then◌else◌, Some, None, Err, OnOk, OnErr, IfErr, ◌^◌, nat_lt};
+ghost use Rattle.std.specs.Prelude.{◌≡◌, ◌≢◌, ◌<◌, ◌+◌, ℕ, Bool, true, false, List, [], ◌++◌, length, if◌then◌else◌};
+ghost use Rattle.std.specs.Prelude.{Some, None, Err, OnOk, OnErr, IfErr, ◌^◌, nat_lt};
 ghost use Rattle.serde_amqp_ser.specs.Written.{Written, extended, inside, capped, Keeps};
 ghost use Rattle.serde_amqp_ser.specs.Whole.{whole_capped};
 
@@ -33,7 +34,9 @@ pub trait Sink {
     /// How long the content is that began there, if that is below 2^32.
     #[inline(always)]
     fn content_len(&self, start: u128) -> Option<u32>
-        ensures { (w : Written) (content : List ℕ) → written self.now ≡ extended (inside begins w) content → w.size ≡ start → result ≡ (if nat_lt (length content) (2 ^ 32) then Some (length content) else None) };
+        ensures { (w : Written) (content : List ℕ) →
+            written self.now ≡ extended (inside begins w) content → w.size ≡ start →
+            result ≡ (if nat_lt (length content) (2 ^ 32) then Some (length content) else None) };
 
     /// How many bytes it holds, to go back to.
     #[inline(always)]
@@ -49,9 +52,12 @@ pub trait Sink {
     /// nothing, where that is behind the end, so that no content began there.
     #[inline(always)]
     fn close(&mut self, start: u128, head: &[u8]) -> Result<(), Error>
-        ensures ok { OnOk result ((w : Written) (content : List ℕ) → written self.old ≡ extended (inside begins w) content → w.size ≡ start → written self.new ≡ extended w (head.now ++ content)) }
+        ensures ok { OnOk result ((w : Written) (content : List ℕ) →
+            written self.old ≡ extended (inside begins w) content → w.size ≡ start →
+            written self.new ≡ extended w (head.now ++ content)) }
         ensures err { OnErr result (written self.new ≡ written self.old) }
-        ensures beyond { (written self.old).size < capped (begins start) → result ≡ Err Error.InvalidLength }
+        ensures beyond { (written self.old).size < capped (begins start) →
+            result ≡ Err Error.InvalidLength }
         ensures refused { IfErr result (λ e. e ≢ Error.Memory
             → (e ≡ Error.InvalidLength) × ((written self.old).size < capped (begins start))) }
         ensures memory { IfErr result (λ e. e ≡ Error.Memory → takes_memory ≡ true) };

@@ -67,7 +67,9 @@ impl<W: Sink> Serializer<W> {
         ensures same_reference { result.serializer.ghost_name ≡ self.entry.ghost_name }
         ensures kept { Keeps (W.written self.old.writer) (W.written result.serializer.now.writer) }
         ensures encoding { result.encoding ≡ StructEncoding.None }
-        ensures begun { (code : ℕ) → HoldsFields W.begins (state_of W.written self.old) StructEncoding.None code [] result.outer result.content (state_of W.written result.serializer.now) }
+        ensures begun { (code : ℕ) → HoldsFields W.begins (state_of W.written self.old)
+            StructEncoding.None code [] result.outer result.content
+            (state_of W.written result.serializer.now) }
     {
         let outer = self.mark();
         StructSerializer::begin(self, StructEncoding::None, outer)
@@ -77,12 +79,19 @@ impl<W: Sink> Serializer<W> {
     /// (part 1, 1.4). In an array it answers `InvalidValue`, since a described item has no wide form.
     #[tactic(auto, using(crate::proofs::Grown::growing, crate::proofs::Composed::composing))]
     pub fn described_list<'a>(&'a mut self, code: u64) -> Result<StructSerializer<'a, W>, Error>
-        ensures* as_before_at_error { sem 𝓛 (RestsIfErr (the_row W.row) self.entry (λ it. it.serializer.ghost_name) result (λ last. state_of W.written last ≡ state_of W.written self.old)) }
-        ensures same_reference { IfOk result (λ it. it.serializer.ghost_name ≡ self.entry.ghost_name) }
-        ensures kept { IfOk result (λ it. Keeps (W.written self.old.writer) (W.written it.serializer.now.writer)) }
+        ensures* as_before_at_error { sem 𝓛
+            (RestsIfErr (the_row W.row) self.entry (λ it. it.serializer.ghost_name) result
+            (λ last. state_of W.written last ≡ state_of W.written self.old)) }
+        ensures same_reference { IfOk result
+            (λ it. it.serializer.ghost_name ≡ self.entry.ghost_name) }
+        ensures kept { IfOk result (λ it. Keeps (W.written self.old.writer)
+            (W.written it.serializer.now.writer)) }
         ensures encoding { IfOk result (λ it. it.encoding ≡ StructEncoding.DescribedList) }
-        ensures begun { IfOk result (λ it. HoldsFields W.begins (state_of W.written self.old) StructEncoding.DescribedList code [] it.outer it.content (state_of W.written it.serializer.now)) }
-        ensures refused { (value : Item) → OnlyWhere result (serialized (state_of W.written self.old) (described (scalar (ulong code)) value)) }
+        ensures begun { IfOk result (λ it. HoldsFields W.begins (state_of W.written self.old)
+            StructEncoding.DescribedList code [] it.outer it.content
+            (state_of W.written it.serializer.now)) }
+        ensures refused { (value : Item) → OnlyWhere result
+            (serialized (state_of W.written self.old) (described (scalar (ulong code)) value)) }
         ensures memory { WantsMemory W.takes_memory result }
     {
         let outer = self.mark();
@@ -94,12 +103,19 @@ impl<W: Sink> Serializer<W> {
     /// symbols, and values. In an array it answers `InvalidValue`, since a described item has no wide form.
     #[tactic(auto, using(crate::proofs::Grown::growing, crate::proofs::Composed::composing))]
     pub fn described_map<'a>(&'a mut self, code: u64) -> Result<StructSerializer<'a, W>, Error>
-        ensures* as_before_at_error { sem 𝓛 (RestsIfErr (the_row W.row) self.entry (λ it. it.serializer.ghost_name) result (λ last. state_of W.written last ≡ state_of W.written self.old)) }
-        ensures same_reference { IfOk result (λ it. it.serializer.ghost_name ≡ self.entry.ghost_name) }
-        ensures kept { IfOk result (λ it. Keeps (W.written self.old.writer) (W.written it.serializer.now.writer)) }
+        ensures* as_before_at_error { sem 𝓛
+            (RestsIfErr (the_row W.row) self.entry (λ it. it.serializer.ghost_name) result
+            (λ last. state_of W.written last ≡ state_of W.written self.old)) }
+        ensures same_reference { IfOk result
+            (λ it. it.serializer.ghost_name ≡ self.entry.ghost_name) }
+        ensures kept { IfOk result (λ it. Keeps (W.written self.old.writer)
+            (W.written it.serializer.now.writer)) }
         ensures encoding { IfOk result (λ it. it.encoding ≡ StructEncoding.DescribedMap) }
-        ensures begun { IfOk result (λ it. HoldsFields W.begins (state_of W.written self.old) StructEncoding.DescribedMap code [] it.outer it.content (state_of W.written it.serializer.now)) }
-        ensures refused { (value : Item) → OnlyWhere result (serialized (state_of W.written self.old) (described (scalar (ulong code)) value)) }
+        ensures begun { IfOk result (λ it. HoldsFields W.begins (state_of W.written self.old)
+            StructEncoding.DescribedMap code [] it.outer it.content
+            (state_of W.written it.serializer.now)) }
+        ensures refused { (value : Item) → OnlyWhere result
+            (serialized (state_of W.written self.old) (described (scalar (ulong code)) value)) }
         ensures memory { WantsMemory W.takes_memory result }
     {
         let outer = self.mark();
@@ -117,10 +133,12 @@ impl<'a, W: Sink> StructSerializer<'a, W> {
         outer: Opened,
     ) -> StructSerializer<'a, W>
         ensures same_reference { result.serializer.ghost_name ≡ serializer.entry.ghost_name }
-        ensures kept { Keeps (W.written serializer.old.writer) (W.written result.serializer.now.writer) }
+        ensures kept { Keeps (W.written serializer.old.writer)
+            (W.written result.serializer.now.writer) }
         ensures encoding { result.encoding ≡ encoding }
         ensures outer { result.outer ≡ outer }
-        ensures begun { Holds W.begins (state_of W.written serializer.old) [] result.content (state_of W.written result.serializer.now) }
+        ensures begun { Holds W.begins (state_of W.written serializer.old) [] result.content
+            (state_of W.written result.serializer.now) }
     {
         let content = serializer.begin_content();
         StructSerializer {
@@ -138,12 +156,23 @@ impl<'a, W: Sink> StructSerializer<'a, W> {
         ensures same_reference { self.new.serializer.ghost_name ≡ self.old.serializer.ghost_name }
         ensures encoding { self.new.encoding ≡ self.old.encoding }
         ensures outer { self.new.outer ≡ self.old.outer }
-        ensures ok { OnOk result ((s : State) (code : ℕ) (fields : List (Item × Item)) → HoldsFields W.begins s self.old.encoding code fields self.old.outer self.old.content (state_of W.written self.old.serializer.now) → HoldsFields W.begins s self.old.encoding code (fields ++ (scalar (symbol key.now), T.item value.now) ∷ []) self.old.outer self.new.content (state_of W.written self.new.serializer.now)) }
+        ensures ok { OnOk result ((s : State) (code : ℕ) (fields : List (Item × Item)) →
+            HoldsFields W.begins s self.old.encoding code fields self.old.outer self.old.content
+            (state_of W.written self.old.serializer.now) →
+            HoldsFields W.begins s self.old.encoding code
+            (fields ++ (scalar (symbol key.now), T.item value.now) ∷ []) self.old.outer
+            self.new.content (state_of W.written self.new.serializer.now)) }
         ensures err { OnErr result ((self.new.content ≡ self.old.content)
             × (state_of W.written self.new.serializer.now
             ≡ state_of W.written self.old.serializer.now)) }
-        ensures kept { Keeps (W.written self.old.serializer.now.writer) (W.written self.new.serializer.now.writer) }
-        ensures refused { (s : State) (code : ℕ) (fields others : List (Item × Item)) → HoldsFields W.begins s self.old.encoding code fields self.old.outer self.old.content (state_of W.written self.old.serializer.now) → OnlyWhere result (serialized s (struct_item self.old.encoding code (fields ++ (scalar (symbol key.now), T.item value.now) ∷ others))) }
+        ensures kept { Keeps (W.written self.old.serializer.now.writer)
+            (W.written self.new.serializer.now.writer) }
+        ensures refused { (s : State) (code : ℕ) (fields others : List (Item × Item)) →
+            HoldsFields W.begins s self.old.encoding code fields self.old.outer self.old.content
+            (state_of W.written self.old.serializer.now) →
+            OnlyWhere result
+            (serialized s (struct_item self.old.encoding code
+            (fields ++ (scalar (symbol key.now), T.item value.now) ∷ others))) }
         ensures memory { WantsMemory W.takes_memory result }
     {
         match self.encoding {
@@ -165,12 +194,19 @@ impl<'a, W: Sink> StructSerializer<'a, W> {
     /// an error all is as before the struct began.
     #[tactic(auto, using(crate::proofs::Grown::growing, crate::proofs::Held::holding, crate::proofs::Composed::composing))]
     pub fn end(self) -> Result<(), Error>
-        ensures ok { OnOk result ((s : State) (code : ℕ) (fields : List (Item × Item)) → HoldsFields W.begins s self.entry.encoding code fields self.entry.outer self.entry.content (state_of W.written self.entry.serializer.now) → serialized s (struct_item self.entry.encoding code fields) ≡ Some (state_of W.written self.exit.0.now)) }
+        ensures ok { OnOk result ((s : State) (code : ℕ) (fields : List (Item × Item)) →
+            HoldsFields W.begins s self.entry.encoding code fields self.entry.outer
+            self.entry.content (state_of W.written self.entry.serializer.now) →
+            serialized s (struct_item self.entry.encoding code fields)
+            ≡ Some (state_of W.written self.exit.0.now)) }
         ensures err { OnErr result ((s : Serializer W) (code : ℕ) (fields : List (Item × Item))
             → HoldsFields W.begins (state_of W.written s) self.entry.encoding code fields
             self.entry.outer self.entry.content (state_of W.written self.entry.serializer.now)
             → state_of W.written self.exit.0.now ≡ state_of W.written s) }
-        ensures refused { (s : State) (code : ℕ) (fields : List (Item × Item)) → HoldsFields W.begins s self.entry.encoding code fields self.entry.outer self.entry.content (state_of W.written self.entry.serializer.now) → OnlyWhere result (serialized s (struct_item self.entry.encoding code fields)) }
+        ensures refused { (s : State) (code : ℕ) (fields : List (Item × Item)) →
+            HoldsFields W.begins s self.entry.encoding code fields self.entry.outer
+            self.entry.content (state_of W.written self.entry.serializer.now) →
+            OnlyWhere result (serialized s (struct_item self.entry.encoding code fields)) }
         ensures memory { WantsMemory W.takes_memory result }
     {
         let StructSerializer {
@@ -190,9 +226,17 @@ impl<W: Sink> Serializer<W> {
     /// Ends the list or the map of a struct. After an error the beginning of it may stand there.
     #[tactic(auto, using(crate::proofs::Grown::growing, crate::proofs::Held::holding, crate::proofs::Composed::composing))]
     fn close_struct(&mut self, encoding: StructEncoding, content: Content) -> Result<(), Error>
-        ensures ok { OnOk result ((s : State) (code : ℕ) (fields : List (Item × Item)) (outer : Opened) → HoldsFields W.begins s encoding code fields outer content (state_of W.written self.old) → serialized s (struct_item encoding code fields) ≡ Some (state_of W.written self.new)) }
-        ensures kept { (s : State) (code : ℕ) (fields : List (Item × Item)) (outer : Opened) → HoldsFields W.begins s encoding code fields outer content (state_of W.written self.old) → Keeps s.written (W.written self.new.writer) }
-        ensures refused { (s : State) (code : ℕ) (fields : List (Item × Item)) (outer : Opened) → HoldsFields W.begins s encoding code fields outer content (state_of W.written self.old) → OnlyWhere result (serialized s (struct_item encoding code fields)) }
+        ensures ok { OnOk result ((s : State) (code : ℕ) (fields : List (Item × Item))
+            (outer : Opened) → HoldsFields W.begins s encoding code fields outer content
+            (state_of W.written self.old) →
+            serialized s (struct_item encoding code fields) ≡ Some (state_of W.written self.new)) }
+        ensures kept { (s : State) (code : ℕ) (fields : List (Item × Item)) (outer : Opened) →
+            HoldsFields W.begins s encoding code fields outer content
+            (state_of W.written self.old) → Keeps s.written (W.written self.new.writer) }
+        ensures refused { (s : State) (code : ℕ) (fields : List (Item × Item)) (outer : Opened) →
+            HoldsFields W.begins s encoding code fields outer content
+            (state_of W.written self.old) →
+            OnlyWhere result (serialized s (struct_item encoding code fields)) }
         ensures memory { WantsMemory W.takes_memory result }
     {
         match encoding {

@@ -32,10 +32,12 @@ impl<W: Sink> Serializer<W> {
     #[tactic(auto, using(crate::proofs::Grown::growing, crate::proofs::Begun::opening, crate::proofs::Composed::varying))]
     fn begin_variant(&mut self, index: u32) -> Result<Opened, Error>
         ensures mark { IfOk result (λ opened. IsMark (state_of W.written self.old) opened) }
-        ensures key { OnOk result (IsOpen W.begins (W.written self.old.writer) (scalar (uint index) ∷ []) (state_of W.written self.new)) }
+        ensures key { OnOk result (IsOpen W.begins (W.written self.old.writer)
+            (scalar (uint index) ∷ []) (state_of W.written self.new)) }
         ensures err { OnErr result (state_of W.written self.new ≡ state_of W.written self.old) }
         ensures kept { Keeps (W.written self.old.writer) (W.written self.new.writer) }
-        ensures refused { (xs : List Item) → OnlyWhere result (serialized (state_of W.written self.old) (variant_item index xs)) }
+        ensures refused { (xs : List Item) →
+            OnlyWhere result (serialized (state_of W.written self.old) (variant_item index xs)) }
         ensures memory { WantsMemory W.takes_memory result }
     {
         let opened = self.begin_compound();
@@ -52,11 +54,17 @@ impl<W: Sink> Serializer<W> {
         &'a mut self,
         index: u32,
     ) -> Result<VariantSerializer<'a, W>, Error>
-        ensures* as_before_at_error { sem 𝓛 (RestsIfErr (the_row W.row) self.entry (λ it. it.serializer.ghost_name) result (λ last. state_of W.written last ≡ state_of W.written self.old)) }
-        ensures same_reference { IfOk result (λ it. it.serializer.ghost_name ≡ self.entry.ghost_name) }
-        ensures kept { IfOk result (λ it. Keeps (W.written self.old.writer) (W.written it.serializer.now.writer)) }
-        ensures begun { IfOk result (λ it. HoldsVariant W.begins (state_of W.written self.old) index [] it.outer it.content (state_of W.written it.serializer.now)) }
-        ensures refused { (xs : List Item) → OnlyWhere result (serialized (state_of W.written self.old) (variant_item index xs)) }
+        ensures* as_before_at_error { sem 𝓛
+            (RestsIfErr (the_row W.row) self.entry (λ it. it.serializer.ghost_name) result
+            (λ last. state_of W.written last ≡ state_of W.written self.old)) }
+        ensures same_reference { IfOk result
+            (λ it. it.serializer.ghost_name ≡ self.entry.ghost_name) }
+        ensures kept { IfOk result (λ it. Keeps (W.written self.old.writer)
+            (W.written it.serializer.now.writer)) }
+        ensures begun { IfOk result (λ it. HoldsVariant W.begins (state_of W.written self.old) index
+            [] it.outer it.content (state_of W.written it.serializer.now)) }
+        ensures refused { (xs : List Item) →
+            OnlyWhere result (serialized (state_of W.written self.old) (variant_item index xs)) }
         ensures memory { WantsMemory W.takes_memory result }
     {
         let outer = self.begin_variant(index)?;
@@ -69,9 +77,11 @@ impl<'a, W: Sink> VariantSerializer<'a, W> {
     #[tactic(auto, using(crate::proofs::Grown::growing, crate::proofs::Held::holding))]
     fn begin(serializer: &'a mut Serializer<W>, outer: Opened) -> VariantSerializer<'a, W>
         ensures same_reference { result.serializer.ghost_name ≡ serializer.entry.ghost_name }
-        ensures kept { Keeps (W.written serializer.old.writer) (W.written result.serializer.now.writer) }
+        ensures kept { Keeps (W.written serializer.old.writer)
+            (W.written result.serializer.now.writer) }
         ensures outer { result.outer ≡ outer }
-        ensures begun { Holds W.begins (state_of W.written serializer.old) [] result.content (state_of W.written result.serializer.now) }
+        ensures begun { Holds W.begins (state_of W.written serializer.old) [] result.content
+            (state_of W.written result.serializer.now) }
     {
         let content = serializer.begin_content();
         VariantSerializer {
@@ -87,12 +97,20 @@ impl<'a, W: Sink> VariantSerializer<'a, W> {
     pub fn serialize_field<T: Serialize>(&mut self, field: &T) -> Result<(), Error>
         ensures same_reference { self.new.serializer.ghost_name ≡ self.old.serializer.ghost_name }
         ensures outer { self.new.outer ≡ self.old.outer }
-        ensures ok { OnOk result ((s : State) (index : ℕ) (xs : List Item) → HoldsVariant W.begins s index xs self.old.outer self.old.content (state_of W.written self.old.serializer.now) → HoldsVariant W.begins s index (xs ++ T.item field.now ∷ []) self.old.outer self.new.content (state_of W.written self.new.serializer.now)) }
+        ensures ok { OnOk result ((s : State) (index : ℕ) (xs : List Item) →
+            HoldsVariant W.begins s index xs self.old.outer self.old.content
+            (state_of W.written self.old.serializer.now) →
+            HoldsVariant W.begins s index (xs ++ T.item field.now ∷ []) self.old.outer
+            self.new.content (state_of W.written self.new.serializer.now)) }
         ensures err { OnErr result ((self.new.content ≡ self.old.content)
             × (state_of W.written self.new.serializer.now
             ≡ state_of W.written self.old.serializer.now)) }
-        ensures kept { Keeps (W.written self.old.serializer.now.writer) (W.written self.new.serializer.now.writer) }
-        ensures refused { (s : State) (index : ℕ) (xs ys : List Item) → HoldsVariant W.begins s index xs self.old.outer self.old.content (state_of W.written self.old.serializer.now) → OnlyWhere result (serialized s (variant_item index (xs ++ T.item field.now ∷ ys))) }
+        ensures kept { Keeps (W.written self.old.serializer.now.writer)
+            (W.written self.new.serializer.now.writer) }
+        ensures refused { (s : State) (index : ℕ) (xs ys : List Item) →
+            HoldsVariant W.begins s index xs self.old.outer self.old.content
+            (state_of W.written self.old.serializer.now) →
+            OnlyWhere result (serialized s (variant_item index (xs ++ T.item field.now ∷ ys))) }
         ensures memory { WantsMemory W.takes_memory result }
     {
         self.content = self.serializer.put_item(self.content, field)?;
@@ -103,12 +121,18 @@ impl<'a, W: Sink> VariantSerializer<'a, W> {
     /// and `InvalidValue` in an array whose first element is no map. After an error all is as before it began.
     #[tactic(auto, using(crate::proofs::Grown::growing, crate::proofs::Composed::varying))]
     pub fn end(self) -> Result<(), Error>
-        ensures ok { OnOk result ((s : State) (index : ℕ) (xs : List Item) → HoldsVariant W.begins s index xs self.entry.outer self.entry.content (state_of W.written self.entry.serializer.now) → serialized s (variant_item index xs) ≡ Some (state_of W.written self.exit.0.now)) }
+        ensures ok { OnOk result ((s : State) (index : ℕ) (xs : List Item) →
+            HoldsVariant W.begins s index xs self.entry.outer self.entry.content
+            (state_of W.written self.entry.serializer.now) →
+            serialized s (variant_item index xs) ≡ Some (state_of W.written self.exit.0.now)) }
         ensures err { OnErr result ((s : Serializer W) (index : ℕ) (xs : List Item)
             → HoldsVariant W.begins (state_of W.written s) index xs self.entry.outer
             self.entry.content (state_of W.written self.entry.serializer.now)
             → state_of W.written self.exit.0.now ≡ state_of W.written s) }
-        ensures refused { (s : State) (index : ℕ) (xs : List Item) → HoldsVariant W.begins s index xs self.entry.outer self.entry.content (state_of W.written self.entry.serializer.now) → OnlyWhere result (serialized s (variant_item index xs)) }
+        ensures refused { (s : State) (index : ℕ) (xs : List Item) →
+            HoldsVariant W.begins s index xs self.entry.outer self.entry.content
+            (state_of W.written self.entry.serializer.now) →
+            OnlyWhere result (serialized s (variant_item index xs)) }
         ensures memory { WantsMemory W.takes_memory result }
     {
         let VariantSerializer {
@@ -127,9 +151,15 @@ impl<W: Sink> Serializer<W> {
     /// Ends the list of a variant's fields, and its map. After an error the beginning of it may stand there.
     #[tactic(auto, using(crate::proofs::Grown::growing, crate::proofs::Composed::varying))]
     fn close_variant(&mut self, outer: Opened, content: Content) -> Result<(), Error>
-        ensures ok { OnOk result ((s : State) (index : ℕ) (xs : List Item) → HoldsVariant W.begins s index xs outer content (state_of W.written self.old) → serialized s (variant_item index xs) ≡ Some (state_of W.written self.new)) }
-        ensures kept { (s : State) (index : ℕ) (xs : List Item) → HoldsVariant W.begins s index xs outer content (state_of W.written self.old) → Keeps s.written (W.written self.new.writer) }
-        ensures refused { (s : State) (index : ℕ) (xs : List Item) → HoldsVariant W.begins s index xs outer content (state_of W.written self.old) → OnlyWhere result (serialized s (variant_item index xs)) }
+        ensures ok { OnOk result ((s : State) (index : ℕ) (xs : List Item) →
+            HoldsVariant W.begins s index xs outer content (state_of W.written self.old) →
+            serialized s (variant_item index xs) ≡ Some (state_of W.written self.new)) }
+        ensures kept { (s : State) (index : ℕ) (xs : List Item) →
+            HoldsVariant W.begins s index xs outer content (state_of W.written self.old) →
+            Keeps s.written (W.written self.new.writer) }
+        ensures refused { (s : State) (index : ℕ) (xs : List Item) →
+            HoldsVariant W.begins s index xs outer content (state_of W.written self.old) →
+            OnlyWhere result (serialized s (variant_item index xs)) }
         ensures memory { WantsMemory W.takes_memory result }
     {
         self.close_list_content(content)?;

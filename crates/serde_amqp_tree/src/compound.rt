@@ -2,7 +2,8 @@
 ghost use Rattle.std.specs.Prelude.{◌≡◌, ◌+◌, ◌<◌, ◌∷◌, List, reverse, true, false, IfOk, OnOk};
 ghost use Rattle.serde_amqp_item.specs.Wire.{one_byte, list_of, map_of, array_of, described_by, empty_list};
 ghost use Rattle.serde_amqp_tree.specs.declared.finished.Finished.{Finished};
-ghost use Rattle.serde_amqp_tree.specs.Tree.{Puts, PutsWide, Closes, counted_of, list_of_text, element_byte, wide_code, width_of};
+ghost use Rattle.serde_amqp_tree.specs.Tree.{Puts, PutsWide, Closes, counted_of, list_of_text, element_byte, wide_code};
+ghost use Rattle.serde_amqp_tree.specs.Tree.{width_of};
 
 use crate::backwards::Backwards;
 use crate::cutting::{cut, cut_element, cut_head};
@@ -97,7 +98,8 @@ pub(crate) fn finish_empty_list<'a>(
     text: &mut Backwards,
     inherited: bool,
 ) -> Result<(&'a [u8], Lengths), Error>
-    ensures { IfOk result (λ r. (fs : List Finished) → Closes inherited empty_list 0xd0 r.1 front.now r.0.now fs fs text.old text.new) }
+    ensures { IfOk result (λ r. (fs : List Finished) →
+        Closes inherited empty_list 0xd0 r.1 front.now r.0.now fs fs text.old text.new) }
 {
     put_list_head(text, inherited, 0, 0)?;
     Ok((front, NOTHING))
@@ -113,7 +115,8 @@ pub(crate) fn finish_list<'a>(
     wide: bool,
     count: usize,
 ) -> Result<(&'a [u8], Lengths), Error>
-    ensures { IfOk result (λ r. Closes inherited (list_of (width_of wide)) 0xd0 r.1 front.now r.0.now (reverse stack.old.items) (reverse stack.new.items) text.old text.new) }
+    ensures { IfOk result (λ r. Closes inherited (list_of (width_of wide)) 0xd0 r.1 front.now
+        r.0.now (reverse stack.old.items) (reverse stack.new.items) text.old text.new) }
 {
     if count > MAX_ARRAY_COUNT {
         return Err(Error::InvalidLength);
@@ -134,7 +137,8 @@ pub(crate) fn finish_map<'a>(
     wide: bool,
     count: usize,
 ) -> Result<(&'a [u8], Lengths), Error>
-    ensures { IfOk result (λ r. Closes inherited (map_of (width_of wide)) 0xd1 r.1 front.now r.0.now (reverse stack.old.items) (reverse stack.new.items) text.old text.new) }
+    ensures { IfOk result (λ r. Closes inherited (map_of (width_of wide)) 0xd1 r.1 front.now r.0.now
+        (reverse stack.old.items) (reverse stack.new.items) text.old text.new) }
 {
     if count > MAX_ARRAY_COUNT {
         return Err(Error::InvalidLength);
@@ -156,7 +160,8 @@ pub(crate) fn finish_described<'a>(
     text: &mut Backwards,
     inherited: bool,
 ) -> Result<(&'a [u8], Lengths), Error>
-    ensures { IfOk result (λ r. Closes inherited described_by 0x00 r.1 front.now r.0.now (reverse stack.old.items) (reverse stack.new.items) text.old text.new) }
+    ensures { IfOk result (λ r. Closes inherited described_by 0x00 r.1 front.now r.0.now
+        (reverse stack.old.items) (reverse stack.new.items) text.old text.new) }
 {
     if inherited {
         return Err(Error::InvalidFormatCode);
@@ -176,7 +181,8 @@ pub(crate) fn finish_array<'a>(
     wide: bool,
     count: usize,
 ) -> Result<(&'a [u8], Lengths), Error>
-    ensures { IfOk result (λ r. Closes inherited (array_of (width_of wide)) 0xf0 r.1 front.now r.0.now (reverse stack.old.items) (reverse stack.new.items) text.old text.new) }
+    ensures { IfOk result (λ r. Closes inherited (array_of (width_of wide)) 0xf0 r.1 front.now
+        r.0.now (reverse stack.old.items) (reverse stack.new.items) text.old text.new) }
 {
     if is_bare(front, wide, count) {
         return finish_bare_array(front, text, inherited);
@@ -201,7 +207,8 @@ fn finish_bare_array<'a>(
     text: &mut Backwards,
     inherited: bool,
 ) -> Result<(&'a [u8], Lengths), Error>
-    ensures { IfOk result (λ r. (fs : List Finished) → Closes inherited (array_of one_byte) 0xf0 r.1 front.now r.0.now fs fs text.old text.new) }
+    ensures { IfOk result (λ r. (fs : List Finished) →
+        Closes inherited (array_of one_byte) 0xf0 r.1 front.now r.0.now fs fs text.old text.new) }
 {
     let rest = cut(front, &[1, 0])?;
     text.put(&[0x40])?;
@@ -219,7 +226,8 @@ fn finish_elements<'a>(
     wide: bool,
     count: usize,
 ) -> Result<(&'a [u8], Lengths), Error>
-    ensures { IfOk result (λ r. Closes inherited (array_of (width_of wide)) 0xf0 r.1 front.now r.0.now (reverse stack.old.items) (reverse stack.new.items) text.old text.new) }
+    ensures { IfOk result (λ r. Closes inherited (array_of (width_of wide)) 0xf0 r.1 front.now
+        r.0.now (reverse stack.old.items) (reverse stack.new.items) text.old text.new) }
 {
     if count > MAX_ARRAY_COUNT {
         return Err(Error::InvalidLength);

@@ -29,7 +29,8 @@ pub(crate) fn join(
     count: usize,
     inherited: Option<EncodingCodes>,
 ) -> Result<Lengths, Error>
-    ensures { IfOk result (λ l. Joins inherited count l (reverse stack.old.items) (reverse stack.new.items)) }
+    ensures { IfOk result (λ l. Joins inherited count l (reverse stack.old.items)
+        (reverse stack.new.items)) }
 {
     let mut lengths = Lengths { bytes: 0, text: 0 };
     for _ in 0..count {

@@ -1,10 +1,19 @@
 //! The texts of scalars, from the bytes behind their constructors.
 ghost use Rattle.std.specs.Prelude.{◌≡◌, ◌∷◌, ◌++◌, [], IfOk, OnOk, Some, true};
 ghost use Rattle.std.specs.Str.{is_utf8};
-ghost use Rattle.serde_amqp_item.specs.Item.{null, boolean, ubyte, ushort, uint, ulong, byte, short, int, long, float, double, char, timestamp};
+ghost use Rattle.serde_amqp_item.specs.Item.{null, boolean, ubyte, ushort, uint, ulong, byte, short, int, long, float};
+ghost use Rattle.serde_amqp_item.specs.Item.{double, char, timestamp};
 ghost use Rattle.serde_amqp_item.specs.Wire.{row_at, boolean_at};
-ghost use Rattle.serde_amqp_item.specs.declared.codes.EncodingCodes.TheVariants.{Null, BooleanTrue, BooleanFalse, Boolean, UByte, UShort, UInt, SmallUInt, UInt0, ULong, SmallULong, ULong0, Byte, Short, Int, SmallInt, Long, SmallLong, Float, Double, Decimal32, Decimal64, Decimal128, Char, Timestamp, Uuid, Vbin8, Str8, Sym8};
-ghost use Rattle.serde_amqp_tree.specs.Tree.{PutsScalar, reading, wide_byte, led, PutsSized, PutsWideSized, boolean_byte};
+ghost use Rattle.serde_amqp_item.specs.declared.codes.EncodingCodes.TheVariants.{Null, BooleanTrue, BooleanFalse};
+ghost use Rattle.serde_amqp_item.specs.declared.codes.EncodingCodes.TheVariants.{Boolean, UByte, UShort, UInt};
+ghost use Rattle.serde_amqp_item.specs.declared.codes.EncodingCodes.TheVariants.{SmallUInt, UInt0, ULong, SmallULong};
+ghost use Rattle.serde_amqp_item.specs.declared.codes.EncodingCodes.TheVariants.{ULong0, Byte, Short, Int, SmallInt};
+ghost use Rattle.serde_amqp_item.specs.declared.codes.EncodingCodes.TheVariants.{Long, SmallLong, Float, Double};
+ghost use Rattle.serde_amqp_item.specs.declared.codes.EncodingCodes.TheVariants.{Decimal32, Decimal64, Decimal128};
+ghost use Rattle.serde_amqp_item.specs.declared.codes.EncodingCodes.TheVariants.{Char, Timestamp, Uuid, Vbin8, Str8};
+ghost use Rattle.serde_amqp_item.specs.declared.codes.EncodingCodes.TheVariants.{Sym8};
+ghost use Rattle.serde_amqp_tree.specs.Tree.{PutsScalar, reading, wide_byte, led, PutsSized, PutsWideSized};
+ghost use Rattle.serde_amqp_tree.specs.Tree.{boolean_byte};
 
 use crate::backwards::Backwards;
 use serde_amqp_item::{EncodingCodes, Error};
@@ -17,7 +26,8 @@ pub(crate) fn put_scalar(
     code: EncodingCodes,
     content: &[u8],
 ) -> Result<(), Error>
-    ensures { OnOk result (PutsScalar inherited (wide_byte code) (reading (row_at (Some code)) content.now) text.old text.new) }
+    ensures { OnOk result (PutsScalar inherited (wide_byte code)
+        (reading (row_at (Some code)) content.now) text.old text.new) }
 {
     match code {
         EncodingCodes::Null => put_null(text, inherited),
@@ -48,7 +58,8 @@ fn put_plain(
     code: EncodingCodes,
     content: &[u8],
 ) -> Result<(), Error>
-    ensures { OnOk result (PutsScalar inherited (wide_byte code) (reading (row_at (Some code)) content.now) text.old text.new) }
+    ensures { OnOk result (PutsScalar inherited (wide_byte code)
+        (reading (row_at (Some code)) content.now) text.old text.new) }
 {
     match code {
         EncodingCodes::UByte => put_ubyte_byte(text, inherited, content),
@@ -171,7 +182,8 @@ fn put_uint(text: &mut Backwards, inherited: bool, value: u32) -> Result<(), Err
 }
 
 fn put_uint_word(text: &mut Backwards, inherited: bool, content: &[u8]) -> Result<(), Error>
-    ensures { OnOk result (PutsScalar inherited 0x70 (reading (row_at (Some UInt)) content.now) text.old text.new) }
+    ensures { OnOk result (PutsScalar inherited 0x70 (reading (row_at (Some UInt)) content.now)
+        text.old text.new) }
 {
     let value = u32::from_be_bytes(bytes_of::<4>(content)?);
     put_uint(text, inherited, value)?;
@@ -179,7 +191,8 @@ fn put_uint_word(text: &mut Backwards, inherited: bool, content: &[u8]) -> Resul
 }
 
 fn put_uint_byte(text: &mut Backwards, inherited: bool, content: &[u8]) -> Result<(), Error>
-    ensures { OnOk result (PutsScalar inherited 0x70 (reading (row_at (Some SmallUInt)) content.now) text.old text.new) }
+    ensures { OnOk result (PutsScalar inherited 0x70 (reading (row_at (Some SmallUInt)) content.now)
+        text.old text.new) }
 {
     let value = u32::from(byte_of(content)?);
     put_uint(text, inherited, value)?;
@@ -208,7 +221,8 @@ fn put_ulong(text: &mut Backwards, inherited: bool, value: u64) -> Result<(), Er
 }
 
 fn put_ulong_word(text: &mut Backwards, inherited: bool, content: &[u8]) -> Result<(), Error>
-    ensures { OnOk result (PutsScalar inherited 0x80 (reading (row_at (Some ULong)) content.now) text.old text.new) }
+    ensures { OnOk result (PutsScalar inherited 0x80 (reading (row_at (Some ULong)) content.now)
+        text.old text.new) }
 {
     let value = u64::from_be_bytes(bytes_of::<8>(content)?);
     put_ulong(text, inherited, value)?;
@@ -216,7 +230,8 @@ fn put_ulong_word(text: &mut Backwards, inherited: bool, content: &[u8]) -> Resu
 }
 
 fn put_ulong_byte(text: &mut Backwards, inherited: bool, content: &[u8]) -> Result<(), Error>
-    ensures { OnOk result (PutsScalar inherited 0x80 (reading (row_at (Some SmallULong)) content.now) text.old text.new) }
+    ensures { OnOk result (PutsScalar inherited 0x80
+        (reading (row_at (Some SmallULong)) content.now) text.old text.new) }
 {
     let value = u64::from(byte_of(content)?);
     put_ulong(text, inherited, value)?;
@@ -241,7 +256,8 @@ fn put_int(text: &mut Backwards, inherited: bool, value: i32) -> Result<(), Erro
 }
 
 fn put_int_word(text: &mut Backwards, inherited: bool, content: &[u8]) -> Result<(), Error>
-    ensures { OnOk result (PutsScalar inherited 0x71 (reading (row_at (Some Int)) content.now) text.old text.new) }
+    ensures { OnOk result (PutsScalar inherited 0x71 (reading (row_at (Some Int)) content.now)
+        text.old text.new) }
 {
     let value = i32::from_be_bytes(bytes_of::<4>(content)?);
     put_int(text, inherited, value)?;
@@ -249,7 +265,8 @@ fn put_int_word(text: &mut Backwards, inherited: bool, content: &[u8]) -> Result
 }
 
 fn put_int_byte(text: &mut Backwards, inherited: bool, content: &[u8]) -> Result<(), Error>
-    ensures { OnOk result (PutsScalar inherited 0x71 (reading (row_at (Some SmallInt)) content.now) text.old text.new) }
+    ensures { OnOk result (PutsScalar inherited 0x71 (reading (row_at (Some SmallInt)) content.now)
+        text.old text.new) }
 {
     let value = i32::from(byte_of(content)?.cast_signed());
     put_int(text, inherited, value)?;
@@ -274,7 +291,8 @@ fn put_long(text: &mut Backwards, inherited: bool, value: i64) -> Result<(), Err
 }
 
 fn put_long_word(text: &mut Backwards, inherited: bool, content: &[u8]) -> Result<(), Error>
-    ensures { OnOk result (PutsScalar inherited 0x81 (reading (row_at (Some Long)) content.now) text.old text.new) }
+    ensures { OnOk result (PutsScalar inherited 0x81 (reading (row_at (Some Long)) content.now)
+        text.old text.new) }
 {
     let value = i64::from_be_bytes(bytes_of::<8>(content)?);
     put_long(text, inherited, value)?;
@@ -282,7 +300,8 @@ fn put_long_word(text: &mut Backwards, inherited: bool, content: &[u8]) -> Resul
 }
 
 fn put_long_byte(text: &mut Backwards, inherited: bool, content: &[u8]) -> Result<(), Error>
-    ensures { OnOk result (PutsScalar inherited 0x81 (reading (row_at (Some SmallLong)) content.now) text.old text.new) }
+    ensures { OnOk result (PutsScalar inherited 0x81 (reading (row_at (Some SmallLong)) content.now)
+        text.old text.new) }
 {
     let value = i64::from(byte_of(content)?.cast_signed());
     put_long(text, inherited, value)?;
@@ -299,7 +318,8 @@ fn put_ubyte(text: &mut Backwards, inherited: bool, value: u8) -> Result<(), Err
 }
 
 fn put_ubyte_byte(text: &mut Backwards, inherited: bool, content: &[u8]) -> Result<(), Error>
-    ensures { OnOk result (PutsScalar inherited 0x50 (reading (row_at (Some UByte)) content.now) text.old text.new) }
+    ensures { OnOk result (PutsScalar inherited 0x50 (reading (row_at (Some UByte)) content.now)
+        text.old text.new) }
 {
     let value = byte_of(content)?;
     put_ubyte(text, inherited, value)?;
@@ -316,7 +336,8 @@ fn put_byte(text: &mut Backwards, inherited: bool, value: i8) -> Result<(), Erro
 }
 
 fn put_byte_byte(text: &mut Backwards, inherited: bool, content: &[u8]) -> Result<(), Error>
-    ensures { OnOk result (PutsScalar inherited 0x51 (reading (row_at (Some Byte)) content.now) text.old text.new) }
+    ensures { OnOk result (PutsScalar inherited 0x51 (reading (row_at (Some Byte)) content.now)
+        text.old text.new) }
 {
     let value = byte_of(content)?.cast_signed();
     put_byte(text, inherited, value)?;
@@ -333,7 +354,8 @@ fn put_ushort(text: &mut Backwards, inherited: bool, value: u16) -> Result<(), E
 }
 
 fn put_ushort_word(text: &mut Backwards, inherited: bool, content: &[u8]) -> Result<(), Error>
-    ensures { OnOk result (PutsScalar inherited 0x60 (reading (row_at (Some UShort)) content.now) text.old text.new) }
+    ensures { OnOk result (PutsScalar inherited 0x60 (reading (row_at (Some UShort)) content.now)
+        text.old text.new) }
 {
     let value = u16::from_be_bytes(bytes_of::<2>(content)?);
     put_ushort(text, inherited, value)?;
@@ -350,7 +372,8 @@ fn put_short(text: &mut Backwards, inherited: bool, value: i16) -> Result<(), Er
 }
 
 fn put_short_word(text: &mut Backwards, inherited: bool, content: &[u8]) -> Result<(), Error>
-    ensures { OnOk result (PutsScalar inherited 0x61 (reading (row_at (Some Short)) content.now) text.old text.new) }
+    ensures { OnOk result (PutsScalar inherited 0x61 (reading (row_at (Some Short)) content.now)
+        text.old text.new) }
 {
     let value = i16::from_be_bytes(bytes_of::<2>(content)?);
     put_short(text, inherited, value)?;
@@ -367,7 +390,8 @@ fn put_float(text: &mut Backwards, inherited: bool, value: u32) -> Result<(), Er
 }
 
 fn put_float_word(text: &mut Backwards, inherited: bool, content: &[u8]) -> Result<(), Error>
-    ensures { OnOk result (PutsScalar inherited 0x72 (reading (row_at (Some Float)) content.now) text.old text.new) }
+    ensures { OnOk result (PutsScalar inherited 0x72 (reading (row_at (Some Float)) content.now)
+        text.old text.new) }
 {
     let value = u32::from_be_bytes(bytes_of::<4>(content)?);
     put_float(text, inherited, value)?;
@@ -384,7 +408,8 @@ fn put_double(text: &mut Backwards, inherited: bool, value: u64) -> Result<(), E
 }
 
 fn put_double_word(text: &mut Backwards, inherited: bool, content: &[u8]) -> Result<(), Error>
-    ensures { OnOk result (PutsScalar inherited 0x82 (reading (row_at (Some Double)) content.now) text.old text.new) }
+    ensures { OnOk result (PutsScalar inherited 0x82 (reading (row_at (Some Double)) content.now)
+        text.old text.new) }
 {
     let value = u64::from_be_bytes(bytes_of::<8>(content)?);
     put_double(text, inherited, value)?;
@@ -401,7 +426,8 @@ fn put_timestamp(text: &mut Backwards, inherited: bool, value: i64) -> Result<()
 }
 
 fn put_timestamp_word(text: &mut Backwards, inherited: bool, content: &[u8]) -> Result<(), Error>
-    ensures { OnOk result (PutsScalar inherited 0x83 (reading (row_at (Some Timestamp)) content.now) text.old text.new) }
+    ensures { OnOk result (PutsScalar inherited 0x83 (reading (row_at (Some Timestamp)) content.now)
+        text.old text.new) }
 {
     let value = i64::from_be_bytes(bytes_of::<8>(content)?);
     put_timestamp(text, inherited, value)?;
@@ -418,7 +444,8 @@ fn put_char(text: &mut Backwards, inherited: bool, value: char) -> Result<(), Er
 }
 
 fn put_char_word(text: &mut Backwards, inherited: bool, content: &[u8]) -> Result<(), Error>
-    ensures { OnOk result (PutsScalar inherited 0x73 (reading (row_at (Some Char)) content.now) text.old text.new) }
+    ensures { OnOk result (PutsScalar inherited 0x73 (reading (row_at (Some Char)) content.now)
+        text.old text.new) }
 {
     let Some(value) = char::from_u32(u32::from_be_bytes(bytes_of::<4>(content)?)) else {
         return Err(Error::InvalidValue);
@@ -430,7 +457,8 @@ fn put_char_word(text: &mut Backwards, inherited: bool, content: &[u8]) -> Resul
 /// Puts a decimal32 (section 1.6.13).
 #[tactic(auto, using(crate::proofs::Scalars::scalars))]
 fn put_decimal32(text: &mut Backwards, inherited: bool, content: &[u8]) -> Result<(), Error>
-    ensures { OnOk result (PutsScalar inherited 0x74 (reading (row_at (Some Decimal32)) content.now) text.old text.new) }
+    ensures { OnOk result (PutsScalar inherited 0x74 (reading (row_at (Some Decimal32)) content.now)
+        text.old text.new) }
 {
     if content.len() != 4 {
         return Err(Error::InvalidLength);
@@ -442,7 +470,8 @@ fn put_decimal32(text: &mut Backwards, inherited: bool, content: &[u8]) -> Resul
 /// Puts a decimal64 (section 1.6.14).
 #[tactic(auto, using(crate::proofs::Scalars::scalars))]
 fn put_decimal64(text: &mut Backwards, inherited: bool, content: &[u8]) -> Result<(), Error>
-    ensures { OnOk result (PutsScalar inherited 0x84 (reading (row_at (Some Decimal64)) content.now) text.old text.new) }
+    ensures { OnOk result (PutsScalar inherited 0x84 (reading (row_at (Some Decimal64)) content.now)
+        text.old text.new) }
 {
     if content.len() != 8 {
         return Err(Error::InvalidLength);
@@ -454,7 +483,8 @@ fn put_decimal64(text: &mut Backwards, inherited: bool, content: &[u8]) -> Resul
 /// Puts a decimal128 (section 1.6.15).
 #[tactic(auto, using(crate::proofs::Scalars::scalars))]
 fn put_decimal128(text: &mut Backwards, inherited: bool, content: &[u8]) -> Result<(), Error>
-    ensures { OnOk result (PutsScalar inherited 0x94 (reading (row_at (Some Decimal128)) content.now) text.old text.new) }
+    ensures { OnOk result (PutsScalar inherited 0x94
+        (reading (row_at (Some Decimal128)) content.now) text.old text.new) }
 {
     if content.len() != 16 {
         return Err(Error::InvalidLength);
@@ -466,7 +496,8 @@ fn put_decimal128(text: &mut Backwards, inherited: bool, content: &[u8]) -> Resu
 /// Puts a uuid (section 1.6.18).
 #[tactic(auto, using(crate::proofs::Scalars::scalars))]
 fn put_uuid(text: &mut Backwards, inherited: bool, content: &[u8]) -> Result<(), Error>
-    ensures { OnOk result (PutsScalar inherited 0x98 (reading (row_at (Some Uuid)) content.now) text.old text.new) }
+    ensures { OnOk result (PutsScalar inherited 0x98 (reading (row_at (Some Uuid)) content.now)
+        text.old text.new) }
 {
     if content.len() != 16 {
         return Err(Error::InvalidLength);
@@ -478,7 +509,8 @@ fn put_uuid(text: &mut Backwards, inherited: bool, content: &[u8]) -> Result<(),
 /// Puts bytes (section 1.6.19).
 #[tactic(auto, using(crate::proofs::Scalars::sized))]
 fn put_binary(text: &mut Backwards, inherited: bool, content: &[u8]) -> Result<(), Error>
-    ensures { OnOk result (PutsScalar inherited 0xb0 (reading (row_at (Some Vbin8)) content.now) text.old text.new) }
+    ensures { OnOk result (PutsScalar inherited 0xb0 (reading (row_at (Some Vbin8)) content.now)
+        text.old text.new) }
 {
     put_sized(text, inherited, 0xa0, 0xb0, content)?;
     Ok(())
@@ -487,7 +519,8 @@ fn put_binary(text: &mut Backwards, inherited: bool, content: &[u8]) -> Result<(
 /// Puts a string (section 1.6.20).
 #[tactic(auto, using(crate::proofs::Scalars::sized))]
 fn put_string(text: &mut Backwards, inherited: bool, content: &[u8]) -> Result<(), Error>
-    ensures { OnOk result (PutsScalar inherited 0xb1 (reading (row_at (Some Str8)) content.now) text.old text.new) }
+    ensures { OnOk result (PutsScalar inherited 0xb1 (reading (row_at (Some Str8)) content.now)
+        text.old text.new) }
 {
     check_text(content)?;
     put_sized(text, inherited, 0xa1, 0xb1, content)?;
@@ -497,7 +530,8 @@ fn put_string(text: &mut Backwards, inherited: bool, content: &[u8]) -> Result<(
 /// Puts a symbol (section 1.6.21).
 #[tactic(auto, using(crate::proofs::Scalars::sized))]
 fn put_symbol(text: &mut Backwards, inherited: bool, content: &[u8]) -> Result<(), Error>
-    ensures { OnOk result (PutsScalar inherited 0xb3 (reading (row_at (Some Sym8)) content.now) text.old text.new) }
+    ensures { OnOk result (PutsScalar inherited 0xb3 (reading (row_at (Some Sym8)) content.now)
+        text.old text.new) }
 {
     check_text(content)?;
     put_sized(text, inherited, 0xa3, 0xb3, content)?;

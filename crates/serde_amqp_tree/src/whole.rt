@@ -40,7 +40,8 @@ fn finish_all<'a>(
     stack: &mut Vec<Finished>,
     text: &mut Backwards,
 ) -> Result<&'a [u8], Error>
-    ensures { IfOk result (λ r. Finishes bytes.now r.now (reverse stack.old.items) (reverse stack.new.items) text.old text.new) }
+    ensures { IfOk result (λ r. Finishes bytes.now r.now (reverse stack.old.items)
+        (reverse stack.new.items) text.old text.new) }
 {
     let mut front = bytes;
     for token in tokens.iter().rev() {
@@ -75,7 +76,8 @@ fn finish<'a>(
     stack: &mut Vec<Finished>,
     text: &mut Backwards,
 ) -> Result<&'a [u8], Error>
-    ensures { IfOk result (λ r. Finishes front.now r.now (reverse stack.old.items) (reverse stack.new.items) text.old text.new) }
+    ensures { IfOk result (λ r. Finishes front.now r.now (reverse stack.old.items)
+        (reverse stack.new.items) text.old text.new) }
 {
     let before = text.len();
     let (mid, parts) = finish_body(front, token, stack, text)?;
@@ -138,7 +140,9 @@ fn finish_body<'a>(
     stack: &mut Vec<Finished>,
     text: &mut Backwards,
 ) -> Result<(&'a [u8], Lengths), Error>
-    ensures { IfOk result (λ r. Closes token.inherited (row_at (Some token.code)) (wide_byte token.code) r.1 front.now r.0.now (reverse stack.old.items) (reverse stack.new.items) text.old text.new) }
+    ensures { IfOk result (λ r. Closes token.inherited (row_at (Some token.code))
+        (wide_byte token.code) r.1 front.now r.0.now (reverse stack.old.items)
+        (reverse stack.new.items) text.old text.new) }
 {
     match token.code {
         EncodingCodes::DescribedType => finish_described(front, stack, text, token.inherited),
@@ -168,7 +172,9 @@ fn finish_scalar<'a>(
     token: Token,
     text: &mut Backwards,
 ) -> Result<(&'a [u8], Lengths), Error>
-    ensures { IfOk result (λ r. (fs : List Finished) → Closes token.inherited (row_at (Some token.code)) (wide_byte token.code) r.1 front.now r.0.now fs fs text.old text.new) }
+    ensures { IfOk result (λ r. (fs : List Finished) →
+        Closes token.inherited (row_at (Some token.code)) (wide_byte token.code) r.1 front.now
+        r.0.now fs fs text.old text.new) }
 {
     if front.len() < token.start {
         return Err(Error::InvalidLength);

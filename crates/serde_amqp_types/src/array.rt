@@ -1,5 +1,6 @@
 //! Arrays (part 1, 1.6.24).
-ghost use Rattle.std.specs.Cmp.Lexicographic.{pointwise, slice_cmp, slice_partial_cmp, lists_per, lists_equiv, lists_po, lists_total, lists_agrees, lists_ties};
+ghost use Rattle.std.specs.Cmp.Lexicographic.{pointwise, slice_cmp, slice_partial_cmp, lists_per, lists_equiv};
+ghost use Rattle.std.specs.Cmp.Lexicographic.{lists_po, lists_total, lists_agrees, lists_ties};
 ghost use Rattle.std.specs.Hash as fed;
 ghost use Rattle.std.specs.Hash.{items_Alike};
 ghost use Rattle.std.specs.Iterator.Runs.{EveryRun, ItemsMapTo, ItemsAre};
@@ -230,7 +231,8 @@ fn read_one<T: Deserialize + Drop, R: Read>(
     alloc: Global,
     de: &mut Deserializer<R>,
 ) -> Result<Vec<T>, Error>
-    ensures ok { IfOk result (λ v. TookOne T.take de.old.element (at_of R.rest de.old) (at_of R.rest de.new) (map T.item v.items)) }
+    ensures ok { IfOk result (λ v. TookOne T.take de.old.element (at_of R.rest de.old)
+        (at_of R.rest de.new) (map T.item v.items)) }
     ensures element { OnOk result (de.new.element ≡ de.old.element) }
     ensures refused { Unless R.faulty result (Refuses T.take de.old.element (at_of R.rest de.old)) }
 {

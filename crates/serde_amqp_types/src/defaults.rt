@@ -2,9 +2,12 @@
 ghost use Rattle.std.specs.Prelude.{◌≡◌, ℕ, Bool, Option, Some, None, refl};
 ghost use Rattle.std.proofs.Common.{ap};
 ghost use Rattle.serde_amqp_item.specs.Item.{Item, scalar, null, boolean, ubyte, ushort, uint};
-ghost use Rattle.serde_amqp_de.specs.Again.{boolean_faithful, ubyte_faithful, ushort_faithful, uint_faithful, default_again, default_faithful, one_boolean, one_ushort, one_uint};
-ghost use Rattle.serde_amqp_de.specs.Takes.{boolean_taken, ubyte_taken, ushort_taken, uint_taken, option_taken, mapped, or_null, is_boolean, is_ushort, is_uint};
-ghost use Rattle.serde_amqp_de.specs.Deciding.{boolean_decided, ubyte_decided, ushort_decided, uint_decided, option_decided, mapped_decided};
+ghost use Rattle.serde_amqp_de.specs.Again.{boolean_faithful, ubyte_faithful, ushort_faithful, uint_faithful};
+ghost use Rattle.serde_amqp_de.specs.Again.{default_again, default_faithful, one_boolean, one_ushort, one_uint};
+ghost use Rattle.serde_amqp_de.specs.Takes.{boolean_taken, ubyte_taken, ushort_taken, uint_taken, option_taken, mapped};
+ghost use Rattle.serde_amqp_de.specs.Takes.{or_null, is_boolean, is_ushort, is_uint};
+ghost use Rattle.serde_amqp_de.specs.Deciding.{boolean_decided, ubyte_decided, ushort_decided, uint_decided};
+ghost use Rattle.serde_amqp_de.specs.Deciding.{option_decided, mapped_decided};
 ghost use Rattle.serde_amqp_types.specs.Takes.{is_ubyte};
 ghost use Rattle.serde_amqp_types.specs.Again.{one_ubyte};
 

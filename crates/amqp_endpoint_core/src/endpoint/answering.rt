@@ -19,7 +19,8 @@ impl<S: SessionRelay> Endpoint<S> {
     ///
     /// `UnknownLink` where no link has the number.
     pub fn credit(&self, link: u64) -> Result<u32, EndpointError>
-        ensures ok { IfOk result (λ left. SessionsAnswer S.does self.now (Call.Credit link) (credit_is left) self.now) }
+        ensures ok { IfOk result (λ left. SessionsAnswer S.does self.now (Call.Credit link)
+            (credit_is left) self.now) }
         ensures err { IfErr result (λ e. IsRefused S.does self.now (Call.Credit link) e) }
     {
         self.sessions.credit(link)
@@ -29,7 +30,8 @@ impl<S: SessionRelay> Endpoint<S> {
     ///
     /// `UnknownSession` where no session has the number.
     pub fn held_back(&self, session: u64) -> Result<usize, EndpointError>
-        ensures ok { IfOk result (λ n. SessionsAnswer S.does self.now (Call.HeldBack session) (count n) self.now) }
+        ensures ok { IfOk result (λ n. SessionsAnswer S.does self.now (Call.HeldBack session)
+            (count n) self.now) }
         ensures err { IfErr result (λ e. IsRefused S.does self.now (Call.HeldBack session) e) }
     {
         self.sessions.held_back(session)

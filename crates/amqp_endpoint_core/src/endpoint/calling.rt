@@ -14,8 +14,10 @@ impl<S: SessionRelay> Endpoint<S> {
     /// is no number left, then `LocalChannelMaxReached` where no channel is left that the peer takes (part 2, 2.7.1).
     /// `Memory` where there is no memory. A refusal changes nothing.
     pub fn begin(&mut self) -> Result<u64, EndpointError>
-        ensures ok { IfOk result (λ number. SessionsDo S.does self.old Call.Begin (session_begun number) self.new) }
-        ensures err { IfErr result (λ e. IsRefused S.does self.old Call.Begin e × (self.new ≡ self.old)) }
+        ensures ok { IfOk result (λ number.
+            SessionsDo S.does self.old Call.Begin (session_begun number) self.new) }
+        ensures err { IfErr result (λ e. IsRefused S.does self.old Call.Begin e
+            × (self.new ≡ self.old)) }
     {
         if !self.goes_on() {
             return Err(EndpointError::NotConnected);
@@ -53,7 +55,8 @@ impl<S: SessionRelay> Endpoint<S> {
     /// there is no memory. A refusal changes nothing.
     pub fn end(&mut self, session: u64) -> Result<(), EndpointError>
         ensures ok { OnOk result (SessionsDo S.does self.old (Call.End session) done self.new) }
-        ensures err { IfErr result (λ e. IsRefused S.does self.old (Call.End session) e × (self.new ≡ self.old)) }
+        ensures err { IfErr result (λ e. IsRefused S.does self.old (Call.End session) e
+            × (self.new ≡ self.old)) }
     {
         let limit = self.limit();
         self.sessions.end(limit, session, &mut self.out)?;
@@ -65,7 +68,8 @@ impl<S: SessionRelay> Endpoint<S> {
     /// `RemoteEndNotReceived` where it hasn't come, or no session has the number, `AlreadyEnded` where an Ok told of it
     /// before. A refusal changes nothing.
     pub fn try_end(&mut self, session: u64) -> Result<(), TryEndError>
-        ensures done { SessionsDo S.does self.old (Call.TryEnd session) (tried_end (refusal_in result)) self.new }
+        ensures done { SessionsDo S.does self.old (Call.TryEnd session)
+            (tried_end (refusal_in result)) self.new }
         ensures kept { OnErr result (self.new ≡ self.old) }
     {
         self.sessions.try_end(session)

@@ -1,10 +1,14 @@
-ghost use Rattle.std.specs.Prelude.{◌≡◌, ◌++◌, [], true, Some, None, IsSome, IfOk, IfErr, OnOk, MatchOption, MatchResult};
+ghost use Rattle.std.specs.Prelude.{◌≡◌, ◌++◌, [], true, Some, None, IsSome, IfOk, IfErr, OnOk, MatchOption};
+ghost use Rattle.std.specs.Prelude.{MatchResult};
 ghost use Rattle.amqp_endpoint_model.specs.State.{error_of, has_opened, own_close_with};
-ghost use Rattle.amqp_endpoint_model.specs.Step.{ClosesBoth, FeedsIn, FrontRefused, FrontUnread, Greets, ReadsOn, SendsClose, Waits, closed, opened as opened_state, with_close};
+ghost use Rattle.amqp_endpoint_model.specs.Step.{ClosesBoth, FeedsIn, FrontRefused, FrontUnread, Greets, ReadsOn};
+ghost use Rattle.amqp_endpoint_model.specs.Step.{SendsClose, Waits, closed, opened as opened_state, with_close};
 ghost use Rattle.amqp_endpoint_model.specs.Relay.{IsOfSession};
 ghost use Rattle.amqp_endpoint_model.specs.declared.error.EndpointError.TheVariants.{Memory};
 ghost use Rattle.amqp_endpoint_model.specs.declared.phase.Phase.TheVariants.{Greeting, Running};
-ghost use Rattle.amqp_endpoint_core.specs.Reading.{BodyRefused, BodyTaken, EndsBy, FrameSplit, FrontTaken, GreetedOff, HeaderLeft, HeaderRefused, HeaderTaken, PieceOf, SizeRefused, condition_text, says_too_little};
+ghost use Rattle.amqp_endpoint_core.specs.Reading.{BodyRefused, BodyTaken, EndsBy, FrameSplit, FrontTaken, GreetedOff};
+ghost use Rattle.amqp_endpoint_core.specs.Reading.{HeaderLeft, HeaderRefused, HeaderTaken, PieceOf, SizeRefused};
+ghost use Rattle.amqp_endpoint_core.specs.Reading.{condition_text, says_too_little};
 
 use super::Endpoint;
 use crate::coding::{MIN_MAX_FRAME_SIZE, PROTOCOL_HEADER, decoded, error_of_condition};
@@ -38,7 +42,8 @@ impl<S: SessionRelay> Endpoint<S> {
     /// At all of these but the first, `NumbersUsedUp` and the last the own Close is queued, with the error, unless it
     /// was queued before. The peer's Close ends the connection too, without a fault: it is answered by the own one.
     pub fn feed(&mut self, bytes: &[u8]) -> Fed
-        ensures { FeedsIn S.does self.old.phase self.old bytes.now (result.events.items) result.fault self.new }
+        ensures { FeedsIn S.does self.old.phase self.old bytes.now (result.events.items)
+            result.fault self.new }
     {
         match self.phase {
             Phase::Unconnected => fault_alone(self.alloc, EndpointError::NotConnected),
@@ -51,7 +56,8 @@ impl<S: SessionRelay> Endpoint<S> {
     #[inline(never)]
     fn feed_header(&mut self, bytes: &[u8]) -> Fed
         requires { self.old.phase ≡ Greeting }
-        ensures { Greets S.does self.old (self.old.rest ++ bytes.now) (result.events.items) result.fault self.new }
+        ensures { Greets S.does self.old (self.old.rest ++ bytes.now) (result.events.items)
+            result.fault self.new }
     {
         match self.take_in_header(bytes) {
             Ok(true) => self.read_frames(),
@@ -76,7 +82,8 @@ impl<S: SessionRelay> Endpoint<S> {
 
     /// Puts these bytes behind those that are no whole frame yet. Nothing changes where there is no memory.
     fn take_in(&mut self, bytes: &[u8]) -> Result<(), EndpointError>
-        ensures ok { OnOk result (self.new ≡ record self.old { rest = self.old.rest ++ bytes.now }) }
+        ensures ok { OnOk result (self.new ≡ record self.old
+            { rest = self.old.rest ++ bytes.now }) }
         ensures err { IfErr result (λ e. (e ≡ Memory) × (self.new ≡ self.old)) }
     {
         self.input.extend_from_slice(bytes)?;
@@ -103,7 +110,8 @@ impl<S: SessionRelay> Endpoint<S> {
     /// Queues the own Open, the headers being exchanged (part 2, 2.4.1): the connection begins.
     fn send_open(&mut self) -> Result<(), EndpointError>
         requires { self.old.phase ≡ Greeting }
-        ensures ok { OnOk result (self.new ≡ record (opened_state S.does self.old) { rest = self.old.rest }) }
+        ensures ok { OnOk result (self.new ≡ record (opened_state S.does self.old)
+            { rest = self.old.rest }) }
         ensures err { IfErr result (λ e. (e ≡ Memory) × GreetedOff S.does self.old self.new) }
     {
         gather(&mut self.queue, &mut self.out)?;
@@ -119,7 +127,8 @@ impl<S: SessionRelay> Endpoint<S> {
     #[inline(never)]
     fn feed_frames(&mut self, bytes: &[u8]) -> Fed
         requires { self.old.phase ≡ Running }
-        ensures { ReadsOn S.does self.old (self.old.rest ++ bytes.now) (result.events.items) result.fault self.new }
+        ensures { ReadsOn S.does self.old (self.old.rest ++ bytes.now) (result.events.items)
+            result.fault self.new }
     {
         match self.take_in(bytes) {
             Ok(()) => self.read_frames(),
@@ -135,7 +144,8 @@ impl<S: SessionRelay> Endpoint<S> {
     #[tactic(auto, using(crate::proofs::FeedLaws::so_far_none, crate::proofs::FeedLaws::so_far_more, crate::proofs::FeedLaws::front_shorter, crate::proofs::FeedLaws::ends_waiting, crate::proofs::FeedLaws::ends_closed, crate::proofs::FeedLaws::ends_by_fault))]
     fn read_frames(&mut self) -> Fed
         requires { self.old.phase ≡ Running }
-        ensures { ReadsOn S.does self.old self.old.rest (result.events.items) result.fault self.new }
+        ensures { ReadsOn S.does self.old self.old.rest (result.events.items) result.fault
+            self.new }
     {
         let mut events = Vec::new(self.alloc);
         while self.is_running() {
@@ -186,7 +196,8 @@ impl<S: SessionRelay> Endpoint<S> {
     fn read_whole(&mut self, size: usize, events: &mut Vec<Event>) -> Result<(), EndpointError>
         requires running { self.old.phase ≡ Running }
         requires piece { PieceOf self.old.settings.max_frame_size self.old.rest size }
-        ensures ok { OnOk result (FrontTaken S.does true self.old events.old.items events.new.items self.new) }
+        ensures ok { OnOk result (FrontTaken S.does true self.old events.old.items events.new.items
+            self.new) }
         ensures err { IfErr result (λ e. FrontRefused S.does self.old self.old.rest e self.new.sessions
             × (events.new.items ≡ events.old.items)
             × (self.new ≡ record self.old { rest = self.new.rest; sessions = self.new.sessions })) }
@@ -256,7 +267,8 @@ impl<S: SessionRelay> Endpoint<S> {
     ) -> Result<(), EndpointError>
         requires theirs { IsOfSession body }
         requires running { self.old.phase ≡ Running }
-        ensures ok { OnOk result (BodyTaken S.does self.old channel.0 body events.old.items events.new.items self.new) }
+        ensures ok { OnOk result (BodyTaken S.does self.old channel.0 body events.old.items
+            events.new.items self.new) }
         ensures err { IfErr result (λ e. BodyRefused S.does self.old channel.0 body e self.new
             × (events.new.items ≡ events.old.items)) }
     {

@@ -61,7 +61,8 @@ impl<S: SessionRelay> Endpoint<S> {
     /// no memory. A refusal changes nothing.
     pub fn detach(&mut self, link: u64) -> Result<(), EndpointError>
         ensures ok { OnOk result (SessionsDo S.does self.old (Call.Detach link) done self.new) }
-        ensures err { IfErr result (λ e. IsRefused S.does self.old (Call.Detach link) e × (self.new ≡ self.old)) }
+        ensures err { IfErr result (λ e. IsRefused S.does self.old (Call.Detach link) e
+            × (self.new ≡ self.old)) }
     {
         let limit = self.limit();
         self.sessions
@@ -78,7 +79,8 @@ impl<S: SessionRelay> Endpoint<S> {
     pub fn close_link(&mut self, link: u64) -> Result<Vec<Event>, EndpointError>
         ensures ok { IfOk result (λ events.
             SessionsDo S.does self.old (Call.CloseLink link) (link_closed events.items) self.new) }
-        ensures err { IfErr result (λ e. IsRefused S.does self.old (Call.CloseLink link) e × (self.new ≡ self.old)) }
+        ensures err { IfErr result (λ e. IsRefused S.does self.old (Call.CloseLink link) e
+            × (self.new ≡ self.old)) }
     {
         let limit = self.limit();
         let events = self
@@ -111,7 +113,8 @@ impl<S: SessionRelay> Endpoint<S> {
     /// there is no memory. A refusal changes nothing.
     pub fn drain(&mut self, link: u64) -> Result<(), EndpointError>
         ensures ok { OnOk result (SessionsDo S.does self.old (Call.Drain link) done self.new) }
-        ensures err { IfErr result (λ e. IsRefused S.does self.old (Call.Drain link) e × (self.new ≡ self.old)) }
+        ensures err { IfErr result (λ e. IsRefused S.does self.old (Call.Drain link) e
+            × (self.new ≡ self.old)) }
     {
         let limit = self.limit();
         self.sessions.drain(self.alloc, limit, link, &mut self.out)?;

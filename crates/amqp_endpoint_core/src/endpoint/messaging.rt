@@ -73,7 +73,8 @@ impl<S: SessionRelay> Endpoint<S> {
         message: u64,
         disposal: &Disposal,
     ) -> Result<(), EndpointError>
-        ensures ok { OnOk result (SessionsDo S.does self.old (Call.Dispose link message disposal.now) done self.new) }
+        ensures ok { OnOk result (SessionsDo S.does self.old
+            (Call.Dispose link message disposal.now) done self.new) }
         ensures err { IfErr result (λ e.
             IsRefused S.does self.old (Call.Dispose link message disposal.now) e × (self.new ≡ self.old)) }
     {
@@ -111,7 +112,8 @@ impl<S: SessionRelay> Endpoint<S> {
 ///
 /// It is refused with `MessageTooLarge` exactly where a section is too long to be written, and with `Memory`.
 fn payload_of<B: WriteBody>(alloc: Global, message: &Message<B>) -> Result<Bytes, EndpointError>
-    ensures ok { IfOk result (λ bytes. payload_text (message_items B.items message.now) ≡ Some bytes) }
+    ensures ok { IfOk result (λ bytes. payload_text (message_items B.items message.now)
+        ≡ Some bytes) }
     ensures err { IfErr result (IsUnwritten (payload_text (message_items B.items message.now))) }
 {
     match message.to_payload(alloc) {
