@@ -24,7 +24,8 @@ use Rattle.amqp_endpoint_attached.specs.Links.{Announces, FitsNoFrame, attach_fr
 use Rattle.amqp_endpoint_attached.specs.Refusals.{IsOffered, outcome, test_failed}
 use Rattle.amqp_endpoint_attached.specs.declared.answering.Answered.{Answered}
 use Rattle.amqp_endpoint_attached.specs.declared.refusal.AttachRefusal.{AttachRefusal}
-use Rattle.amqp_endpoint_attached.specs.declared.refusal.AttachRefusal.TheVariants.{HandleMaxReached, HandleInUse, Link, FrameTooLarge, Memory}
+use Rattle.amqp_endpoint_attached.specs.declared.refusal.AttachRefusal.TheVariants.{HandleMaxReached, HandleInUse, Link}
+use Rattle.amqp_endpoint_attached.specs.declared.refusal.AttachRefusal.TheVariants.{FrameTooLarge, Memory}
 
 -- which of the link's tests the Attach of an asked link fails first, if it fails one
 abbrev pub asked_failed : End → Option AskedLink → Option LinkError

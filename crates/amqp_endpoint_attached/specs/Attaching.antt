@@ -11,7 +11,8 @@ use Rattle.amqp_endpoint_attached.specs.Linked.{Linked, gives}
 use Rattle.amqp_endpoint_attached.specs.Links.{Announces, FitsNoFrame, attach_frame, attach_sent, offered, with_number}
 use Rattle.amqp_endpoint_attached.specs.Refusals.{IsOffered}
 use Rattle.amqp_endpoint_attached.specs.declared.refusal.AttachRefusal.{AttachRefusal}
-use Rattle.amqp_endpoint_attached.specs.declared.refusal.AttachRefusal.TheVariants.{HandleMaxReached, FrameTooLarge, Memory}
+use Rattle.amqp_endpoint_attached.specs.declared.refusal.AttachRefusal.TheVariants.{HandleMaxReached, FrameTooLarge}
+use Rattle.amqp_endpoint_attached.specs.declared.refusal.AttachRefusal.TheVariants.{Memory}
 
 -- why it doesn't: no handle is offered that the peer allows, or its Attach fits no frame, or there is no memory
 abbrev pub RefusesAttach : {R : Type 0} → ℕ → State R → End → AttachRefusal → Type 0

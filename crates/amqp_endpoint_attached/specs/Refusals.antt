@@ -21,7 +21,8 @@ use Rattle.amqp_link_sender.specs.declared.attaching.AttachAnswer.TheVariants as
 use Rattle.amqp_link_sender.specs.declared.attaching.Attaching.{Attaching}
 use Rattle.amqp_endpoint_attached.specs.Links.{FitsNoFrame}
 use Rattle.amqp_endpoint_attached.specs.declared.refusal.AttachRefusal.{AttachRefusal}
-use Rattle.amqp_endpoint_attached.specs.declared.refusal.AttachRefusal.TheVariants.{HandleMaxReached, HandleInUse, Link, FrameTooLarge, Memory}
+use Rattle.amqp_endpoint_attached.specs.declared.refusal.AttachRefusal.TheVariants.{HandleMaxReached, HandleInUse, Link}
+use Rattle.amqp_endpoint_attached.specs.declared.refusal.AttachRefusal.TheVariants.{FrameTooLarge, Memory}
 
 -- the session's refusal of a handle
 abbrev pub refusal_of : SessionError → AttachRefusal

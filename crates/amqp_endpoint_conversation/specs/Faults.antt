@@ -2,7 +2,8 @@
 use Rattle.std.specs.Prelude.{◌≡◌, ℕ, List, None, IsSome, codes}
 use Rattle.amqp_session_types.specs.declared.error.Error.{Error}
 use Rattle.amqp_session_types.specs.declared.refusals.SessionError.{SessionError}
-use Rattle.amqp_session_types.specs.declared.refusals.SessionError.TheVariants.{HandleInUse, IllegalState, Memory, UnattachedHandle}
+use Rattle.amqp_session_types.specs.declared.refusals.SessionError.TheVariants.{HandleInUse, IllegalState, Memory}
+use Rattle.amqp_session_types.specs.declared.refusals.SessionError.TheVariants.{UnattachedHandle}
 use Rattle.amqp_endpoint_sessions.specs.State.{live_at}
 use Rattle.amqp_endpoint_conversation.specs.declared.conversation.Conversation.{Conversation}
 

@@ -1,5 +1,6 @@
 -- What the peer says in a session that has begun, or that it asks for (part 2, 2.5.1, 2.5.2, 2.5.6).
-use Rattle.std.specs.Prelude.{◌≡◌, ◌≢◌, ◌⊎◌, ℕ, ◌*◌, List, [], ◌∷◌, ◌++◌, Bool, true, false, Option, Some, None, Result, Ok, Err, nat_le}
+use Rattle.std.specs.Prelude.{◌≡◌, ◌≢◌, ◌⊎◌, ℕ, ◌*◌, List, [], ◌∷◌, ◌++◌, Bool, true, false, Option, Some, None, Result}
+use Rattle.std.specs.Prelude.{Ok, Err, nat_le}
 use Rattle.std.specs.Global.{Box}
 use Rattle.amqp_session_types.specs.declared.channels.IncomingChannel.{IncomingChannel}
 use Rattle.amqp_session_types.specs.declared.refusals.SessionError.{SessionError}
@@ -18,7 +19,8 @@ use Rattle.amqp_endpoint_conversation.specs.declared.conversation.Conversation.{
 use Rattle.amqp_endpoint_conversation.specs.declared.hearing.Heard.{Heard}
 use Rattle.amqp_endpoint_conversation.specs.declared.hearing.Heard.TheVariants.{Asked, Live, Dropped}
 use Rattle.amqp_endpoint_conversation.specs.declared.hearing.HearRefusal.{HearRefusal}
-use Rattle.amqp_endpoint_conversation.specs.declared.hearing.HearRefusal.TheVariants.{Memory, NotFound, Asked as AskedRefuses, Session}
+use Rattle.amqp_endpoint_conversation.specs.declared.hearing.HearRefusal.TheVariants.{Memory, NotFound}
+use Rattle.amqp_endpoint_conversation.specs.declared.hearing.HearRefusal.TheVariants.{Asked as AskedRefuses, Session}
 use Rattle.amqp_endpoint_conversation.specs.Beginning.{Sessions}
 use Rattle.amqp_endpoint_conversation.specs.Ending.{EndsHere}
 use Rattle.amqp_endpoint_conversation.specs.Faults.{fault_error}

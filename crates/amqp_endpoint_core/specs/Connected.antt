@@ -2,7 +2,10 @@
 use Rattle.std.specs.Prelude.{◌≡◌, ◌≤◌, ℕ, Bool, true, false, Option, Some, None}
 use Rattle.amqp_session_frames.specs.declared.frame.FrameBody.TheVariants as body
 use Rattle.amqp_session_connection.specs.declared.state.ConnectionState.{ConnectionState}
-use Rattle.amqp_session_connection.specs.declared.state.ConnectionState.TheVariants.{HeaderSent, HeaderExchange, OpenClosePipe, OpenSent, ClosePipe, Opened, CloseReceived, CloseSent, Discarding, End}
+use Rattle.amqp_session_connection.specs.declared.state.ConnectionState.TheVariants.{HeaderSent, HeaderExchange}
+use Rattle.amqp_session_connection.specs.declared.state.ConnectionState.TheVariants.{OpenClosePipe, OpenSent, ClosePipe}
+use Rattle.amqp_session_connection.specs.declared.state.ConnectionState.TheVariants.{Opened, CloseReceived, CloseSent}
+use Rattle.amqp_session_connection.specs.declared.state.ConnectionState.TheVariants.{Discarding, End}
 use Rattle.amqp_session_performatives.specs.declared.open.Open.{Open}
 use Rattle.amqp_session_connection.specs.State.{State, fresh}
 use Rattle.amqp_session_connection.specs.Steps.{frame_on}
@@ -27,7 +30,8 @@ took_close CloseReceived = true
 took_close End = true
 took_close state = false
 
--- the own Open was sent, and the peer's Close did not come: the peer's limit is known where its Open came (part 2, 2.4.6)
+-- the own Open was sent, and the peer's Close did not come: the peer's limit is known where its Open came (part 2,
+-- 2.4.6)
 abbrev pub Runs : Option ℕ → ConnectionState → Type 0
 Runs None OpenSent = Unit {0}
 Runs None ClosePipe = Unit {0}

@@ -1,19 +1,26 @@
 -- How an endpoint reads its input, frame by frame.
-use Rattle.std.specs.Prelude.{◌≡◌, ◌≢◌, ℕ, ◌≤◌, ◌<◌, ◌⊎◌, Bool, true, false, List, [], ◌++◌, length, take, drop, Option, Some, None, if◌then◌else◌, nat_lt}
+use Rattle.std.specs.Prelude.{◌≡◌, ◌≢◌, ℕ, ◌≤◌, ◌<◌, ◌⊎◌, Bool, true, false, List, [], ◌++◌, length, take, drop, Option}
+use Rattle.std.specs.Prelude.{Some, None, if◌then◌else◌, nat_lt}
 use Rattle.amqp_session_frames.specs.declared.frame.Frame.{Frame}
 use Rattle.amqp_session_frames.specs.declared.frame.FrameBody.{FrameBody}
 use Rattle.amqp_session_frames.specs.Text.{FrameText}
 use Rattle.amqp_session_frames.specs.Cutting.{said_size, ReadsAs}
 use Rattle.amqp_endpoint_model.specs.declared.error.EndpointError.{EndpointError}
-use Rattle.amqp_endpoint_model.specs.declared.error.EndpointError.TheVariants.{Memory, NumbersUsedUp, ProtocolHeaderMismatch, SizeUnder8, SizeOverLimit, PeerLimitUnder512, Frame as FrameFault, Connection, Session}
+use Rattle.amqp_endpoint_model.specs.declared.error.EndpointError.TheVariants.{Memory, NumbersUsedUp}
+use Rattle.amqp_endpoint_model.specs.declared.error.EndpointError.TheVariants.{ProtocolHeaderMismatch, SizeUnder8}
+use Rattle.amqp_endpoint_model.specs.declared.error.EndpointError.TheVariants.{SizeOverLimit, PeerLimitUnder512}
+use Rattle.amqp_endpoint_model.specs.declared.error.EndpointError.TheVariants.{Frame as FrameFault, Connection, Session}
 use Rattle.amqp_endpoint_model.specs.declared.event.Event.{Event}
 use Rattle.amqp_endpoint_model.specs.declared.phase.Phase.TheVariants.{Running, Over}
 use Rattle.amqp_endpoint_model.specs.State.{State, is_running, protocol_header}
-use Rattle.amqp_endpoint_model.specs.Step.{Admits, AfterFault, Breaks, TakesBody, TakesAll, Front, FrontUnread, NoFrame, RefusesBody, Waits, at_state, opened, condition_of, framing_error, decode_error, not_allowed, not_found}
+use Rattle.amqp_endpoint_model.specs.Step.{Admits, AfterFault, Breaks, TakesBody, TakesAll, Front, FrontUnread, NoFrame}
+use Rattle.amqp_endpoint_model.specs.Step.{RefusesBody, Waits, at_state, opened, condition_of, framing_error}
+use Rattle.amqp_endpoint_model.specs.Step.{decode_error, not_allowed, not_found}
 use Rattle.amqp_endpoint_model.specs.Relay.{Relations}
 use Rattle.amqp_session_connection.specs.declared.state.ConnectionState.TheVariants.{HeaderExchange}
 use Rattle.amqp_endpoint_core.specs.declared.condition.Condition.{Condition}
-use Rattle.amqp_endpoint_core.specs.declared.condition.Condition.TheVariants.{FramingError, DecodeError, NotAllowed, NotFound}
+use Rattle.amqp_endpoint_core.specs.declared.condition.Condition.TheVariants.{FramingError, DecodeError, NotAllowed}
+use Rattle.amqp_endpoint_core.specs.declared.condition.Condition.TheVariants.{NotFound}
 
 module _ {S : Type 0} (does : Relations S) where
   -- the peer's header was whole and right, and the own Open is queued; or it isn't whole yet

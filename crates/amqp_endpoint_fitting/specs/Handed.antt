@@ -4,7 +4,8 @@ use Rattle.amqp_session_performatives.specs.declared.link_flow.LinkFlow.{LinkFlo
 use Rattle.amqp_session_performatives.specs.declared.session_frame.SessionFrame.{SessionFrame}
 use Rattle.amqp_session_core.specs.History.{frames_in}
 use Rattle.amqp_session_core.specs.Relay.{Relations}
-use Rattle.amqp_session_core.specs.Steps.{Step, Reply, NoReply, OfSession, OfLink, SendsBegin, SendsEnd, TakesFlow, SendsBehind, SendsTransfers}
+use Rattle.amqp_session_core.specs.Steps.{Step, Reply, NoReply, OfSession, OfLink, SendsBegin, SendsEnd, TakesFlow}
+use Rattle.amqp_session_core.specs.Steps.{SendsBehind, SendsTransfers}
 use Rattle.amqp_endpoint_links.specs.History.{AskingStep, InSession, TakesFlow as AskingTakesFlow}
 use Rattle.amqp_endpoint_fitting.specs.Fits.{BehindFits, FrameFits, UnitFits}
 

@@ -31,7 +31,8 @@ asked_answer (Err ask.NameInUse) = Err session.IllegalState
 asked_answer (Err ask.Memory) = Err session.Memory
 
 -- the peer asks for a link
-pub record AsksFor {A : Type 0} (old : Asked) (attach : Attach) (result : Result (AttachTaken A) SessionError) (new : Asked)
+pub record AsksFor {A : Type 0} (old : Asked) (attach : Attach) (result : Result (AttachTaken A) SessionError)
+    (new : Asked)
     : Type 0 where
   pub told : Result ⊤ AskRefusal
   pub asks : Asks old attach told new

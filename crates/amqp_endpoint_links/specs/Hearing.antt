@@ -1,7 +1,8 @@
 -- What a peer says in a session, and what comes of it (part 2, 2.5.6, 2.6.3 to 2.6.6, 2.7).
 use Rattle.std.specs.Prelude.{◌≡◌, ℕ, List, Bool, true, false, Result, Ok, Err, map, ⊤}
 use Rattle.amqp_session_types.specs.declared.refusals.SessionError.{SessionError}
-use Rattle.amqp_session_types.specs.declared.refusals.SessionError.TheVariants.{UnattachedHandle, HandleInUse, IllegalState, Memory}
+use Rattle.amqp_session_types.specs.declared.refusals.SessionError.TheVariants.{UnattachedHandle, HandleInUse}
+use Rattle.amqp_session_types.specs.declared.refusals.SessionError.TheVariants.{IllegalState, Memory}
 use Rattle.amqp_session_performatives.specs.declared.attach.Attach.{Attach as AttachFrame}
 use Rattle.amqp_session_performatives.specs.declared.detach.Detach.{Detach as DetachFrame}
 use Rattle.amqp_session_performatives.specs.declared.disposition.Disposition.{Disposition as DispositionFrame}
@@ -17,7 +18,8 @@ use Rattle.amqp_endpoint_asked.specs.AskedSession as wanted
 use Rattle.amqp_endpoint_links.specs.declared.asking.AskingSession.{AskingSession}
 use Rattle.amqp_endpoint_links.specs.declared.asking.NamedLink.{NamedLink}
 use Rattle.amqp_endpoint_links.specs.declared.hearing.LinkPerformative.{LinkPerformative}
-use Rattle.amqp_endpoint_links.specs.declared.hearing.LinkPerformative.TheVariants.{Attach, Flow, Transfer, Disposition, Detach}
+use Rattle.amqp_endpoint_links.specs.declared.hearing.LinkPerformative.TheVariants.{Attach, Flow, Transfer, Disposition}
+use Rattle.amqp_endpoint_links.specs.declared.hearing.LinkPerformative.TheVariants.{Detach}
 use Rattle.amqp_endpoint_links.specs.declared.hearing.PerformativeTaken.{PerformativeTaken}
 use Rattle.amqp_endpoint_links.specs.declared.hearing.PerformativeTaken.TheVariants as taken
 use Rattle.amqp_endpoint_links.specs.Asking.{AttachAnswered, DetachAnswered, FlowAnswered}

@@ -1,5 +1,6 @@
 -- Histories of a session with its asked links, and what they say of the session itself.
-use Rattle.std.specs.Prelude.{◌≡◌, ◌⊎◌, ℕ, List, [], ◌∷◌, ◌++◌, Bool, true, false, Option, Some, None, Result, Ok, ⊤, if◌then◌else◌}
+use Rattle.std.specs.Prelude.{◌≡◌, ◌⊎◌, ℕ, List, [], ◌∷◌, ◌++◌, Bool, true, false, Option, Some, None, Result, Ok, ⊤}
+use Rattle.std.specs.Prelude.{if◌then◌else◌}
 use Rattle.std.specs.FinMap as map
 use Rattle.amqp_session_types.specs.declared.handles.OutputHandle.{OutputHandle}
 use Rattle.amqp_session_types.specs.declared.refusals.SessionError.{SessionError}
@@ -15,7 +16,9 @@ use Rattle.amqp_session_core.specs.Echoes.{Reach}
 use Rattle.amqp_session_core.specs.Frames.{Left}
 use Rattle.amqp_session_core.specs.History.{CallKeeps, frees}
 use Rattle.amqp_session_core.specs.Relay.{Relations}
-use Rattle.amqp_session_core.specs.Steps.{Step, Steps, Reply, TakesAttach as SessionAttaches, TakesFlow as SessionFlows, SetsWindow, TakesDetach as SessionDetaches, Allocates, TakesTransfer, TakesDisposition}
+use Rattle.amqp_session_core.specs.Steps.{Step, Steps, Reply, TakesAttach as SessionAttaches, TakesFlow as SessionFlows}
+use Rattle.amqp_session_core.specs.Steps.{SetsWindow, TakesDetach as SessionDetaches, Allocates, TakesTransfer}
+use Rattle.amqp_session_core.specs.Steps.{TakesDisposition}
 use Rattle.amqp_endpoint_asked.specs.AskedSession.{session_part}
 use Rattle.amqp_endpoint_links.specs.declared.asking.AskingSession.{AskingSession}
 use Rattle.amqp_endpoint_links.specs.declared.asking.NamedLink.{NamedLink}
@@ -23,7 +26,8 @@ use Rattle.amqp_endpoint_links.specs.declared.asking.NamedLink.TheVariants.{Wait
 use Rattle.amqp_endpoint_links.specs.declared.asking.AttachTaken.{AttachTaken}
 use Rattle.amqp_endpoint_links.specs.declared.asking.DetachTaken.{DetachTaken}
 use Rattle.amqp_endpoint_links.specs.declared.hearing.LinkPerformative.{LinkPerformative}
-use Rattle.amqp_endpoint_links.specs.declared.hearing.LinkPerformative.TheVariants.{Attach, Flow, Transfer, Disposition, Detach}
+use Rattle.amqp_endpoint_links.specs.declared.hearing.LinkPerformative.TheVariants.{Attach, Flow, Transfer, Disposition}
+use Rattle.amqp_endpoint_links.specs.declared.hearing.LinkPerformative.TheVariants.{Detach}
 use Rattle.amqp_endpoint_links.specs.Asking.{AttachAnswered, FlowAnswered, DetachAnswered}
 
 -- a call, what it was given, and what it answered

@@ -1,6 +1,7 @@
 -- A link with the number by which its endpoint names it.
 use Rattle.std.specs.Prelude.{◌≡◌, List, [], ◌∷◌}
-use Rattle.amqp_session_core.specs.Relay.{LinkStep, Relations, Attaches, Flows, Transfers, Disposes, Detaches, SendsBatch, SendsFrame, SendsDisposition, Changes}
+use Rattle.amqp_session_core.specs.Relay.{LinkStep, Relations, Attaches, Flows, Transfers, Disposes, Detaches}
+use Rattle.amqp_session_core.specs.Relay.{SendsBatch, SendsFrame, SendsDisposition, Changes}
 use Rattle.amqp_endpoint_links.specs.declared.numbered.Numbered.{Numbered}
 
 module _ {R : Type 0} where

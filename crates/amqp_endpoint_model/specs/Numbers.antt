@@ -1,7 +1,19 @@
 -- The numbers of errors.
 use Rattle.std.specs.Prelude.{ℕ}
 use Rattle.amqp_endpoint_model.specs.declared.error.EndpointError.{EndpointError}
-use Rattle.amqp_endpoint_model.specs.declared.error.EndpointError.TheVariants.{Memory, NotConnected, AlreadyConnected, LimitUnder512, WindowOutOfRange, FrameTooLarge, UnknownSession, UnknownLink, UnknownMessage, CreditMissing, NumberInUse, MessageTooLarge, CreditOutOfRange, AlreadyDisposed, NotAssociated, DuplicatedLinkName, IllegalState, LocalChannelMaxReached, HandleMaxReached, NotAsked, NumbersUsedUp, ProtocolHeaderMismatch, SizeUnder8, SizeOverLimit, PeerLimitUnder512, Frame, Connection, Session, Link}
+use Rattle.amqp_endpoint_model.specs.declared.error.EndpointError.TheVariants.{Memory, NotConnected, AlreadyConnected}
+use Rattle.amqp_endpoint_model.specs.declared.error.EndpointError.TheVariants.{LimitUnder512, WindowOutOfRange}
+use Rattle.amqp_endpoint_model.specs.declared.error.EndpointError.TheVariants.{FrameTooLarge, UnknownSession}
+use Rattle.amqp_endpoint_model.specs.declared.error.EndpointError.TheVariants.{UnknownLink, UnknownMessage}
+use Rattle.amqp_endpoint_model.specs.declared.error.EndpointError.TheVariants.{CreditMissing, NumberInUse}
+use Rattle.amqp_endpoint_model.specs.declared.error.EndpointError.TheVariants.{MessageTooLarge, CreditOutOfRange}
+use Rattle.amqp_endpoint_model.specs.declared.error.EndpointError.TheVariants.{AlreadyDisposed, NotAssociated}
+use Rattle.amqp_endpoint_model.specs.declared.error.EndpointError.TheVariants.{DuplicatedLinkName, IllegalState}
+use Rattle.amqp_endpoint_model.specs.declared.error.EndpointError.TheVariants.{LocalChannelMaxReached, HandleMaxReached}
+use Rattle.amqp_endpoint_model.specs.declared.error.EndpointError.TheVariants.{NotAsked, NumbersUsedUp}
+use Rattle.amqp_endpoint_model.specs.declared.error.EndpointError.TheVariants.{ProtocolHeaderMismatch, SizeUnder8}
+use Rattle.amqp_endpoint_model.specs.declared.error.EndpointError.TheVariants.{SizeOverLimit, PeerLimitUnder512, Frame}
+use Rattle.amqp_endpoint_model.specs.declared.error.EndpointError.TheVariants.{Connection, Session, Link}
 
 abbrev pub number : EndpointError → ℕ
 number Memory = 1

@@ -3,12 +3,14 @@ use Rattle.std.specs.Prelude.{◌≡◌, ◌≢◌, ℕ, List, ◌++◌, true, A
 use Rattle.amqp_session_types.specs.declared.refusals.ConnectionError.TheVariants.{NotImplemented, NotFound, NotAllowed}
 use Rattle.amqp_session_performatives.specs.declared.session_frame.SessionFrame.{SessionFrame}
 use Rattle.amqp_session_frames.specs.declared.frame.FrameBody.{FrameBody}
-use Rattle.amqp_session_frames.specs.declared.frame.FrameBody.TheVariants.{Begin, Attach, Flow, Transfer, Disposition, Detach, End}
+use Rattle.amqp_session_frames.specs.declared.frame.FrameBody.TheVariants.{Begin, Attach, Flow, Transfer, Disposition}
+use Rattle.amqp_session_frames.specs.declared.frame.FrameBody.TheVariants.{Detach, End}
 use Rattle.amqp_session_connection.specs.declared.state.ConnectionState.TheVariants.{Start}
 use Rattle.amqp_session_connection.specs.State as channels
 use Rattle.amqp_endpoint_model.specs.declared.call.Call.{Call}
 use Rattle.amqp_endpoint_model.specs.declared.error.EndpointError.{EndpointError}
-use Rattle.amqp_endpoint_model.specs.declared.error.EndpointError.TheVariants.{Memory, NumbersUsedUp, Connection, Session}
+use Rattle.amqp_endpoint_model.specs.declared.error.EndpointError.TheVariants.{Memory, NumbersUsedUp, Connection}
+use Rattle.amqp_endpoint_model.specs.declared.error.EndpointError.TheVariants.{Session}
 use Rattle.amqp_endpoint_model.specs.declared.event.Event.{Event}
 use Rattle.amqp_endpoint_model.specs.declared.settings.Settings.{Settings}
 use Rattle.amqp_endpoint_model.specs.Said.{Said}

@@ -1,5 +1,7 @@
 -- What each call does and answers.
-use Rattle.std.specs.Prelude.{◌≡◌, ◌≢◌, ℕ, ◌≤◌, ◌<◌, ◌^◌, ◌==◌, ◌&&◌, ◌||◌, ◌⊎◌, Bool, true, false, not, List, [], ◌∷◌, ◌++◌, length, map, take, drop, Option, Some, None, is_none, IsSome, if◌then◌else◌, nat_lt, nat_le, codes, All}
+use Rattle.std.specs.Prelude.{◌≡◌, ◌≢◌, ℕ, ◌≤◌, ◌<◌, ◌^◌, ◌==◌, ◌&&◌, ◌||◌, ◌⊎◌, Bool, true, false, not, List, [], ◌∷◌}
+use Rattle.std.specs.Prelude.{◌++◌, length, map, take, drop, Option, Some, None, is_none, IsSome, if◌then◌else◌, nat_lt}
+use Rattle.std.specs.Prelude.{nat_le, codes, All}
 use Rattle.amqp_session_types.specs.declared.refusals.TryCloseError.{TryCloseError}
 use Rattle.amqp_session_types.specs.declared.refusals.TryCloseError.TheVariants.{RemoteCloseNotReceived, AlreadyClosed}
 use Rattle.amqp_session_types.specs.declared.refusals.ConnectionError.{ConnectionError}
@@ -12,7 +14,13 @@ use Rattle.amqp_session_frames.specs.declared.error.Error.TheVariants.{DecodeErr
 use Rattle.amqp_session_frames.specs.Text.{FrameText, NotRead}
 use Rattle.amqp_session_frames.specs.Cutting.{said_size, IsPiece, ReadsAs}
 use Rattle.amqp_endpoint_model.specs.declared.error.EndpointError.{EndpointError}
-use Rattle.amqp_endpoint_model.specs.declared.error.EndpointError.TheVariants.{Memory, NotConnected, AlreadyConnected, LimitUnder512, WindowOutOfRange, FrameTooLarge, IllegalState, NumbersUsedUp, ProtocolHeaderMismatch, SizeUnder8, SizeOverLimit, PeerLimitUnder512, Frame as FrameFault, Connection, Session}
+use Rattle.amqp_endpoint_model.specs.declared.error.EndpointError.TheVariants.{Memory, NotConnected, AlreadyConnected}
+use Rattle.amqp_endpoint_model.specs.declared.error.EndpointError.TheVariants.{LimitUnder512, WindowOutOfRange}
+use Rattle.amqp_endpoint_model.specs.declared.error.EndpointError.TheVariants.{FrameTooLarge, IllegalState}
+use Rattle.amqp_endpoint_model.specs.declared.error.EndpointError.TheVariants.{NumbersUsedUp, ProtocolHeaderMismatch}
+use Rattle.amqp_endpoint_model.specs.declared.error.EndpointError.TheVariants.{SizeUnder8, SizeOverLimit}
+use Rattle.amqp_endpoint_model.specs.declared.error.EndpointError.TheVariants.{PeerLimitUnder512, Frame as FrameFault}
+use Rattle.amqp_endpoint_model.specs.declared.error.EndpointError.TheVariants.{Connection, Session}
 use Rattle.amqp_endpoint_model.specs.declared.event.Event.{Event}
 use Rattle.amqp_endpoint_model.specs.declared.event.Event.TheVariants.{Opened, Closed}
 use Rattle.amqp_endpoint_model.specs.declared.settings.Settings.{Settings}
@@ -29,13 +37,16 @@ use Rattle.amqp_endpoint_model.specs.declared.call.Call.TheVariants.{Send, Dispo
 use Rattle.amqp_session_performatives.specs.declared.open.Open.{Open as OpenFields}
 use Rattle.amqp_session_performatives.specs.declared.session_frame.SessionFrame.{SessionFrame}
 use Rattle.amqp_session_connection.specs.declared.state.ConnectionState.{ConnectionState}
-use Rattle.amqp_session_connection.specs.declared.state.ConnectionState.TheVariants.{HeaderSent, HeaderExchange, OpenSent}
+use Rattle.amqp_session_connection.specs.declared.state.ConnectionState.TheVariants.{HeaderSent, HeaderExchange}
+use Rattle.amqp_session_connection.specs.declared.state.ConnectionState.TheVariants.{OpenSent}
 use Rattle.amqp_session_connection.specs.State as channels
 use Rattle.amqp_session_connection.specs.Table.{after_incoming_close, after_incoming_open, after_send_close}
 use Rattle.amqp_endpoint_model.specs.Relay.{Relations, IsOfSession, IsSessionFault}
 use Rattle.amqp_endpoint_model.specs.Said.{Said, done, refused, fed, pulled, count, truth, tried_close, session_begun}
 use Rattle.amqp_endpoint_model.specs.Said.{tried_end, attaching, link_closed, credit_is, waiting, message_sent}
-use Rattle.amqp_endpoint_model.specs.State.{State, is_unconnected, is_running, has_opened, protocol_header, own_open, own_close_with, error_of, heartbeat, fits, frame_of, limit_of, Waiting, the_header, the_frame, text_of, waiting_of}
+use Rattle.amqp_endpoint_model.specs.State.{State, is_unconnected, is_running, has_opened, protocol_header, own_open}
+use Rattle.amqp_endpoint_model.specs.State.{own_close_with, error_of, heartbeat, fits, frame_of, limit_of, Waiting}
+use Rattle.amqp_endpoint_model.specs.State.{the_header, the_frame, text_of, waiting_of}
 
 -- the first refusal that applies to settings (part 2, 2.7.1; 2.5.6)
 abbrev pub refusal_of_settings : Settings → Option EndpointError
@@ -53,7 +64,8 @@ goes_on s = is_running s.phase && not s.own_close
 abbrev pub refusal : {S : Type 0} → State S → Call → Option EndpointError
 refusal s Connect = if is_unconnected s.phase then None else Some AlreadyConnected
 refusal s Heartbeat = if goes_on s then None else Some NotConnected
-refusal s CloseCall = if has_opened s.phase then (if s.own_close then Some IllegalState else None) else Some NotConnected
+refusal s CloseCall =
+    if has_opened s.phase then (if s.own_close then Some IllegalState else None) else Some NotConnected
 refusal s Begin = if goes_on s then None else Some NotConnected
 refusal s (AcceptBegin channel) = if goes_on s then None else Some NotConnected
 refusal s call = None

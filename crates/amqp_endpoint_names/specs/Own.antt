@@ -1,5 +1,6 @@
 -- What happens to one of the links: the words in which laws on histories are said.
-use Rattle.std.specs.Prelude.{◌≡◌, ℕ, ◌+◌, ◌==◌, List, [], ◌∷◌, Bool, false, Option, Some, None, IsSome, slice_get, if◌then◌else◌}
+use Rattle.std.specs.Prelude.{◌≡◌, ℕ, ◌+◌, ◌==◌, List, [], ◌∷◌, Bool, false, Option, Some, None, IsSome, slice_get}
+use Rattle.std.specs.Prelude.{if◌then◌else◌}
 use Rattle.amqp_endpoint_names.specs.declared.place.LinkPlace.TheVariants.{Held, AtRest}
 use Rattle.amqp_endpoint_names.specs.declared.place.Named.{Named}
 use Rattle.amqp_endpoint_names.specs.State.{State, held_of}

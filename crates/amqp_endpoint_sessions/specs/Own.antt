@@ -4,8 +4,10 @@ use Rattle.amqp_session_connection.specs.State as channels
 use Rattle.amqp_endpoint_sessions.specs.declared.place.PeerEnd.TheVariants.{Received}
 use Rattle.amqp_endpoint_sessions.specs.declared.place.Place.{Place}
 use Rattle.amqp_endpoint_sessions.specs.declared.place.Place.TheVariants.{Asked, Live, Ending, Over}
-use Rattle.amqp_endpoint_sessions.specs.State.{State, asked_of, channel_of, ended_place, finished_place, live_of, peer_end_of, told_place, with_asked, with_live}
-use Rattle.amqp_endpoint_sessions.specs.Steps.{Step, ChangesConnection, Begins, Asks, Accepts, TakesBegin, TakesEnd, Ends, Finishes, TellsEnd, ChangesAsked, ChangesLive}
+use Rattle.amqp_endpoint_sessions.specs.State.{State, asked_of, channel_of, ended_place, finished_place, live_of}
+use Rattle.amqp_endpoint_sessions.specs.State.{peer_end_of, told_place, with_asked, with_live}
+use Rattle.amqp_endpoint_sessions.specs.Steps.{Step, ChangesConnection, Begins, Asks, Accepts, TakesBegin, TakesEnd}
+use Rattle.amqp_endpoint_sessions.specs.Steps.{Ends, Finishes, TellsEnd, ChangesAsked, ChangesLive}
 
 module _ {A S : Type 0} where
   -- whether a step is about the session with this number

@@ -1,5 +1,6 @@
 -- What the calls of an endpoint's sessions do. A call that is refused leaves all as before.
-use Rattle.std.specs.Prelude.{◌≡◌, ℕ, ◌≤◌, ◌<◌, List, [], ◌∷◌, ◌++◌, length, slice_set, Bool, true, false, Option, Some, None, IsSome, Result, Ok, Err, ⊤}
+use Rattle.std.specs.Prelude.{◌≡◌, ℕ, ◌≤◌, ◌<◌, List, [], ◌∷◌, ◌++◌, length, slice_set, Bool, true, false, Option, Some}
+use Rattle.std.specs.Prelude.{None, IsSome, Result, Ok, Err, ⊤}
 use Rattle.std.specs.FinMap as map
 use Rattle.amqp_session_types.specs.declared.channels.IncomingChannel.{IncomingChannel}
 use Rattle.amqp_session_types.specs.declared.channels.OutgoingChannel.{OutgoingChannel}
@@ -18,7 +19,8 @@ use Rattle.amqp_endpoint_sessions.specs.declared.place.PeerEnd.{PeerEnd}
 use Rattle.amqp_endpoint_sessions.specs.declared.place.PeerEnd.TheVariants.{Missing, Received, Told}
 use Rattle.amqp_endpoint_sessions.specs.declared.place.Place.{Place}
 use Rattle.amqp_endpoint_sessions.specs.declared.place.Place.TheVariants.{Asked, Live, Ending, Over}
-use Rattle.amqp_endpoint_sessions.specs.State.{State, place_at, asked_at, live_at, reached, routed, ended_place, finished_place, peer_end_of, told_place}
+use Rattle.amqp_endpoint_sessions.specs.State.{State, place_at, asked_at, live_at, reached, routed, ended_place}
+use Rattle.amqp_endpoint_sessions.specs.State.{finished_place, peer_end_of, told_place}
 use Rattle.amqp_endpoint_sessions.specs.Lends.{set_asked, set_live}
 
 -- a call, with what it was given and what it answered

@@ -18,7 +18,8 @@ use Rattle.amqp_link_receiver.specs.Ending as receiver_ending
 use Rattle.amqp_link_receiver.specs.Flowing.{credited, with_flow}
 use Rattle.amqp_link_receiver.specs.State.{MovesLink, ReceiverState}
 use Rattle.amqp_link_sender.specs.Sending.{Sending}
-use Rattle.amqp_link.specs.History.{SenderStep, SenderSteps, TakesItsAttach, TakesFlow, TakesDisposition, TakesItsDetach}
+use Rattle.amqp_link.specs.History.{SenderStep, SenderSteps, TakesItsAttach, TakesFlow, TakesDisposition}
+use Rattle.amqp_link.specs.History.{TakesItsDetach}
 
 -- what an end of a link does, as its session sees it
 abbrev pub EndStep : Type 0

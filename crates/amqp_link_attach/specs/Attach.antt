@@ -40,7 +40,8 @@ abbrev pub mode_tests : SenderSettleMode → SenderSettleMode → List (Bool × 
 mode_tests own peer = (modes_conflict own peer, sender.SndSettleModeNotSupported) ∷ []
 
 -- a sender, in this order
-abbrev pub sender_tests : Option Source → Option TargetArchetype → SenderSettleMode → Attach → List (Bool × SenderAttachError)
+abbrev pub sender_tests : Option Source → Option TargetArchetype → SenderSettleMode → Attach
+    → List (Bool × SenderAttachError)
 sender_tests source target mode attach =
     source_tests_of_sender source attach.source
     ++ target_tests_of_sender target attach.target
@@ -56,7 +57,8 @@ abbrev pub count_tests : Option ℕ → List (Bool × ReceiverAttachError)
 count_tests count = (is_none count, receiver.InitialDeliveryCountIsNone) ∷ []
 
 -- a receiver, of the target: it is a target if there is one, and the two are compared where both are there
-abbrev pub target_tests_of_receiver : Option TargetArchetype → Option TargetArchetype → List (Bool × ReceiverAttachError)
+abbrev pub target_tests_of_receiver : Option TargetArchetype → Option TargetArchetype
+    → List (Bool × ReceiverAttachError)
 target_tests_of_receiver own peer =
     (names_coordinator peer, receiver.CoordinatorIsNotImplemented)
     ∷ of_both (λ own peer. receiver_archetype_tests peer) own peer

@@ -7,8 +7,8 @@ use Rattle.serde_amqp_map.specs.Pairs.{all_inserted}
 abbrev pub Properties : Type 0
 Properties = List (List ℕ × List ℕ)
 
--- the peer's properties are put into the own ones, one after the other: a name that is there keeps its place and takes the
--- peer's value, and a new one goes to the end
+-- the peer's properties are put into the own ones, one after the other: a name that is there keeps its place and takes
+-- the peer's value, and a new one goes to the end
 abbrev pub merged : Option Properties → Option Properties → Option Properties
 merged own None = own
 merged None (Some peer) = Some peer

@@ -2,7 +2,10 @@
 -- allows no such frame.
 use Rattle.std.specs.Prelude.{Bool, true, false, Option, Some, None}
 use Rattle.amqp_link_attach.specs.declared.state.LinkState.{LinkState}
-use Rattle.amqp_link_attach.specs.declared.state.LinkState.TheVariants.{Unattached, AttachSent, IncompleteAttachSent, AttachReceived, IncompleteAttachReceived, Attached, IncompleteAttachExchanged, DetachSent, Detached, CloseSent, Closed}
+use Rattle.amqp_link_attach.specs.declared.state.LinkState.TheVariants.{Unattached, AttachSent, IncompleteAttachSent}
+use Rattle.amqp_link_attach.specs.declared.state.LinkState.TheVariants.{AttachReceived, IncompleteAttachReceived}
+use Rattle.amqp_link_attach.specs.declared.state.LinkState.TheVariants.{Attached, IncompleteAttachExchanged, DetachSent}
+use Rattle.amqp_link_attach.specs.declared.state.LinkState.TheVariants.{Detached, CloseSent, Closed}
 
 -- an Attach is sent: the old state, whether it lists only a part of the unsettled deliveries, the new state
 abbrev pub after_send_attach : LinkState → Bool → Option LinkState

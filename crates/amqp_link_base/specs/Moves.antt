@@ -1,7 +1,8 @@
 -- What an Attach, a Detach and a loss of the connection make of a link: part 2, 2.6.3 to 2.6.6.
 use Rattle.std.specs.Prelude.{◌≡◌, Bool, true, false, Option, Some, None, option_map, Result, Ok, Err}
 use Rattle.amqp_session_performatives.specs.declared.attach.Attach.{Attach}
-use Rattle.amqp_link_attach.specs.State.{after_send_attach, after_incoming_attach, after_send_detach, after_remote_detach, after_break, is_attached}
+use Rattle.amqp_link_attach.specs.State.{after_send_attach, after_incoming_attach, after_send_detach}
+use Rattle.amqp_link_attach.specs.State.{after_remote_detach, after_break, is_attached}
 use Rattle.amqp_link_attach.specs.declared.state.LinkState.{LinkState}
 use Rattle.amqp_link_attach.specs.declared.state.LinkState.TheVariants.{Closed}
 use Rattle.amqp_link_base.specs.declared.base.IllegalState.{IllegalState}
@@ -15,7 +16,8 @@ Moves (Some moved) old answer new = (answer ≡ Ok tt) × (new ≡ moved)
 
 -- the own Attach is sent, which lists only a part of the unsettled deliveries or all
 abbrev pub sent_attach : LinkBase → Bool → Option LinkBase
-sent_attach b incomplete = option_map (λ state. record b { local_state = state }) (after_send_attach b.local_state incomplete)
+sent_attach b incomplete =
+    option_map (λ state. record b { local_state = state }) (after_send_attach b.local_state incomplete)
 
 -- the link in another state, with the handle that the peer's Attach gives it
 abbrev pub moved_to : LinkBase → Attach → LinkState → LinkBase
@@ -33,7 +35,8 @@ sent_detach b closed = option_map (λ state. record b { local_state = state }) (
 -- the peer's Detach comes, which closes the link or doesn't
 abbrev pub took_detach : LinkBase → Bool → Option LinkBase
 took_detach b closed =
-    option_map (λ state. record b { local_state = state; input_handle = None }) (after_remote_detach b.local_state closed)
+    option_map (λ state. record b { local_state = state; input_handle = None })
+    (after_remote_detach b.local_state closed)
 
 -- the connection or the session is over
 abbrev pub broken_off : LinkBase → LinkBase

@@ -10,7 +10,8 @@ use Rattle.amqp_session_performatives.specs.declared.transfer.Transfer.{Transfer
 use Rattle.amqp_session_core.specs.declared.relay.Registration.{Registration}
 use Rattle.amqp_session_core.specs.declared.relay.Registration.TheVariants as session
 use Rattle.amqp_session_core.specs.declared.relay.RelayError.{RelayError}
-use Rattle.amqp_session_core.specs.declared.relay.RelayError.TheVariants.{UnattachedHandle, TransferFrameToSender, Memory}
+use Rattle.amqp_session_core.specs.declared.relay.RelayError.TheVariants.{UnattachedHandle, TransferFrameToSender}
+use Rattle.amqp_session_core.specs.declared.relay.RelayError.TheVariants.{Memory}
 use Rattle.amqp_session_core.specs.declared.relay.TransferAnswer.{TransferAnswer}
 use Rattle.amqp_link_base.specs.declared.detached.Detached.{Detached}
 use Rattle.amqp_link_receiving.specs.declared.answer.Answer.{Answer}
@@ -77,7 +78,8 @@ receives r transfer payload (Err Memory) (Receiver after) =
     receiver_incoming.TransferTaken r transfer payload (Err alloc_error) after
 receives r transfer payload told new = ⊥
 
--- a transfer reaches a receiving link that is attached, never a sending one; it is dropped where the own Detach was sent
+-- a transfer reaches a receiving link that is attached, never a sending one; it is dropped where the own Detach was
+-- sent
 abbrev pub transfers_at : Standing → End → Transfer → List ℕ → Result (TransferAnswer Told) RelayError → End → Type 0
 transfers_at Attached (Receiver r) transfer payload told new = receives r transfer payload told new
 transfers_at Attached (Sender s) transfer payload told new = (told ≡ Err TransferFrameToSender) × (new ≡ Sender s)
@@ -90,7 +92,8 @@ transfers old transfer payload told new = transfers_at (standing_of (state_of ol
 -- a disposition of the peer reaches the end of the other role
 abbrev pub disposes : End → List ℕ → Role → Bool → Option DeliveryState → Bool → End → Type 0
 disposes (Sender s) tag role.Receiver settled state echo new =
-    (echo ≡ sender_disposing.is_echoed s tag settled state) × (new ≡ Sender (sender_disposing.disposed s tag settled state))
+    (echo ≡ sender_disposing.is_echoed s tag settled state)
+    × (new ≡ Sender (sender_disposing.disposed s tag settled state))
 disposes (Receiver r) tag role.Sender settled state echo new =
     (echo ≡ false) × (new ≡ Receiver (receiver_incoming.disposed r tag settled))
 disposes (Sender s) tag role.Sender settled state echo new = (echo ≡ false) × (new ≡ Sender s)
@@ -101,7 +104,8 @@ abbrev pub detaches : End → Detach → Result Detached RelayError → End → 
 detaches (Sender s) detach (Ok told) (Sender after) =
     sender_ending.TakesDetach (sender_ending.detach_taken s detach.closed detach.error) s (Ok told) after
 detaches (Sender s) detach (Err UnattachedHandle) (Sender after) =
-    sender_ending.TakesDetach (sender_ending.detach_taken s detach.closed detach.error) s (Err refusal.IllegalState) after
+    sender_ending.TakesDetach (sender_ending.detach_taken s detach.closed detach.error) s (Err refusal.IllegalState)
+    after
 detaches (Sender s) detach (Err Memory) (Sender after) =
     sender_ending.TakesDetach (sender_ending.detach_taken s detach.closed detach.error) s (Err refusal.Memory) after
 detaches (Receiver r) detach (Ok told) (Receiver after) =

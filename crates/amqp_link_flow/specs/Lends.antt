@@ -12,7 +12,8 @@ use Rattle.amqp_link_flow.specs.contracts.state.LinkFlowState.{the_row}
 
 -- the properties' type, as the logic holds it
 abbrev pub properties_row : RattleType
-properties_row = option.the_row (boxed.the_row (map_row symbol.the_row raw.the_row (record { eq = bytes_eq; hash_input = fed.str })))
+properties_row =
+    option.the_row (boxed.the_row (map_row symbol.the_row raw.the_row (record { eq = bytes_eq; hash_input = fed.str })))
 
 module _ (R : RattleType) (s : MutBor LinkFlowStateInner) where
   -- the properties are the last ones behind r, and all else stays

@@ -4,7 +4,8 @@ use Rattle.std.specs.Prelude.{◌≡◌, ℕ, ◌≤◌, ◌<◌, ◌^◌, List,
 use Rattle.amqp_session_types.specs.declared.handles.OutputHandle.{OutputHandle}
 use Rattle.amqp_session_performatives.specs.declared.link_flow.LinkFlow.{LinkFlow}
 use Rattle.amqp_link_flow.specs.declared.inner.LinkFlowStateInner.{LinkFlowStateInner}
-use Rattle.amqp_link_flow.specs.Flows.{sender_flowed, sender_answer, receiver_flowed, receiver_answer, attached, consumed, granted, draining}
+use Rattle.amqp_link_flow.specs.Flows.{sender_flowed, sender_answer, receiver_flowed, receiver_answer, attached}
+use Rattle.amqp_link_flow.specs.Flows.{consumed, granted, draining}
 
 -- what a sender sends: messages and Flows
 pub data FromSender : Type 0 where
@@ -61,7 +62,8 @@ SenderTakesOf (flow ∷ later) handle old new =
     new ≡ record old {
       sender = sender_flowed old.sender flow;
       to_sender = later;
-      to_receiver = behind old.to_receiver (option_map Tells (sender_answer flow handle (sender_flowed old.sender flow)));
+      to_receiver =
+          behind old.to_receiver (option_map Tells (sender_answer flow handle (sender_flowed old.sender flow)));
     }
 
 -- the receiver takes the first of these: a message where it has credit for it, since else it refuses the link

@@ -1,7 +1,8 @@
 -- A body of any kind: its first section says which it is (part 3, 3.2).
 use Rattle.std.specs.Prelude.{List, [], ◌∷◌, Option, Some, None}
 use Rattle.serde_amqp_item.specs.Item.{Item}
-use Rattle.amqp_link_sections.specs.Body.{data_item, data_taken, amqp_sequence_item, amqp_sequence_taken, amqp_value_item, amqp_value_taken}
+use Rattle.amqp_link_sections.specs.Body.{data_item, data_taken, amqp_sequence_item, amqp_sequence_taken}
+use Rattle.amqp_link_sections.specs.Body.{amqp_value_item, amqp_value_taken}
 use Rattle.amqp_link_message.specs.Parts.{exactly_one, one_or_more}
 use Rattle.amqp_link_message.specs.Several.{each_item}
 use Rattle.amqp_link_message.specs.declared.any_body.Body.{Body}

@@ -7,7 +7,8 @@ use Rattle.amqp_link_message.specs.Sections.{IsBody}
 use Rattle.amqp_link_message.specs.SayingLaws.{said_first}
 use Rattle.amqp_link_message.specs.PartLaws.{first_part}
 
-begins_by_body : (bytes front rest : List ℕ) (part : List Item) → IsBody part → bytes ≡ front ++ rest → Says front part → EndsOrBegins 0x75 bytes
+begins_by_body : (bytes front rest : List ℕ) (part : List Item) → IsBody part → bytes ≡ front ++ rest → Says front part
+    → EndsOrBegins 0x75 bytes
 begins_by_body bytes front rest [] b e s = absurd b
 begins_by_body bytes front rest (x ∷ xs) b e s =
     let f = said_first x xs front s in
@@ -22,8 +23,10 @@ begins_by_body bytes front rest (x ∷ xs) b e s =
       least_is = b.0.from_data;
     })
 
-pub body_begins : (take : List Item → Option (List Item)) (takes : List (List Item → Option (List Item))) → ((xs ys : List Item) → take xs ≡ Some ys → IsBody xs)
-    → true ≡ true → (bytes : List ℕ) (parts : List (List Item)) → ReadsParts (take ∷ takes) bytes parts → EndsOrBegins 0x75 bytes
+pub body_begins : (take : List Item → Option (List Item)) (takes : List (List Item → Option (List Item)))
+    → ((xs ys : List Item) → take xs ≡ Some ys → IsBody xs)
+    → true ≡ true → (bytes : List ℕ) (parts : List (List Item)) → ReadsParts (take ∷ takes) bytes parts
+    → EndsOrBegins 0x75 bytes
 body_begins take takes o t bytes [] r = absurd r.taken
 body_begins take takes o t bytes (ys ∷ parts) r =
     let p = first_part take takes bytes ys parts r in

@@ -31,6 +31,7 @@ pub record Run (take : Item → Option Item) (bytes rest : List ℕ) (ys : List 
   pub taken : any_number take items ≡ Some ys
 
 -- the sections at the front are taken from it, all of them: no other stands behind them
-pub record AllTaken {S : Type 0} (take : Item → Option Item) (item : S → Item) (bytes rest : List ℕ) (sections : List S) : Type 0 where
+pub record AllTaken {S : Type 0} (take : Item → Option Item) (item : S → Item) (bytes rest : List ℕ)
+    (sections : List S) : Type 0 where
   pub run : Run take bytes rest (map item sections)
   pub stop : HasNoFront take rest

@@ -5,7 +5,16 @@ use Rattle.amqp_link_message.specs.declared.sendable.Sendable.{Sendable}
 
 -- a message of this body alone
 abbrev pub bare : {B : Type 0} → B → Message B
-bare b = record { header = None; delivery_annotations = None; message_annotations = None; properties = None; application_properties = None; body = b; footer = None }
+bare b =
+    record {
+      header = None;
+      delivery_annotations = None;
+      message_annotations = None;
+      properties = None;
+      application_properties = None;
+      body = b;
+      footer = None;
+    }
 
 -- it is sent with a message that is so, in format 0, and without a word on how it is settled
 pub record IsSendableOf {B : Type 0} (is : Message B → Type 0) (s : Sendable B) : Type 0 where

@@ -2,7 +2,10 @@
 use Rattle.std.specs.Prelude.{List, [], ◌∷◌, Option}
 use Rattle.serde_amqp_item.specs.Item.{Item}
 use Rattle.amqp_link_sections.specs.Header.{header_item, header_taken}
-use Rattle.amqp_link_sections.specs.Annotations.{delivery_annotations_item, delivery_annotations_taken, message_annotations_item, message_annotations_taken, application_properties_item, application_properties_taken, footer_item, footer_taken}
+use Rattle.amqp_link_sections.specs.Annotations.{delivery_annotations_item, delivery_annotations_taken}
+use Rattle.amqp_link_sections.specs.Annotations.{message_annotations_item, message_annotations_taken}
+use Rattle.amqp_link_sections.specs.Annotations.{application_properties_item, application_properties_taken, footer_item}
+use Rattle.amqp_link_sections.specs.Annotations.{footer_taken}
 use Rattle.amqp_link_sections.specs.Properties.{properties_item, properties_taken}
 use Rattle.amqp_link_message.specs.Parts.{if_there, at_most_one, joined}
 use Rattle.amqp_link_message.specs.declared.message.Message.{Message}

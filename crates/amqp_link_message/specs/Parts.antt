@@ -45,7 +45,8 @@ PartsTaken (take ∷ takes) xs (ys ∷ parts) =
 PartsTaken takes xs parts = ⊥
 
 -- the bytes say items that are taken as these parts
-pub record ReadsParts (takes : List (List Item → Option (List Item))) (bytes : List ℕ) (parts : List (List Item)) : Type 0 where
+pub record ReadsParts (takes : List (List Item → Option (List Item))) (bytes : List ℕ) (parts : List (List Item)) : Type
+    0 where
   pub items : List Item
   pub said : Says bytes items
   pub taken : PartsTaken takes items parts
@@ -56,7 +57,9 @@ pub record NoParts (takes : List (List Item → Option (List Item))) (bytes : Li
 
 -- bytes that say a part give one value, also where they are meant as other items
 abbrev pub OneValue : (List Item → Option (List Item)) → Type 0
-OneValue take = (bytes : List ℕ) (xs zs ys us : List Item) → Says bytes xs → Says bytes zs → take xs ≡ Some ys → take zs ≡ Some us → ys ≡ us
+OneValue take =
+    (bytes : List ℕ) (xs zs ys us : List Item) → Says bytes xs → Says bytes zs → take xs ≡ Some ys → take zs ≡ Some us
+    → ys ≡ us
 
 -- there are no bytes, or they begin with a section of this code or a higher one
 abbrev pub EndsOrBegins : ℕ → List ℕ → Type 0

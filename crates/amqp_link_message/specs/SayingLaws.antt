@@ -15,7 +15,8 @@ pub nothing_said : (bytes : List ℕ) → Says bytes [] → bytes ≡ []
 unfolding Says
 nothing_said bytes h = h
 
-pub says_more : (x : Item) (xs : List Item) (front rest : List ℕ) → Wire x None front → Says rest xs → Says (front ++ rest) (x ∷ xs)
+pub says_more : (x : Item) (xs : List Item) (front rest : List ℕ) → Wire x None front → Says rest xs
+    → Says (front ++ rest) (x ∷ xs)
 unfolding Says
 says_more x xs front rest w s = (w.0, w.1, rest, ap (λ (b : List ℕ). b ++ rest) w.2, w.3, s)
 
@@ -32,14 +33,16 @@ pub record SaysFirst (x : Item) (xs : List Item) (bytes : List ℕ) : Type 0 whe
 
 pub said_first : (x : Item) (xs : List Item) (bytes : List ℕ) → Says bytes (x ∷ xs) → SaysFirst x xs bytes
 unfolding Says
-said_first x xs bytes h = record { front = h.0 ∷ h.1; rest = h.2; split = h.3; wire = (h.0, h.1, refl, h.4); others = h.5 }
+said_first x xs bytes h =
+    record { front = h.0 ∷ h.1; rest = h.2; split = h.3; wire = (h.0, h.1, refl, h.4); others = h.5 }
 
 pub says_append : (xs ys : List Item) (a b : List ℕ) → Says a xs → Says b ys → Says (a ++ b) (xs ++ ys)
 says_append [] ys a b g h = subst (λ (c : List ℕ). Says (c ++ b) ys) (sym (nothing_said a g)) h
 says_append (x ∷ xs) ys a b g h =
     let f = said_first x xs a g in
     let whole = says_more x (xs ++ ys) f.front (f.rest ++ b) f.wire (says_append xs ys f.rest b f.others h) in
-    subst (λ (c : List ℕ). Says c (x ∷ xs ++ ys)) (sym (ap (λ (c : List ℕ). c ++ b) f.split ∙ append_assoc f.front f.rest b)) whole
+    subst (λ (c : List ℕ). Says c (x ∷ xs ++ ys))
+    (sym (ap (λ (c : List ℕ). c ++ b) f.split ∙ append_assoc f.front f.rest b)) whole
 
 -- some items, and others behind them
 pub record SaysBoth (xs ys : List Item) (bytes : List ℕ) : Type 0 where
@@ -63,7 +66,8 @@ said_both (x ∷ xs) ys bytes h =
     }
 
 -- the joined canonical texts of items say these items
-pub text_says : (xs : List Item) (text : List ℕ) → IsWithinBounds xs → IsOfForms xs → payload_text xs ≡ Some text → Says text xs
+pub text_says : (xs : List Item) (text : List ℕ) → IsWithinBounds xs → IsOfForms xs → payload_text xs ≡ Some text
+    → Says text xs
 unfolding Says
 text_says xs text w k e = all_forms IsCapped IsStrict (items_of xs) text w k e
 
@@ -81,7 +85,8 @@ form_not_empty x a rest w e =
     absurd cc
 
 -- bytes say at most one list of items without kept ones
-pub said_once : (xs ys : List Item) (bytes : List ℕ) → EachWithoutRaw xs → EachWithoutRaw ys → Says bytes xs → Says bytes ys → xs ≡ ys
+pub said_once : (xs ys : List Item) (bytes : List ℕ) → EachWithoutRaw xs → EachWithoutRaw ys → Says bytes xs
+    → Says bytes ys → xs ≡ ys
 said_once [] [] bytes p q g h = refl
 said_once [] (y ∷ ys) bytes p q g h =
     let f = said_first y ys bytes h in
@@ -95,5 +100,6 @@ said_once (x ∷ xs) (y ∷ ys) bytes p q g h =
     let whole : f.front ++ f.rest ≡ l.front ++ l.rest = sym f.split ∙ l.split in
     let first : x ≡ y = (wire_same x y None f.front l.front f.rest l.rest f.wire l.wire whole).1 p.0 q.0 in
     let behind = (fronts_same x y f.front l.front f.rest l.rest f.wire l.wire whole).1 in
-    let others : xs ≡ ys = said_once xs ys f.rest p.1 q.1 f.others (subst (λ (b : List ℕ). Says b ys) (sym behind) l.others) in
+    let others : xs ≡ ys =
+    said_once xs ys f.rest p.1 q.1 f.others (subst (λ (b : List ℕ). Says b ys) (sym behind) l.others) in
     cc

@@ -3,7 +3,8 @@ use Rattle.std.specs.Prelude.{◌≡◌, ◌≤◌, ℕ, List, [], ◌∷◌, �
 use Rattle.serde_amqp_item.specs.Item.{Item, scalar, ulong, symbol, described}
 use Rattle.serde_amqp_item.specs.Wire.{Wire}
 use Rattle.amqp_link_sections.specs.Header.{header_name}
-use Rattle.amqp_link_sections.specs.Annotations.{delivery_annotations_name, message_annotations_name, application_properties_name, footer_name}
+use Rattle.amqp_link_sections.specs.Annotations.{delivery_annotations_name, message_annotations_name}
+use Rattle.amqp_link_sections.specs.Annotations.{application_properties_name, footer_name}
 use Rattle.amqp_link_sections.specs.Properties.{properties_name}
 use Rattle.amqp_link_sections.specs.Body.{data_name, amqp_sequence_name, amqp_value_name}
 

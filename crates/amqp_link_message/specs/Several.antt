@@ -10,7 +10,8 @@ abbrev pub each_item : {S : Type 0} → (S → Item) → OneOrMore S → List It
 each_item item s = item s.first ∷ map item s.others.items
 
 -- the bytes begin with a section that is taken, but don't say one or more of them and the parts behind
-pub record NotSeveral (take : Item → Option Item) (takes : List (List Item → Option (List Item))) (bytes : List ℕ) : Type 0 where
+pub record NotSeveral (take : Item → Option Item) (takes : List (List Item → Option (List Item)))
+    (bytes : List ℕ) : Type 0 where
   pub rest : List ℕ
   pub item : Item
   pub front : HasFront take bytes rest item

@@ -1,9 +1,12 @@
 -- What the transfers of a delivery say: part 2, 2.6.14 and 2.7.5.
-use Rattle.std.specs.Prelude.{ℕ, ◌++◌, ◌&&◌, Bool, true, false, List, Option, Some, None, Result, Ok, Err, nat_eq, unwrap_or, take, if◌then◌else◌}
+use Rattle.std.specs.Prelude.{ℕ, ◌++◌, ◌&&◌, Bool, true, false, List, Option, Some, None, Result, Ok, Err, nat_eq}
+use Rattle.std.specs.Prelude.{unwrap_or, take, if◌then◌else◌}
 use Rattle.std.specs.Str.{bytes_eq}
 use Rattle.amqp_session_performatives.specs.declared.transfer.Transfer.{Transfer}
 use Rattle.amqp_link_types.specs.declared.refusals.ReceiverTransferError.{ReceiverTransferError}
-use Rattle.amqp_link_types.specs.declared.refusals.ReceiverTransferError.TheVariants.{DeliveryIdIsNone, DeliveryTagIsNone, InconsistentFieldInMultiFrameDelivery}
+use Rattle.amqp_link_types.specs.declared.refusals.ReceiverTransferError.TheVariants.{DeliveryIdIsNone}
+use Rattle.amqp_link_types.specs.declared.refusals.ReceiverTransferError.TheVariants.{DeliveryTagIsNone}
+use Rattle.amqp_link_types.specs.declared.refusals.ReceiverTransferError.TheVariants.{InconsistentFieldInMultiFrameDelivery}
 
 -- a delivery: what its first transfer says of it, whether it is settled as its transfers so far say it, and the bytes
 -- of its message so far
@@ -22,7 +25,11 @@ begun t bytes = record { performative = t; payload = bytes }
 
 -- a delivery once a transfer that goes on with it has come
 abbrev pub continued : Said → Transfer → List ℕ → Said
-continued d t bytes = record { performative = record d.performative { settled = settled_by d.performative.settled t.settled }; payload = d.payload ++ bytes }
+continued d t bytes =
+    record {
+      performative = record d.performative { settled = settled_by d.performative.settled t.settled };
+      payload = d.payload ++ bytes;
+    }
 
 -- a delivery of which the first bytes are kept, once a transfer that resumes it has come
 abbrev pub resumed : Said → ℕ → Transfer → List ℕ → Said
@@ -44,7 +51,9 @@ is_same_delivery first t = repeats bytes_eq first.delivery_tag t.delivery_tag
 
 -- a transfer doesn't say another number, tag or format than the first one
 abbrev pub agrees : Transfer → Transfer → Bool
-agrees first t = repeats nat_eq first.delivery_id t.delivery_id && is_same_delivery first t && repeats nat_eq first.message_format t.message_format
+agrees first t =
+    repeats nat_eq first.delivery_id t.delivery_id && is_same_delivery first t && repeats nat_eq first.message_format
+    t.message_format
 
 -- why a transfer begins no delivery, by the number and the tag that it says
 abbrev pub unnamed_by : Option ℕ → Option (List ℕ) → Option ReceiverTransferError
@@ -62,4 +71,5 @@ unless None d = Ok d
 -- what is held of a delivery once the transfer has come, or why it is refused
 abbrev pub gathered : Option Said → Transfer → List ℕ → Result Said ReceiverTransferError
 gathered None t bytes = unless (unnamed t) (begun t bytes)
-gathered (Some d) t bytes = if agrees d.performative t then Ok (continued d t bytes) else Err InconsistentFieldInMultiFrameDelivery
+gathered (Some d) t bytes =
+    if agrees d.performative t then Ok (continued d t bytes) else Err InconsistentFieldInMultiFrameDelivery

@@ -1,5 +1,6 @@
 -- Where the sections of a message start, and places in it: part 3, 3.2 and 3.4.1.
-use Rattle.std.specs.Prelude.{ℕ, ◌+◌, ◌-◌, ◌==◌, ◌&&◌, ◌||◌, Bool, List, [], ◌∷◌, length, Option, Some, None, nat_le, slice_index, slice_get, if◌then◌else◌, filter, take}
+use Rattle.std.specs.Prelude.{ℕ, ◌+◌, ◌-◌, ◌==◌, ◌&&◌, ◌||◌, Bool, List, [], ◌∷◌, length, Option, Some, None, nat_le}
+use Rattle.std.specs.Prelude.{slice_index, slice_get, if◌then◌else◌, filter, take}
 use Rattle.std.specs.List.{range_with_len}
 use Rattle.amqp_session_states.specs.declared.received.Received.{Received}
 
@@ -30,7 +31,8 @@ last_or (x ∷ xs) n = last_or xs x
 
 -- how many sections start after the first in the first n bytes, and how far n is behind the last start
 abbrev pub place_at : List ℕ → ℕ → Received
-place_at payload n = record { section_number = length (starts payload n) - 1; section_offset = n - last_or (starts payload n) 0 }
+place_at payload n =
+    record { section_number = length (starts payload n) - 1; section_offset = n - last_or (starts payload n) 0 }
 
 -- the start of a section, counted from 0
 abbrev pub start_of : List ℕ → ℕ → Option ℕ

@@ -1,5 +1,6 @@
 -- How a receiving link disposes of several deliveries at once: part 2, 2.6.12, 2.7.6 and 2.8.3.
-use Rattle.std.specs.Prelude.{◌≡◌, ◌⊎◌, ℕ, ◌+◌, ◌-◌, ◌^◌, ◌==◌, ◌&&◌, ◌++◌, Bool, true, false, List, [], ◌∷◌, map, length, replicate, nat_lt, Option, Some, None, Result, Ok, Err, if◌then◌else◌}
+use Rattle.std.specs.Prelude.{◌≡◌, ◌⊎◌, ℕ, ◌+◌, ◌-◌, ◌^◌, ◌==◌, ◌&&◌, ◌++◌, Bool, true, false, List, [], ◌∷◌, map}
+use Rattle.std.specs.Prelude.{length, replicate, nat_lt, Option, Some, None, Result, Ok, Err, if◌then◌else◌}
 use Rattle.std.specs.List.Sorted.{IsPermutation, IsNonDecreasingBy}
 use Rattle.std.specs.Map.{lookup}
 use Rattle.std.specs.Str.{bytes_eq}
@@ -21,7 +22,8 @@ use Rattle.amqp_link_receiver.specs.State.{ReceiverState}
 abbrev pub Named : Type 0
 Named = List (List ℕ × Disposable)
 
--- what a delivery is disposed of by, beside those that are named before it: one that is among them is disposed of already
+-- what a delivery is disposed of by, beside those that are named before it: one that is among them is disposed of
+-- already
 abbrev pub named_beside : ReceiverState → List ℕ → Option Disposable → Result Disposable DisposeRefusal
 named_beside s tag None = disposable_now s tag
 named_beside s tag (Some earlier) = Err AlreadyDisposed
@@ -55,7 +57,8 @@ same_mode one other = false
 
 -- the delivery is the next of a run; one of 2^31 deliveries is as long as a disposition reaches
 abbrev pub goes_on : Run → Disposable → Bool
-goes_on r d = d.number == r.last + 1 && same_mode r.rcv_settle_mode d.rcv_settle_mode && nat_lt (d.number - r.first) (2 ^ 31)
+goes_on r d =
+    d.number == r.last + 1 && same_mode r.rcv_settle_mode d.rcv_settle_mode && nat_lt (d.number - r.first) (2 ^ 31)
 
 -- the runs of deliveries that follow a run, and that run, by their numbers
 abbrev pub runs_from : Run → List Disposable → List Run
@@ -85,7 +88,8 @@ pub record InOrder (named ordered : List Disposable) : Type 0 where
   pub rising : IsNonDecreasingBy (λ (d : Disposable). d.number) ordered
 
 -- one disposition tells each run of the deliveries, in the order of their numbers
-pub record TellsRuns (link : ReceiverSettleMode) (named : Named) (state : DeliveryState) (asked : Option Bool) (told : List Disposition) : Type 0 where
+pub record TellsRuns (link : ReceiverSettleMode) (named : Named) (state : DeliveryState) (asked : Option Bool)
+    (told : List Disposition) : Type 0 where
   pub ordered : List Disposable
   pub in_order : InOrder (map (λ (e : List ℕ × Disposable). e.1) named) ordered
   pub is : told ≡ map (run_disposition link state asked) (runs_of ordered)

@@ -1,5 +1,6 @@
 -- The credit that a receiving link gives, and its Flows: part 2, 2.6.7 and 2.7.4.
-use Rattle.std.specs.Prelude.{◌≡◌, ◌⊎◌, ℕ, ◌-◌, ◌^◌, not, Bool, true, false, nat_lt, Option, Some, None, Result, Ok, Err, if◌then◌else◌}
+use Rattle.std.specs.Prelude.{◌≡◌, ◌⊎◌, ℕ, ◌-◌, ◌^◌, not, Bool, true, false, nat_lt, Option, Some, None, Result, Ok}
+use Rattle.std.specs.Prelude.{Err, if◌then◌else◌}
 use Rattle.amqp_session_performatives.specs.declared.link_flow.LinkFlow.{LinkFlow}
 use Rattle.amqp_link_attach.specs.State.{is_attached}
 use Rattle.amqp_link_base.specs.Own.{handle_of}
@@ -10,7 +11,8 @@ use Rattle.amqp_link_receiver.specs.declared.flowing.FlowRefusal.{FlowRefusal}
 use Rattle.amqp_link_receiver.specs.declared.flowing.FlowRefusal.TheVariants as flow
 use Rattle.amqp_link_receiver.specs.declared.flowing.Granted.{Granted}
 use Rattle.amqp_link_receiver.specs.declared.flowing.GrantRefusal.{GrantRefusal}
-use Rattle.amqp_link_receiver.specs.declared.flowing.GrantRefusal.TheVariants.{IllegalState as GrantIllegal, CreditOutOfRange}
+use Rattle.amqp_link_receiver.specs.declared.flowing.GrantRefusal.TheVariants.{IllegalState as GrantIllegal}
+use Rattle.amqp_link_receiver.specs.declared.flowing.GrantRefusal.TheVariants.{CreditOutOfRange}
 use Rattle.amqp_link_receiver.specs.State.{ReceiverState}
 
 -- the link with this credit and these counts

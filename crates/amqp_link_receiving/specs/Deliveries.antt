@@ -1,6 +1,7 @@
 -- The deliveries that come in on a link: part 2, 2.6.14 for messages of several transfers, 2.6.13 for those that are
 -- resumed.
-use Rattle.std.specs.Prelude.{ℕ, ◌+◌, ◌-◌, ◌^◌, ◌==◌, ◌++◌, ◌&&◌, ◌||◌, not, Bool, true, false, List, [], ◌∷◌, length, take, min, nat_lt, Option, Some, None, Result, Ok, Err, if◌then◌else◌}
+use Rattle.std.specs.Prelude.{ℕ, ◌+◌, ◌-◌, ◌^◌, ◌==◌, ◌++◌, ◌&&◌, ◌||◌, not, Bool, true, false, List, [], ◌∷◌, length}
+use Rattle.std.specs.Prelude.{take, min, nat_lt, Option, Some, None, Result, Ok, Err, if◌then◌else◌}
 use Rattle.std.specs.Map.{lookup, remove_entry, set_value}
 use Rattle.std.specs.Str.{bytes_eq}
 use Rattle.amqp_session_states.specs.declared.received.Received.{Received}
@@ -90,7 +91,8 @@ kept_bytes None = []
 kept_bytes (Some (Half kept)) = kept
 kept_bytes (Some (Whole m)) = m.payload
 
-abbrev pub resumed_by : Start → Option Entry → Result Resumption ReceiverTransferError → Result Delivery ReceiverTransferError
+abbrev pub resumed_by : Start → Option Entry → Result Resumption ReceiverTransferError
+    → Result Delivery ReceiverTransferError
 resumed_by t entry (Err e) = Err e
 resumed_by t entry (Ok (From n)) = Ok (begun t (take n (kept_bytes entry)))
 resumed_by t entry (Ok Joins) = Ok (joined t)
@@ -122,7 +124,9 @@ repeats_tag own (Some told) = bytes_eq told own
 
 -- a continuation repeats number, tag and format, or leaves them out
 abbrev pub agrees : Delivery → Head → Bool
-agrees d h = repeats_number (Some d.delivery_id) h.delivery_id && repeats_tag d.delivery_tag h.delivery_tag && repeats_number d.message_format h.message_format
+agrees d h =
+    repeats_number (Some d.delivery_id) h.delivery_id && repeats_tag d.delivery_tag h.delivery_tag && repeats_number
+    d.message_format h.message_format
 
 -- what a continuation says besides: once a transfer says that the delivery is settled it is
 abbrev pub continued : Delivery → Head → Delivery
@@ -131,7 +135,8 @@ continued d h = record d { settled = d.settled || h.settled }
 -- the delivery that a transfer belongs to, before the bytes of the transfer
 abbrev pub delivery_of : Option Delivery → Entries → Head → Result Delivery ReceiverTransferError
 delivery_of None entries h = begun_by entries (start_of h)
-delivery_of (Some d) entries h = if agrees d h then Ok (continued d h) else Err refused.InconsistentFieldInMultiFrameDelivery
+delivery_of (Some d) entries h =
+    if agrees d h then Ok (continued d h) else Err refused.InconsistentFieldInMultiFrameDelivery
 
 -- with these bytes too, unless they are passed over
 abbrev pub grown : Delivery → List ℕ → Delivery
@@ -143,7 +148,8 @@ limit_of maximum = if maximum == 0 then 2 ^ 32 - 1 else min maximum (2 ^ 32 - 1)
 
 -- with these bytes the message is larger than that
 abbrev pub is_too_large : Attachment → Delivery → List ℕ → Bool
-is_too_large attachment d payload = not d.joins && nat_lt (limit_of attachment.max_message_size) (length d.payload + length payload)
+is_too_large attachment d payload =
+    not d.joins && nat_lt (limit_of attachment.max_message_size) (length d.payload + length payload)
 
 abbrev pub is_second : Option ReceiverSettleMode → Bool
 is_second (Some Second) = true
@@ -158,13 +164,17 @@ abbrev pub is_of_other_mode : Attachment → Delivery → Bool
 is_of_other_mode attachment d = not d.settled && is_second d.rcv_settle_mode && is_first attachment.rcv_settle_mode
 
 abbrev pub sized : Attachment → Delivery → List ℕ → Result Delivery ReceiverTransferError
-sized attachment d payload = if is_too_large attachment d payload then Err refused.MessageSizeExceeded else Ok (grown d payload)
+sized attachment d payload =
+    if is_too_large attachment d payload then Err refused.MessageSizeExceeded else Ok (grown d payload)
 
 -- the delivery with its last transfer, and with one that isn't the last
-abbrev pub with_last : Attachment → List ℕ → Result Delivery ReceiverTransferError → Result Delivery ReceiverTransferError
+abbrev pub with_last : Attachment → List ℕ → Result Delivery ReceiverTransferError
+    → Result Delivery ReceiverTransferError
 with_last attachment payload (Err e) = Err e
-with_last attachment payload (Ok d) = if is_of_other_mode attachment d then Err refused.IllegalRcvSettleModeInTransfer else sized attachment d payload
+with_last attachment payload (Ok d) =
+    if is_of_other_mode attachment d then Err refused.IllegalRcvSettleModeInTransfer else sized attachment d payload
 
-abbrev pub with_part : Attachment → List ℕ → Result Delivery ReceiverTransferError → Result Delivery ReceiverTransferError
+abbrev pub with_part : Attachment → List ℕ → Result Delivery ReceiverTransferError
+    → Result Delivery ReceiverTransferError
 with_part attachment payload (Err e) = Err e
 with_part attachment payload (Ok d) = sized attachment d payload

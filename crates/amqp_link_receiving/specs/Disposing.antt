@@ -9,7 +9,8 @@ use Rattle.amqp_link_receiving.specs.declared.entry.Entry.{Entry}
 use Rattle.amqp_link_receiving.specs.declared.entry.Entry.TheVariants.{Half, Whole}
 use Rattle.amqp_link_receiving.specs.declared.entry.WholeMessage.{WholeMessage}
 use Rattle.amqp_link_receiving.specs.declared.disposing.DisposeRefusal.{DisposeRefusal}
-use Rattle.amqp_link_receiving.specs.declared.disposing.DisposeRefusal.TheVariants.{NotKept, AlreadyDisposed, NotAssociated}
+use Rattle.amqp_link_receiving.specs.declared.disposing.DisposeRefusal.TheVariants.{NotKept, AlreadyDisposed}
+use Rattle.amqp_link_receiving.specs.declared.disposing.DisposeRefusal.TheVariants.{NotAssociated}
 use Rattle.amqp_link_receiving.specs.declared.disposing.Disposable.{Disposable}
 use Rattle.amqp_link_receiving.specs.Deliveries.{Entries, found}
 use Rattle.amqp_link_receiving.specs.Receiving.{Receiving, without}
@@ -19,7 +20,9 @@ is_final None = false
 is_final (Some state) = is_terminal state
 
 abbrev pub numbered_in : ℕ → WholeMessage → Result Disposable DisposeRefusal
-numbered_in count m = if m.attachment == count then Ok (record { number = m.number; rcv_settle_mode = m.rcv_settle_mode }) else Err NotAssociated
+numbered_in count m =
+    if m.attachment == count then Ok (record { number = m.number; rcv_settle_mode = m.rcv_settle_mode }) else Err
+    NotAssociated
 
 -- the number under which a delivery is disposed of: its message has come, no outcome was told of it, and its number is
 -- one of this attachment
@@ -35,7 +38,8 @@ told_of (Half kept) state = Half kept
 
 -- the state is told of a message that is kept
 abbrev pub with_state_at : Entries → List ℕ → DeliveryState → Option Entry → Entries
-with_state_at entries tag state (Some (Whole m)) = set_value (bytes_eq tag) entries (Whole (record m { state = Some state }))
+with_state_at entries tag state (Some (Whole m)) =
+    set_value (bytes_eq tag) entries (Whole (record m { state = Some state }))
 with_state_at entries tag state entry = entries
 
 abbrev pub with_state : Entries → List ℕ → DeliveryState → Entries

@@ -11,12 +11,14 @@ use Rattle.serde_amqp_de.specs.Deciding.{descriptor_decided}
 use Rattle.amqp_link_sections.specs.Described.{described_item, described_as}
 
 -- what is made of a descriptor and a value
-both_taken : (o p : Option Item) (u : Item) → (o >>= λ c. p >>= λ y. Some (described c y)) ≡ Some u → (c : Item) × (y : Item) × (o ≡ Some c) × (p ≡ Some y) × (u ≡ described c y)
+both_taken : (o p : Option Item) (u : Item) → (o >>= λ c. p >>= λ y. Some (described c y)) ≡ Some u
+    → (c : Item) × (y : Item) × (o ≡ Some c) × (p ≡ Some y) × (u ≡ described c y)
 both_taken None p u e = absurd cc
 both_taken (Some c) None u e = absurd cc
 both_taken (Some c) (Some y) u e = (c, y, refl, refl, cc)
 
-pub described_decided : (code : ℕ) (name : List ℕ) (take : Item → Option Item) → Decided take → Decided (described_as code name take)
+pub described_decided : (code : ℕ) (name : List ℕ) (take : Item → Option Item) → Decided take
+    → Decided (described_as code name take)
 unfolding described_as
 described_decided code name take all (described d v) (described e w) k a u z g h i j =
     let t = described_together d v e w k a g h in
@@ -35,7 +37,8 @@ code_again : (code : ℕ) (name : List ℕ) → descriptor_taken code name (scal
 unfolding descriptor_taken
 code_again code name = rw (same_number code) refl
 
-pub described_again : (code : ℕ) (name : List ℕ) (take : Item → Option Item) (y : Item) → take y ≡ Some y → described_as code name take (described_item code y) ≡ Some (described_item code y)
+pub described_again : (code : ℕ) (name : List ℕ) (take : Item → Option Item) (y : Item) → take y ≡ Some y
+    → described_as code name take (described_item code y) ≡ Some (described_item code y)
 unfolding described_as
 described_again code name take y again =
     ap (λ (o : Option Item). o >>= λ c. take y >>= λ z. Some (described c z)) (code_again code name)

@@ -2,13 +2,15 @@
 use Rattle.std.specs.Prelude.{ℕ, false, List, [], ◌∷◌, Option, None}
 use Rattle.serde_amqp_item.specs.Item.{Item, scalar, boolean, ubyte, uint}
 use Rattle.serde_amqp_item.specs.Record.{option_item, record_item}
-use Rattle.serde_amqp_de.specs.Takes.{boolean_taken, ubyte_taken, uint_taken, option_taken, mapped, or_null, is_boolean, is_uint, record_taken}
+use Rattle.serde_amqp_de.specs.Takes.{boolean_taken, ubyte_taken, uint_taken, option_taken, mapped, or_null, is_boolean}
+use Rattle.serde_amqp_de.specs.Takes.{is_uint, record_taken}
 use Rattle.serde_amqp_types.specs.Takes.{is_ubyte}
 use Rattle.amqp_link_sections.specs.declared.header.Header.{Header}
 
 -- amqp:header:list
 abbrev pub header_name : List ℕ
-header_name = 0x61 ∷ 0x6d ∷ 0x71 ∷ 0x70 ∷ 0x3a ∷ 0x68 ∷ 0x65 ∷ 0x61 ∷ 0x64 ∷ 0x65 ∷ 0x72 ∷ 0x3a ∷ 0x6c ∷ 0x69 ∷ 0x73 ∷ 0x74 ∷ []
+header_name =
+    0x61 ∷ 0x6d ∷ 0x71 ∷ 0x70 ∷ 0x3a ∷ 0x68 ∷ 0x65 ∷ 0x61 ∷ 0x64 ∷ 0x65 ∷ 0x72 ∷ 0x3a ∷ 0x6c ∷ 0x69 ∷ 0x73 ∷ 0x74 ∷ []
 
 -- the header in which each field has its default
 abbrev pub default_header : Header

@@ -2,13 +2,16 @@
 use Rattle.std.specs.Prelude.{ℕ, List, [], ◌∷◌, Option}
 use Rattle.serde_amqp_item.specs.Item.{Item, scalar, uint, timestamp, binary, string, symbol}
 use Rattle.serde_amqp_item.specs.Record.{option_item, record_item}
-use Rattle.serde_amqp_de.specs.Takes.{uint_taken, timestamp_taken, binary_taken, string_taken, symbol_taken, option_taken, record_taken}
+use Rattle.serde_amqp_de.specs.Takes.{uint_taken, timestamp_taken, binary_taken, string_taken, symbol_taken}
+use Rattle.serde_amqp_de.specs.Takes.{option_taken, record_taken}
 use Rattle.amqp_link_sections.specs.MessageId.{message_id_item, message_id_taken}
 use Rattle.amqp_link_sections.specs.declared.properties.Properties.{Properties}
 
 -- amqp:properties:list
 abbrev pub properties_name : List ℕ
-properties_name = 0x61 ∷ 0x6d ∷ 0x71 ∷ 0x70 ∷ 0x3a ∷ 0x70 ∷ 0x72 ∷ 0x6f ∷ 0x70 ∷ 0x65 ∷ 0x72 ∷ 0x74 ∷ 0x69 ∷ 0x65 ∷ 0x73 ∷ 0x3a ∷ 0x6c ∷ 0x69 ∷ 0x73 ∷ 0x74 ∷ []
+properties_name =
+    0x61 ∷ 0x6d ∷ 0x71 ∷ 0x70 ∷ 0x3a ∷ 0x70 ∷ 0x72 ∷ 0x6f ∷ 0x70 ∷ 0x65 ∷ 0x72 ∷ 0x74 ∷ 0x69 ∷ 0x65 ∷ 0x73 ∷ 0x3a ∷ 0x6c
+    ∷ 0x69 ∷ 0x73 ∷ 0x74 ∷ []
 
 -- message-id, user-id, to, subject, reply-to, correlation-id, content-type, content-encoding, absolute-expiry-time,
 -- creation-time, group-id, group-sequence, reply-to-group-id

@@ -1,5 +1,6 @@
 -- How an attachment of a sending link begins: part 2, 2.6.3 and 2.6.13.
-use Rattle.std.specs.Prelude.{◌≡◌, ◌⊎◌, ◌==◌, ◌&&◌, ℕ, Bool, true, false, length, Option, Some, None, option_map, Result, Ok, Err, alloc_error}
+use Rattle.std.specs.Prelude.{◌≡◌, ◌⊎◌, ◌==◌, ◌&&◌, ℕ, Bool, true, false, length, Option, Some, None, option_map}
+use Rattle.std.specs.Prelude.{Result, Ok, Err, alloc_error}
 use Rattle.std.specs.declared.alloc.AllocError.{AllocError}
 use Rattle.amqp_session_types.specs.declared.handles.OutputHandle.{OutputHandle}
 use Rattle.amqp_session_performatives.specs.declared.attach.Attach.{Attach}
@@ -36,8 +37,8 @@ attach_without_list s handle = own_attach s.base handle Sender s.flow.delivery_c
 abbrev pub listed : Sending → Entries
 listed s = entries_listed (λ m. m.state) s.messages.unsettled
 
--- the own Attach lists as many of the open messages as a frame of at most so many bytes holds, or it doesn't fit without
--- any of them, or there is no memory
+-- the own Attach lists as many of the open messages as a frame of at most so many bytes holds, or it doesn't fit
+-- without any of them, or there is no memory
 abbrev pub TellsAttach : ℕ → OutputHandle → Sending → Result Attach ListError → Type 0
 TellsAttach limit handle s (Ok attach) = Lists limit (attach_without_list s handle) (listed s) attach
 TellsAttach limit handle s (Err TooLarge) = FitsNowhere limit (attach_without_list s handle) (listed s)
@@ -60,7 +61,8 @@ attach_sent_anew s =
 
 -- what the receiver's Attach is refused for
 abbrev pub attach_refusal : Sending → Attach → Option SenderAttachError
-attach_refusal s attach = first_of (sender_tests s.base.terms.source s.base.terms.target s.base.terms.snd_settle_mode attach)
+attach_refusal s attach =
+    first_of (sender_tests s.base.terms.source s.base.terms.target s.base.terms.snd_settle_mode attach)
 
 -- it is taken over, and the open messages come to what it lists of them
 abbrev pub attach_taken : Sending → LinkBase → Attach → Sending
@@ -73,7 +75,8 @@ attach_taken s moved attach =
 
 -- what is left to be done for messages: nothing where neither end has an unsettled one
 abbrev pub exchange_left : Sending → LinkBase → Attach → AttachExchange
-exchange_left s moved attach = exchange moved.local_state (length s.messages.unsettled == 0 && lists_none attach.unsettled)
+exchange_left s moved attach =
+    exchange moved.local_state (length s.messages.unsettled == 0 && lists_none attach.unsettled)
 
 -- what is told of an Attach that is taken
 abbrev pub attach_told : Sending → LinkBase → Attach → AttachAnswer
@@ -89,9 +92,12 @@ TakesOver moved old attach answer new =
     ((answer ≡ Err alloc_error) × (new ≡ old))
     ⊎ ((answer ≡ Ok (attach_told old moved attach)) × (new ≡ attach_taken old moved attach))
 
--- an Attach is refused by the first test that fails, and the link's state and the peer's handle alone are new; or it isn't
-abbrev pub TakesTested : Option SenderAttachError → LinkBase → Sending → Attach → Result AttachAnswer AllocError → Sending → Type 0
-TakesTested (Some error) moved old attach answer new = (answer ≡ Ok (Refused error)) × (new ≡ record old { base = moved })
+-- an Attach is refused by the first test that fails, and the link's state and the peer's handle alone are new; or it
+-- isn't
+abbrev pub TakesTested : Option SenderAttachError → LinkBase → Sending → Attach → Result AttachAnswer AllocError
+    → Sending → Type 0
+TakesTested (Some error) moved old attach answer new =
+    (answer ≡ Ok (Refused error)) × (new ≡ record old { base = moved })
 TakesTested None moved old attach answer new = TakesOver moved old attach answer new
 
 -- an Attach that the link's state doesn't allow changes nothing

@@ -22,4 +22,5 @@ is_echo_due settled state mode = not settled && is_outcome state && is_second mo
 
 -- an open message's disposition is echoed
 abbrev pub is_echoed : Sending → List ℕ → Bool → Option DeliveryState → Bool
-is_echoed s tag settled state = is_some (open_at s.messages tag) && is_echo_due settled state s.base.terms.rcv_settle_mode
+is_echoed s tag settled state =
+    is_some (open_at s.messages tag) && is_echo_due settled state s.base.terms.rcv_settle_mode

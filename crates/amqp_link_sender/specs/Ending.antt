@@ -20,7 +20,8 @@ ended m false why = interrupted m
 -- the own Detach is sent, which closes the link or doesn't
 abbrev pub detach_sent : Sending → Bool → Option Sending
 detach_sent s closed =
-    option_map (λ (b : LinkBase). record s { base = b; messages = ended s.messages closed failure.Closed }) (sent_detach s.base closed)
+    option_map (λ (b : LinkBase). record s { base = b; messages = ended s.messages closed failure.Closed })
+    (sent_detach s.base closed)
 
 -- why the messages of a link that the peer closes have no outcome
 abbrev pub why_closed : Option Error → Failure
@@ -61,8 +62,9 @@ broken s =
 abbrev pub closed_at_rest : Sending → Sending
 closed_at_rest s = record s { messages = failed s.messages failure.Closed }
 
--- the peer's Detach is allowed and taken, or there is no memory for its error, or it isn't allowed; in these two cases the
--- link stays
+-- the peer's Detach is allowed and taken, or there is no memory for its error, or it isn't allowed; in these two cases
+-- the link stays
 abbrev pub TakesDetach : Option Sending → Sending → Result Detached DetachRefusal → Sending → Type 0
 TakesDetach None old answer new = (answer ≡ Err refusal.IllegalState) × (new ≡ old)
-TakesDetach (Some moved) old answer new = ((answer ≡ Err refusal.Memory) × (new ≡ old)) ⊎ ((answer ≡ Ok (detached old.base moved.base)) × (new ≡ moved))
+TakesDetach (Some moved) old answer new =
+    ((answer ≡ Err refusal.Memory) × (new ≡ old)) ⊎ ((answer ≡ Ok (detached old.base moved.base)) × (new ≡ moved))

@@ -13,7 +13,8 @@ handle_row = option.the_row handle.the_row
 module _ (s : MutBor Sending) where
   -- the properties are the last ones behind r, and all else stays
   abbrev pub lends_properties : MutBor properties_row.Denot → Fml
-  lends_properties r = Lends the_row properties_row s r (λ p. record s.now { flow = record (s.now).flow { properties = p } })
+  lends_properties r =
+      Lends the_row properties_row s r (λ p. record s.now { flow = record (s.now).flow { properties = p } })
 
   -- so is the own handle
   abbrev pub lends_handle : MutBor handle_row.Denot → Fml

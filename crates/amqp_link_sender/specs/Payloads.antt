@@ -39,9 +39,10 @@ Splitting None first payload (Err why) = why ≡ IllegalState
 Splitting (Some room) first payload (Err why) = why ≡ Memory
 Splitting (Some room) first payload (Ok batch) = Splits first payload room batch
 
--- a message isn't sent, for a reason or since there is no memory, and the link stays; or it is cut for frames of at most
--- so many bytes
-abbrev pub SendsPayload : Option SendRefusal → PreparedSend → ℕ → Sending → Result PreparedBatch SendRefusal → Sending → Type 0
+-- a message isn't sent, for a reason or since there is no memory, and the link stays; or it is cut for frames of at
+-- most so many bytes
+abbrev pub SendsPayload : Option SendRefusal → PreparedSend → ℕ → Sending → Result PreparedBatch SendRefusal → Sending
+    → Type 0
 SendsPayload (Some why) ready limit old answer new = (answer ≡ Err why) × (new ≡ old)
 SendsPayload None ready limit old answer new =
     ((answer ≡ Err Memory) × (new ≡ old)) ⊎ Cuts (room_of ready.transfer limit) ready old answer new

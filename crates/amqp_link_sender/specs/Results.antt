@@ -3,7 +3,8 @@ use Rattle.std.specs.Prelude.{Option, Some, None, Result, Ok, Err}
 use Rattle.amqp_session_types.specs.declared.error.Error.{Error}
 use Rattle.amqp_session_states.specs.declared.outcome.Outcome.{Outcome}
 use Rattle.amqp_link_types.specs.declared.refusals.LinkStateError.{LinkStateError}
-use Rattle.amqp_link_types.specs.declared.refusals.LinkStateError.TheVariants.{IllegalState, RemoteClosed, RemoteClosedWithError}
+use Rattle.amqp_link_types.specs.declared.refusals.LinkStateError.TheVariants.{IllegalState, RemoteClosed}
+use Rattle.amqp_link_types.specs.declared.refusals.LinkStateError.TheVariants.{RemoteClosedWithError}
 use Rattle.amqp_link_types.specs.declared.refusals.SendError.{SendError}
 use Rattle.amqp_link_types.specs.declared.refusals.SendError.TheVariants as send
 use Rattle.amqp_link_sender_messages.specs.declared.resolution.Failure.{Failure}

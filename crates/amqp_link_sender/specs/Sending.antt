@@ -24,7 +24,8 @@ flowed s flow = if is_attached s.base.local_state then record s { flow = sender_
 -- what is sent to a Flow of the receiver
 abbrev pub flow_answer : Sending → LinkFlow → Option LinkFlow
 flow_answer s flow =
-    if is_attached s.base.local_state then sender_answer flow (handle_of s.base.output_handle) (sender_flowed s.flow flow) else None
+    if is_attached s.base.local_state then sender_answer flow (handle_of s.base.output_handle)
+    (sender_flowed s.flow flow) else None
 
 -- a frame is allowed and moves the link, or it isn't and the link stays
 abbrev pub MovesLink : Option Sending → Sending → Result (Unit {0}) IllegalState → Sending → Type 0

@@ -1,5 +1,6 @@
 -- How messages are sent: part 2, 2.6.7, 2.6.12 and 2.7.3.
-use Rattle.std.specs.Prelude.{◌≡◌, ◌⊎◌, max, Result, Ok, Err, ◌==◌, ◌^◌, ◌&&◌, ◌||◌, not, ℕ, Bool, true, false, List, nat_lt, nat_le, Option, Some, None, is_some, unwrap_or, if◌then◌else◌}
+use Rattle.std.specs.Prelude.{◌≡◌, ◌⊎◌, max, Result, Ok, Err, ◌==◌, ◌^◌, ◌&&◌, ◌||◌, not, ℕ, Bool, true, false, List}
+use Rattle.std.specs.Prelude.{nat_lt, nat_le, Option, Some, None, is_some, unwrap_or, if◌then◌else◌}
 use Rattle.amqp_session_types.specs.declared.modes.SenderSettleMode.{SenderSettleMode}
 use Rattle.amqp_session_types.specs.declared.modes.SenderSettleMode.TheVariants.{Settled, Unsettled, Mixed}
 use Rattle.amqp_session_performatives.specs.declared.transfer.Transfer.{Transfer}
@@ -10,7 +11,8 @@ use Rattle.amqp_link_sender_messages.specs.Messages.{open_at, opened}
 use Rattle.amqp_link_sender_messages.specs.declared.open.Open.{Open}
 use Rattle.amqp_link_sender.specs.declared.sending.PreparedSend.{PreparedSend}
 use Rattle.amqp_link_sender.specs.declared.sending.SendRefusal.{SendRefusal}
-use Rattle.amqp_link_sender.specs.declared.sending.SendRefusal.TheVariants.{IllegalState, MessageTooLarge, CreditMissing, Memory}
+use Rattle.amqp_link_sender.specs.declared.sending.SendRefusal.TheVariants.{IllegalState, MessageTooLarge}
+use Rattle.amqp_link_sender.specs.declared.sending.SendRefusal.TheVariants.{CreditMissing, Memory}
 use Rattle.amqp_link_sender.specs.Sending.{Sending}
 
 -- both Attach were exchanged, and each lists all unsettled deliveries
@@ -30,7 +32,8 @@ refusal s tag size =
     else if s.flow.link_credit == 0 then Some CreditMissing
     else None
 
--- whether a message goes settled: as the link's mode says, and where that leaves it open, as it is asked (part 2, 2.8.2)
+-- whether a message goes settled: as the link's mode says, and where that leaves it open, as it is asked (part 2,
+-- 2.8.2)
 abbrev pub goes_settled : SenderSettleMode → Option Bool → Bool
 goes_settled Settled asked = true
 goes_settled Unsettled asked = false
@@ -78,7 +81,8 @@ with_room s = record s { messages = record s.messages { room = max s.messages.ro
 -- a message isn't sent, for a reason or since there is no memory, and the link stays; or it is ready, and there is room
 abbrev pub Prepares : Option SendRefusal → PreparedSend → Sending → Result PreparedSend SendRefusal → Sending → Type 0
 Prepares (Some why) ready old answer new = (answer ≡ Err why) × (new ≡ old)
-Prepares None ready old answer new = ((answer ≡ Err Memory) × (new ≡ old)) ⊎ ((answer ≡ Ok ready) × (new ≡ with_room old))
+Prepares None ready old answer new =
+    ((answer ≡ Err Memory) × (new ≡ old)) ⊎ ((answer ≡ Ok ready) × (new ≡ with_room old))
 
 -- no message with this tag is open
 abbrev pub is_absent : Sending → List ℕ → Type 0

@@ -1,5 +1,6 @@
 -- How messages are sent on once their link is attached again: part 2, 2.6.13, and part 3, 3.4.6.
-use Rattle.std.specs.Prelude.{ℕ, ◌==◌, ◌&&◌, not, Bool, true, false, drop, Option, Some, None, option_map, if◌then◌else◌}
+use Rattle.std.specs.Prelude.{ℕ, ◌==◌, ◌&&◌, not, Bool, true, false, drop, Option, Some, None, option_map}
+use Rattle.std.specs.Prelude.{if◌then◌else◌}
 use Rattle.amqp_session_performatives.specs.declared.transfer.Transfer.{Transfer}
 use Rattle.amqp_session_states.specs.declared.delivery_state.DeliveryState.TheVariants.{Received as ReceivedState}
 use Rattle.amqp_session_states.specs.declared.received.Received.{Received}
@@ -20,7 +21,8 @@ start = record { section_number = 0; section_offset = 0 }
 
 -- the first transfer of a message that is resumed at a place, and not sent anew
 abbrev pub resuming_transfer : Open → Received → Transfer
-resuming_transfer m place = record (first_transfer m.tag m.message_format false) { state = Some (ReceivedState place); resume = true }
+resuming_transfer m place =
+    record (first_transfer m.tag m.message_format false) { state = Some (ReceivedState place); resume = true }
 
 -- a message that is resumed behind so many bytes, or at its start where its receiver's place can't be read
 abbrev pub resumed_behind : Open → Received → Option ℕ → PreparedSendOn

@@ -1,5 +1,6 @@
 -- What the peer's Attach makes of the open messages of a sending link: part 2, 2.6.13 and 2.7.3, and part 3, 3.4.6.
-use Rattle.std.specs.Prelude.{ℕ, ◌==◌, ◌^◌, ◌++◌, not, Bool, false, List, [], ◌∷◌, length, nat_lt, Option, Some, None, is_some, if◌then◌else◌}
+use Rattle.std.specs.Prelude.{ℕ, ◌==◌, ◌^◌, ◌++◌, not, Bool, false, List, [], ◌∷◌, length, nat_lt, Option, Some, None}
+use Rattle.std.specs.Prelude.{is_some, if◌then◌else◌}
 use Rattle.std.specs.Map.{lookup}
 use Rattle.std.specs.Str.{bytes_eq}
 use Rattle.amqp_session_states.specs.declared.delivery_state.DeliveryState.{DeliveryState}
@@ -57,8 +58,8 @@ abbrev pub fate_of : Bool → Open → Option (Option DeliveryState) → Fate
 fate_of incomplete m None = if incomplete then Undecided else by_decision m None (decision m.state None)
 fate_of incomplete m (Some state) = by_decision m (Some state) (decision m.state (Some state))
 
--- what becomes of messages: those that end, with what becomes of them; those that go on and those that are sent from their
--- start or have no bytes left, as they are to be sent on; and those that are given up
+-- what becomes of messages: those that end, with what becomes of them; those that go on and those that are sent from
+-- their start or have no bytes left, as they are to be sent on; and those that are given up
 pub record Becoming : Type 0 where
   pub ended : List (List ℕ × Resolution)
   pub going : List Waiting
@@ -81,9 +82,11 @@ given_up_too b abort = record b { aborts = b.aborts ++ abort ∷ [] }
 -- with one message more
 abbrev pub with_message : Becoming → List ℕ → Open → Fate → Becoming
 with_message b tag m Undecided = b
-with_message b tag m (SendOn resumption) = waits_too b (goes_on m resumption) (record { tag = tag; resumption = resumption })
+with_message b tag m (SendOn resumption) =
+    waits_too b (goes_on m resumption) (record { tag = tag; resumption = resumption })
 with_message b tag m (End resolution) = ends_too b tag resolution
-with_message b tag m Abort = given_up_too (ends_too b tag Aborted) (record { tag = tag; message_format = m.message_format })
+with_message b tag m Abort =
+    given_up_too (ends_too b tag Aborted) (record { tag = tag; message_format = m.message_format })
 
 -- with all of these, in their order
 abbrev pub with_messages : Listing → Bool → Becoming → List (List ℕ × Open) → Becoming
@@ -105,8 +108,8 @@ abbrev pub all_ended : MessageLists → List (List ℕ × Resolution) → Messag
 all_ended s [] = s
 all_ended s (e ∷ es) = all_ended (ended_at s e.0 e.1 (open_at s e.0)) es
 
--- the messages end that are to end; then those wait that are to be sent on, first those of which bytes are left behind what
--- the receiver has
+-- the messages end that are to end; then those wait that are to be sent on, first those of which bytes are left behind
+-- what the receiver has
 abbrev pub exchanged : MessageLists → Listing → Bool → MessageLists
 exchanged s listed incomplete =
     record (all_ended (interrupted s) (becoming s listed incomplete).ended) {

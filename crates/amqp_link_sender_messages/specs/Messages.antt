@@ -11,9 +11,9 @@ use Rattle.amqp_link_sender_messages.specs.declared.resolution.Resolution.TheVar
 use Rattle.amqp_link_sender_messages.specs.Resolutions.{resolution_of, ends}
 use Rattle.amqp_link_sender_messages.specs.Told.{told}
 
--- the open messages by their tags, in the order in which they were accepted; those that came to an end, with what became
--- of them, in the order of that; those that wait to be sent on, in the order in which they go; and for how many more
--- messages there is room
+-- the open messages by their tags, in the order in which they were accepted; those that came to an end, with what
+-- became of them, in the order of that; those that wait to be sent on, in the order in which they go; and for how many
+-- more messages there is room
 pub record MessageLists : Type 0 where
   pub unsettled : List (List ℕ × Open)
   pub resolved : List (List ℕ × Resolution)
@@ -59,7 +59,8 @@ told_at unsettled tag (Some message) state = set_value (bytes_eq tag) unsettled 
 abbrev pub disposed_at : MessageLists → List ℕ → Option Open → Bool → Option DeliveryState → MessageLists
 disposed_at s tag None settled state = s
 disposed_at s tag (Some message) settled state =
-    if ends settled state then resolved_as s tag (resolution_of state) else record s { unsettled = told_at s.unsettled tag (Some message) state }
+    if ends settled state then resolved_as s tag
+    (resolution_of state) else record s { unsettled = told_at s.unsettled tag (Some message) state }
 
 -- a disposition of the message with this tag: it ends where it is settled or the state is terminal, else the state is
 -- noted; of a message that isn't open it says nothing

@@ -1,7 +1,8 @@
 -- What becomes of a message: part 2, 2.7.6, and part 3, 3.4.
 use Rattle.std.specs.Prelude.{Bool, true, false, Option, Some, None}
 use Rattle.amqp_session_states.specs.declared.delivery_state.DeliveryState.{DeliveryState}
-use Rattle.amqp_session_states.specs.declared.delivery_state.DeliveryState.TheVariants.{Received, Accepted, Rejected, Released, Modified}
+use Rattle.amqp_session_states.specs.declared.delivery_state.DeliveryState.TheVariants.{Received, Accepted, Rejected}
+use Rattle.amqp_session_states.specs.declared.delivery_state.DeliveryState.TheVariants.{Released, Modified}
 use Rattle.amqp_session_states.specs.declared.outcome.Outcome.TheVariants as outcome
 use Rattle.amqp_session_states.specs.Terminal.{is_terminal}
 use Rattle.amqp_link_sender_messages.specs.declared.resolution.Resolution.{Resolution}

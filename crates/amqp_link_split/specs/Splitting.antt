@@ -15,7 +15,20 @@ bytes_of u = u.transfer.payload
 
 -- a later transfer of a delivery: its link, and whether more follow, alone
 abbrev pub later : Handle → Bool → Transfer
-later handle more = record { handle = handle; delivery_id = None; delivery_tag = None; message_format = None; settled = None; more = more; rcv_settle_mode = None; state = None; resume = false; aborted = false; batchable = false }
+later handle more =
+    record {
+      handle = handle;
+      delivery_id = None;
+      delivery_tag = None;
+      message_format = None;
+      settled = None;
+      more = more;
+      rcv_settle_mode = None;
+      state = None;
+      resume = false;
+      aborted = false;
+      batchable = false;
+    }
 
 -- whether any bytes are left
 abbrev pub some_left : List ℕ → Bool
@@ -36,9 +49,11 @@ AreLater handle (u ∷ us) = (u ≡ continuation_of (later handle (more_behind u
 -- that more follow
 abbrev pub IsDelivery : Transfer → Transfers → Type 0
 IsDelivery first [] = ⊥
-IsDelivery first (u ∷ us) = (u ≡ first_of (record first { more = more_behind us }) (bytes_of u)) × AreLater first.handle us
+IsDelivery first (u ∷ us) =
+    (u ≡ first_of (record first { more = more_behind us }) (bytes_of u)) × AreLater first.handle us
 
--- these transfers carry the payload of a delivery in order, each at most so many bytes of it, and are as few as they can
+-- these transfers carry the payload of a delivery in order, each at most so many bytes of it, and are as few as they
+-- can
 pub record Splits (first : Transfer) (payload : List ℕ) (room : ℕ) (transfers : Transfers) : Type 0 where
   pub delivery : IsDelivery first transfers
   pub bytes : concat (map bytes_of transfers) ≡ payload

@@ -1,5 +1,6 @@
 -- How an Attach lists unsettled deliveries: part 2, 2.7.3.
-use Rattle.std.specs.Prelude.{◌≡◌, ℕ, ◌+◌, ◌/◌, ◌<◌, ◌≤◌, List, [], ◌∷◌, length, map, take, nat_lt, Option, Some, None, zero, suc}
+use Rattle.std.specs.Prelude.{◌≡◌, ℕ, ◌+◌, ◌/◌, ◌<◌, ◌≤◌, List, [], ◌∷◌, length, map, take, nat_lt, Option, Some, None}
+use Rattle.std.specs.Prelude.{zero, suc}
 use Rattle.serde_amqp_item.specs.Canon.{canon}
 use Rattle.amqp_session_states.specs.declared.delivery_state.DeliveryState.{DeliveryState}
 use Rattle.amqp_session_performatives.specs.declared.attach.Attach.{Attach}
@@ -24,7 +25,8 @@ or_empty (Some es) = es
 
 -- the Attach with the first n of the entries, which tells whether they are all
 abbrev pub with_first : Attach → Entries → ℕ → Attach
-with_first a entries n = record a { unsettled = or_null (take n entries); incomplete_unsettled = nat_lt n (length entries) }
+with_first a entries n =
+    record a { unsettled = or_null (take n entries); incomplete_unsettled = nat_lt n (length entries) }
 
 -- a performative and the 8 bytes of the frame before it (part 2, 2.3.1) are no more than the limit
 abbrev pub FitsText : ℕ → Option (List ℕ) → Type 0
@@ -42,7 +44,8 @@ halved total (suc k) = halved total k / 2
 -- the first of total, total / 2, total / 4, .. that passes; none where none of them does
 abbrev pub IsFirstHalf : (ℕ → Type 0) → ℕ → Option ℕ → Type 0
 IsFirstHalf Passes total None = (k : ℕ) → Passes (halved total k) → ⊥
-IsFirstHalf Passes total (Some n) = (k : ℕ) × (n ≡ halved total k) × Passes n × ((j : ℕ) → j < k → Passes (halved total j) → ⊥)
+IsFirstHalf Passes total (Some n) =
+    (k : ℕ) × (n ≡ halved total k) × Passes n × ((j : ℕ) → j < k → Passes (halved total j) → ⊥)
 
 -- the Attach lists as many of the entries as fit the frame, by halves
 pub record Lists (limit : ℕ) (old : Attach) (entries : Entries) (new : Attach) : Type 0 where

@@ -1,5 +1,6 @@
 -- What becomes of a delivery that was interrupted: part 2, 2.6.13, and part 3, 3.4.6.
-use Rattle.std.specs.Prelude.{◌==◌, ◌&&◌, ◌||◌, Bool, true, false, Option, Some, None, Result, Ok, Err, nat_lt, if◌then◌else◌}
+use Rattle.std.specs.Prelude.{◌==◌, ◌&&◌, ◌||◌, Bool, true, false, Option, Some, None, Result, Ok, Err, nat_lt}
+use Rattle.std.specs.Prelude.{if◌then◌else◌}
 use Rattle.amqp_session_states.specs.declared.received.Received.{Received}
 use Rattle.amqp_session_states.specs.declared.delivery_state.DeliveryState.{DeliveryState}
 use Rattle.amqp_session_states.specs.declared.delivery_state.DeliveryState.TheVariants as state
@@ -7,7 +8,8 @@ use Rattle.amqp_link_unsettled.specs.declared.message.UnsettledMessage.{Unsettle
 use Rattle.amqp_link_unsettled.specs.declared.resumption.ResumingDelivery.{ResumingDelivery}
 use Rattle.amqp_link_unsettled.specs.declared.resumption.ResumingDelivery.TheVariants as resuming
 use Rattle.amqp_link_unsettled.specs.declared.resumption.Decision.{Decision}
-use Rattle.amqp_link_unsettled.specs.declared.resumption.Decision.TheVariants.{Resend, ResumeFrom, Abort, Restate, ResolveAsTold, ResolveAsListed}
+use Rattle.amqp_link_unsettled.specs.declared.resumption.Decision.TheVariants.{Resend, ResumeFrom, Abort, Restate}
+use Rattle.amqp_link_unsettled.specs.declared.resumption.Decision.TheVariants.{ResolveAsTold, ResolveAsListed}
 
 -- the place at which a message starts
 abbrev pub start : Received
@@ -15,7 +17,9 @@ start = record { section_number = 0; section_offset = 0 }
 
 -- places go by section, then by offset
 abbrev pub is_past : Received → Received → Bool
-is_past a b = nat_lt b.section_number a.section_number || (a.section_number == b.section_number && nat_lt b.section_offset a.section_offset)
+is_past a b =
+    nat_lt b.section_number a.section_number ||
+    (a.section_number == b.section_number && nat_lt b.section_offset a.section_offset)
 
 abbrev pub is_same_kind : DeliveryState → DeliveryState → Bool
 is_same_kind (state.Accepted a) (state.Accepted b) = true
@@ -65,7 +69,8 @@ listed_state None = None
 listed_state (Some s) = s
 
 -- how a message goes on by what was decided, or else the state that it ended with
-abbrev pub carried_out : UnsettledMessage → Option (Option DeliveryState) → Decision → Option ResumingDelivery × Option DeliveryState
+abbrev pub carried_out : UnsettledMessage → Option (Option DeliveryState) → Decision
+    → Option ResumingDelivery × Option DeliveryState
 carried_out local listed Resend = (Some (resuming.Resend local), None)
 carried_out local listed (ResumeFrom place) = (Some (resuming.Resume local place), None)
 carried_out local listed Abort = (Some (resuming.Abort local.message_format true), None)
@@ -73,5 +78,6 @@ carried_out local listed Restate = (Some (resuming.RestateOutcome local), None)
 carried_out local listed ResolveAsTold = (None, local.state)
 carried_out local listed ResolveAsListed = (None, listed_state listed)
 
-abbrev pub resumption : UnsettledMessage → Option (Option DeliveryState) → Option ResumingDelivery × Option DeliveryState
+abbrev pub resumption : UnsettledMessage → Option (Option DeliveryState)
+    → Option ResumingDelivery × Option DeliveryState
 resumption local listed = carried_out local listed (decision local.state listed)

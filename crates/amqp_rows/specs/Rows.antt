@@ -1,5 +1,6 @@
 -- A table of rows: what its lines say, and what comes of answering them.
-use Rattle.std.specs.Prelude.{◌≡◌, ℕ, ◌+◌, ◌==◌, Bool, true, false, List, [], ◌∷◌, ◌++◌, None, Result, Ok, if◌then◌else◌, MatchBool, nat_lt, codes, decimal, String, string_bytes}
+use Rattle.std.specs.Prelude.{◌≡◌, ℕ, ◌+◌, ◌==◌, Bool, true, false, List, [], ◌∷◌, ◌++◌, None, Result, Ok}
+use Rattle.std.specs.Prelude.{if◌then◌else◌, MatchBool, nat_lt, codes, decimal, String, string_bytes}
 use Rattle.std.specs.Global.{Global}
 use Rattle.std.specs.List.{slice_split}
 use Rattle.std.specs.Str.{bytes_eq, is_utf8}
@@ -27,7 +28,8 @@ is_left_out (c ∷ cs) = c == 35
 abbrev pub Says : List ℕ → Line → Type 0
 Says text Empty = is_left_out text ≡ true
 Says text (Plain given) = (is_left_out text ≡ false) × (given.now ≡ text) × FindsText arrow text None
-Says text (Row given wanted) = (is_left_out text ≡ false) × SplitsAroundMatch (FindsText arrow) text given.now wanted.now
+Says text (Row given wanted) =
+    (is_left_out text ≡ false) × SplitsAroundMatch (FindsText arrow) text given.now wanted.now
 
 -- what is printed of the lines, and how many rows hold and differ
 pub record Tally : Type 0 where
@@ -51,7 +53,11 @@ difference number given wanted answer = codes "line " ++ (decimal number ++ (cod
 
 -- a row is counted once: it holds exactly where its answer is the one that is wanted, and is printed where it isn't
 abbrev pub judged : ℕ → List ℕ → List ℕ → List ℕ → Tally → Tally
-judged number given wanted answer t = if bytes_eq answer wanted then record t { held = t.held + 1 } else record t { output = t.output ++ difference number given wanted answer; differing = t.differing + 1 }
+judged number given wanted answer t =
+    if bytes_eq answer wanted then record t { held = t.held + 1 } else record t {
+      output = t.output ++ difference number given wanted answer;
+      differing = t.differing + 1;
+    }
 
 -- what is printed behind the lines
 abbrev pub held_text : ℕ → List ℕ
@@ -70,7 +76,8 @@ abbrev pub status_of : Tally → ℕ
 status_of t = if nat_lt 0 t.differing then 1 else 0
 
 -- f may answer so what is given
-pub record Answers {F E : Type 0} (g : Shared F (Bor (List ℕ) × Unit {0}) (Result (String Global) E)) (f : F) (given answer : List ℕ) : Type 0 where
+pub record Answers {F E : Type 0} (g : Shared F (Bor (List ℕ) × Unit {0}) (Result (String Global) E)) (f : F)
+    (given answer : List ℕ) : Type 0 where
   pub text : String Global
   pub says : FnReturnsAt g f given (Ok text)
   pub answer_is : answer ≡ string_bytes text
@@ -86,7 +93,8 @@ module _ (P : List ℕ → List ℕ → Type 0) where
   abbrev pub LineDone : ℕ → Line → Tally → Tally → Type 0
   LineDone n Empty before after = after ≡ before
   LineDone n (Plain given) before after = IsAnswered given.now (λ answer. printed answer before) after
-  LineDone n (Row given wanted) before after = IsAnswered given.now (λ answer. judged n given.now wanted.now answer before) after
+  LineDone n (Row given wanted) before after =
+      IsAnswered given.now (λ answer. judged n given.now wanted.now answer before) after
 
   -- the text of a line is read, and the line answered
   pub record IsRead (n : ℕ) (text : List ℕ) (before after : Tally) : Type 0 where
@@ -95,12 +103,14 @@ module _ (P : List ℕ → List ℕ → Type 0) where
     pub line_done : LineDone n line before after
 
   abbrev pub TextDone : ℕ → List ℕ → Tally → Tally → Type 0
-  TextDone n text before after = MatchBool (is_utf8 text) (IsRead n text before after) (after ≡ printed (codes "unreadable") before)
+  TextDone n text before after =
+      MatchBool (is_utf8 text) (IsRead n text before after) (after ≡ printed (codes "unreadable") before)
 
   -- lines are answered in order, numbered from n
   abbrev pub LinesDone : ℕ → List (List ℕ) → Tally → Tally → Type 0
   LinesDone n [] before after = after ≡ before
-  LinesDone n (text ∷ texts) before after = (between : Tally) × TextDone n text before between × LinesDone (n + 1) texts between after
+  LinesDone n (text ∷ texts) before after =
+      (between : Tally) × TextDone n text before between × LinesDone (n + 1) texts between after
 
 -- the lines of a text
 abbrev pub lines_of : List ℕ → List (List ℕ)

@@ -36,9 +36,19 @@ pub record State : Type 0 where
 
 -- a connection in this state, with this Open to send
 abbrev pub fresh : ConnectionState → Open → State
-fresh state opening = record { local_state = state; local_open = opening; remote_channel_max = None; live = map.empty; offered = 0; routes = map.empty; stop_reason = None }
+fresh state opening =
+    record {
+      local_state = state;
+      local_open = opening;
+      remote_channel_max = None;
+      live = map.empty;
+      offered = 0;
+      routes = map.empty;
+      stop_reason = None;
+    }
 
--- the highest outgoing channel: the smaller of both channel-max, the own alone where the peer's Open did not come (part 2, 2.7.1)
+-- the highest outgoing channel: the smaller of both channel-max, the own alone where the peer's Open did not come (part
+-- 2, 2.7.1)
 abbrev pub highest_channel : ℕ → Option ℕ → ℕ
 highest_channel own None = own
 highest_channel own (Some peer) = min own peer

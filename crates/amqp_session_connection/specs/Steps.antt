@@ -6,12 +6,16 @@ use Rattle.amqp_session_types.specs.declared.channels.IncomingChannel.{IncomingC
 use Rattle.amqp_session_types.specs.declared.channels.OutgoingChannel.{OutgoingChannel}
 use Rattle.amqp_session_types.specs.declared.error.Error.{Error}
 use Rattle.amqp_session_types.specs.declared.refusals.BeginError.{BeginError}
-use Rattle.amqp_session_types.specs.declared.refusals.BeginError.TheVariants.{LocalChannelMaxReached, ConnectionNotOpened, ConnectionStopped, Memory as NoMemoryForSession}
+use Rattle.amqp_session_types.specs.declared.refusals.BeginError.TheVariants.{LocalChannelMaxReached}
+use Rattle.amqp_session_types.specs.declared.refusals.BeginError.TheVariants.{ConnectionNotOpened, ConnectionStopped}
+use Rattle.amqp_session_types.specs.declared.refusals.BeginError.TheVariants.{Memory as NoMemoryForSession}
 use Rattle.amqp_session_types.specs.declared.refusals.ConnectionError.{ConnectionError}
-use Rattle.amqp_session_types.specs.declared.refusals.ConnectionError.TheVariants.{IllegalState, NotImplemented, NotFound, Memory}
+use Rattle.amqp_session_types.specs.declared.refusals.ConnectionError.TheVariants.{IllegalState, NotImplemented}
+use Rattle.amqp_session_types.specs.declared.refusals.ConnectionError.TheVariants.{NotFound, Memory}
 use Rattle.amqp_session_types.specs.declared.refusals.ConnectionStopReason.{ConnectionStopReason}
 use Rattle.amqp_session_types.specs.declared.refusals.OpenError.{OpenError}
-use Rattle.amqp_session_types.specs.declared.refusals.OpenError.TheVariants.{IllegalState as IllegalStateOfOpen, Memory as NoMemoryForOpen}
+use Rattle.amqp_session_types.specs.declared.refusals.OpenError.TheVariants.{IllegalState as IllegalStateOfOpen}
+use Rattle.amqp_session_types.specs.declared.refusals.OpenError.TheVariants.{Memory as NoMemoryForOpen}
 use Rattle.amqp_session_performatives.specs.declared.open.Open.{Open}
 use Rattle.amqp_session_performatives.specs.declared.begin.Begin.{Begin}
 use Rattle.amqp_session_performatives.specs.declared.end.End.{End}
@@ -21,7 +25,9 @@ use Rattle.amqp_session_frames.specs.declared.frame.FrameBody.{FrameBody}
 use Rattle.amqp_session_frames.specs.declared.frame.FrameBody.TheVariants as body
 use Rattle.amqp_session_connection.specs.declared.state.ConnectionState.{ConnectionState}
 use Rattle.amqp_session_connection.specs.State.{State, channel_limit}
-use Rattle.amqp_session_connection.specs.Table.{after_send_header, after_incoming_header, after_send_open, after_incoming_open, after_send_close, after_incoming_close, refusal_of_begin}
+use Rattle.amqp_session_connection.specs.Table.{after_send_header, after_incoming_header, after_send_open}
+use Rattle.amqp_session_connection.specs.Table.{after_incoming_open, after_send_close, after_incoming_close}
+use Rattle.amqp_session_connection.specs.Table.{refusal_of_begin}
 
 -- a call with what it was given, and what it answered
 pub data Step : Type 0 where
@@ -63,7 +69,8 @@ SendHeader old (Ok _) new =
 abbrev pub TakeHeader : State → Result ⊤ ConnectionError → State → Type 0
 TakeHeader old (Err e) new = (e ≡ IllegalState) × (after_incoming_header old.local_state ≡ None) × (new ≡ old)
 TakeHeader old (Ok _) new =
-    (after_incoming_header old.local_state ≡ Some new.local_state) × (new ≡ record old { local_state = new.local_state })
+    (after_incoming_header old.local_state ≡ Some new.local_state)
+    × (new ≡ record old { local_state = new.local_state })
 
 -- why an Open is refused, where the table has this state behind it
 abbrev pub RefusesOpen : Option ConnectionState → OpenError → Type 0
@@ -87,21 +94,25 @@ TakeOpen old opening (Ok _) new =
 
 -- a Close with this error is handed out, on channel 0
 abbrev pub SendClose : State → Option Error → Result Frame ConnectionError → State → Type 0
-SendClose old error (Err e) new = (e ≡ IllegalState) × (after_send_close (is_some error) old.local_state ≡ None) × (new ≡ old)
+SendClose old error (Err e) new =
+    (e ≡ IllegalState) × (after_send_close (is_some error) old.local_state ≡ None) × (new ≡ old)
 SendClose old error (Ok frame) new =
-    (frame ≡ frame_on 0 (body.Close (record { error = error }))) × (after_send_close (is_some error) old.local_state ≡ Some new.local_state)
+    (frame ≡ frame_on 0 (body.Close (record { error = error })))
+    × (after_send_close (is_some error) old.local_state ≡ Some new.local_state)
     × (new ≡ record old { local_state = new.local_state })
 
 -- the peer's Close is taken
 abbrev pub TakeClose : State → Result ⊤ ConnectionError → State → Type 0
 TakeClose old (Err e) new = (e ≡ IllegalState) × (after_incoming_close old.local_state ≡ None) × (new ≡ old)
-TakeClose old (Ok _) new = (after_incoming_close old.local_state ≡ Some new.local_state) × (new ≡ record old { local_state = new.local_state })
+TakeClose old (Ok _) new =
+    (after_incoming_close old.local_state ≡ Some new.local_state) × (new ≡ record old { local_state = new.local_state })
 
 -- why no channel is given to a session: the state, then the channel that is offered, then want of memory
 abbrev pub RefusesSession : State → BeginError → Type 0
 RefusesSession old ConnectionNotOpened = refusal_of_begin old.local_state ≡ Some ConnectionNotOpened
 RefusesSession old ConnectionStopped = refusal_of_begin old.local_state ≡ Some ConnectionStopped
-RefusesSession old LocalChannelMaxReached = (refusal_of_begin old.local_state ≡ None) × (channel_limit old < old.offered)
+RefusesSession old LocalChannelMaxReached =
+    (refusal_of_begin old.local_state ≡ None) × (channel_limit old < old.offered)
 RefusesSession old NoMemoryForSession = (refusal_of_begin old.local_state ≡ None) × (old.offered ≤ channel_limit old)
 RefusesSession old e = ⊥
 
@@ -120,13 +131,15 @@ Offers old channel =
 abbrev pub AllocateSession : State → ℕ → Result OutgoingChannel BeginError → State → Type 0
 AllocateSession old session (Err e) new = RefusesSession old e × (new ≡ old)
 AllocateSession old session (Ok channel) new =
-    (refusal_of_begin old.local_state ≡ None) × (old.offered ≤ channel_limit old) × (channel.0 ≡ old.offered) × (map.get old.live old.offered ≡ None)
+    (refusal_of_begin old.local_state ≡ None) × (old.offered ≤ channel_limit old) × (channel.0 ≡ old.offered)
+    × (map.get old.live old.offered ≡ None)
     × (new ≡ record old { live = map.insert old.live old.offered session; offered = new.offered })
 
 -- a channel is taken back from its session, if it has one. Which channel is offered next stays open
 abbrev pub DeallocateSession : State → ℕ → Option ℕ → State → Type 0
 DeallocateSession old channel None new = new ≡ old
-DeallocateSession old channel (Some session) new = new ≡ record old { live = map.remove old.live channel; offered = new.offered }
+DeallocateSession old channel (Some session) new =
+    new ≡ record old { live = map.remove old.live channel; offered = new.offered }
 
 -- the live session whose outgoing channel a Begin of the peer names
 abbrev pub named_session : State → Option ℕ → Option ℕ
@@ -136,7 +149,8 @@ named_session s (Some channel) = map.get s.live channel
 -- why the peer's Begin is refused: it names no channel, or that of no live session, or there is no memory for its route
 abbrev pub RefusesBegin : State → Begin → ConnectionError → Type 0
 RefusesBegin old beginning NotImplemented = beginning.remote_channel ≡ None
-RefusesBegin old beginning NotFound = IsSome beginning.remote_channel × (named_session old beginning.remote_channel ≡ None)
+RefusesBegin old beginning NotFound =
+    IsSome beginning.remote_channel × (named_session old beginning.remote_channel ≡ None)
 RefusesBegin old beginning Memory = IsSome (named_session old beginning.remote_channel)
 RefusesBegin old beginning e = ⊥
 
@@ -144,7 +158,8 @@ RefusesBegin old beginning e = ⊥
 abbrev pub TakeBegin : State → ℕ → Begin → Result ℕ ConnectionError → State → Type 0
 TakeBegin old channel beginning (Err e) new = RefusesBegin old beginning e × (new ≡ old)
 TakeBegin old channel beginning (Ok session) new =
-    (named_session old beginning.remote_channel ≡ Some session) × (new ≡ record old { routes = map.insert old.routes channel session })
+    (named_session old beginning.remote_channel ≡ Some session)
+    × (new ≡ record old { routes = map.insert old.routes channel session })
 
 -- a channel of the peer is routed to a session, in place of an older route
 abbrev pub AcceptRoute : State → ℕ → ℕ → Result ⊤ AllocError → State → Type 0
@@ -154,7 +169,8 @@ AcceptRoute old channel session (Ok _) new = new ≡ record old { routes = map.i
 -- the peer's End is taken: the route of its channel goes
 abbrev pub TakeEnd : State → ℕ → Result ℕ ConnectionError → State → Type 0
 TakeEnd old channel (Err e) new = (e ≡ NotFound) × (map.get old.routes channel ≡ None) × (new ≡ old)
-TakeEnd old channel (Ok session) new = (map.get old.routes channel ≡ Some session) × (new ≡ record old { routes = map.remove old.routes channel })
+TakeEnd old channel (Ok session) new =
+    (map.get old.routes channel ≡ Some session) × (new ≡ record old { routes = map.remove old.routes channel })
 
 -- the states around a call
 abbrev pub Steps : State → Step → State → Type 0

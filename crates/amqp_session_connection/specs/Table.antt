@@ -3,7 +3,12 @@ use Rattle.std.specs.Prelude.{Bool, Option, Some, None, if◌then◌else◌}
 use Rattle.amqp_session_types.specs.declared.refusals.BeginError.{BeginError}
 use Rattle.amqp_session_types.specs.declared.refusals.BeginError.TheVariants.{ConnectionStopped, ConnectionNotOpened}
 use Rattle.amqp_session_connection.specs.declared.state.ConnectionState.{ConnectionState}
-use Rattle.amqp_session_connection.specs.declared.state.ConnectionState.TheVariants.{Start, HeaderReceived, HeaderSent, HeaderExchange, OpenPipe, OpenClosePipe, OpenReceived, OpenSent, ClosePipe, Opened, CloseReceived, CloseSent, Discarding, End}
+use Rattle.amqp_session_connection.specs.declared.state.ConnectionState.TheVariants.{Start, HeaderReceived, HeaderSent}
+use Rattle.amqp_session_connection.specs.declared.state.ConnectionState.TheVariants.{HeaderExchange, OpenPipe}
+use Rattle.amqp_session_connection.specs.declared.state.ConnectionState.TheVariants.{OpenClosePipe, OpenReceived}
+use Rattle.amqp_session_connection.specs.declared.state.ConnectionState.TheVariants.{OpenSent, ClosePipe, Opened}
+use Rattle.amqp_session_connection.specs.declared.state.ConnectionState.TheVariants.{CloseReceived, CloseSent}
+use Rattle.amqp_session_connection.specs.declared.state.ConnectionState.TheVariants.{Discarding, End}
 
 -- the own protocol header is sent
 abbrev pub after_send_header : ConnectionState → Option ConnectionState

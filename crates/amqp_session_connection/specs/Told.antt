@@ -1,5 +1,6 @@
 -- What a list of calls tells by what went in and out: the words in which laws on histories are said.
-use Rattle.std.specs.Prelude.{ℕ, Bool, true, false, not, List, [], ◌∷◌, ◌++◌, filter, Option, Some, None, Ok, Err, ◌==◌, if◌then◌else◌, is_some}
+use Rattle.std.specs.Prelude.{ℕ, Bool, true, false, not, List, [], ◌∷◌, ◌++◌, filter, Option, Some, None, Ok, Err, ◌==◌}
+use Rattle.std.specs.Prelude.{if◌then◌else◌, is_some}
 use Rattle.amqp_session_types.specs.declared.refusals.BeginError.TheVariants.{IllegalState as IllegalStateOfSession}
 use Rattle.amqp_session_types.specs.declared.refusals.ConnectionError.TheVariants.{IllegalState}
 use Rattle.amqp_session_types.specs.declared.refusals.ConnectionStopReason.{ConnectionStopReason}
@@ -8,10 +9,14 @@ use Rattle.amqp_session_frames.specs.declared.frame.Frame.{Frame}
 use Rattle.amqp_session_frames.specs.declared.frame.FrameBody.{FrameBody}
 use Rattle.amqp_session_frames.specs.declared.frame.FrameBody.TheVariants as body
 use Rattle.amqp_session_connection.specs.declared.state.ConnectionState.{ConnectionState}
-use Rattle.amqp_session_connection.specs.Steps.{Step, SetsStopReason, SendsHeader, TakesHeader, SendsOpen, TakesOpen, SendsClose, TakesClose, SendsBegin, SendsEnd, AllocatesSession, DeallocatesSession, TakesBegin, AcceptsRoute, TakesEnd, first_reason}
-use Rattle.amqp_session_connection.specs.Table.{after_send_header, after_incoming_header, after_send_open, after_incoming_open, after_send_close, after_incoming_close}
+use Rattle.amqp_session_connection.specs.Steps.{Step, SetsStopReason, SendsHeader, TakesHeader, SendsOpen, TakesOpen}
+use Rattle.amqp_session_connection.specs.Steps.{SendsClose, TakesClose, SendsBegin, SendsEnd, AllocatesSession}
+use Rattle.amqp_session_connection.specs.Steps.{DeallocatesSession, TakesBegin, AcceptsRoute, TakesEnd, first_reason}
+use Rattle.amqp_session_connection.specs.Table.{after_send_header, after_incoming_header, after_send_open}
+use Rattle.amqp_session_connection.specs.Table.{after_incoming_open, after_send_close, after_incoming_close}
 
--- the state that the table has behind a call, whatever the call answered: only a header, an Open and a Close move it (part 2, 2.4.6)
+-- the state that the table has behind a call, whatever the call answered: only a header, an Open and a Close move it
+-- (part 2, 2.4.6)
 abbrev pub row : Step → ConnectionState → Option ConnectionState
 row (SendsHeader answer) state = after_send_header state
 row (TakesHeader answer) state = after_incoming_header state
@@ -54,8 +59,8 @@ abbrev pub state_after : Option ConnectionState → List Step → Option Connect
 state_after state [] = state
 state_after state (step ∷ steps) = state_after (moved step state) steps
 
--- the session to which the peer's channel is routed behind one more call: a Begin or a route that is accepted on it sets
--- that, and an End that is accepted on it takes it away
+-- the session to which the peer's channel is routed behind one more call: a Begin or a route that is accepted on it
+-- sets that, and an End that is accepted on it takes it away
 abbrev pub rerouted : ℕ → Step → Option ℕ → Option ℕ
 rerouted channel (TakesBegin c beginning (Ok session)) before = if channel == c.0 then Some session else before
 rerouted channel (AcceptsRoute c session (Ok x)) before = if channel == c.0 then Some session else before

@@ -1,5 +1,6 @@
 -- How a session takes a disposition, part by part.
-use Rattle.std.specs.Prelude.{◌≡◌, ℕ, ◌+◌, ◌%◌, ◌^◌, ◌==◌, List, [], ◌∷◌, Bool, false, Option, Some, None, All, IfSome, map, length, ◌≤◌, vec_capacity, if◌then◌else◌, slice_index_or}
+use Rattle.std.specs.Prelude.{◌≡◌, ℕ, ◌+◌, ◌%◌, ◌^◌, ◌==◌, List, [], ◌∷◌, Bool, false, Option, Some, None, All, IfSome}
+use Rattle.std.specs.Prelude.{map, length, ◌≤◌, vec_capacity, if◌then◌else◌, slice_index_or}
 use Rattle.std.specs.FinMap as tables
 use Rattle.amqp_session_types.specs.declared.modes.Role.{Role}
 use Rattle.amqp_session_states.specs.declared.delivery_state.DeliveryState.{DeliveryState}
@@ -53,7 +54,9 @@ behind_runs (r ∷ []) n = if (r.1 + 1) % 2 ^ 32 == n then (r.0, n) ∷ [] else 
 behind_runs (r ∷ s ∷ runs) n = r ∷ behind_runs (s ∷ runs) n
 
 -- deliveries reached their links, and these want it echoed
-pub record Walked {R : Type 0} (gives : R → List ℕ → Role → Bool → Option DeliveryState → Bool → R → Type 0) (d : Disposition) (table : Table) (numbers : List ℕ) (old : List (Option R)) (echoes : List ℕ) (new : List (Option R)) : Type 0 where
+pub record Walked {R : Type 0} (gives : R → List ℕ → Role → Bool → Option DeliveryState → Bool → R → Type 0)
+    (d : Disposition) (table : Table) (numbers : List ℕ) (old : List (Option R)) (echoes : List ℕ)
+    (new : List (Option R)) : Type 0 where
   pub walk : List Reach
   pub walked : Walks gives d table numbers old walk new
   pub echoes_are : echoes ≡ echoed walk
@@ -61,7 +64,8 @@ pub record Walked {R : Type 0} (gives : R → List ℕ → Role → Bool → Opt
 -- the session without the deliveries that an own disposition settles
 abbrev pub settled_own : {R : Type 0} → Disposition → State R → State R
 settled_own d s =
-    if d.settled then with_table (opposite d.role) (outside (range_of d.first d.last) (table_of (opposite d.role) s)) s else s
+    if d.settled then with_table (opposite d.role) (outside (range_of d.first d.last) (table_of (opposite d.role) s))
+    s else s
 
 -- the unsettled deliveries, where the peer has this role
 abbrev pub deliveries_of : Role → sending.State TransferFrame BehindFrame → Deliveries → Table
@@ -69,10 +73,13 @@ deliveries_of Receiver outgoing received = outgoing.unsettled
 deliveries_of Sender outgoing received = received.table
 
 -- a delivery reaches its link with this state, if that is there
-abbrev pub ReachesOneAt : {R : Type 0} → (R → List ℕ → Role → Bool → Option DeliveryState → Bool → R → Type 0) → Option R → Delivery → Disposition → Option DeliveryState → List (Option R) → Bool → List (Option R) → Type 0
+abbrev pub ReachesOneAt : {R : Type 0} → (R → List ℕ → Role → Bool → Option DeliveryState → Bool → R → Type 0)
+    → Option R → Delivery → Disposition → Option DeliveryState → List (Option R) → Bool → List (Option R) → Type 0
 ReachesOneAt gives None delivery d state old echo new = (echo ≡ false) × (new ≡ old)
 ReachesOneAt gives (Some link) delivery d state old echo new =
     StepsAt (λ before after. gives before delivery.tag d.role d.settled state echo after) old (delivery.handle).0 new
 
-abbrev pub ReachesOne : {R : Type 0} → (R → List ℕ → Role → Bool → Option DeliveryState → Bool → R → Type 0) → Delivery → Disposition → Option DeliveryState → List (Option R) → Bool → List (Option R) → Type 0
-ReachesOne gives delivery d state old echo new = ReachesOneAt gives (slice_index_or old (delivery.handle).0 None) delivery d state old echo new
+abbrev pub ReachesOne : {R : Type 0} → (R → List ℕ → Role → Bool → Option DeliveryState → Bool → R → Type 0) → Delivery
+    → Disposition → Option DeliveryState → List (Option R) → Bool → List (Option R) → Type 0
+ReachesOne gives delivery d state old echo new =
+    ReachesOneAt gives (slice_index_or old (delivery.handle).0 None) delivery d state old echo new

@@ -1,5 +1,6 @@
 -- How a session takes a Flow, part by part.
-use Rattle.std.specs.Prelude.{◌≡◌, ◌≢◌, ℕ, ◌++◌, Bool, List, Option, Some, None, Result, Ok, Err, IsOk, ◌≤◌, ⊤, if◌then◌else◌}
+use Rattle.std.specs.Prelude.{◌≡◌, ◌≢◌, ℕ, ◌++◌, Bool, List, Option, Some, None, Result, Ok, Err, IsOk, ◌≤◌, ⊤}
+use Rattle.std.specs.Prelude.{if◌then◌else◌}
 use Rattle.std.specs.FinMap as map
 use Rattle.amqp_session_types.specs.declared.handles.Handle.{Handle}
 use Rattle.amqp_session_types.specs.declared.refusals.SessionError.{SessionError}
@@ -33,7 +34,8 @@ Told = Option (ℕ × Result (Option LinkFlow) RelayError)
 abbrev pub AnswersFlow : Sending → ℕ → Result (Option LinkFlow) RelayError → Result Answer SessionError → Type 0
 AnswersFlow out h (Err e) result = (e ≢ relay.Memory) × (result ≡ Err (session_error e))
 AnswersFlow out h (Ok None) result = result ≡ Ok answer.Nothing
-AnswersFlow out h (Ok (Some f)) result = result ≡ Ok (answer.OfLink (record { 0 = h }) (record f { handle = record { 0 = h } }))
+AnswersFlow out h (Ok (Some f)) result =
+    result ≡ Ok (answer.OfLink (record { 0 = h }) (record f { handle = record { 0 = h } }))
 
 abbrev pub IsAnswer : Sending → Flow → Option Handle → Told → Result Answer SessionError → Type 0
 IsAnswer out flow None told result = result ≡ Ok (if flow.echo then answer.OfSession else answer.Nothing)
@@ -47,16 +49,19 @@ module _ {R A T D : Type 0} (gives : Relations R A T D) where
   FlowsTo old routes flow handle told new = FlowAt gives old routes flow handle told new
 
   -- a link took a Flow, and this is the answer
-  pub record LinkFlowed (out : Sending) (routes : RouteTable) (flow : Flow) (old : List (Option R)) (result : Result Answer SessionError) (new : List (Option R)) : Type 0 where
+  pub record LinkFlowed (out : Sending) (routes : RouteTable) (flow : Flow) (old : List (Option R))
+      (result : Result Answer SessionError) (new : List (Option R)) : Type 0 where
     pub told : Told
     pub link : FlowsTo old routes flow flow.handle told new
     pub answered : IsAnswer out flow flow.handle told result
 
 -- a link took a Flow at the handle that it reaches, and this is the answer
-abbrev pub FlowedAt : {R : Type 0} → (R → LinkFlow → Result (Option LinkFlow) RelayError → R → Type 0) → Sending → LinkFlow → Option ℕ → List (Option R) → Result Answer SessionError → List (Option R) → Type 0
+abbrev pub FlowedAt : {R : Type 0} → (R → LinkFlow → Result (Option LinkFlow) RelayError → R → Type 0) → Sending
+    → LinkFlow → Option ℕ → List (Option R) → Result Answer SessionError → List (Option R) → Type 0
 FlowedAt gives out flow None old result new = (result ≡ Err session.UnattachedHandle) × (new ≡ old)
 FlowedAt gives out flow (Some h) old result new =
-    (told : Result (Option LinkFlow) RelayError) × StepsAt (λ before after. gives before flow told after) old h new × AnswersFlow out h told result
+    (told : Result (Option LinkFlow) RelayError) × StepsAt (λ before after. gives before flow told after) old h new
+    × AnswersFlow out h told result
 
 -- the reply of an answer
 abbrev pub IsReplyOf : Result Answer SessionError → Reply → Type 0
@@ -68,7 +73,8 @@ IsReplyOf (Ok (answer.OfLink handle flow)) OfSession = ⊥
 IsReplyOf (Ok (answer.OfLink handle flow)) (OfLink h g left) = (h ≡ handle) × (g ≡ flow)
 
 -- a reply was handed out, or waits
-pub record Replied (fields : SessionFields) (old : Sending) (out : List SessionFrame) (result : Result Answer SessionError) (flows : Bool) (new : Sending) (out_new : List SessionFrame) : Type 0 where
+pub record Replied (fields : SessionFields) (old : Sending) (out : List SessionFrame)
+    (result : Result Answer SessionError) (flows : Bool) (new : Sending) (out_new : List SessionFrame) : Type 0 where
   pub reply : Reply
   pub is : IsReplyOf result reply
   pub replied : Replies old reply new
@@ -95,14 +101,18 @@ SameRefusal (Ok answer) result = IsOk result
 SameRefusal (Err e) result = result ≡ Err e
 
 -- a window was taken, and what left was handed out
-pub record Hands (fields : SessionFields) (step : Left → sending_history.Step TransferFrame BehindFrame) (old : Sending) (out : List SessionFrame) (flows : Bool) (new : Sending) (out_new : List SessionFrame) : Type 0 where
+pub record Hands (fields : SessionFields) (step : Left → sending_history.Step TransferFrame BehindFrame) (old : Sending)
+    (out : List SessionFrame) (flows : Bool) (new : Sending) (out_new : List SessionFrame) : Type 0 where
   pub left : Left
   pub window : sending_history.Steps old (step left) new
   pub added : out_new ≡ out ++ frames_left fields left
   pub flows_is : flows ≡ has_flow (frames_left fields left)
 
-abbrev pub Opens : SessionFields → Sending → List SessionFrame → Option ℕ → ℕ → Bool → Sending → List SessionFrame → Type 0
-Opens fields old out base width flows new out_new = Hands fields (sending_history.TakesWindow (sending.base_of old base) width) old out flows new out_new
+abbrev pub Opens : SessionFields → Sending → List SessionFrame → Option ℕ → ℕ → Bool → Sending → List SessionFrame
+    → Type 0
+Opens fields old out base width flows new out_new =
+    Hands fields (sending_history.TakesWindow (sending.base_of old base) width) old out flows new out_new
 
 abbrev pub Begins : SessionFields → Sending → List SessionFrame → ℕ → Bool → Sending → List SessionFrame → Type 0
-Begins fields old out width flows new out_new = Hands fields (sending_history.TakesWindow old.next_outgoing_id width) old out flows new out_new
+Begins fields old out width flows new out_new =
+    Hands fields (sending_history.TakesWindow old.next_outgoing_id width) old out flows new out_new

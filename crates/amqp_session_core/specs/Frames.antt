@@ -59,7 +59,11 @@ behind_frame f number (behind.Detach detach) = frame_of f (body.Detach detach)
 -- a transfer as it leaves: with its link's handle, and the number of the delivery that it begins (part 2, 2.7.5)
 abbrev pub transfer_frame : SessionFields → Sent TransferFrame BehindFrame → SessionFrame
 transfer_frame f s =
-    frame_of f (body.Transfer (record (s.transfer).performative { handle = record { 0 = (s.handle).0 }; delivery_id = s.delivery }) (s.transfer).payload)
+    frame_of f
+    (body.Transfer (record (s.transfer).performative {
+      handle = record { 0 = (s.handle).0 };
+      delivery_id = s.delivery;
+    }) (s.transfer).payload)
 
 abbrev pub frames_behind : SessionFields → ℕ → List BehindFrame → List SessionFrame
 frames_behind f number [] = []

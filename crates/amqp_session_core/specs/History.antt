@@ -1,5 +1,6 @@
 -- Histories of a session, and what they say of its parts: its sending side, each of its links, and its own window.
-use Rattle.std.specs.Prelude.{◌≡◌, ℕ, ◌+◌, ◌==◌, List, [], ◌∷◌, ◌++◌, Bool, true, false, Option, Some, None, option_to_list, if◌then◌else◌, Result, Ok}
+use Rattle.std.specs.Prelude.{◌≡◌, ℕ, ◌+◌, ◌==◌, List, [], ◌∷◌, ◌++◌, Bool, true, false, Option, Some, None}
+use Rattle.std.specs.Prelude.{option_to_list, if◌then◌else◌, Result, Ok}
 use Rattle.amqp_session_types.specs.declared.handles.Handle.{Handle}
 use Rattle.amqp_session_types.specs.declared.modes.Role.{Role}
 use Rattle.amqp_session_types.specs.declared.modes.Role.TheVariants.{Sender, Receiver}
@@ -16,9 +17,15 @@ use Rattle.amqp_session_core.specs.declared.batch.BehindFrame.TheVariants as beh
 use Rattle.amqp_session_core.specs.declared.relay.RelayError.{RelayError}
 use Rattle.amqp_session_core.specs.Echoes.{Reach, settled_by}
 use Rattle.amqp_session_core.specs.Frames.{has_flow}
-use Rattle.amqp_session_core.specs.Relay.{Relations, LinkStep, Attaches, Flows, Transfers, Disposes, Detaches, SendsBatch, SendsFrame, SendsDisposition as SendsItsDisposition, Changes as ChangesIt}
+use Rattle.amqp_session_core.specs.Relay.{Relations, LinkStep, Attaches, Flows, Transfers, Disposes, Detaches}
+use Rattle.amqp_session_core.specs.Relay.{SendsBatch, SendsFrame, SendsDisposition as SendsItsDisposition}
+use Rattle.amqp_session_core.specs.Relay.{Changes as ChangesIt}
 use Rattle.amqp_session_core.specs.State.{State}
-use Rattle.amqp_session_core.specs.Steps.{Step, Stays, SendsBegin, TakesBegin, SendsEnd, TakesEnd, TakesAttach, TakesFlow, SetsWindow, TakesTransfer, TakesDisposition, TakesDetach, SendsBehind, SendsTransfers, SendsDisposition, TellsFlow, Allocates, Deallocates, Reserves, Changes, Steps, Reply, NoReply, OfSession, OfLink, told_to_link, next_behind}
+use Rattle.amqp_session_core.specs.Steps.{Step, Stays, SendsBegin, TakesBegin, SendsEnd, TakesEnd, TakesAttach}
+use Rattle.amqp_session_core.specs.Steps.{TakesFlow, SetsWindow, TakesTransfer, TakesDisposition, TakesDetach}
+use Rattle.amqp_session_core.specs.Steps.{SendsBehind, SendsTransfers, SendsDisposition, TellsFlow, Allocates}
+use Rattle.amqp_session_core.specs.Steps.{Deallocates, Reserves, Changes, Steps, Reply, NoReply, OfSession, OfLink}
+use Rattle.amqp_session_core.specs.Steps.{told_to_link, next_behind}
 
 abbrev Sending : Type 0
 Sending = sending.Step TransferFrame BehindFrame
@@ -67,7 +74,9 @@ module _ {R A T D : Type 0} where
   -- the deliveries of a link that a disposition reached
   abbrev pub reached_by : ℕ → Disposition → List Reach → List (LinkStep R A T D)
   reached_by link d [] = []
-  reached_by link d (r ∷ walk) = (if r.live then at_link link r.handle (Disposes r.tag d.role d.settled d.state r.echo ∷ []) else []) ++ reached_by link d walk
+  reached_by link d (r ∷ walk) =
+      (if r.live then at_link link r.handle (Disposes r.tag d.role d.settled d.state r.echo ∷ []) else [])
+      ++ reached_by link d walk
 
 module _ {R A T D : Type 0} where
   -- what a call does on the sending side
@@ -78,7 +87,8 @@ module _ {R A T D : Type 0} where
   sending_in (SendsEnd error frame) = []
   sending_in TakesEnd = []
   sending_in (TakesAttach handle attach told) = []
-  sending_in (TakesFlow flow told reply base left frames) = reply_steps reply ++ sending.TakesWindow base flow.incoming_window left ∷ []
+  sending_in (TakesFlow flow told reply base left frames) =
+      reply_steps reply ++ sending.TakesWindow base flow.incoming_window left ∷ []
   sending_in (SetsWindow flow base) = sending.SetsWindow base flow.incoming_window ∷ []
   sending_in (TakesTransfer handle transfer payload told flow) = []
   sending_in (TakesDisposition d walk echoes) = settles_as d.role (settled_by d.settled walk)
@@ -106,7 +116,8 @@ module _ {R A T D : Type 0} where
   own_in link (TakesAttach handle attach told) = at_link link handle (Attaches attach told ∷ [])
   own_in link (TakesFlow flow told reply base left frames) = told_to link flow told
   own_in link (SetsWindow flow base) = []
-  own_in link (TakesTransfer handle transfer payload told flow) = at_link link handle (Transfers transfer payload told ∷ [])
+  own_in link (TakesTransfer handle transfer payload told flow) =
+      at_link link handle (Transfers transfer payload told ∷ [])
   own_in link (TakesDisposition d walk echoes) = reached_by link d walk
   own_in link (TakesDetach handle detach told) = at_link link handle (Detaches detach told ∷ [])
   own_in link (SendsBehind handle frame left answer) = at_link link handle.0 (SendsFrame frame ∷ [])
@@ -172,7 +183,8 @@ module _ {R A T D : Type 0} where
   -- so does each Flow that left, with the number of then
   abbrev pub EachTellsNext : Option ℕ → ℕ → List (Step R A T D) → Type 0
   EachTellsNext next window [] = Unit {0}
-  EachTellsNext next window (step ∷ steps) = AllTellNext (next_in next step) window (frames_in step) × EachTellsNext (next_in next step) window steps
+  EachTellsNext next window (step ∷ steps) =
+      AllTellNext (next_in next step) window (frames_in step) × EachTellsNext (next_in next step) window steps
 
 module _ {R A T D : Type 0} (gives : Relations R A T D) where
   -- the states around a list of calls

@@ -4,7 +4,9 @@ use Rattle.std.specs.FinMap as map
 use Rattle.amqp_session_types.specs.declared.refusals.BeginError.{BeginError}
 use Rattle.amqp_session_types.specs.declared.refusals.BeginError.TheVariants as begin
 use Rattle.amqp_session_types.specs.declared.refusals.SessionError.{SessionError}
-use Rattle.amqp_session_types.specs.declared.refusals.SessionError.TheVariants.{UnattachedHandle, HandleInUse, IllegalState, NumberInUse, HandleMaxReached, Memory}
+use Rattle.amqp_session_types.specs.declared.refusals.SessionError.TheVariants.{UnattachedHandle, HandleInUse}
+use Rattle.amqp_session_types.specs.declared.refusals.SessionError.TheVariants.{IllegalState, NumberInUse}
+use Rattle.amqp_session_types.specs.declared.refusals.SessionError.TheVariants.{HandleMaxReached, Memory}
 use Rattle.amqp_session_outgoing.specs.History.{RefusesBatch}
 use Rattle.amqp_session_outgoing.specs.declared.error.TransferError.{TransferError}
 use Rattle.amqp_session_outgoing.specs.declared.error.TransferError.TheVariants as sending
@@ -49,8 +51,8 @@ refusal sending.IllegalState = IllegalState
 refusal sending.NumberInUse = NumberInUse
 refusal sending.Memory = Memory
 
--- why a batch of a link that lives is refused: a delivery without a tag, then a number that is in use, then want of memory
--- (part 2, 2.7.5 and 2.8.6)
+-- why a batch of a link that lives is refused: a delivery without a tag, then a number that is in use, then want of
+-- memory (part 2, 2.7.5 and 2.8.6)
 abbrev pub RefusesLive : {R : Type 0} → State R → Transfers → SessionError → Type 0
 RefusesLive s batch IllegalState = RefusesBatch s.outgoing batch sending.IllegalState
 RefusesLive s batch NumberInUse = RefusesBatch s.outgoing batch sending.NumberInUse

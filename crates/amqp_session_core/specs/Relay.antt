@@ -38,7 +38,8 @@ pub data LinkStep (R A T D : Type 0) : Type 0 where
   Attaches : (attach : Attach) (told : Result A RelayError) → LinkStep R A T D
   Flows : (flow : LinkFlow) (told : Result (Option LinkFlow) RelayError) → LinkStep R A T D
   Transfers : (transfer : Transfer) (payload : List ℕ) (told : Result (TransferAnswer T) RelayError) → LinkStep R A T D
-  Disposes : (tag : List ℕ) (role : Role) (settled : Bool) (state : Option DeliveryState) (echo : Bool) → LinkStep R A T D
+  Disposes : (tag : List ℕ) (role : Role) (settled : Bool) (state : Option DeliveryState) (echo : Bool)
+      → LinkStep R A T D
   Detaches : (detach : Detach) (told : Result D RelayError) → LinkStep R A T D
   -- transfers of the link are sent
   SendsBatch : (batch : Batch) → LinkStep R A T D

@@ -1,5 +1,6 @@
 -- What a contract sees of a session.
-use Rattle.std.specs.Prelude.{◌≡◌, ℕ, ◌-◌, ◌^◌, List, [], ◌∷◌, Bool, true, nat_le, Option, Some, None, Result, Ok, Err, is_some, if◌then◌else◌, slice_index_or, slice_set}
+use Rattle.std.specs.Prelude.{◌≡◌, ℕ, ◌-◌, ◌^◌, List, [], ◌∷◌, Bool, true, nat_le, Option, Some, None, Result, Ok, Err}
+use Rattle.std.specs.Prelude.{is_some, if◌then◌else◌, slice_index_or, slice_set}
 use Rattle.std.specs.FinMap as map
 use Rattle.std.specs.Ordering.{nat_cmp}
 use Rattle.amqp_session_types.specs.declared.channels.IncomingChannel.{IncomingChannel}
@@ -86,7 +87,8 @@ module _ {R : Type 0} where
   leads s handle = leads_in s.links s.routes handle
 
 -- the link with this own handle takes a step, and every other link stays
-pub record StepsAt {R : Type 0} (step : R → R → Type 0) (old : List (Option R)) (handle : ℕ) (new : List (Option R)) : Type 0 where
+pub record StepsAt {R : Type 0} (step : R → R → Type 0) (old : List (Option R)) (handle : ℕ)
+    (new : List (Option R)) : Type 0 where
   pub before : R
   pub after : R
   pub had : slice_index_or old handle None ≡ Some before

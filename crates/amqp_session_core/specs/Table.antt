@@ -1,7 +1,8 @@
 -- The states of a session (part 2, 2.5.5): which call leads from which to which.
 use Rattle.std.specs.Prelude.{Option, Some, None}
 use Rattle.amqp_session_core.specs.declared.state.SessionState.{SessionState}
-use Rattle.amqp_session_core.specs.declared.state.SessionState.TheVariants.{Unmapped, BeginSent, BeginReceived, Mapped, EndSent, EndReceived}
+use Rattle.amqp_session_core.specs.declared.state.SessionState.TheVariants.{Unmapped, BeginSent, BeginReceived, Mapped}
+use Rattle.amqp_session_core.specs.declared.state.SessionState.TheVariants.{EndSent, EndReceived}
 
 abbrev pub after_send_begin : SessionState → Option SessionState
 after_send_begin Unmapped = Some BeginSent

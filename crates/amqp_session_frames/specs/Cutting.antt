@@ -24,7 +24,8 @@ IsPartial rest = (length rest < 4) ⊎ (length rest < said_size rest)
 -- pieces with this meaning one behind the other, and then a rest
 abbrev pub ReadsAs : {F : Type 0} → (List ℕ → F → Type 0) → List ℕ → List F → List ℕ → Type 0
 ReadsAs P bytes [] rest = bytes ≡ rest
-ReadsAs P bytes (f ∷ fs) rest = (front : List ℕ) × (more : List ℕ) × (bytes ≡ front ++ more) × P front f × ReadsAs P more fs rest
+ReadsAs P bytes (f ∷ fs) rest =
+    (front : List ℕ) × (more : List ℕ) × (bytes ≡ front ++ more) × P front f × ReadsAs P more fs rest
 
 -- what each is written as, one behind the other
 abbrev pub written : {F : Type 0} → (F → Option (List ℕ)) → List F → Option (List ℕ)

@@ -1,5 +1,6 @@
 -- A transfer that is too long for one frame goes in several: part 2, 2.6.14 and 2.7.5.
-use Rattle.std.specs.Prelude.{◌≡◌, ℕ, ◌+◌, ◌-◌, ◌≤◌, ◌^◌, ◌≢◌, min, Bool, true, List, [], ◌∷◌, ◌++◌, length, map, All, Some, ◌⊎◌}
+use Rattle.std.specs.Prelude.{◌≡◌, ℕ, ◌+◌, ◌-◌, ◌≤◌, ◌^◌, ◌≢◌, min, Bool, true, List, [], ◌∷◌, ◌++◌, length, map, All}
+use Rattle.std.specs.Prelude.{Some, ◌⊎◌}
 use Rattle.amqp_session_performatives.specs.Continuation.{continuation}
 use Rattle.amqp_session_performatives.specs.declared.transfer.Transfer.{Transfer}
 use Rattle.amqp_session_frames.specs.Cutting.{with_size}
@@ -38,7 +39,8 @@ pub record IsLastPart (channel : ℕ) (t : Transfer) (more : Bool) (rest : List 
   pub is : f ≡ part channel t more rest
 
 -- The frames are the parts of a transfer with this payload: full ones, each with the front of what is left of it, and a
--- last one with the rest. Those behind the first say what a continuation says: the handle, and whether more comes (2.7.5).
+-- last one with the rest. Those behind the first say what a continuation says: the handle, and whether more comes
+-- (2.7.5).
 abbrev pub AreParts : ℕ → ℕ → Transfer → Bool → List ℕ → List Frame → Type 0
 AreParts limit channel t more payload [] = ⊥
 AreParts limit channel t more payload (f ∷ []) = IsLastPart channel t more payload f
@@ -48,7 +50,8 @@ AreParts limit channel t more payload (f ∷ g ∷ fs) =
     × AreParts limit channel (continuation t) more rest (g ∷ fs)
 
 -- These pieces, behind the others, are the texts of the parts of a transfer, and none is longer than it may be.
-pub record Continues (limit channel : ℕ) (t : Transfer) (more : Bool) (payload : List ℕ) (old new : List (List ℕ)) : Type 0 where
+pub record Continues (limit channel : ℕ) (t : Transfer) (more : Bool) (payload : List ℕ)
+    (old new : List (List ℕ)) : Type 0 where
   pub pieces : List (List ℕ)
   pub parts : List Frame
   pub behind : new ≡ old ++ pieces

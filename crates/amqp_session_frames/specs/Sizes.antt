@@ -40,7 +40,8 @@ pub record IsOnePiece (text : Option (List ℕ)) (header payload : List ℕ) (pi
   pub one : pieces ≡ (head ++ payload) ∷ []
 
 -- one piece on the channel, which has room
-pub record IsWhole (limit channel : ℕ) (text : Option (List ℕ)) (payload : List ℕ) (pieces : List (List ℕ)) : Type 0 where
+pub record IsWhole (limit channel : ℕ) (text : Option (List ℕ)) (payload : List ℕ) (pieces : List (List ℕ)) : Type
+    0 where
   pub piece : IsOnePiece text (2 ∷ 0 ∷ to_be_bytes w16 channel) payload pieces
   pub short : 4 + length piece.appends.bytes + length payload ≤ room limit
 

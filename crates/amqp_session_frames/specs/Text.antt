@@ -1,5 +1,6 @@
 -- The bytes of a frame: part 2, 2.3.
-use Rattle.std.specs.Prelude.{◌≡◌, ℕ, ◌+◌, ◌*◌, ◌<◌, ◌≤◌, ◌^◌, ◌≢◌, List, [], ◌∷◌, ◌++◌, length, slice_index, Option, Some, None, if◌then◌else◌, nat_lt}
+use Rattle.std.specs.Prelude.{◌≡◌, ℕ, ◌+◌, ◌*◌, ◌<◌, ◌≤◌, ◌^◌, ◌≢◌, List, [], ◌∷◌, ◌++◌, length, slice_index, Option}
+use Rattle.std.specs.Prelude.{Some, None, if◌then◌else◌, nat_lt}
 use Rattle.std.specs.Int.{w16, w32, to_be_bytes}
 use Rattle.serde_amqp_item.specs.Item.{Item}
 use Rattle.serde_amqp_item.specs.Wire.{Wire, IsCapped, IsStrict}
@@ -12,10 +13,12 @@ use Rattle.amqp_session_frames.specs.declared.error.Error.{Error}
 use Rattle.amqp_session_frames.specs.declared.error.Error.TheVariants.{DecodeError, NotImplemented, TooLarge, Memory}
 use Rattle.amqp_session_frames.specs.declared.frame.Frame.{Frame}
 use Rattle.amqp_session_frames.specs.declared.frame.FrameBody.{FrameBody}
-use Rattle.amqp_session_frames.specs.declared.frame.FrameBody.TheVariants.{Empty, Open, Begin, Attach, Flow, Transfer, Disposition, Detach, End, Close}
+use Rattle.amqp_session_frames.specs.declared.frame.FrameBody.TheVariants.{Empty, Open, Begin, Attach, Flow, Transfer}
+use Rattle.amqp_session_frames.specs.declared.frame.FrameBody.TheVariants.{Disposition, Detach, End, Close}
 pub use Rattle.amqp_session_frames.specs.Cutting.{said_size, IsPartial}
 
--- The layout: the size in bytes, the data offset in words of four, the type, the channel, the extended header, and the frame body (2.3.1).
+-- The layout: the size in bytes, the data offset in words of four, the type, the channel, the extended header, and the
+-- frame body (2.3.1).
 pub record Framed (bytes : List ℕ) (kind channel : ℕ) (extended content : List ℕ) : Type 0 where
   pub doff : ℕ
   pub whole : bytes ≡ to_be_bytes w32 (length bytes) ++ doff ∷ kind ∷ (to_be_bytes w16 channel ++ (extended ++ content))

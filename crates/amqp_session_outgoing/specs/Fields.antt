@@ -1,5 +1,6 @@
 -- What a contract sees of the fields.
-use Rattle.std.specs.Prelude.{◌≡◌, ◌≢◌, ℕ, ◌+◌, ◌^◌, ◌<◌, ◌≤◌, List, [], ◌∷◌, length, Option, Some, None, Vec, vec_capacity, map, All, slice_index_or, slice_set}
+use Rattle.std.specs.Prelude.{◌≡◌, ◌≢◌, ℕ, ◌+◌, ◌^◌, ◌<◌, ◌≤◌, List, [], ◌∷◌, length, Option, Some, None, Vec}
+use Rattle.std.specs.Prelude.{vec_capacity, map, All, slice_index_or, slice_set}
 use Rattle.std.specs.VecDeque.{deque_len, deque_capacity}
 use Rattle.amqp_session_outgoing.specs.Queues.{Queues, Lists, held_in, firsts_in, frames_in}
 use Rattle.amqp_session_outgoing.specs.State.{State}
@@ -46,7 +47,8 @@ module _ {T F : Type 0} where
     pub other : (k : ℕ) (d : Queue T F) → k < length items → ((slice_index_or items k d).handle).0 ≢ handle
 
   -- the transfers of the link at this place became others, and nothing else changed
-  pub record ChangesAt (old : List (Queue T F)) (i : ℕ) (change : List (Outbound T F) → List (Outbound T F)) (new : List (Queue T F)) : Type 0 where
+  pub record ChangesAt (old : List (Queue T F)) (i : ℕ) (change : List (Outbound T F) → List (Outbound T F))
+      (new : List (Queue T F)) : Type 0 where
     pub queue : Queue T F
     pub changed : new ≡ slice_set old i queue
     pub handle : queue.handle ≡ (slice_index_or old i queue).handle
@@ -55,8 +57,8 @@ module _ {T F : Type 0} where
   abbrev pub lists_of : turns.Inside T F → Lists T F
   lists_of s = record { queues = queues_of s.queues.items; room = s.room }
 
-  -- the counts are those of what waits, and each link in the turn has something waiting. All nodes together are fewer than a list
-  -- takes. Each transfer for which room was promised finds a node, and its link a place in the turn
+  -- the counts are those of what waits, and each link in the turn has something waiting. All nodes together are fewer
+  -- than a list takes. Each transfer for which room was promised finds a node, and its link a place in the turn
   pub record IsSoundTurn (s : turns.Inside T F) : Type 0 where
     pub counted : s.held ≡ held_in (queues_of s.queues.items)
     pub waits : EachWaits s.queues.items
@@ -79,7 +81,8 @@ module _ {T F : Type 0} where
         room = s.turns.room;
       }
 
-  -- the count is that of the waiting transfers that begin a delivery, and each transfer that waits finds room for its delivery
+  -- the count is that of the waiting transfers that begin a delivery, and each transfer that waits finds room for its
+  -- delivery
   pub record IsSound (s : outgoing.Inside T F) : Type 0 where
     pub firsts : s.firsts ≡ firsts_in s.turns.queues
     pub places : held_in s.turns.queues + s.turns.room ≤ s.unsettled.room

@@ -60,7 +60,8 @@ module _ {T F : Type 0} where
   sent_count [] = 0
   sent_count (s ∷ left) = (length s.behind + 1) + sent_count left
 
-  -- how many frames a list holds at least that takes so many more behind the last of these transfers, 0 where there is none
+  -- how many frames a list holds at least that takes so many more behind the last of these transfers, 0 where there is
+  -- none
   abbrev pub last_room : ℕ → List (Outbound T F) → ℕ
   last_room count [] = 0
   last_room count (u ∷ []) = length u.behind + count

@@ -45,7 +45,8 @@ pub data Step (T F : Type 0) : Type 0 where
   Fails : Step T F
 
 module _ {T F : Type 0} where
-  -- why a batch is refused: a delivery without a tag, then a number that is in use, then want of memory outside of the room that was made
+  -- why a batch is refused: a delivery without a tag, then a number that is in use, then want of memory outside of the
+  -- room that was made
   abbrev pub RefusesBatch : State T F → List (Outbound T F) → TransferError → Type 0
   RefusesBatch s batch IllegalState = HaveTags batch → ⊥
   RefusesBatch s batch NumberInUse = HaveTags batch × (HasFreeNumbers s batch → ⊥)
@@ -63,12 +64,14 @@ module _ {T F : Type 0} where
   Steps old (SetsWindow base width) new = new ≡ with_window old base width
   Steps old (Accepts handle batch left) new = AcceptsBatch old handle batch left new
   Steps old (Refuses batch error) new = RefusesBatch old batch error × (new ≡ old)
-  Steps old (Follows handle frame left) new = FollowsIn handle.0 frame left old.queues new.queues × (new ≡ record old { queues = new.queues })
+  Steps old (Follows handle frame left) new =
+      FollowsIn handle.0 frame left old.queues new.queues × (new ≡ record old { queues = new.queues })
   Steps old (Reserves count) new = new ≡ record old { room = max old.room count }
   Steps old (Settles number) new = new ≡ record old { unsettled = map.remove old.unsettled number }
   Steps old (SettlesRange range) new = new ≡ record old { unsettled = outside range old.unsettled }
   Steps old (Forgets handle) new =
-      ((number : ℕ) → map.get new.unsettled number ≡ unless_of handle.0 (map.get old.unsettled number)) × (new ≡ record old { unsettled = new.unsettled })
+      ((number : ℕ) → map.get new.unsettled number ≡ unless_of handle.0 (map.get old.unsettled number))
+      × (new ≡ record old { unsettled = new.unsettled })
   Steps old Fails new = new ≡ old
 
   abbrev pub History : State T F → List (Step T F) → State T F → Type 0
@@ -76,7 +79,8 @@ module _ {T F : Type 0} where
   History start (step ∷ steps) end = (mid : State T F) × Steps start step mid × History mid steps end
 
   -- a step in which these transfers were handed out
-  pub record Takes (step : List (Sent T F) → Step T F) (old : State T F) (out : List (Sent T F)) (new : State T F) (out_new : List (Sent T F)) : Type 0 where
+  pub record Takes (step : List (Sent T F) → Step T F) (old : State T F) (out : List (Sent T F)) (new : State T F)
+      (out_new : List (Sent T F)) : Type 0 where
     pub left : List (Sent T F)
     pub added : out_new ≡ out ++ left
     pub stepped : Steps old (step left) new

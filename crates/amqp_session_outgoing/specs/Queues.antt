@@ -1,5 +1,6 @@
 -- What waits in a session: the links that wait, in turn, each with its waiting transfers.
-use Rattle.std.specs.Prelude.{◌≡◌, ℕ, ◌+◌, ◌<◌, ◌==◌, List, [], ◌∷◌, ◌++◌, length, map, Option, Some, None, if◌then◌else◌}
+use Rattle.std.specs.Prelude.{◌≡◌, ℕ, ◌+◌, ◌<◌, ◌==◌, List, [], ◌∷◌, ◌++◌, length, map, Option, Some, None}
+use Rattle.std.specs.Prelude.{if◌then◌else◌}
 use Rattle.amqp_session_types.specs.declared.handles.OutputHandle.{OutputHandle}
 use Rattle.amqp_session_outgoing.specs.Frames.{LinkFrame, frames_of, firsts_of, frames_count, last_room}
 use Rattle.amqp_session_outgoing.specs.declared.frames.Outbound.{Outbound}
@@ -37,8 +38,8 @@ module _ {T F : Type 0} where
   units_of handle [] = []
   units_of handle (q ∷ qs) = if q.0 == handle then q.1 else units_of handle qs
 
-  -- how much room so many frames of a link take behind the last of its transfers that wait: for those that are there and for
-  -- themselves. Where none waits they leave at once, and take none
+  -- how much room so many frames of a link take behind the last of its transfers that wait: for those that are there
+  -- and for themselves. Where none waits they leave at once, and take none
   abbrev pub room_behind : ℕ → ℕ → Queues T F → ℕ
   room_behind handle count queues = last_room count (units_of handle queues)
 
@@ -63,7 +64,8 @@ module _ {T F : Type 0} where
   -- the link's transfers wait behind those that it has waiting, and a link that had none joins the turn at its end
   abbrev pub joined : ℕ → List (Outbound T F) → Queues T F → Queues T F
   joined handle batch [] = (handle, batch) ∷ []
-  joined handle batch (q ∷ others) = if q.0 == handle then (handle, q.1 ++ batch) ∷ others else q ∷ joined handle batch others
+  joined handle batch (q ∷ others) =
+      if q.0 == handle then (handle, q.1 ++ batch) ∷ others else q ∷ joined handle batch others
 
   -- a frame goes behind the last of these transfers
   abbrev pub trailed : F → List (Outbound T F) → List (Outbound T F)
@@ -74,7 +76,8 @@ module _ {T F : Type 0} where
   -- a frame of the link goes behind the transfers that it has waiting
   abbrev pub followed : ℕ → F → Queues T F → Queues T F
   followed handle frame [] = []
-  followed handle frame (q ∷ others) = if q.0 == handle then (q.0, trailed frame q.1) ∷ others else q ∷ followed handle frame others
+  followed handle frame (q ∷ others) =
+      if q.0 == handle then (q.0, trailed frame q.1) ∷ others else q ∷ followed handle frame others
 
   -- a frame of the link goes behind the transfers that it has waiting; where it has none the frame leaves at once
   abbrev pub FollowsIn : ℕ → F → Option F → Queues T F → Queues T F → Type 0

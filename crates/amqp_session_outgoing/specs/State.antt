@@ -1,5 +1,6 @@
 -- What a contract sees of the sending side of a session, and how transfers leave it.
-use Rattle.std.specs.Prelude.{◌≡◌, ℕ, ◌+◌, ◌%◌, ◌^◌, ◌<◌, ◌≤◌, ◌-◌, List, [], ◌∷◌, ◌++◌, length, Option, Some, None, if◌then◌else◌}
+use Rattle.std.specs.Prelude.{◌≡◌, ℕ, ◌+◌, ◌%◌, ◌^◌, ◌<◌, ◌≤◌, ◌-◌, List, [], ◌∷◌, ◌++◌, length, Option, Some, None}
+use Rattle.std.specs.Prelude.{if◌then◌else◌}
 use Rattle.std.specs.Ordering.{nat_cmp}
 use Rattle.std.specs.FinMap as map
 use Rattle.amqp_session_types.specs.declared.handles.OutputHandle.{OutputHandle}
@@ -66,7 +67,8 @@ module _ {T F : Type 0} where
   after s handle u queues =
       record s {
         next_outgoing_id = (s.next_outgoing_id + 1) % 2 ^ 32;
-        next_delivery_number = (if is_first u.part then (s.next_delivery_number + 1) % 2 ^ 32 else s.next_delivery_number);
+        next_delivery_number =
+            (if is_first u.part then (s.next_delivery_number + 1) % 2 ^ 32 else s.next_delivery_number);
         queues = queues;
         unsettled = registered s.unsettled s.next_delivery_number handle u.part;
       }
@@ -85,7 +87,8 @@ module _ {T F : Type 0} where
   Leaves old (sent ∷ more) new = (mid : State T F) × Sends old sent mid × Leaves mid more new
 
   -- what was handed out goes on by transfers that leave, one after another
-  pub record Leaving (old : State T F) (out : List (Sent T F)) (new : State T F) (out_new : List (Sent T F)) : Type 0 where
+  pub record Leaving (old : State T F) (out : List (Sent T F)) (new : State T F) (out_new : List (Sent T F)) : Type
+      0 where
     pub left : List (Sent T F)
     pub added : out_new ≡ out ++ left
     pub run : Leaves old left new
@@ -96,13 +99,19 @@ module _ {T F : Type 0} where
   -- a session with these numbers and deliveries, in whose turn no link stands but one with these transfers
   abbrev pub with_alone : State T F → ℕ → ℕ → Table → ℕ → List (Outbound T F) → State T F
   with_alone s number delivery table handle units =
-      record s { next_outgoing_id = number; next_delivery_number = delivery; unsettled = table; queues = rejoined handle units [] }
+      record s {
+        next_outgoing_id = number;
+        next_delivery_number = delivery;
+        unsettled = table;
+        queues = rejoined handle units [];
+      }
 
   -- a batch waits, and takes of the room that was made as much as it needs
   abbrev pub with_batch : State T F → ℕ → List (Outbound T F) → State T F
   with_batch s handle batch = record s { queues = joined handle batch s.queues; room = s.room - length batch }
 
-  -- the window's base that a Flow tells; where it tells none, the peer has not seen the session's first transfer (part 2, 2.5.6)
+  -- the window's base that a Flow tells; where it tells none, the peer has not seen the session's first transfer (part
+  -- 2, 2.5.6)
   abbrev pub base_of : State T F → Option ℕ → ℕ
   base_of s None = s.initial_outgoing_id
   base_of s (Some number) = number

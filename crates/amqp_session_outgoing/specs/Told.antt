@@ -1,10 +1,12 @@
 -- What a history of calls says by what went in and out: the words in which laws on histories are said.
-use Rattle.std.specs.Prelude.{◌≡◌, ℕ, ◌+◌, ◌%◌, ◌^◌, ◌<◌, ◌==◌, List, [], ◌∷◌, ◌++◌, Bool, true, false, Option, Some, None, if◌then◌else◌}
+use Rattle.std.specs.Prelude.{◌≡◌, ℕ, ◌+◌, ◌%◌, ◌^◌, ◌<◌, ◌==◌, List, [], ◌∷◌, ◌++◌, Bool, true, false, Option, Some}
+use Rattle.std.specs.Prelude.{None, if◌then◌else◌}
 use Rattle.std.specs.FinMap as map
 use Rattle.amqp_session_unsettled.specs.Range.{ahead}
 use Rattle.amqp_session_outgoing.specs.Frames.{LinkFrame, Other, frames_of, frames_sent}
 use Rattle.amqp_session_outgoing.specs.State.{State, Leaves, Sends, with_window, with_batch}
-use Rattle.amqp_session_outgoing.specs.History.{Step, TakesWindow, SetsWindow, Accepts, Refuses, Follows, Reserves, Settles, SettlesRange, Forgets, Fails}
+use Rattle.amqp_session_outgoing.specs.History.{Step, TakesWindow, SetsWindow, Accepts, Refuses, Follows, Reserves}
+use Rattle.amqp_session_outgoing.specs.History.{Settles, SettlesRange, Forgets, Fails}
 use Rattle.amqp_session_outgoing.specs.declared.frames.Sent.{Sent}
 
 -- a delivery's number, where a transfer carries one
@@ -146,13 +148,15 @@ module _ {T F : Type 0} where
   abbrev pub InLatestWindow : ℕ → ℕ → List (Step T F) → Type 0
   InLatestWindow base width [] = Unit {0}
   InLatestWindow base width (step ∷ steps) =
-      EachInWindow (base_in base step) (width_in width step) (left_in step) × InLatestWindow (base_in base step) (width_in width step) steps
+      EachInWindow (base_in base step) (width_in width step) (left_in step)
+      × InLatestWindow (base_in base step) (width_in width step) steps
 
   -- transfers carry numbers from this one on, and those that begin a delivery carry delivery numbers from this one on
   abbrev pub IsNumbered : ℕ → ℕ → List (Sent T F) → Type 0
   IsNumbered number delivery [] = Unit {0}
   IsNumbered number delivery (s ∷ left) =
-      (s.number ≡ number % 2 ^ 32) × IsNumber delivery s.delivery × IsNumbered (number + 1) (behind_number delivery s.delivery) left
+      (s.number ≡ number % 2 ^ 32) × IsNumber delivery s.delivery
+      × IsNumbered (number + 1) (behind_number delivery s.delivery) left
 
   -- the number that a delivery gets is no unsettled one's
   abbrev pub GivesFree : State T F → Option ℕ → Type 0

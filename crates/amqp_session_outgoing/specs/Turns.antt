@@ -1,6 +1,7 @@
 -- What happens in a session, one thing after another, and how links take turns.
 use Rattle.std.specs.Prelude.{◌≡◌, ℕ, ◌+◌, ◌<◌, ◌==◌, List, [], ◌∷◌, ◌++◌, length, Some, None, if◌then◌else◌}
-use Rattle.amqp_session_outgoing.specs.History.{Step, TakesWindow, SetsWindow, Accepts, Refuses, Follows, Reserves, Settles, SettlesRange, Forgets, Fails}
+use Rattle.amqp_session_outgoing.specs.History.{Step, TakesWindow, SetsWindow, Accepts, Refuses, Follows, Reserves}
+use Rattle.amqp_session_outgoing.specs.History.{Settles, SettlesRange, Forgets, Fails}
 use Rattle.amqp_session_outgoing.specs.declared.frames.Outbound.{Outbound}
 use Rattle.amqp_session_outgoing.specs.declared.frames.Sent.{Sent}
 
@@ -36,7 +37,8 @@ module _ {T F : Type 0} where
   -- how many transfers of a link were accepted
   abbrev pub accepted_count : ℕ → List (Event T F) → ℕ
   accepted_count link [] = 0
-  accepted_count link (In handle batch ∷ events) = (if handle == link then length batch else 0) + accepted_count link events
+  accepted_count link (In handle batch ∷ events) =
+      (if handle == link then length batch else 0) + accepted_count link events
   accepted_count link (Behind handle frame ∷ events) = accepted_count link events
   accepted_count link (Out s ∷ events) = accepted_count link events
 

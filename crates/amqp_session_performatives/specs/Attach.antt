@@ -2,10 +2,12 @@
 use Rattle.std.specs.Prelude.{ℕ, false, List, [], ◌∷◌, Option}
 use Rattle.serde_amqp_item.specs.Item.{Item, scalar, boolean, uint, ulong, string}
 use Rattle.serde_amqp_item.specs.Record.{option_item, record_item}
-use Rattle.serde_amqp_de.specs.Takes.{boolean_taken, uint_taken, ulong_taken, string_taken, option_taken, record_taken, mapped, or_null, is_boolean}
+use Rattle.serde_amqp_de.specs.Takes.{boolean_taken, uint_taken, ulong_taken, string_taken, option_taken, record_taken}
+use Rattle.serde_amqp_de.specs.Takes.{mapped, or_null, is_boolean}
 use Rattle.serde_amqp_types.specs.Takes.{is_ubyte}
 use Rattle.amqp_session_types.specs.Fields.{named_values_item, named_values_taken, symbols_item, symbols_taken}
-use Rattle.amqp_session_types.specs.Modes.{role_item, role_taken, sender_settle_mode_item, sender_settle_mode_taken, receiver_settle_mode_item, receiver_settle_mode_taken}
+use Rattle.amqp_session_types.specs.Modes.{role_item, role_taken, sender_settle_mode_item, sender_settle_mode_taken}
+use Rattle.amqp_session_types.specs.Modes.{receiver_settle_mode_item, receiver_settle_mode_taken}
 use Rattle.amqp_session_states.specs.Source.{source_item, source_taken}
 use Rattle.amqp_session_states.specs.TargetArchetype.{target_archetype_item, target_archetype_taken}
 use Rattle.amqp_session_performatives.specs.Parts.{handle_item, unsettled_item, unsettled_taken}
@@ -13,9 +15,11 @@ use Rattle.amqp_session_performatives.specs.declared.attach.Attach.{Attach}
 
 -- amqp:attach:list
 abbrev pub attach_name : List ℕ
-attach_name = 0x61 ∷ 0x6d ∷ 0x71 ∷ 0x70 ∷ 0x3a ∷ 0x61 ∷ 0x74 ∷ 0x74 ∷ 0x61 ∷ 0x63 ∷ 0x68 ∷ 0x3a ∷ 0x6c ∷ 0x69 ∷ 0x73 ∷ 0x74 ∷ []
+attach_name =
+    0x61 ∷ 0x6d ∷ 0x71 ∷ 0x70 ∷ 0x3a ∷ 0x61 ∷ 0x74 ∷ 0x74 ∷ 0x61 ∷ 0x63 ∷ 0x68 ∷ 0x3a ∷ 0x6c ∷ 0x69 ∷ 0x73 ∷ 0x74 ∷ []
 
--- name, handle, role, snd-settle-mode, rcv-settle-mode, source, target, unsettled, incomplete-unsettled, initial-delivery-count, max-message-size, offered-capabilities, desired-capabilities, properties
+-- name, handle, role, snd-settle-mode, rcv-settle-mode, source, target, unsettled, incomplete-unsettled,
+-- initial-delivery-count, max-message-size, offered-capabilities, desired-capabilities, properties
 abbrev pub attach_fields : Attach → List Item
 attach_fields a =
     scalar (string a.name)

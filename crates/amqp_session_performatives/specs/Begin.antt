@@ -10,7 +10,8 @@ use Rattle.amqp_session_performatives.specs.declared.begin.Begin.{Begin}
 abbrev pub begin_name : List ℕ
 begin_name = 0x61 ∷ 0x6d ∷ 0x71 ∷ 0x70 ∷ 0x3a ∷ 0x62 ∷ 0x65 ∷ 0x67 ∷ 0x69 ∷ 0x6e ∷ 0x3a ∷ 0x6c ∷ 0x69 ∷ 0x73 ∷ 0x74 ∷ []
 
--- remote-channel, next-outgoing-id, incoming-window, outgoing-window, handle-max, offered-capabilities, desired-capabilities, properties
+-- remote-channel, next-outgoing-id, incoming-window, outgoing-window, handle-max, offered-capabilities,
+-- desired-capabilities, properties
 abbrev pub begin_fields : Begin → List Item
 begin_fields b =
     option_item (λ n. scalar (ushort n)) b.remote_channel

@@ -6,7 +6,8 @@ use Rattle.serde_amqp_de.specs.Again.{EachAgain, record_again, record_faithful}
 use Rattle.amqp_session_types.specs.declared.error.Error.{Error}
 use Rattle.amqp_session_performatives.specs.Close.{close_name, close_fields, close_item, close_takes, close_taken}
 use Rattle.amqp_session_performatives.specs.declared.close.Close.{Close}
-use Rattle.amqp_session_performatives.specs.FieldLaws.{optional_error_again, optional_error_decided, optional_error_same}
+use Rattle.amqp_session_performatives.specs.FieldLaws.{optional_error_again, optional_error_decided}
+use Rattle.amqp_session_performatives.specs.FieldLaws.{optional_error_same}
 
 pub close_each_decided : AllDecided close_takes
 close_each_decided = (optional_error_decided, tt)

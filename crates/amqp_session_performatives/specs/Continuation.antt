@@ -4,4 +4,15 @@ use Rattle.amqp_session_performatives.specs.declared.transfer.Transfer.{Transfer
 
 -- a transfer that goes on with the delivery of another: its link, and whether more follow, alone
 abbrev pub continuation : Transfer → Transfer
-continuation t = record t { delivery_id = None; delivery_tag = None; message_format = None; settled = None; rcv_settle_mode = None; state = None; resume = false; aborted = false; batchable = false }
+continuation t =
+    record t {
+      delivery_id = None;
+      delivery_tag = None;
+      message_format = None;
+      settled = None;
+      rcv_settle_mode = None;
+      state = None;
+      resume = false;
+      aborted = false;
+      batchable = false;
+    }

@@ -7,7 +7,9 @@ use Rattle.amqp_session_types.specs.declared.error.Error.{Error}
 use Rattle.amqp_session_types.specs.declared.handles.Handle.{Handle}
 use Rattle.amqp_session_performatives.specs.Detach.{detach_name, detach_fields, detach_item, detach_takes, detach_taken}
 use Rattle.amqp_session_performatives.specs.declared.detach.Detach.{Detach}
-use Rattle.amqp_session_performatives.specs.FieldLaws.{boolean_or_again, boolean_or_decided, boolean_or_same, handle_same, optional_error_again, optional_error_decided, optional_error_same}
+use Rattle.amqp_session_performatives.specs.FieldLaws.{boolean_or_again, boolean_or_decided, boolean_or_same}
+use Rattle.amqp_session_performatives.specs.FieldLaws.{handle_same, optional_error_again, optional_error_decided}
+use Rattle.amqp_session_performatives.specs.FieldLaws.{optional_error_same}
 
 pub detach_each_decided : AllDecided detach_takes
 detach_each_decided = (uint_decided, (boolean_or_decided false, (optional_error_decided, tt)))

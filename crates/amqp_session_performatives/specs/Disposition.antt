@@ -2,14 +2,17 @@
 use Rattle.std.specs.Prelude.{ℕ, false, List, [], ◌∷◌, Option}
 use Rattle.serde_amqp_item.specs.Item.{Item, scalar, boolean, uint}
 use Rattle.serde_amqp_item.specs.Record.{option_item, record_item}
-use Rattle.serde_amqp_de.specs.Takes.{boolean_taken, uint_taken, option_taken, record_taken, mapped, or_null, is_boolean}
+use Rattle.serde_amqp_de.specs.Takes.{boolean_taken, uint_taken, option_taken, record_taken, mapped, or_null}
+use Rattle.serde_amqp_de.specs.Takes.{is_boolean}
 use Rattle.amqp_session_types.specs.Modes.{role_item, role_taken}
 use Rattle.amqp_session_states.specs.DeliveryState.{delivery_state_item, delivery_state_taken}
 use Rattle.amqp_session_performatives.specs.declared.disposition.Disposition.{Disposition}
 
 -- amqp:disposition:list
 abbrev pub disposition_name : List ℕ
-disposition_name = 0x61 ∷ 0x6d ∷ 0x71 ∷ 0x70 ∷ 0x3a ∷ 0x64 ∷ 0x69 ∷ 0x73 ∷ 0x70 ∷ 0x6f ∷ 0x73 ∷ 0x69 ∷ 0x74 ∷ 0x69 ∷ 0x6f ∷ 0x6e ∷ 0x3a ∷ 0x6c ∷ 0x69 ∷ 0x73 ∷ 0x74 ∷ []
+disposition_name =
+    0x61 ∷ 0x6d ∷ 0x71 ∷ 0x70 ∷ 0x3a ∷ 0x64 ∷ 0x69 ∷ 0x73 ∷ 0x70 ∷ 0x6f ∷ 0x73 ∷ 0x69 ∷ 0x74 ∷ 0x69 ∷ 0x6f ∷ 0x6e ∷ 0x3a
+    ∷ 0x6c ∷ 0x69 ∷ 0x73 ∷ 0x74 ∷ []
 
 -- role, first, last, settled, state, batchable
 abbrev pub disposition_fields : Disposition → List Item

@@ -6,7 +6,8 @@ use Rattle.serde_amqp_de.specs.Again.{EachAgain, record_again, record_faithful}
 use Rattle.amqp_session_types.specs.declared.error.Error.{Error}
 use Rattle.amqp_session_performatives.specs.End.{end_name, end_fields, end_item, end_takes, end_taken}
 use Rattle.amqp_session_performatives.specs.declared.end.End.{End}
-use Rattle.amqp_session_performatives.specs.FieldLaws.{optional_error_again, optional_error_decided, optional_error_same}
+use Rattle.amqp_session_performatives.specs.FieldLaws.{optional_error_again, optional_error_decided}
+use Rattle.amqp_session_performatives.specs.FieldLaws.{optional_error_same}
 
 pub end_each_decided : AllDecided end_takes
 end_each_decided = (optional_error_decided, tt)

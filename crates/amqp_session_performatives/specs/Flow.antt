@@ -2,7 +2,8 @@
 use Rattle.std.specs.Prelude.{ℕ, false, List, [], ◌∷◌, Option}
 use Rattle.serde_amqp_item.specs.Item.{Item, scalar, boolean, uint}
 use Rattle.serde_amqp_item.specs.Record.{option_item, record_item}
-use Rattle.serde_amqp_de.specs.Takes.{boolean_taken, uint_taken, option_taken, record_taken, mapped, or_null, is_boolean}
+use Rattle.serde_amqp_de.specs.Takes.{boolean_taken, uint_taken, option_taken, record_taken, mapped, or_null}
+use Rattle.serde_amqp_de.specs.Takes.{is_boolean}
 use Rattle.amqp_session_types.specs.Fields.{named_values_item, named_values_taken}
 use Rattle.amqp_session_performatives.specs.Parts.{handle_item}
 use Rattle.amqp_session_performatives.specs.declared.flow.Flow.{Flow}
@@ -11,7 +12,8 @@ use Rattle.amqp_session_performatives.specs.declared.flow.Flow.{Flow}
 abbrev pub flow_name : List ℕ
 flow_name = 0x61 ∷ 0x6d ∷ 0x71 ∷ 0x70 ∷ 0x3a ∷ 0x66 ∷ 0x6c ∷ 0x6f ∷ 0x77 ∷ 0x3a ∷ 0x6c ∷ 0x69 ∷ 0x73 ∷ 0x74 ∷ []
 
--- next-incoming-id, incoming-window, next-outgoing-id, outgoing-window, handle, delivery-count, link-credit, available, drain, echo, properties
+-- next-incoming-id, incoming-window, next-outgoing-id, outgoing-window, handle, delivery-count, link-credit, available,
+-- drain, echo, properties
 abbrev pub flow_fields : Flow → List Item
 flow_fields l =
     option_item (λ n. scalar (uint n)) l.next_incoming_id

@@ -6,4 +6,13 @@ use Rattle.amqp_session_performatives.specs.declared.link_flow.LinkFlow.{LinkFlo
 
 -- a flow without its session's fields; one without a handle tells no link's state
 abbrev pub link_flow : Flow → Option LinkFlow
-link_flow f = f.handle >>= λ h. Some (record { handle = h; delivery_count = f.delivery_count; link_credit = f.link_credit; available = f.available; drain = f.drain; echo = f.echo; properties = f.properties })
+link_flow f =
+    f.handle >>= λ h. Some (record {
+      handle = h;
+      delivery_count = f.delivery_count;
+      link_credit = f.link_credit;
+      available = f.available;
+      drain = f.drain;
+      echo = f.echo;
+      properties = f.properties;
+    })

@@ -2,7 +2,8 @@
 use Rattle.std.specs.Prelude.{ℕ, List, [], ◌∷◌, Option}
 use Rattle.serde_amqp_item.specs.Item.{Item, scalar, ushort, uint, string}
 use Rattle.serde_amqp_item.specs.Record.{option_item, record_item}
-use Rattle.serde_amqp_de.specs.Takes.{ushort_taken, uint_taken, string_taken, option_taken, record_taken, mapped, or_null, is_uint, is_ushort}
+use Rattle.serde_amqp_de.specs.Takes.{ushort_taken, uint_taken, string_taken, option_taken, record_taken, mapped}
+use Rattle.serde_amqp_de.specs.Takes.{or_null, is_uint, is_ushort}
 use Rattle.amqp_session_types.specs.Fields.{named_values_item, named_values_taken, symbols_item, symbols_taken}
 use Rattle.amqp_session_performatives.specs.declared.open.Open.{Open}
 
@@ -10,7 +11,8 @@ use Rattle.amqp_session_performatives.specs.declared.open.Open.{Open}
 abbrev pub open_name : List ℕ
 open_name = 0x61 ∷ 0x6d ∷ 0x71 ∷ 0x70 ∷ 0x3a ∷ 0x6f ∷ 0x70 ∷ 0x65 ∷ 0x6e ∷ 0x3a ∷ 0x6c ∷ 0x69 ∷ 0x73 ∷ 0x74 ∷ []
 
--- container-id, hostname, max-frame-size, channel-max, idle-time-out, outgoing-locales, incoming-locales, offered-capabilities, desired-capabilities, properties
+-- container-id, hostname, max-frame-size, channel-max, idle-time-out, outgoing-locales, incoming-locales,
+-- offered-capabilities, desired-capabilities, properties
 abbrev pub open_fields : Open → List Item
 open_fields o =
     scalar (string o.container_id)

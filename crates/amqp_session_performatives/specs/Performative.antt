@@ -12,7 +12,9 @@ use Rattle.amqp_session_performatives.specs.Detach.{detach_name, detach_item, de
 use Rattle.amqp_session_performatives.specs.End.{end_name, end_item, end_takes}
 use Rattle.amqp_session_performatives.specs.Close.{close_name, close_item, close_takes}
 use Rattle.amqp_session_performatives.specs.declared.performative.Performative.{Performative}
-use Rattle.amqp_session_performatives.specs.declared.performative.Performative.TheVariants.{Open, Begin, Attach, Flow, Transfer, Disposition, Detach, End, Close}
+use Rattle.amqp_session_performatives.specs.declared.performative.Performative.TheVariants.{Open, Begin, Attach, Flow}
+use Rattle.amqp_session_performatives.specs.declared.performative.Performative.TheVariants.{Transfer, Disposition}
+use Rattle.amqp_session_performatives.specs.declared.performative.Performative.TheVariants.{Detach, End, Close}
 
 abbrev pub performative_item : Performative → Item
 performative_item (Open x) = open_item x

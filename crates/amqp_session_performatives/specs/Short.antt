@@ -18,7 +18,15 @@ use Rattle.amqp_session_performatives.specs.declared.detach.Detach.{Detach}
 use Rattle.amqp_session_performatives.specs.declared.end.End.{End}
 use Rattle.amqp_session_performatives.specs.declared.close.Close.{Close}
 use Rattle.amqp_session_performatives.specs.declared.performative.Performative.{Performative}
-use Rattle.amqp_session_performatives.specs.declared.performative.Performative.TheVariants.{Open as the_open, Begin as the_begin, Attach as the_attach, Flow as the_flow, Transfer as the_transfer, Disposition as the_disposition, Detach as the_detach, End as the_end, Close as the_close}
+use Rattle.amqp_session_performatives.specs.declared.performative.Performative.TheVariants.{Open as the_open}
+use Rattle.amqp_session_performatives.specs.declared.performative.Performative.TheVariants.{Begin as the_begin}
+use Rattle.amqp_session_performatives.specs.declared.performative.Performative.TheVariants.{Attach as the_attach}
+use Rattle.amqp_session_performatives.specs.declared.performative.Performative.TheVariants.{Flow as the_flow}
+use Rattle.amqp_session_performatives.specs.declared.performative.Performative.TheVariants.{Transfer as the_transfer}
+use Rattle.amqp_session_performatives.specs.declared.performative.Performative.TheVariants.{Disposition as the_disposition}
+use Rattle.amqp_session_performatives.specs.declared.performative.Performative.TheVariants.{Detach as the_detach}
+use Rattle.amqp_session_performatives.specs.declared.performative.Performative.TheVariants.{End as the_end}
+use Rattle.amqp_session_performatives.specs.declared.performative.Performative.TheVariants.{Close as the_close}
 
 -- an array of at most 65,536 symbols
 abbrev pub FewSymbols : List (List ℕ) → Type 0

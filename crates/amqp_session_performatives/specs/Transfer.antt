@@ -2,7 +2,8 @@
 use Rattle.std.specs.Prelude.{ℕ, false, List, [], ◌∷◌, Option}
 use Rattle.serde_amqp_item.specs.Item.{Item, scalar, boolean, uint, binary}
 use Rattle.serde_amqp_item.specs.Record.{option_item, record_item}
-use Rattle.serde_amqp_de.specs.Takes.{boolean_taken, uint_taken, binary_taken, option_taken, record_taken, mapped, or_null, is_boolean}
+use Rattle.serde_amqp_de.specs.Takes.{boolean_taken, uint_taken, binary_taken, option_taken, record_taken, mapped}
+use Rattle.serde_amqp_de.specs.Takes.{or_null, is_boolean}
 use Rattle.amqp_session_types.specs.Modes.{receiver_settle_mode_item, receiver_settle_mode_taken}
 use Rattle.amqp_session_states.specs.DeliveryState.{delivery_state_item, delivery_state_taken}
 use Rattle.amqp_session_performatives.specs.Parts.{handle_item}
@@ -10,7 +11,9 @@ use Rattle.amqp_session_performatives.specs.declared.transfer.Transfer.{Transfer
 
 -- amqp:transfer:list
 abbrev pub transfer_name : List ℕ
-transfer_name = 0x61 ∷ 0x6d ∷ 0x71 ∷ 0x70 ∷ 0x3a ∷ 0x74 ∷ 0x72 ∷ 0x61 ∷ 0x6e ∷ 0x73 ∷ 0x66 ∷ 0x65 ∷ 0x72 ∷ 0x3a ∷ 0x6c ∷ 0x69 ∷ 0x73 ∷ 0x74 ∷ []
+transfer_name =
+    0x61 ∷ 0x6d ∷ 0x71 ∷ 0x70 ∷ 0x3a ∷ 0x74 ∷ 0x72 ∷ 0x61 ∷ 0x6e ∷ 0x73 ∷ 0x66 ∷ 0x65 ∷ 0x72 ∷ 0x3a ∷ 0x6c ∷ 0x69 ∷ 0x73
+    ∷ 0x74 ∷ []
 
 -- handle, delivery-id, delivery-tag, message-format, settled, more, rcv-settle-mode, state, resume, aborted, batchable
 abbrev pub transfer_fields : Transfer → List Item

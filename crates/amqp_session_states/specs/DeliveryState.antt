@@ -9,7 +9,8 @@ use Rattle.amqp_session_states.specs.Received.{received_item, received_name, rec
 use Rattle.amqp_session_states.specs.Rejected.{rejected_item}
 use Rattle.amqp_session_states.specs.Released.{released_item}
 use Rattle.amqp_session_states.specs.declared.delivery_state.DeliveryState.{DeliveryState}
-use Rattle.amqp_session_states.specs.declared.delivery_state.DeliveryState.TheVariants.{Received, Accepted, Rejected, Released, Modified}
+use Rattle.amqp_session_states.specs.declared.delivery_state.DeliveryState.TheVariants.{Received, Accepted, Rejected}
+use Rattle.amqp_session_states.specs.declared.delivery_state.DeliveryState.TheVariants.{Released, Modified}
 
 abbrev pub delivery_state_item : DeliveryState → Item
 delivery_state_item (Received x) = received_item x

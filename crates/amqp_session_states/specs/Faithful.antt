@@ -23,10 +23,12 @@ received_parts p q e0 e1 = ap (λ x. record p { section_number = x }) e0 ∙ ap 
 
 pub received_same : (p q : Received) → received_item p ≡ received_item q → p ≡ q
 received_same p q e =
-    let fields : received_fields p ≡ received_fields q = record_faithful 0x23 (received_fields p) (received_fields q) refl e in
+    let fields : received_fields p ≡ received_fields q =
+    record_faithful 0x23 (received_fields p) (received_fields q) refl e in
     let number : scalar (uint p.section_number) ≡ scalar (uint q.section_number) = cc in
     let offset : scalar (ulong p.section_offset) ≡ scalar (ulong q.section_offset) = cc in
-    received_parts p q (uint_faithful p.section_number q.section_number number) (ulong_faithful p.section_offset q.section_offset offset)
+    received_parts p q (uint_faithful p.section_number q.section_number number)
+    (ulong_faithful p.section_offset q.section_offset offset)
 
 pub accepted_same : (p q : Accepted) → accepted_item p ≡ accepted_item q → p ≡ q
 accepted_same p q e = refl
@@ -36,14 +38,18 @@ released_same p q e = refl
 
 pub rejected_same : (p q : Rejected) → rejected_item p ≡ rejected_item q → p ≡ q
 rejected_same p q e =
-    let fields : rejected_fields p ≡ rejected_fields q = record_faithful 0x25 (rejected_fields p) (rejected_fields q) refl e in
+    let fields : rejected_fields p ≡ rejected_fields q =
+    record_faithful 0x25 (rejected_fields p) (rejected_fields q) refl e in
     let item : option_item error_item p.error ≡ option_item error_item q.error = cc in
-    ap (λ (x : Option Error). record { error = x }) (option_faithful error_item error_same (λ _. refl) p.error q.error item)
+    ap (λ (x : Option Error). record { error = x })
+    (option_faithful error_item error_same (λ _. refl) p.error q.error item)
 
-pub optional_boolean_same : (o p : Option Bool) → option_item (λ b. scalar (boolean b)) o ≡ option_item (λ b. scalar (boolean b)) p → o ≡ p
+pub optional_boolean_same : (o p : Option Bool)
+    → option_item (λ b. scalar (boolean b)) o ≡ option_item (λ b. scalar (boolean b)) p → o ≡ p
 optional_boolean_same = option_faithful (λ b. scalar (boolean b)) boolean_faithful (λ _. refl)
 
-modified_parts : (p q : Modified) → p.delivery_failed ≡ q.delivery_failed → p.undeliverable_here ≡ q.undeliverable_here → p.message_annotations ≡ q.message_annotations → p ≡ q
+modified_parts : (p q : Modified) → p.delivery_failed ≡ q.delivery_failed → p.undeliverable_here ≡ q.undeliverable_here
+    → p.message_annotations ≡ q.message_annotations → p ≡ q
 modified_parts p q e0 e1 e2 =
     ap (λ x. record p { delivery_failed = x }) e0
     ∙ (ap (λ x. record q { undeliverable_here = x; message_annotations = p.message_annotations }) e1
@@ -51,7 +57,8 @@ modified_parts p q e0 e1 e2 =
 
 pub modified_same : (p q : Modified) → modified_item p ≡ modified_item q → p ≡ q
 modified_same p q e =
-    let fields : modified_fields p ≡ modified_fields q = record_faithful 0x27 (modified_fields p) (modified_fields q) refl e in
+    let fields : modified_fields p ≡ modified_fields q =
+    record_faithful 0x27 (modified_fields p) (modified_fields q) refl e in
     modified_parts p q
     (optional_boolean_same p.delivery_failed q.delivery_failed cc)
     (optional_boolean_same p.undeliverable_here q.undeliverable_here cc)

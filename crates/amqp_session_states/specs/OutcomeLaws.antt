@@ -30,10 +30,18 @@ pub outcome_decided : Decided outcome_taken
 outcome_decided = choice_decided outcome_rows outcome_rows_decided
 
 pub outcome_again : (o : Outcome) → outcome_taken (outcome_item o) ≡ Some (outcome_item o)
-outcome_again (Accepted x) = choice_again outcome_rows 0x24 (record { code = 0x24; name = accepted_name; takes = accepted_takes }) [] refl refl tt
-outcome_again (Rejected x) = choice_again outcome_rows 0x25 (record { code = 0x25; name = rejected_name; takes = rejected_takes }) (rejected_fields x) refl refl (rejected_fields_again x)
-outcome_again (Released x) = choice_again outcome_rows 0x26 (record { code = 0x26; name = released_name; takes = released_takes }) [] refl refl tt
-outcome_again (Modified x) = choice_again outcome_rows 0x27 (record { code = 0x27; name = modified_name; takes = modified_takes }) (modified_fields x) refl refl (modified_fields_again x)
+outcome_again (Accepted x) =
+    choice_again outcome_rows 0x24 (record { code = 0x24; name = accepted_name; takes = accepted_takes }) [] refl refl
+    tt
+outcome_again (Rejected x) =
+    choice_again outcome_rows 0x25 (record { code = 0x25; name = rejected_name; takes = rejected_takes })
+    (rejected_fields x) refl refl (rejected_fields_again x)
+outcome_again (Released x) =
+    choice_again outcome_rows 0x26 (record { code = 0x26; name = released_name; takes = released_takes }) [] refl refl
+    tt
+outcome_again (Modified x) =
+    choice_again outcome_rows 0x27 (record { code = 0x27; name = modified_name; takes = modified_takes })
+    (modified_fields x) refl refl (modified_fields_again x)
 
 pub outcome_present : (o : Outcome) → reads_as_null (outcome_item o) ≡ false
 outcome_present (Accepted x) = refl

@@ -2,18 +2,23 @@
 use Rattle.std.specs.Prelude.{ℕ, Bool, false, List, [], ◌∷◌, Option}
 use Rattle.serde_amqp_item.specs.Item.{Item, scalar, boolean, uint, string}
 use Rattle.serde_amqp_item.specs.Record.{option_item, record_item}
-use Rattle.serde_amqp_de.specs.Takes.{boolean_taken, uint_taken, string_taken, option_taken, mapped, or_null, is_boolean, is_uint, record_taken}
+use Rattle.serde_amqp_de.specs.Takes.{boolean_taken, uint_taken, string_taken, option_taken, mapped, or_null}
+use Rattle.serde_amqp_de.specs.Takes.{is_boolean, is_uint, record_taken}
 use Rattle.amqp_session_types.specs.Fields.{named_values_item, named_values_taken, symbols_item, symbols_taken}
 use Rattle.amqp_session_types.specs.Limits.{is_symbol_of}
 use Rattle.amqp_session_states.specs.Outcome.{outcome_item, outcome_taken}
-use Rattle.amqp_session_states.specs.Terminus.{durability_item, durability_taken, expiry_policy_item, expiry_policy_taken, session_end_name, distribution_mode_item, distribution_mode_taken}
+use Rattle.amqp_session_states.specs.Terminus.{durability_item, durability_taken, expiry_policy_item}
+use Rattle.amqp_session_states.specs.Terminus.{expiry_policy_taken, session_end_name, distribution_mode_item}
+use Rattle.amqp_session_states.specs.Terminus.{distribution_mode_taken}
 use Rattle.amqp_session_states.specs.declared.source.Source.{Source}
 
 -- amqp:source:list
 abbrev pub source_name : List ℕ
-source_name = 0x61 ∷ 0x6d ∷ 0x71 ∷ 0x70 ∷ 0x3a ∷ 0x73 ∷ 0x6f ∷ 0x75 ∷ 0x72 ∷ 0x63 ∷ 0x65 ∷ 0x3a ∷ 0x6c ∷ 0x69 ∷ 0x73 ∷ 0x74 ∷ []
+source_name =
+    0x61 ∷ 0x6d ∷ 0x71 ∷ 0x70 ∷ 0x3a ∷ 0x73 ∷ 0x6f ∷ 0x75 ∷ 0x72 ∷ 0x63 ∷ 0x65 ∷ 0x3a ∷ 0x6c ∷ 0x69 ∷ 0x73 ∷ 0x74 ∷ []
 
--- address, durable, expiry-policy, timeout, dynamic, dynamic-node-properties, distribution-mode, filter, default-outcome, outcomes, capabilities
+-- address, durable, expiry-policy, timeout, dynamic, dynamic-node-properties, distribution-mode, filter,
+-- default-outcome, outcomes, capabilities
 abbrev pub source_fields : Source → List Item
 source_fields s =
     option_item (λ a. scalar (string a)) s.address

@@ -2,15 +2,18 @@
 use Rattle.std.specs.Prelude.{ℕ, Bool, false, List, [], ◌∷◌, Option}
 use Rattle.serde_amqp_item.specs.Item.{Item, scalar, boolean, uint, string}
 use Rattle.serde_amqp_item.specs.Record.{option_item, record_item}
-use Rattle.serde_amqp_de.specs.Takes.{boolean_taken, uint_taken, string_taken, option_taken, mapped, or_null, is_boolean, is_uint, record_taken}
+use Rattle.serde_amqp_de.specs.Takes.{boolean_taken, uint_taken, string_taken, option_taken, mapped, or_null}
+use Rattle.serde_amqp_de.specs.Takes.{is_boolean, is_uint, record_taken}
 use Rattle.amqp_session_types.specs.Fields.{named_values_item, named_values_taken, symbols_item, symbols_taken}
 use Rattle.amqp_session_types.specs.Limits.{is_symbol_of}
-use Rattle.amqp_session_states.specs.Terminus.{durability_item, durability_taken, expiry_policy_item, expiry_policy_taken, session_end_name}
+use Rattle.amqp_session_states.specs.Terminus.{durability_item, durability_taken, expiry_policy_item}
+use Rattle.amqp_session_states.specs.Terminus.{expiry_policy_taken, session_end_name}
 use Rattle.amqp_session_states.specs.declared.target.Target.{Target}
 
 -- amqp:target:list
 abbrev pub target_name : List ℕ
-target_name = 0x61 ∷ 0x6d ∷ 0x71 ∷ 0x70 ∷ 0x3a ∷ 0x74 ∷ 0x61 ∷ 0x72 ∷ 0x67 ∷ 0x65 ∷ 0x74 ∷ 0x3a ∷ 0x6c ∷ 0x69 ∷ 0x73 ∷ 0x74 ∷ []
+target_name =
+    0x61 ∷ 0x6d ∷ 0x71 ∷ 0x70 ∷ 0x3a ∷ 0x74 ∷ 0x61 ∷ 0x72 ∷ 0x67 ∷ 0x65 ∷ 0x74 ∷ 0x3a ∷ 0x6c ∷ 0x69 ∷ 0x73 ∷ 0x74 ∷ []
 
 -- address, durable, expiry-policy, timeout, dynamic, dynamic-node-properties, capabilities
 abbrev pub target_fields : Target → List Item

@@ -1,5 +1,6 @@
 -- What stands as a link's target: a target, or any other described value, which is kept (part 2, 2.7.3).
-use Rattle.std.specs.Prelude.{ℕ, Bool, false, not, ◌==◌, ◌&&◌, ◌||◌, List, [], ◌∷◌, ◌++◌, Option, Some, None, if◌then◌else◌, nat_eq}
+use Rattle.std.specs.Prelude.{ℕ, Bool, false, not, ◌==◌, ◌&&◌, ◌||◌, List, [], ◌∷◌, ◌++◌, Option, Some, None}
+use Rattle.std.specs.Prelude.{if◌then◌else◌, nat_eq}
 use Rattle.std.specs.List.{starts_with}
 use Rattle.serde_amqp_item.specs.Item.{Item, raw, described}
 use Rattle.amqp_session_states.specs.Target.{target_item, target_name, target_taken}

@@ -1,9 +1,13 @@
 -- Which states of a delivery are terminal: all but received (part 3, 3.4).
 use Rattle.std.specs.Prelude.{Bool, true, false, Option, Some, None}
 use Rattle.amqp_session_states.specs.declared.delivery_state.DeliveryState.{DeliveryState}
-use Rattle.amqp_session_states.specs.declared.delivery_state.DeliveryState.TheVariants.{Received, Accepted, Rejected, Released, Modified}
+use Rattle.amqp_session_states.specs.declared.delivery_state.DeliveryState.TheVariants.{Received, Accepted, Rejected}
+use Rattle.amqp_session_states.specs.declared.delivery_state.DeliveryState.TheVariants.{Released, Modified}
 use Rattle.amqp_session_states.specs.declared.outcome.Outcome.{Outcome}
-use Rattle.amqp_session_states.specs.declared.outcome.Outcome.TheVariants.{Accepted as AcceptedOutcome, Rejected as RejectedOutcome, Released as ReleasedOutcome, Modified as ModifiedOutcome}
+use Rattle.amqp_session_states.specs.declared.outcome.Outcome.TheVariants.{Accepted as AcceptedOutcome}
+use Rattle.amqp_session_states.specs.declared.outcome.Outcome.TheVariants.{Rejected as RejectedOutcome}
+use Rattle.amqp_session_states.specs.declared.outcome.Outcome.TheVariants.{Released as ReleasedOutcome}
+use Rattle.amqp_session_states.specs.declared.outcome.Outcome.TheVariants.{Modified as ModifiedOutcome}
 
 abbrev pub is_terminal : DeliveryState → Bool
 is_terminal (Received r) = false

@@ -5,9 +5,11 @@ use Rattle.serde_amqp_item.specs.Item.{Item, scalar, uint, symbol}
 use Rattle.serde_amqp_de.specs.Takes.{uint_taken, symbol_taken}
 use Rattle.amqp_session_types.specs.Limits.{limited, is_uint_upto, is_symbol_among}
 use Rattle.amqp_session_states.specs.declared.terminus.TerminusDurability.{TerminusDurability}
-use Rattle.amqp_session_states.specs.declared.terminus.TerminusDurability.TheVariants.{None, Configuration, UnsettledState}
+use Rattle.amqp_session_states.specs.declared.terminus.TerminusDurability.TheVariants.{None, Configuration}
+use Rattle.amqp_session_states.specs.declared.terminus.TerminusDurability.TheVariants.{UnsettledState}
 use Rattle.amqp_session_states.specs.declared.terminus.TerminusExpiryPolicy.{TerminusExpiryPolicy}
-use Rattle.amqp_session_states.specs.declared.terminus.TerminusExpiryPolicy.TheVariants.{LinkDetach, SessionEnd, ConnectionClose, Never}
+use Rattle.amqp_session_states.specs.declared.terminus.TerminusExpiryPolicy.TheVariants.{LinkDetach, SessionEnd}
+use Rattle.amqp_session_states.specs.declared.terminus.TerminusExpiryPolicy.TheVariants.{ConnectionClose, Never}
 use Rattle.amqp_session_states.specs.declared.terminus.DistributionMode.{DistributionMode}
 use Rattle.amqp_session_states.specs.declared.terminus.DistributionMode.TheVariants.{Move, Copy}
 
@@ -30,7 +32,8 @@ session_end_name = 0x73 ∷ 0x65 ∷ 0x73 ∷ 0x73 ∷ 0x69 ∷ 0x6f ∷ 0x6e �
 
 -- connection-close
 abbrev pub connection_close_name : List ℕ
-connection_close_name = 0x63 ∷ 0x6f ∷ 0x6e ∷ 0x6e ∷ 0x65 ∷ 0x63 ∷ 0x74 ∷ 0x69 ∷ 0x6f ∷ 0x6e ∷ 0x2d ∷ 0x63 ∷ 0x6c ∷ 0x6f ∷ 0x73 ∷ 0x65 ∷ []
+connection_close_name =
+    0x63 ∷ 0x6f ∷ 0x6e ∷ 0x6e ∷ 0x65 ∷ 0x63 ∷ 0x74 ∷ 0x69 ∷ 0x6f ∷ 0x6e ∷ 0x2d ∷ 0x63 ∷ 0x6c ∷ 0x6f ∷ 0x73 ∷ 0x65 ∷ []
 
 -- never
 abbrev pub never_name : List ℕ

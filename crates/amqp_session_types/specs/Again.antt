@@ -10,8 +10,11 @@ use Rattle.amqp_session_types.specs.Error.{error_name, error_fields, error_item,
 use Rattle.amqp_session_types.specs.Fields.{named_values_item, named_values_taken, symbols_item, symbols_taken}
 use Rattle.amqp_session_types.specs.declared.error.Error.{Error}
 
-pub named_values_again : (ps : List (List ℕ × List ℕ)) → named_values_taken (named_values_item ps) ≡ Some (named_values_item ps)
-named_values_again = ordered_again bytes_eq symbol_taken raw_taken (λ s. scalar (symbol s)) (λ v. raw v) (λ _ _. refl) (λ _. refl) (λ _. refl)
+pub named_values_again : (ps : List (List ℕ × List ℕ))
+    → named_values_taken (named_values_item ps) ≡ Some (named_values_item ps)
+named_values_again =
+    ordered_again bytes_eq symbol_taken raw_taken (λ s. scalar (symbol s)) (λ v. raw v) (λ _ _. refl) (λ _. refl)
+    (λ _. refl)
 
 pub named_values_present : (ps : List (List ℕ × List ℕ)) → reads_as_null (named_values_item ps) ≡ false
 named_values_present = ordered_present bytes_eq (λ s. scalar (symbol s)) (λ v. raw v)

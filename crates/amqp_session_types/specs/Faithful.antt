@@ -15,10 +15,12 @@ use Rattle.amqp_session_types.specs.declared.error.Error.{Error}
 pub named_values_same : (ps qs : List (List ℕ × List ℕ)) → named_values_item ps ≡ named_values_item qs → ps ≡ qs
 named_values_same = ordered_faithful bytes_eq (λ s. scalar (symbol s)) (λ v. raw v) symbol_faithful raw_faithful
 
-pub optional_values_same : (o p : Option (List (List ℕ × List ℕ))) → option_item named_values_item o ≡ option_item named_values_item p → o ≡ p
+pub optional_values_same : (o p : Option (List (List ℕ × List ℕ)))
+    → option_item named_values_item o ≡ option_item named_values_item p → o ≡ p
 optional_values_same = option_faithful named_values_item named_values_same named_values_present
 
-pub optional_string_same : (o p : Option (List ℕ)) → option_item (λ t. scalar (string t)) o ≡ option_item (λ t. scalar (string t)) p → o ≡ p
+pub optional_string_same : (o p : Option (List ℕ))
+    → option_item (λ t. scalar (string t)) o ≡ option_item (λ t. scalar (string t)) p → o ≡ p
 optional_string_same = option_faithful (λ t. scalar (string t)) string_faithful (λ _. refl)
 
 pub symbols_same : (names others : List (List ℕ)) → symbols_item names ≡ symbols_item others → names ≡ others

@@ -11,14 +11,19 @@ from_if true y u e = e
 from_if false y u e = absurd cc
 
 -- what is taken is what the primitive type takes
-limited_from : (meant : Item → Bool) (o : Option Item) (u : Item) → (o >>= λ y. if meant y then Some y else None) ≡ Some u → o ≡ Some u
+limited_from : (meant : Item → Bool) (o : Option Item) (u : Item)
+    → (o >>= λ y. if meant y then Some y else None) ≡ Some u → o ≡ Some u
 limited_from meant None u e = absurd cc
 limited_from meant (Some y) u e = from_if (meant y) y u e
 
 pub limited_decided : (meant : Item → Bool) (take : Item → Option Item) → Decided take → Decided (limited meant take)
 unfolding limited
-limited_decided meant take d x y k a u v g h e f = d x y k a u v g h (limited_from meant (take x) u e) (limited_from meant (take y) v f)
+limited_decided meant take d x y k a u v g h e f =
+    d x y k a u v g h (limited_from meant (take x) u e) (limited_from meant (take y) v f)
 
-pub limited_again : (meant : Item → Bool) (take : Item → Option Item) (y : Item) → take y ≡ Some y → meant y ≡ true → limited meant take y ≡ Some y
+pub limited_again : (meant : Item → Bool) (take : Item → Option Item) (y : Item) → take y ≡ Some y → meant y ≡ true
+    → limited meant take y ≡ Some y
 unfolding limited
-limited_again meant take y again m = ap (λ (o : Option Item). o >>= λ z. if meant z then Some z else None) again ∙ ap (λ (b : Bool). if b then Some y else None) m
+limited_again meant take y again m =
+    ap (λ (o : Option Item). o >>= λ z. if meant z then Some z else None) again ∙ ap
+    (λ (b : Bool). if b then Some y else None) m

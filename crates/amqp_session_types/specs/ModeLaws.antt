@@ -5,7 +5,8 @@ use Rattle.serde_amqp_de.specs.Takes.{ubyte_taken, reads_as_null}
 use Rattle.serde_amqp_types.specs.Takes.{is_ubyte}
 use Rattle.amqp_session_types.specs.Limits.{is_ubyte_upto}
 use Rattle.amqp_session_types.specs.LimitLaws.{limited_again}
-use Rattle.amqp_session_types.specs.Modes.{role_item, role_taken, sender_settle_mode_item, sender_settle_mode_taken, receiver_settle_mode_item, receiver_settle_mode_taken}
+use Rattle.amqp_session_types.specs.Modes.{role_item, role_taken, sender_settle_mode_item, sender_settle_mode_taken}
+use Rattle.amqp_session_types.specs.Modes.{receiver_settle_mode_item, receiver_settle_mode_taken}
 use Rattle.amqp_session_types.specs.declared.modes.Role.{Role}
 use Rattle.amqp_session_types.specs.declared.modes.Role.TheVariants.{Sender, Receiver}
 use Rattle.amqp_session_types.specs.declared.modes.SenderSettleMode.{SenderSettleMode}
@@ -27,7 +28,8 @@ pub role_present : (r : Role) → reads_as_null (role_item r) ≡ false
 role_present Sender = refl
 role_present Receiver = refl
 
-pub sender_mode_again : (m : SenderSettleMode) → sender_settle_mode_taken (sender_settle_mode_item m) ≡ Some (sender_settle_mode_item m)
+pub sender_mode_again : (m : SenderSettleMode)
+    → sender_settle_mode_taken (sender_settle_mode_item m) ≡ Some (sender_settle_mode_item m)
 sender_mode_again Unsettled = limited_again (is_ubyte_upto 2) ubyte_taken (scalar (ubyte 0)) refl refl
 sender_mode_again Settled = limited_again (is_ubyte_upto 2) ubyte_taken (scalar (ubyte 1)) refl refl
 sender_mode_again Mixed = limited_again (is_ubyte_upto 2) ubyte_taken (scalar (ubyte 2)) refl refl
@@ -43,12 +45,14 @@ sender_mode_present Unsettled = refl
 sender_mode_present Settled = refl
 sender_mode_present Mixed = refl
 
-pub sender_mode_one : (m n : SenderSettleMode) → is_ubyte 2 (sender_settle_mode_item m) ≡ true → is_ubyte 2 (sender_settle_mode_item n) ≡ true → sender_settle_mode_item m ≡ sender_settle_mode_item n
+pub sender_mode_one : (m n : SenderSettleMode) → is_ubyte 2 (sender_settle_mode_item m) ≡ true
+    → is_ubyte 2 (sender_settle_mode_item n) ≡ true → sender_settle_mode_item m ≡ sender_settle_mode_item n
 sender_mode_one Mixed Mixed e f = refl
 sender_mode_one Mixed n e f = absurd cc
 sender_mode_one m n e f = absurd cc
 
-pub receiver_mode_again : (m : ReceiverSettleMode) → receiver_settle_mode_taken (receiver_settle_mode_item m) ≡ Some (receiver_settle_mode_item m)
+pub receiver_mode_again : (m : ReceiverSettleMode)
+    → receiver_settle_mode_taken (receiver_settle_mode_item m) ≡ Some (receiver_settle_mode_item m)
 receiver_mode_again First = limited_again (is_ubyte_upto 1) ubyte_taken (scalar (ubyte 0)) refl refl
 receiver_mode_again Second = limited_again (is_ubyte_upto 1) ubyte_taken (scalar (ubyte 1)) refl refl
 
@@ -62,7 +66,8 @@ pub receiver_mode_present : (m : ReceiverSettleMode) → reads_as_null (receiver
 receiver_mode_present First = refl
 receiver_mode_present Second = refl
 
-pub receiver_mode_one : (m n : ReceiverSettleMode) → is_ubyte 0 (receiver_settle_mode_item m) ≡ true → is_ubyte 0 (receiver_settle_mode_item n) ≡ true → receiver_settle_mode_item m ≡ receiver_settle_mode_item n
+pub receiver_mode_one : (m n : ReceiverSettleMode) → is_ubyte 0 (receiver_settle_mode_item m) ≡ true
+    → is_ubyte 0 (receiver_settle_mode_item n) ≡ true → receiver_settle_mode_item m ≡ receiver_settle_mode_item n
 receiver_mode_one First First e f = refl
 receiver_mode_one First Second e f = absurd cc
 receiver_mode_one Second n e f = absurd cc

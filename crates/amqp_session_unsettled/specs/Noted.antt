@@ -8,4 +8,5 @@ use Rattle.amqp_session_unsettled.specs.Range.{ahead}
 pub record Notes (first count number : ℕ) (old new : BTreeSet ℕ) : Type 0 where
   pub kept : (d : ℕ) → IsTrue (contains nat_cmp old d) → IsTrue (contains nat_cmp new d)
   pub noted : ahead number first < count → IsTrue (contains nat_cmp new (ahead number first))
-  pub no_more : (d : ℕ) → IsTrue (contains nat_cmp new d) → (IsTrue (contains nat_cmp old d) ⊎ ((ahead number first < count) × (d ≡ ahead number first)))
+  pub no_more : (d : ℕ) → IsTrue (contains nat_cmp new d)
+      → (IsTrue (contains nat_cmp old d) ⊎ ((ahead number first < count) × (d ≡ ahead number first)))

@@ -10,7 +10,8 @@ Table = map.FinMap nat_cmp Delivery
 
 abbrev delivery_code : Coded Delivery
 delivery_code =
-    code_by (ℕ × List ℕ) (coded× coded_ℕ (coded_list coded_ℕ)) (λ d. ((d.handle).0, d.tag)) (λ p. record { handle = record { 0 = p.0 }; tag = p.1 }) (λ _. refl)
+    code_by (ℕ × List ℕ) (coded× coded_ℕ (coded_list coded_ℕ)) (λ d. ((d.handle).0, d.tag))
+    (λ p. record { handle = record { 0 = p.0 }; tag = p.1 }) (λ _. refl)
 
 abbrev pub table_code : Coded (map.FinMap nat_cmp Delivery)
 table_code = map.code coded_ℕ delivery_code

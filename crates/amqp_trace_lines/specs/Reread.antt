@@ -4,7 +4,8 @@ use Rattle.serde_amqp_item.specs.Item.{Item}
 use Rattle.serde_amqp_item.specs.Wire.{Wire}
 use Rattle.serde_amqp_item.specs.Canon.{canon}
 
--- A front of the bytes is a wire form of an item that the type takes. This is what the value is written as that the type makes of it, and so many bytes stand behind the front.
+-- A front of the bytes is a wire form of an item that the type takes. This is what the value is written as that the
+-- type makes of it, and so many bytes stand behind the front.
 pub record IsReread (take : Item → Option Item) (bytes text : List ℕ) (left : ℕ) : Type 0 where
   pub item : Item
   pub value : Item
@@ -18,4 +19,5 @@ pub record IsReread (take : Item → Option Item) (bytes text : List ℕ) (left 
 
 -- no front of the bytes is a wire form of an item that the type takes and whose value can be written
 pub record NotReread (take : Item → Option Item) (bytes : List ℕ) : Type 0 where
-  pub none : (item value : Item) (front behind : List ℕ) → Wire item None front → bytes ≡ front ++ behind → take item ≡ Some value → canon value ≡ None
+  pub none : (item value : Item) (front behind : List ℕ) → Wire item None front → bytes ≡ front ++ behind
+      → take item ≡ Some value → canon value ≡ None

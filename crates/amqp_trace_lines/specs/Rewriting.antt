@@ -11,17 +11,20 @@ abbrev pub SaysMessage : {B : Type 0} → (List Item → Option (List Item)) →
 SaysMessage takes items bytes m = ReadsParts (message_takes takes) bytes (message_parts items m)
 
 -- the bytes say a message, and this is what it is written as
-pub record IsRewritten {B : Type 0} (takes : List Item → Option (List Item)) (items written : B → List Item) (bytes text : List ℕ) : Type 0 where
+pub record IsRewritten {B : Type 0} (takes : List Item → Option (List Item)) (items written : B → List Item)
+    (bytes text : List ℕ) : Type 0 where
   pub message : Message B
   pub said : SaysMessage takes items bytes message
   pub text_is : payload_text (message_items written message) ≡ Some text
 
 -- the bytes say a message that can't be written
-pub record IsUnwritable {B : Type 0} (takes : List Item → Option (List Item)) (items written : B → List Item) (bytes : List ℕ) : Type 0 where
+pub record IsUnwritable {B : Type 0} (takes : List Item → Option (List Item)) (items written : B → List Item)
+    (bytes : List ℕ) : Type 0 where
   pub message : Message B
   pub said : SaysMessage takes items bytes message
   pub no_text : payload_text (message_items written message) ≡ None
 
 -- the bytes say no message, or one that can't be written
-abbrev pub NotRewritten : {B : Type 0} → (List Item → Option (List Item)) → (B → List Item) → (B → List Item) → List ℕ → Type 0
+abbrev pub NotRewritten : {B : Type 0} → (List Item → Option (List Item)) → (B → List Item) → (B → List Item) → List ℕ
+    → Type 0
 NotRewritten takes items written bytes = NoParts (message_takes takes) bytes ⊎ IsUnwritable takes items written bytes

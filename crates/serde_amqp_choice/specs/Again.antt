@@ -16,13 +16,16 @@ code_taken : (code : ℕ) (name : List ℕ) → descriptor_taken code name (scal
 unfolding descriptor_taken
 code_taken code name = rw (same_number code) refl
 
-fields_again : (r : Row) (ys : List Item) → EachAgain r.takes ys → fields_of r (list (items_of (trimmed ys))) ≡ Some (record_item r.code ys)
+fields_again : (r : Row) (ys : List Item) → EachAgain r.takes ys
+    → fields_of r (list (items_of (trimmed ys))) ≡ Some (record_item r.code ys)
 unfolding record_taken
 fields_again r ys a =
-    sym (ap (λ (o : Option Item). o >>= λ c. fields_of r (list (items_of (trimmed ys)))) (code_taken r.code r.name)) ∙ record_again r.code r.name r.takes ys a
+    sym (ap (λ (o : Option Item). o >>= λ c. fields_of r (list (items_of (trimmed ys)))) (code_taken r.code r.name)) ∙
+    record_again r.code r.name r.takes ys a
 
 -- the item of the one with this code is taken as it is
-pub choice_again : (table : List Row) (code : ℕ) (r : Row) (ys : List Item) → row_coded table code ≡ Some r → r.code ≡ code → EachAgain r.takes ys → choice_taken table (record_item code ys) ≡ Some (record_item code ys)
+pub choice_again : (table : List Row) (code : ℕ) (r : Row) (ys : List Item) → row_coded table code ≡ Some r
+    → r.code ≡ code → EachAgain r.takes ys → choice_taken table (record_item code ys) ≡ Some (record_item code ys)
 unfolding choice_taken row_said
 choice_again table code r ys e same a =
     ap (λ (o : Option Row). o >>= λ s. fields_of s (list (items_of (trimmed ys)))) e
@@ -48,5 +51,6 @@ own_number : (a b : ℕ) → (a == b) ≡ false → a ≡ b → ⊥
 own_number a b n e = grind (arith, nat_tests)
 
 -- items with two codes are not the same
-pub items_apart : (a b : ℕ) (v w : Item) → (a == b) ≡ false → described (scalar (ulong a)) v ≡ described (scalar (ulong b)) w → ⊥
+pub items_apart : (a b : ℕ) (v w : Item) → (a == b) ≡ false
+    → described (scalar (ulong a)) v ≡ described (scalar (ulong b)) w → ⊥
 items_apart a b v w n e = own_number a b n (same_code a b v w e)

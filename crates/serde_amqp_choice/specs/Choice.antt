@@ -1,5 +1,6 @@
 -- One of several composite types, which its descriptor says (part 1, sections 1.4 and 1.5).
-use Rattle.std.specs.Prelude.{◌≡◌, ℕ, Bool, true, not, ◌&&◌, is_some, List, [], ◌∷◌, ◌++◌, Option, Some, None, ◌==◌, if◌then◌else◌, bytes_eq}
+use Rattle.std.specs.Prelude.{◌≡◌, ℕ, Bool, true, not, ◌&&◌, is_some, List, [], ◌∷◌, ◌++◌, Option, Some, None, ◌==◌}
+use Rattle.std.specs.Prelude.{if◌then◌else◌, bytes_eq}
 use Rattle.serde_amqp_item.specs.Item.{Item, Items, scalar, ulong, symbol, list, described}
 use Rattle.serde_amqp_item.specs.Wire.{Wire}
 use Rattle.serde_amqp_item.specs.Canon.{◌>>=◌}
@@ -8,7 +9,8 @@ use Rattle.serde_amqp_de.specs.Reads.{At, Reads}
 use Rattle.serde_amqp_de.specs.Takes.{fields_taken, list_with}
 use Rattle.serde_amqp_de.specs.Decides.{AllDecided}
 
--- a composite type among several: the code and the name of its descriptor, and which items its fields take (section 1.4)
+-- a composite type among several: the code and the name of its descriptor, and which items its fields take (section
+-- 1.4)
 pub record Row : Type 0 where
   pub code : ℕ
   pub name : List ℕ
@@ -71,7 +73,8 @@ pub record TookList (takes : List (Item → Option Item)) (old new : At) (ys : L
 
 -- no front is a list whose items the fields take
 pub record RefusesList (takes : List (Item → Option Item)) (old : At) : Type 0 where
-  pub none : (x : Item) (front more : List ℕ) → Wire x None front → old.rest ≡ front ++ more → list_with (fields_taken takes) x ≡ None
+  pub none : (x : Item) (front more : List ℕ) → Wire x None front → old.rest ≡ front ++ more
+      → list_with (fields_taken takes) x ≡ None
 
 -- bytes give one value of each field
 abbrev pub RowsDecided : List Row → Type 0

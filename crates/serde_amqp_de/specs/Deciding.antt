@@ -1,8 +1,13 @@
 -- What a type makes of bytes is one value.
-use Rattle.std.proofs.Common.{◌≡◌, ◌≢◌, ℕ, List, [], ◌∷◌, ◌++◌, Option, Some, None, sym, ◌∙◌, ap, subst, refl, arith, ◌⊎◌, inl, inr}
+use Rattle.std.proofs.Common.{◌≡◌, ◌≢◌, ℕ, List, [], ◌∷◌, ◌++◌, Option, Some, None, sym, ◌∙◌, ap, subst, refl, arith}
+use Rattle.std.proofs.Common.{◌⊎◌, inl, inr}
 use Rattle.serde_amqp_item.specs.declared.codes.EncodingCodes.{EncodingCodes}
-use Rattle.serde_amqp_item.specs.Item.{null, boolean, ubyte, ushort, uint, ulong, byte, short, int, long, float, double, decimal32, decimal64, decimal128, char, timestamp, uuid, binary, string, symbol, Item, scalar, raw, list, map, array, described, Items, no_items, more_items, items_of, item_count}
-use Rattle.serde_amqp_item.specs.Wire.{Wire, Form, Forms, ScalarForm, IsCapped, IsStrict, own, code_of, row_at, row_of, AnyCount, NoRaw}
+use Rattle.serde_amqp_item.specs.Item.{null, boolean, ubyte, ushort, uint, ulong, byte, short, int, long, float, double}
+use Rattle.serde_amqp_item.specs.Item.{decimal32, decimal64, decimal128, char, timestamp, uuid, binary, string, symbol}
+use Rattle.serde_amqp_item.specs.Item.{Item, scalar, raw, list, map, array, described, Items, no_items, more_items}
+use Rattle.serde_amqp_item.specs.Item.{items_of, item_count}
+use Rattle.serde_amqp_item.specs.Wire.{Wire, Form, Forms, ScalarForm, IsCapped, IsStrict, own, code_of, row_at, row_of}
+use Rattle.serde_amqp_item.specs.Wire.{AnyCount, NoRaw}
 use Rattle.serde_amqp_item.specs.Kind.{Kind, null_kind, list_kind, array_kind}
 use Rattle.serde_amqp_item.specs.Canon.{WithoutRaw, ◌>>=◌}
 use Rattle.std.specs.Prelude.{◌==◌, bytes_eq}
@@ -10,7 +15,13 @@ use Rattle.std.proofs.lemmas.List.{append_cancel_left}
 use Rattle.serde_amqp_item.specs.Record.{record_item}
 use Rattle.serde_amqp_item.proofs.Scalars.{chosen}
 use Rattle.serde_amqp_item.proofs.Forms.{wire_same}
-use Rattle.serde_amqp_de.specs.Takes.{null_taken, ubyte_taken, byte_taken, short_taken, int_taken, long_taken, float_taken, double_taken, decimal32_taken, decimal64_taken, decimal128_taken, char_taken, timestamp_taken, uuid_taken, binary_taken, boolean_taken, ushort_taken, uint_taken, ulong_taken, string_taken, symbol_taken, option_taken, mapped, kind_seen, unless_null, each_taken, fields_taken, row_taken, tuple_taken, items_taken, elements_taken, sequence_taken, several, alone, unless_several, multiple_taken, descriptor_taken, list_with, record_taken}
+use Rattle.serde_amqp_de.specs.Takes.{null_taken, ubyte_taken, byte_taken, short_taken, int_taken, long_taken}
+use Rattle.serde_amqp_de.specs.Takes.{float_taken, double_taken, decimal32_taken, decimal64_taken, decimal128_taken}
+use Rattle.serde_amqp_de.specs.Takes.{char_taken, timestamp_taken, uuid_taken, binary_taken, boolean_taken}
+use Rattle.serde_amqp_de.specs.Takes.{ushort_taken, uint_taken, ulong_taken, string_taken, symbol_taken, option_taken}
+use Rattle.serde_amqp_de.specs.Takes.{mapped, kind_seen, unless_null, each_taken, fields_taken, row_taken, tuple_taken}
+use Rattle.serde_amqp_de.specs.Takes.{items_taken, elements_taken, sequence_taken, several, alone, unless_several}
+use Rattle.serde_amqp_de.specs.Takes.{multiple_taken, descriptor_taken, list_with, record_taken}
 use Rattle.serde_amqp_de.specs.Decides.{Decided, AllDecided}
 use Rattle.serde_amqp_de.specs.Apart.{apart, leads_one, Together, lists_together, arrays_together, described_together}
 use Rattle.serde_amqp_de.specs.Seen.{form_seen}
@@ -203,29 +214,41 @@ no_row_form (array xs) o a h = h
 no_row_form (described d v) o a h = h
 
 -- nothing stands behind a byte that is no constructor
-pub no_form : (x : Item) (k : Option ℕ) (c : ℕ) (a : List ℕ) → code_of c ≡ None → Form IsCapped IsStrict x (own k c) (row_of c) a → ⊥
+pub no_form : (x : Item) (k : Option ℕ) (c : ℕ) (a : List ℕ) → code_of c ≡ None
+    → Form IsCapped IsStrict x (own k c) (row_of c) a → ⊥
 unfolding row_of
-no_form (raw text) None c a e h = no_row_form h.1.0 (Some c) a (subst (λ (o : Option EncodingCodes). Form AnyCount NoRaw h.1.0 (Some c) (row_at o) a) e h.1.1)
+no_form (raw text) None c a e h =
+    no_row_form h.1.0 (Some c) a (subst (λ (o : Option EncodingCodes). Form AnyCount NoRaw h.1.0 (Some c) (row_at o) a)
+    e h.1.1)
 no_form (raw text) (Some i) c a e h = h
 no_form (scalar s) k c a e h = subst (λ (o : Option EncodingCodes). ScalarForm s (row_at o) a) e h
-no_form (list xs) k c a e h = subst (λ (o : Option EncodingCodes). Form IsCapped IsStrict (list xs) (own k c) (row_at o) a) e h
-no_form (map ps) k c a e h = subst (λ (o : Option EncodingCodes). Form IsCapped IsStrict (map ps) (own k c) (row_at o) a) e h
-no_form (array xs) k c a e h = subst (λ (o : Option EncodingCodes). Form IsCapped IsStrict (array xs) (own k c) (row_at o) a) e h
-no_form (described d v) k c a e h = subst (λ (o : Option EncodingCodes). Form IsCapped IsStrict (described d v) (own k c) (row_at o) a) e h
+no_form (list xs) k c a e h =
+    subst (λ (o : Option EncodingCodes). Form IsCapped IsStrict (list xs) (own k c) (row_at o) a) e h
+no_form (map ps) k c a e h =
+    subst (λ (o : Option EncodingCodes). Form IsCapped IsStrict (map ps) (own k c) (row_at o) a) e h
+no_form (array xs) k c a e h =
+    subst (λ (o : Option EncodingCodes). Form IsCapped IsStrict (array xs) (own k c) (row_at o) a) e h
+no_form (described d v) k c a e h =
+    subst (λ (o : Option EncodingCodes). Form IsCapped IsStrict (described d v) (own k c) (row_at o) a) e h
 
-seen_at : (x y : Item) (k : Option ℕ) (c : ℕ) (p : List ℕ) (code : Option EncodingCodes) → code_of c ≡ code → Form IsCapped IsStrict x (own k c) (row_of c) p → Form IsCapped IsStrict y (own k c) (row_of c) p → kind_seen x ≡ kind_seen y
+seen_at : (x y : Item) (k : Option ℕ) (c : ℕ) (p : List ℕ) (code : Option EncodingCodes) → code_of c ≡ code
+    → Form IsCapped IsStrict x (own k c) (row_of c) p → Form IsCapped IsStrict y (own k c) (row_of c) p
+    → kind_seen x ≡ kind_seen y
 unfolding row_of
 seen_at x y k c p None e g h = absurd (no_form x k c p e g)
 seen_at x y k c p (Some code) e g h =
     form_seen code x k c p e (subst (λ (o : Option EncodingCodes). Form IsCapped IsStrict x (own k c) (row_at o) p) e g)
-    ∙ sym (form_seen code y k c p e (subst (λ (o : Option EncodingCodes). Form IsCapped IsStrict y (own k c) (row_at o) p) e h))
+    ∙ sym
+    (form_seen code y k c p e (subst (λ (o : Option EncodingCodes). Form IsCapped IsStrict y (own k c) (row_at o) p)
+    e h))
 
 -- two forms of the same bytes are seen to be of the same type
 pub seen_same : (x y : Item) (k : Option ℕ) (a : List ℕ) → Wire x k a → Wire y k a → kind_seen x ≡ kind_seen y
 seen_same x y k a g h =
     let led = leads_one k a g.0 h.0 g.1 h.1 g.2 h.2 in
     let there : Form IsCapped IsStrict y (own k g.0) (row_of g.0) g.1 =
-    subst (λ (p : List ℕ). Form IsCapped IsStrict y (own k g.0) (row_of g.0) p) (sym led.1) (subst (λ (c : ℕ). Form IsCapped IsStrict y (own k c) (row_of c) h.1) (sym led.0) h.3) in
+    subst (λ (p : List ℕ). Form IsCapped IsStrict y (own k g.0) (row_of g.0) p) (sym led.1)
+    (subst (λ (c : ℕ). Form IsCapped IsStrict y (own k c) (row_of c) h.1) (sym led.0) h.3) in
     seen_at x y k g.0 g.1 (code_of g.0) refl g.3 there
 
 unless_null_same : (t : Option Kind) (o : Option Item) → t ≢ Some null_kind → unless_null t o ≡ o
@@ -245,9 +268,11 @@ option_same take (array xs) n = refl
 option_same take (described d v) n = refl
 
 -- of an item that is seen to be null an option takes null alone
-pub option_null : (take : Item → Option Item) (x u : Item) → kind_seen x ≡ Some null_kind → option_taken take x ≡ Some u → u ≡ scalar null
+pub option_null : (take : Item → Option Item) (x u : Item) → kind_seen x ≡ Some null_kind → option_taken take x ≡ Some u
+    → u ≡ scalar null
 unfolding option_taken
-option_null take (raw text) u n e = let none : None ≡ Some u = ap (λ (t : Option Kind). unless_null t (take (raw text))) (sym n) ∙ e in absurd cc
+option_null take (raw text) u n e = let none : None ≡ Some u =
+    ap (λ (t : Option Kind). unless_null t (take (raw text))) (sym n) ∙ e in absurd cc
 option_null take (scalar null) u n e = cc
 option_null take (scalar s) u n e = absurd cc
 option_null take (list xs) u n e = absurd cc
@@ -268,7 +293,8 @@ option_decided take d x y k a u v g h e f =
       | inr n ↦ d x y k a u v g h (sym (option_same take x n) ∙ e) (sym (option_same take y (λ q. n (same ∙ q))) ∙ f)
     ]
 
-decided_through : (f : Item → Item) (p q : Option Item) (u v : Item) → ((m n : Item) → p ≡ Some m → q ≡ Some n → m ≡ n) → (p >>= λ y. Some (f y)) ≡ Some u → (q >>= λ y. Some (f y)) ≡ Some v → u ≡ v
+decided_through : (f : Item → Item) (p q : Option Item) (u v : Item) → ((m n : Item) → p ≡ Some m → q ≡ Some n → m ≡ n)
+    → (p >>= λ y. Some (f y)) ≡ Some u → (q >>= λ y. Some (f y)) ≡ Some v → u ≡ v
 decided_through f None q u v d e i = absurd cc
 decided_through f (Some m) None u v d e i = absurd cc
 decided_through f (Some m) (Some n) u v d e i =
@@ -277,19 +303,25 @@ decided_through f (Some m) (Some n) u v d e i =
 
 pub mapped_decided : (f : Item → Item) (take : Item → Option Item) → Decided take → Decided (mapped f take)
 unfolding mapped
-mapped_decided f take d x y k a u v g h e i = decided_through f (take x) (take y) u v (λ p q m n. d x y k a p q g h m n) e i
+mapped_decided f take d x y k a u v g h e i =
+    decided_through f (take x) (take y) u v (λ p q m n. d x y k a p q g h m n) e i
 
 -- a value in front of others
-bound : (o : Option Item) (r : Option (List Item)) (us : List Item) → (o >>= λ y. r >>= λ ys. Some (y ∷ ys)) ≡ Some us → (y : Item) × (ys : List Item) × (o ≡ Some y) × (r ≡ Some ys) × (us ≡ y ∷ ys)
+bound : (o : Option Item) (r : Option (List Item)) (us : List Item) → (o >>= λ y. r >>= λ ys. Some (y ∷ ys)) ≡ Some us
+    → (y : Item) × (ys : List Item) × (o ≡ Some y) × (r ≡ Some ys) × (us ≡ y ∷ ys)
 bound None r us e = absurd cc
 bound (Some y) None us e = absurd cc
 bound (Some y) (Some ys) us e = (y, ys, refl, refl, cc)
 
 -- the first of two rows of items with the same bytes, and the others
-front_decided : (take : Item → Option Item) → Decided take → (rest_left rest_right : Option (List Item)) (x y : Item) (xs ys : Items) (k : Option ℕ) (a : List ℕ) (us vs : List Item)
+front_decided : (take : Item → Option Item) → Decided take
+    → (rest_left rest_right : Option (List Item)) (x y : Item) (xs ys : Items) (k : Option ℕ) (a : List ℕ)
+    (us vs : List Item)
     → Forms IsCapped IsStrict (more_items x xs) k a → Forms IsCapped IsStrict (more_items y ys) k a
-    → ((b : List ℕ) (ps qs : List Item) → Forms IsCapped IsStrict xs k b → Forms IsCapped IsStrict ys k b → rest_left ≡ Some ps → rest_right ≡ Some qs → ps ≡ qs)
-    → (take x >>= λ p. rest_left >>= λ ps. Some (p ∷ ps)) ≡ Some us → (take y >>= λ q. rest_right >>= λ qs. Some (q ∷ qs)) ≡ Some vs → us ≡ vs
+    → ((b : List ℕ) (ps qs : List Item) → Forms IsCapped IsStrict xs k b → Forms IsCapped IsStrict ys k b
+    → rest_left ≡ Some ps → rest_right ≡ Some qs → ps ≡ qs)
+    → (take x >>= λ p. rest_left >>= λ ps. Some (p ∷ ps)) ≡ Some us
+    → (take y >>= λ q. rest_right >>= λ qs. Some (q ∷ qs)) ≡ Some vs → us ≡ vs
 front_decided take d rest_left rest_right x y xs ys k a us vs g h others e f =
     let p = apart k a g.1 g.2 g.0 g.3 in
     let q = apart k a h.1 h.2 h.0 h.3 in
@@ -300,85 +332,114 @@ front_decided take d rest_left rest_right x y xs ys k a us vs g h others e f =
     let n = bound (take y) rest_right vs f in
     let there : Wire y k p.0 = subst (λ (s : List ℕ). Wire y k s) (sym same.0) (h.0, h.1, q.1, h.4) in
     let first : m.0 ≡ n.0 = d x y k p.0 m.0 n.0 (g.0, g.1, p.1, g.4) there m.2 n.2 in
-    let second : m.1 ≡ n.1 = others g.2 m.1 n.1 g.5 (subst (λ (s : List ℕ). Forms IsCapped IsStrict ys k s) behind h.5) m.3 n.3 in
+    let second : m.1 ≡ n.1 =
+    others g.2 m.1 n.1 g.5 (subst (λ (s : List ℕ). Forms IsCapped IsStrict ys k s) behind h.5) m.3 n.3 in
     m.4 ∙ (ap (λ (i : Item). i ∷ m.1) first ∙ (ap (λ (s : List Item). n.0 ∷ s) second ∙ sym n.4))
 
-each_decided : (take : Item → Option Item) → Decided take → (xs ys : Items) (k : Option ℕ) (a : List ℕ) (us vs : List Item) → item_count xs ≡ item_count ys → Forms IsCapped IsStrict xs k a → Forms IsCapped IsStrict ys k a → each_taken take xs ≡ Some us → each_taken take ys ≡ Some vs → us ≡ vs
+each_decided : (take : Item → Option Item) → Decided take
+    → (xs ys : Items) (k : Option ℕ) (a : List ℕ) (us vs : List Item) → item_count xs ≡ item_count ys
+    → Forms IsCapped IsStrict xs k a → Forms IsCapped IsStrict ys k a → each_taken take xs ≡ Some us
+    → each_taken take ys ≡ Some vs → us ≡ vs
 each_decided take d no_items no_items k a us vs c g h e f = let both : Some us ≡ Some vs = sym e ∙ f in cc
 each_decided take d no_items (more_items y ys) k a us vs c g h e f = absurd (omega arith)
 each_decided take d (more_items x xs) no_items k a us vs c g h e f = absurd (omega arith)
 each_decided take d (more_items x xs) (more_items y ys) k a us vs c g h e f =
     let counts : item_count xs ≡ item_count ys = omega arith in
-    front_decided take d (each_taken take xs) (each_taken take ys) x y xs ys k a us vs g h (λ b ps qs i j m n. each_decided take d xs ys k b ps qs counts i j m n) e f
+    front_decided take d (each_taken take xs) (each_taken take ys) x y xs ys k a us vs g h
+    (λ b ps qs i j m n. each_decided take d xs ys k b ps qs counts i j m n) e f
 
-fields_decided : (takes : List (Item → Option Item)) → AllDecided takes → (xs ys : Items) (k : Option ℕ) (a : List ℕ) (us vs : List Item) → item_count xs ≡ item_count ys → Forms IsCapped IsStrict xs k a → Forms IsCapped IsStrict ys k a → fields_taken takes xs ≡ Some us → fields_taken takes ys ≡ Some vs → us ≡ vs
+fields_decided : (takes : List (Item → Option Item)) → AllDecided takes
+    → (xs ys : Items) (k : Option ℕ) (a : List ℕ) (us vs : List Item) → item_count xs ≡ item_count ys
+    → Forms IsCapped IsStrict xs k a → Forms IsCapped IsStrict ys k a → fields_taken takes xs ≡ Some us
+    → fields_taken takes ys ≡ Some vs → us ≡ vs
 fields_decided takes d no_items no_items k a us vs c g h e f = let both : Some us ≡ Some vs = sym e ∙ f in cc
 fields_decided takes d no_items (more_items y ys) k a us vs c g h e f = absurd (omega arith)
 fields_decided takes d (more_items x xs) no_items k a us vs c g h e f = absurd (omega arith)
 fields_decided [] d (more_items x xs) (more_items y ys) k a us vs c g h e f = absurd cc
 fields_decided (take ∷ takes) d (more_items x xs) (more_items y ys) k a us vs c g h e f =
     let counts : item_count xs ≡ item_count ys = omega arith in
-    front_decided take d.0 (fields_taken takes xs) (fields_taken takes ys) x y xs ys k a us vs g h (λ b ps qs i j m n. fields_decided takes d.1 xs ys k b ps qs counts i j m n) e f
+    front_decided take d.0 (fields_taken takes xs) (fields_taken takes ys) x y xs ys k a us vs g h
+    (λ b ps qs i j m n. fields_decided takes d.1 xs ys k b ps qs counts i j m n) e f
 
-row_decided : (takes : List (Item → Option Item)) → AllDecided takes → (xs ys : Items) (k : Option ℕ) (a : List ℕ) (us vs : List Item) → item_count xs ≡ item_count ys → Forms IsCapped IsStrict xs k a → Forms IsCapped IsStrict ys k a → row_taken takes xs ≡ Some us → row_taken takes ys ≡ Some vs → us ≡ vs
+row_decided : (takes : List (Item → Option Item)) → AllDecided takes
+    → (xs ys : Items) (k : Option ℕ) (a : List ℕ) (us vs : List Item) → item_count xs ≡ item_count ys
+    → Forms IsCapped IsStrict xs k a → Forms IsCapped IsStrict ys k a → row_taken takes xs ≡ Some us
+    → row_taken takes ys ≡ Some vs → us ≡ vs
 row_decided takes d no_items no_items k a us vs c g h e f = let both : Some us ≡ Some vs = sym e ∙ f in cc
 row_decided takes d no_items (more_items y ys) k a us vs c g h e f = absurd (omega arith)
 row_decided takes d (more_items x xs) no_items k a us vs c g h e f = absurd (omega arith)
 row_decided [] d (more_items x xs) (more_items y ys) k a us vs c g h e f = absurd cc
 row_decided (take ∷ takes) d (more_items x xs) (more_items y ys) k a us vs c g h e f =
     let counts : item_count xs ≡ item_count ys = omega arith in
-    front_decided take d.0 (row_taken takes xs) (row_taken takes ys) x y xs ys k a us vs g h (λ b ps qs i j m n. row_decided takes d.1 xs ys k b ps qs counts i j m n) e f
+    front_decided take d.0 (row_taken takes xs) (row_taken takes ys) x y xs ys k a us vs g h
+    (λ b ps qs i j m n. row_decided takes d.1 xs ys k b ps qs counts i j m n) e f
 
 -- what is made of the items
-made : (wrap : List Item → Item) (p q : Option (List Item)) (u v : Item) → ((ps qs : List Item) → p ≡ Some ps → q ≡ Some qs → ps ≡ qs) → (p >>= λ ys. Some (wrap ys)) ≡ Some u → (q >>= λ ys. Some (wrap ys)) ≡ Some v → u ≡ v
+made : (wrap : List Item → Item) (p q : Option (List Item)) (u v : Item)
+    → ((ps qs : List Item) → p ≡ Some ps → q ≡ Some qs → ps ≡ qs) → (p >>= λ ys. Some (wrap ys)) ≡ Some u
+    → (q >>= λ ys. Some (wrap ys)) ≡ Some v → u ≡ v
 made wrap None q u v d e f = absurd cc
 made wrap (Some ps) None u v d e f = absurd cc
 made wrap (Some ps) (Some qs) u v d e f = let same = ap wrap (d ps qs refl refl) in cc
 
-together_made : (take : Item → Option Item) → Decided take → (wrap : List Item → Item) (xs ys : Items) (u v : Item) → Together xs ys → (each_taken take xs >>= λ zs. Some (wrap zs)) ≡ Some u → (each_taken take ys >>= λ zs. Some (wrap zs)) ≡ Some v → u ≡ v
-together_made take d wrap xs ys u v t e f = made wrap (each_taken take xs) (each_taken take ys) u v (λ ps qs m n. each_decided take d xs ys t.element t.content ps qs t.count t.left t.right m n) e f
+together_made : (take : Item → Option Item) → Decided take → (wrap : List Item → Item) (xs ys : Items) (u v : Item)
+    → Together xs ys → (each_taken take xs >>= λ zs. Some (wrap zs)) ≡ Some u
+    → (each_taken take ys >>= λ zs. Some (wrap zs)) ≡ Some v → u ≡ v
+together_made take d wrap xs ys u v t e f =
+    made wrap (each_taken take xs) (each_taken take ys) u v
+    (λ ps qs m n. each_decided take d xs ys t.element t.content ps qs t.count t.left t.right m n) e f
 
-unlike : (x y : Item) (s t : Kind) (k : Option ℕ) (a : List ℕ) → Wire x k a → Wire y k a → kind_seen x ≡ Some s → kind_seen y ≡ Some t → s ≡ t
+unlike : (x y : Item) (s t : Kind) (k : Option ℕ) (a : List ℕ) → Wire x k a → Wire y k a → kind_seen x ≡ Some s
+    → kind_seen y ≡ Some t → s ≡ t
 unlike x y s t k a g h p q = let both : Some s ≡ Some t = sym p ∙ (seen_same x y k a g h ∙ q) in cc
 
 pub tuple_decided : (takes : List (Item → Option Item)) → AllDecided takes → Decided (tuple_taken takes)
 unfolding tuple_taken
 tuple_decided takes d (list xs) (list ys) k a u v g h e f =
     let t = lists_together xs ys k a g h in
-    made (λ zs. list (items_of zs)) (row_taken takes xs) (row_taken takes ys) u v (λ ps qs m n. row_decided takes d xs ys t.element t.content ps qs t.count t.left t.right m n) e f
+    made (λ zs. list (items_of zs)) (row_taken takes xs) (row_taken takes ys) u v
+    (λ ps qs m n. row_decided takes d xs ys t.element t.content ps qs t.count t.left t.right m n) e f
 tuple_decided takes d (list xs) y k a u v g h e f = absurd cc
 tuple_decided takes d x y k a u v g h e f = absurd cc
 
 pub items_decided : (take : Item → Option Item) → Decided take → Decided (items_taken take)
 unfolding items_taken
-items_decided take d (list xs) (list ys) k a u v g h e f = together_made take d (λ zs. list (items_of zs)) xs ys u v (lists_together xs ys k a g h) e f
+items_decided take d (list xs) (list ys) k a u v g h e f =
+    together_made take d (λ zs. list (items_of zs)) xs ys u v (lists_together xs ys k a g h) e f
 items_decided take d (list xs) y k a u v g h e f = absurd cc
 items_decided take d x y k a u v g h e f = absurd cc
 
 pub elements_decided : (take : Item → Option Item) → Decided take → Decided (elements_taken take)
 unfolding elements_taken
-elements_decided take d (array xs) (array ys) k a u v g h e f = together_made take d (λ zs. array (items_of zs)) xs ys u v (arrays_together xs ys k a g h) e f
+elements_decided take d (array xs) (array ys) k a u v g h e f =
+    together_made take d (λ zs. array (items_of zs)) xs ys u v (arrays_together xs ys k a g h) e f
 elements_decided take d (array xs) y k a u v g h e f = absurd cc
 elements_decided take d x y k a u v g h e f = absurd cc
 
 pub sequence_decided : (take : Item → Option Item) → Decided take → Decided (sequence_taken take)
 unfolding sequence_taken
-sequence_decided take d (list xs) (list ys) k a u v g h e f = together_made take d (λ zs. list (items_of zs)) xs ys u v (lists_together xs ys k a g h) e f
-sequence_decided take d (array xs) (array ys) k a u v g h e f = together_made take d (λ zs. list (items_of zs)) xs ys u v (arrays_together xs ys k a g h) e f
-sequence_decided take d (list xs) (array ys) k a u v g h e f = let s = unlike (list xs) (array ys) list_kind array_kind k a g h refl refl in absurd cc
-sequence_decided take d (array xs) (list ys) k a u v g h e f = let s = unlike (array xs) (list ys) array_kind list_kind k a g h refl refl in absurd cc
+sequence_decided take d (list xs) (list ys) k a u v g h e f =
+    together_made take d (λ zs. list (items_of zs)) xs ys u v (lists_together xs ys k a g h) e f
+sequence_decided take d (array xs) (array ys) k a u v g h e f =
+    together_made take d (λ zs. list (items_of zs)) xs ys u v (arrays_together xs ys k a g h) e f
+sequence_decided take d (list xs) (array ys) k a u v g h e f = let s =
+    unlike (list xs) (array ys) list_kind array_kind k a g h refl refl in absurd cc
+sequence_decided take d (array xs) (list ys) k a u v g h e f = let s =
+    unlike (array xs) (list ys) array_kind list_kind k a g h refl refl in absurd cc
 sequence_decided take d (list xs) y k a u v g h e f = absurd cc
 sequence_decided take d (array xs) y k a u v g h e f = absurd cc
 sequence_decided take d x y k a u v g h e f = absurd cc
 
-unless_several_same : (t : Option Kind) (o : Option Item) → t ≢ Some null_kind → t ≢ Some array_kind → unless_several t o ≡ o
+unless_several_same : (t : Option Kind) (o : Option Item) → t ≢ Some null_kind → t ≢ Some array_kind
+    → unless_several t o ≡ o
 unless_several_same None o m n = refl
 unless_several_same (Some null_kind) o m n = absurd (m refl)
 unless_several_same (Some array_kind) o m n = absurd (n refl)
 unless_several_same (Some t) o m n = refl
 
 -- of an item that is seen to be neither null nor an array such a field takes what its type takes
-pub multiple_same : (take : Item → Option Item) (x : Item) → kind_seen x ≢ Some null_kind → kind_seen x ≢ Some array_kind → multiple_taken take x ≡ alone (take x)
+pub multiple_same : (take : Item → Option Item) (x : Item) → kind_seen x ≢ Some null_kind
+    → kind_seen x ≢ Some array_kind → multiple_taken take x ≡ alone (take x)
 unfolding multiple_taken
 multiple_same take (raw text) m n = unless_several_same (kind_seen (raw text)) (alone (take (raw text))) m n
 multiple_same take (scalar null) m n = absurd (m refl)
@@ -386,16 +447,20 @@ multiple_same take (array xs) m n = absurd (n refl)
 multiple_same take (scalar s) m n = refl
 multiple_same take x m n = refl
 
-null_alone : (take : Item → Option Item) (x u : Item) → kind_seen x ≡ Some null_kind → multiple_taken take x ≡ Some u → u ≡ several []
+null_alone : (take : Item → Option Item) (x u : Item) → kind_seen x ≡ Some null_kind → multiple_taken take x ≡ Some u
+    → u ≡ several []
 unfolding multiple_taken
-null_alone take (raw text) u n e = let none : None ≡ Some u = ap (λ (t : Option Kind). unless_several t (alone (take (raw text)))) (sym n) ∙ e in absurd cc
+null_alone take (raw text) u n e = let none : None ≡ Some u =
+    ap (λ (t : Option Kind). unless_several t (alone (take (raw text)))) (sym n) ∙ e in absurd cc
 null_alone take (scalar null) u n e = cc
 null_alone take (scalar s) u n e = absurd cc
 null_alone take x u n e = absurd cc
 
-an_array : (take : Item → Option Item) (x u : Item) → kind_seen x ≡ Some array_kind → multiple_taken take x ≡ Some u → (xs : Items) × (x ≡ array xs) × ((each_taken take xs >>= λ ys. Some (several ys)) ≡ Some u)
+an_array : (take : Item → Option Item) (x u : Item) → kind_seen x ≡ Some array_kind → multiple_taken take x ≡ Some u
+    → (xs : Items) × (x ≡ array xs) × ((each_taken take xs >>= λ ys. Some (several ys)) ≡ Some u)
 unfolding multiple_taken
-an_array take (raw text) u n e = let none : None ≡ Some u = ap (λ (t : Option Kind). unless_several t (alone (take (raw text)))) (sym n) ∙ e in absurd cc
+an_array take (raw text) u n e = let none : None ≡ Some u =
+    ap (λ (t : Option Kind). unless_several t (alone (take (raw text)))) (sym n) ∙ e in absurd cc
 an_array take (array xs) u n e = (xs, refl, e)
 an_array take (scalar null) u n e = absurd cc
 an_array take (scalar s) u n e = absurd cc
@@ -406,7 +471,9 @@ array_or_not None = inr (λ e. cc)
 array_or_not (Some array_kind) = inl refl
 array_or_not (Some t) = inr (λ e. cc)
 
-arrays_multiple : (take : Item → Option Item) → Decided take → (x y : Item) (k : Option ℕ) (a : List ℕ) (u v : Item) → Wire x k a → Wire y k a → kind_seen x ≡ Some array_kind → kind_seen y ≡ Some array_kind → multiple_taken take x ≡ Some u → multiple_taken take y ≡ Some v → u ≡ v
+arrays_multiple : (take : Item → Option Item) → Decided take → (x y : Item) (k : Option ℕ) (a : List ℕ) (u v : Item)
+    → Wire x k a → Wire y k a → kind_seen x ≡ Some array_kind → kind_seen y ≡ Some array_kind
+    → multiple_taken take x ≡ Some u → multiple_taken take y ≡ Some v → u ≡ v
 arrays_multiple take d x y k a u v g h m n e f =
     let p = an_array take x u m e in
     let q = an_array take y v n f in
@@ -421,32 +488,42 @@ multiple_decided take d x y k a u v g h e f =
       | inl n ↦ null_alone take x u n e ∙ sym (null_alone take y v (sym same ∙ n) f)
       | inr n ↦ elim (array_or_not (kind_seen x)) [
         | inl m ↦ arrays_multiple take d x y k a u v g h m (sym same ∙ m) e f
-        | inr m ↦ decided_through (λ z. several (z ∷ [])) (take x) (take y) u v (λ p q i j. d x y k a p q g h i j) (sym (multiple_same take x n m) ∙ e) (sym (multiple_same take y (λ q. n (same ∙ q)) (λ q. m (same ∙ q))) ∙ f)
+        | inr m ↦ decided_through (λ z. several (z ∷ [])) (take x) (take y) u v (λ p q i j. d x y k a p q g h i j)
+            (sym (multiple_same take x n m) ∙ e) (sym (multiple_same take y (λ q. n (same ∙ q)) (λ q. m (same ∙ q))) ∙
+            f)
       ]
     ]
 
 -- a code or a name says the same
-descriptor_one : (code : ℕ) (name : List ℕ) (x u : Item) → descriptor_taken code name x ≡ Some u → u ≡ scalar (ulong code)
+descriptor_one : (code : ℕ) (name : List ℕ) (x u : Item) → descriptor_taken code name x ≡ Some u
+    → u ≡ scalar (ulong code)
 unfolding descriptor_taken
-descriptor_one code name (scalar (ulong n)) u e = elim (chosen (n == code) _ _ _ e) [ inl h ↦ let w = h.1 in cc | inr h ↦ let w = h.1 in absurd cc ]
-descriptor_one code name (scalar (symbol s)) u e = elim (chosen (bytes_eq s name) _ _ _ e) [ inl h ↦ let w = h.1 in cc | inr h ↦ let w = h.1 in absurd cc ]
+descriptor_one code name (scalar (ulong n)) u e =
+    elim (chosen (n == code) _ _ _ e) [ inl h ↦ let w = h.1 in cc | inr h ↦ let w = h.1 in absurd cc ]
+descriptor_one code name (scalar (symbol s)) u e =
+    elim (chosen (bytes_eq s name) _ _ _ e) [ inl h ↦ let w = h.1 in cc | inr h ↦ let w = h.1 in absurd cc ]
 descriptor_one code name (scalar s) u e = absurd cc
 descriptor_one code name x u e = absurd cc
 
 pub descriptor_decided : (code : ℕ) (name : List ℕ) → Decided (descriptor_taken code name)
 descriptor_decided code name x y k a u v g h e f = descriptor_one code name x u e ∙ sym (descriptor_one code name y v f)
 
-fields_made : (code : ℕ) (o : Option (List Item)) (u : Item) → (o >>= λ ys. Some (record_item code ys)) ≡ Some u → (ys : List Item) × (o ≡ Some ys) × (u ≡ record_item code ys)
+fields_made : (code : ℕ) (o : Option (List Item)) (u : Item) → (o >>= λ ys. Some (record_item code ys)) ≡ Some u
+    → (ys : List Item) × (o ≡ Some ys) × (u ≡ record_item code ys)
 fields_made code None u e = absurd cc
 fields_made code (Some ys) u e = (ys, refl, cc)
 
 -- what a record was made of
-record_parts : (code : ℕ) (takes : List (Item → Option Item)) (o : Option Item) (v u : Item) → (o >>= λ c. list_with (fields_taken takes) v >>= λ ys. Some (record_item code ys)) ≡ Some u → (xs : Items) × (ys : List Item) × (v ≡ list xs) × (fields_taken takes xs ≡ Some ys) × (u ≡ record_item code ys)
+record_parts : (code : ℕ) (takes : List (Item → Option Item)) (o : Option Item) (v u : Item)
+    → (o >>= λ c. list_with (fields_taken takes) v >>= λ ys. Some (record_item code ys)) ≡ Some u
+    → (xs : Items) × (ys : List Item) × (v ≡ list xs) × (fields_taken takes xs ≡ Some ys) × (u ≡ record_item code ys)
 record_parts code takes None v u e = absurd cc
-record_parts code takes (Some c) (list xs) u e = let m = fields_made code (fields_taken takes xs) u e in (xs, m.0, refl, m.1, m.2)
+record_parts code takes (Some c) (list xs) u e = let m =
+    fields_made code (fields_taken takes xs) u e in (xs, m.0, refl, m.1, m.2)
 record_parts code takes (Some c) v u e = absurd cc
 
-pub record_decided : (code : ℕ) (name : List ℕ) (takes : List (Item → Option Item)) → AllDecided takes → Decided (record_taken code name takes)
+pub record_decided : (code : ℕ) (name : List ℕ) (takes : List (Item → Option Item)) → AllDecided takes
+    → Decided (record_taken code name takes)
 unfolding record_taken
 record_decided code name takes all (described d v) (described c w) k a u z g h e f =
     let t = described_together d v c w k a g h in

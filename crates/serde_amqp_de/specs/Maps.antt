@@ -1,6 +1,7 @@
 -- Maps: keys and values in turn (part 1, section 1.6.23).
 use Rattle.std.specs.Prelude.{◌≡◌, ℕ, List, [], ◌∷◌, ◌++◌, length, map as each, Option, Some, None}
-use Rattle.serde_amqp_item.specs.Item.{Item, map, Items, no_items, more_items, Pairs, no_pairs, more_pairs, pairs_of, pair_count}
+use Rattle.serde_amqp_item.specs.Item.{Item, map, Items, no_items, more_items, Pairs, no_pairs, more_pairs, pairs_of}
+use Rattle.serde_amqp_item.specs.Item.{pair_count}
 use Rattle.serde_amqp_item.specs.Wire.{PairForms, IsCapped, IsStrict}
 use Rattle.serde_amqp_item.specs.Canon.{◌>>=◌}
 use Rattle.serde_amqp_de.specs.Reads.{At, Moves}
@@ -22,7 +23,8 @@ map_taken _ = None
 -- each pair, in the order of the bytes, repeated keys among them
 abbrev pub each_pair_taken : (Item → Option Item) → (Item → Option Item) → Pairs → Option (List (Item × Item))
 each_pair_taken key value no_pairs = Some []
-each_pair_taken key value (more_pairs x y ps) = key x >>= λ a. value y >>= λ b. each_pair_taken key value ps >>= λ qs. Some ((a, b) ∷ qs)
+each_pair_taken key value (more_pairs x y ps) =
+    key x >>= λ a. value y >>= λ b. each_pair_taken key value ps >>= λ qs. Some ((a, b) ∷ qs)
 
 -- the pairs of a map
 unfoldable pub pairs_taken : (Item → Option Item) → (Item → Option Item) → Item → Option Item
@@ -38,7 +40,8 @@ abbrev pub map_item : {X Y : Type 0} → (X → Item) → (Y → Item) → List 
 map_item key value ps = map (pairs_of (pair_items key value ps))
 
 -- pairs were read one behind the other, and are taken as these
-pub record TookPairs (key value : Item → Option Item) (count : ℕ) (old new : At) (ys : List (Item × Item)) : Type 0 where
+pub record TookPairs (key value : Item → Option Item) (count : ℕ) (old new : At) (ys : List (Item × Item)) : Type
+    0 where
   pub pairs : Pairs
   pub front : List ℕ
   pub forms : PairForms IsCapped IsStrict pairs front
@@ -48,13 +51,16 @@ pub record TookPairs (key value : Item → Option Item) (count : ℕ) (old new :
 
 -- no front is so many pairs that are taken
 pub record RefusesPairs (key value : Item → Option Item) (count : ℕ) (old : At) : Type 0 where
-  pub none : (ps : Pairs) (front more : List ℕ) → PairForms IsCapped IsStrict ps front → old.rest ≡ front ++ more → pair_count ps ≡ count → each_pair_taken key value ps ≡ None
+  pub none : (ps : Pairs) (front more : List ℕ) → PairForms IsCapped IsStrict ps front → old.rest ≡ front ++ more
+      → pair_count ps ≡ count → each_pair_taken key value ps ≡ None
 
 -- pairs were read one behind the other, are taken as these, and have so many bytes
-pub record TookSizedPairs (key value : Item → Option Item) (count size : ℕ) (old new : At) (ys : List (Item × Item)) : Type 0 where
+pub record TookSizedPairs (key value : Item → Option Item) (count size : ℕ) (old new : At)
+    (ys : List (Item × Item)) : Type 0 where
   pub all : TookPairs key value count old new ys
   pub size_is : length all.front ≡ size
 
 -- no front is so many pairs that are taken, in so many bytes
 pub record RefusesSizedPairs (key value : Item → Option Item) (count size : ℕ) (old : At) : Type 0 where
-  pub none : (ps : Pairs) (front more : List ℕ) → PairForms IsCapped IsStrict ps front → old.rest ≡ front ++ more → pair_count ps ≡ count → length front ≡ size → each_pair_taken key value ps ≡ None
+  pub none : (ps : Pairs) (front more : List ℕ) → PairForms IsCapped IsStrict ps front → old.rest ≡ front ++ more
+      → pair_count ps ≡ count → length front ≡ size → each_pair_taken key value ps ≡ None

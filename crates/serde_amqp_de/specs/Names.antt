@@ -1,10 +1,13 @@
 -- What an error names: what is wrong with the bytes that were refused (part 1, sections 1.2 and 1.6).
-use Rattle.std.specs.Prelude.{◌≡◌, ◌≢◌, ◌⊎◌, ℕ, ◌*◌, ◌%◌, ◌<◌, List, [], ◌∷◌, ◌++◌, length, Bool, false, Option, Some, None, Result, Ok, Err}
+use Rattle.std.specs.Prelude.{◌≡◌, ◌≢◌, ◌⊎◌, ℕ, ◌*◌, ◌%◌, ◌<◌, List, [], ◌∷◌, ◌++◌, length, Bool, false, Option, Some}
+use Rattle.std.specs.Prelude.{None, Result, Ok, Err}
 use Rattle.std.specs.Str.{is_utf8}
 use Rattle.serde_amqp_item.specs.declared.codes.EncodingCodes.{EncodingCodes}
 use Rattle.serde_amqp_item.specs.declared.error.Error.{Error}
-use Rattle.serde_amqp_item.specs.declared.error.Error.TheVariants.{InvalidFormatCode, InvalidValue, InvalidUtf8Encoding, InvalidLength}
-use Rattle.serde_amqp_item.specs.Wire.{Leads, Width, one_byte, field, field_width, room, IsSized, IsElementCode, Row, fixed, variable, list_of, map_of, array_of, row_at, code_of}
+use Rattle.serde_amqp_item.specs.declared.error.Error.TheVariants.{InvalidFormatCode, InvalidValue, InvalidUtf8Encoding}
+use Rattle.serde_amqp_item.specs.declared.error.Error.TheVariants.{InvalidLength}
+use Rattle.serde_amqp_item.specs.Wire.{Leads, Width, one_byte, field, field_width, room, IsSized, IsElementCode, Row}
+use Rattle.serde_amqp_item.specs.Wire.{fixed, variable, list_of, map_of, array_of, row_at, code_of}
 use Rattle.serde_amqp_item.specs.Kind.{Kind, kind_at}
 use Rattle.serde_amqp_read.specs.Reads.{Refusal}
 use Rattle.serde_amqp_de.specs.Reads.{NoSized}
@@ -85,7 +88,8 @@ WrongLength r bytes = ⊥
 -- an array whose elements can't have this constructor
 abbrev pub WrongElement : Row → List ℕ → Type 0
 WrongElement (array_of w) bytes =
-    Counted w bytes (λ total count behind. (c : ℕ) × (more : List ℕ) × (behind ≡ c ∷ more) × (IsElementCode count c → ⊥))
+    Counted w bytes (λ total count behind. (c : ℕ) × (more : List ℕ) × (behind ≡ c ∷ more)
+    × (IsElementCode count c → ⊥))
 WrongElement r bytes = ⊥
 
 abbrev pub Ends : Kind → Option ℕ → List ℕ → Type 0

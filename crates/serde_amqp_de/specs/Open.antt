@@ -1,8 +1,10 @@
 -- An item that holds others, while they are read (part 1, sections 1.2 and 1.6.22 to 1.6.24).
-use Rattle.std.specs.Prelude.{◌≡◌, ◌≢◌, ℕ, ◌+◌, ◌%◌, List, [], ◌∷◌, ◌++◌, length, Option, Some, None, ◌==◌, if◌then◌else◌}
+use Rattle.std.specs.Prelude.{◌≡◌, ◌≢◌, ℕ, ◌+◌, ◌%◌, List, [], ◌∷◌, ◌++◌, length, Option, Some, None, ◌==◌}
+use Rattle.std.specs.Prelude.{if◌then◌else◌}
 use Rattle.serde_amqp_item.specs.declared.error.Error.{Error}
 use Rattle.serde_amqp_item.specs.declared.error.Error.TheVariants.{SequenceLengthMismatch, InvalidLength}
-use Rattle.serde_amqp_item.specs.Item.{Item, scalar, null, list, array, map, described, Items, more_items, items_of, item_count, no_pairs, more_pairs}
+use Rattle.serde_amqp_item.specs.Item.{Item, scalar, null, list, array, map, described, Items, more_items, items_of}
+use Rattle.serde_amqp_item.specs.Item.{item_count, no_pairs, more_pairs}
 use Rattle.serde_amqp_item.specs.Wire.{Wire, Forms, IsCapped, IsStrict}
 use Rattle.serde_amqp_item.specs.Kind.{kind_of, raw_kind}
 use Rattle.serde_amqp_de.specs.Reads.{At, Moves, Reads, Took, at_of}
@@ -80,11 +82,14 @@ Contains shape j x count size rest more =
 -- all before the first of so many items was read; they are led by j
 pub record Begun (shape : Shape) (j k : Option ℕ) (old mid : At) (count : ℕ) (size : Option ℕ) : Type 0 where
   pub may : MayHave shape count
-  pub there : (xs : Items) (content : List ℕ) (new : At) → Forms IsCapped IsStrict xs j content → item_count xs ≡ count → Fills size (length content) → Moves mid new content → Reads k old new (whole shape xs)
-  pub back : (x : Item) (front more : List ℕ) → Wire x k front → old.rest ≡ front ++ more → kind_of x ≢ raw_kind → Contains shape j x count size mid.rest more
+  pub there : (xs : Items) (content : List ℕ) (new : At) → Forms IsCapped IsStrict xs j content → item_count xs ≡ count
+      → Fills size (length content) → Moves mid new content → Reads k old new (whole shape xs)
+  pub back : (x : Item) (front more : List ℕ) → Wire x k front → old.rest ≡ front ++ more → kind_of x ≢ raw_kind
+      → Contains shape j x count size mid.rest more
 
 -- these items were read of the whole that begins at old, and no others
-pub record HasRead {R : Type 0} (rest : R → List ℕ) (shape : Shape) (j k : Option ℕ) (old : At) (xs : List Item) (c : Content R) : Type 0 where
+pub record HasRead {R : Type 0} (rest : R → List ℕ) (shape : Shape) (j k : Option ℕ) (old : At) (xs : List Item)
+    (c : Content R) : Type 0 where
   pub count : ℕ
   pub size : Option ℕ
   pub mid : At
@@ -99,17 +104,20 @@ pub record HasRead {R : Type 0} (rest : R → List ℕ) (shape : Shape) (j k : O
 
 -- where some items were read, these were read behind them
 pub record ReadsOn {R : Type 0} (rest : R → List ℕ) (c d : Content R) (ys : List Item) : Type 0 where
-  pub on : (shape : Shape) (j k : Option ℕ) (old : At) (xs : List Item) → HasRead rest shape j k old xs c → HasRead rest shape j k old (xs ++ ys) d
+  pub on : (shape : Shape) (j k : Option ℕ) (old : At) (xs : List Item) → HasRead rest shape j k old xs c
+      → HasRead rest shape j k old (xs ++ ys) d
 
 -- the next item was read, and is taken as this
-pub record TookNext {R : Type 0} (rest : R → List ℕ) (take : Item → Option Item) (c d : Content R) (y : Item) : Type 0 where
+pub record TookNext {R : Type 0} (rest : R → List ℕ) (take : Item → Option Item) (c d : Content R) (y : Item) : Type
+    0 where
   pub took : Took take c.de.now.element (at_of rest c.de.now) (at_of rest d.de.now) y
   pub more : ReadsOn rest c d (took.item ∷ [])
   pub element : d.de.now.element ≡ c.de.now.element
   pub left : c.left ≡ d.left + 1
 
 -- the next key and its value were read, and are taken as these
-pub record TookEntry {R : Type 0} (rest : R → List ℕ) (key value : Item → Option Item) (c d : Content R) (y z : Item) : Type 0 where
+pub record TookEntry {R : Type 0} (rest : R → List ℕ) (key value : Item → Option Item) (c d : Content R)
+    (y z : Item) : Type 0 where
   pub mid : At
   pub first : Took key c.de.now.element (at_of rest c.de.now) mid y
   pub second : Took value c.de.now.element mid (at_of rest d.de.now) z

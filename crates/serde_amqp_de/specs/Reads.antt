@@ -3,7 +3,8 @@ use Rattle.std.specs.Prelude.{◌≡◌, ◌≢◌, ℕ, ◌+◌, ◌<◌, List,
 use Rattle.std.specs.Str.{is_utf8}
 use Rattle.serde_amqp_item.specs.declared.codes.EncodingCodes.{EncodingCodes}
 use Rattle.serde_amqp_item.specs.Item.{Item, Items, item_count}
-use Rattle.serde_amqp_item.specs.Wire.{Wire, Leads, Width, field, room, IsSized, IsElementCode, code_of, Forms, IsCapped, IsStrict}
+use Rattle.serde_amqp_item.specs.Wire.{Wire, Leads, Width, field, room, IsSized, IsElementCode, code_of, Forms}
+use Rattle.serde_amqp_item.specs.Wire.{IsCapped, IsStrict}
 use Rattle.serde_amqp_item.specs.Kind.{kind_of, raw_kind}
 use Rattle.serde_amqp_de.specs.declared.deserializer.Deserializer.{Deserializer}
 
@@ -90,11 +91,14 @@ Holds wrap j x count size rest more =
 
 -- the head of a list or an array was read; its items follow, led by j
 pub record Opens (wrap : Items → Item) (j k : Option ℕ) (old mid : At) (count size : ℕ) : Type 0 where
-  pub there : (xs : Items) (content : List ℕ) (new : At) → Forms IsCapped IsStrict xs j content → item_count xs ≡ count → length content ≡ size → Moves mid new content → Reads k old new (wrap xs)
-  pub back : (x : Item) (front more : List ℕ) → Wire x k front → old.rest ≡ front ++ more → kind_of x ≢ raw_kind → Holds wrap j x count size mid.rest more
+  pub there : (xs : Items) (content : List ℕ) (new : At) → Forms IsCapped IsStrict xs j content → item_count xs ≡ count
+      → length content ≡ size → Moves mid new content → Reads k old new (wrap xs)
+  pub back : (x : Item) (front more : List ℕ) → Wire x k front → old.rest ≡ front ++ more → kind_of x ≢ raw_kind
+      → Holds wrap j x count size mid.rest more
 
 -- items were read one behind the other, and are taken as these
-pub record TookAll (taking : Items → Option (List Item)) (count : ℕ) (j : Option ℕ) (old new : At) (ys : List Item) : Type 0 where
+pub record TookAll (taking : Items → Option (List Item)) (count : ℕ) (j : Option ℕ) (old new : At)
+    (ys : List Item) : Type 0 where
   pub items : Items
   pub front : List ℕ
   pub forms : Forms IsCapped IsStrict items j front
@@ -104,7 +108,8 @@ pub record TookAll (taking : Items → Option (List Item)) (count : ℕ) (j : Op
 
 -- no front is so many items that are taken
 pub record RefusesAll (taking : Items → Option (List Item)) (count : ℕ) (j : Option ℕ) (old : At) : Type 0 where
-  pub none : (xs : Items) (front more : List ℕ) → Forms IsCapped IsStrict xs j front → old.rest ≡ front ++ more → item_count xs ≡ count → taking xs ≡ None
+  pub none : (xs : Items) (front more : List ℕ) → Forms IsCapped IsStrict xs j front → old.rest ≡ front ++ more
+      → item_count xs ≡ count → taking xs ≡ None
 
 -- one item was read, and is taken as this
 pub record TookOne (take : Item → Option Item) (k : Option ℕ) (old new : At) (ys : List Item) : Type 0 where
@@ -113,13 +118,15 @@ pub record TookOne (take : Item → Option Item) (k : Option ℕ) (old new : At)
   pub one : ys ≡ value ∷ []
 
 -- items were read one behind the other, are taken as these, and have so many bytes
-pub record TookSized (taking : Items → Option (List Item)) (count size : ℕ) (j : Option ℕ) (old new : At) (ys : List Item) : Type 0 where
+pub record TookSized (taking : Items → Option (List Item)) (count size : ℕ) (j : Option ℕ) (old new : At)
+    (ys : List Item) : Type 0 where
   pub all : TookAll taking count j old new ys
   pub size_is : length all.front ≡ size
 
 -- no front is so many items that are taken, in so many bytes
 pub record RefusesSized (taking : Items → Option (List Item)) (count size : ℕ) (j : Option ℕ) (old : At) : Type 0 where
-  pub none : (xs : Items) (front more : List ℕ) → Forms IsCapped IsStrict xs j front → old.rest ≡ front ++ more → item_count xs ≡ count → length front ≡ size → taking xs ≡ None
+  pub none : (xs : Items) (front more : List ℕ) → Forms IsCapped IsStrict xs j front → old.rest ≡ front ++ more
+      → item_count xs ≡ count → length front ≡ size → taking xs ≡ None
 
 -- a reader that has failed has nothing left
 abbrev pub HasFailed : {R : Type 0} → (R → List ℕ) → Deserializer R → Type 0

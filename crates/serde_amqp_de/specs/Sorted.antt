@@ -4,7 +4,9 @@ use Rattle.std.specs.Cmp.Lexicographic.{slice_cmp}
 use Rattle.std.specs.Ordering.{nat_cmp, int_cmp, bool_cmp}
 use Rattle.std.specs.declared.cmp.Ordering.{Ordering}
 use Rattle.std.specs.declared.cmp.Ordering.TheVariants.{Equal}
-use Rattle.serde_amqp_item.specs.Item.{Scalar, boolean, ubyte, ushort, uint, ulong, byte, short, int, long, char, timestamp, uuid, binary, string, symbol, Item, scalar, map, Pairs, no_pairs, more_pairs, pairs_of}
+use Rattle.serde_amqp_item.specs.Item.{Scalar, boolean, ubyte, ushort, uint, ulong, byte, short, int, long, char}
+use Rattle.serde_amqp_item.specs.Item.{timestamp, uuid, binary, string, symbol, Item, scalar, map, Pairs, no_pairs}
+use Rattle.serde_amqp_item.specs.Item.{more_pairs, pairs_of}
 use Rattle.serde_amqp_item.specs.Canon.{◌>>=◌}
 use Rattle.serde_amqp_ser.specs.Placed.{all_placed}
 use Rattle.serde_amqp_de.specs.Maps.{pairs_taken}

@@ -1,6 +1,9 @@
 -- Which items a type takes, and which item its value then is (part 1, sections 1.3 to 1.6).
-use Rattle.std.specs.Prelude.{◌≡◌, ◌≢◌, ℕ, Bool, true, false, List, [], ◌∷◌, Option, Some, None, ◌==◌, if◌then◌else◌, bytes_eq}
-use Rattle.serde_amqp_item.specs.Item.{null, boolean, ubyte, ushort, uint, ulong, byte, short, int, long, float, double, decimal32, decimal64, decimal128, char, timestamp, uuid, binary, string, symbol, Item, scalar, raw, list, array, described, Items, no_items, more_items, items_of}
+use Rattle.std.specs.Prelude.{◌≡◌, ◌≢◌, ℕ, Bool, true, false, List, [], ◌∷◌, Option, Some, None, ◌==◌, if◌then◌else◌}
+use Rattle.std.specs.Prelude.{bytes_eq}
+use Rattle.serde_amqp_item.specs.Item.{null, boolean, ubyte, ushort, uint, ulong, byte, short, int, long, float, double}
+use Rattle.serde_amqp_item.specs.Item.{decimal32, decimal64, decimal128, char, timestamp, uuid, binary, string, symbol}
+use Rattle.serde_amqp_item.specs.Item.{Item, scalar, raw, list, array, described, Items, no_items, more_items, items_of}
 use Rattle.serde_amqp_item.specs.Wire.{code_of}
 use Rattle.serde_amqp_item.specs.Canon.{◌>>=◌}
 use Rattle.serde_amqp_item.specs.Kind.{Kind, kind_of, kind_at, null_kind, array_kind, symbol_kind}
@@ -221,7 +224,8 @@ list_with taking _ = None
 
 -- a described list with this code or this name, and these fields (section 1.4)
 unfoldable pub record_taken : ℕ → List ℕ → List (Item → Option Item) → Item → Option Item
-record_taken code name takes (described d v) = descriptor_taken code name d >>= λ c. list_with (fields_taken takes) v >>= λ ys. Some (record_item code ys)
+record_taken code name takes (described d v) =
+    descriptor_taken code name d >>= λ c. list_with (fields_taken takes) v >>= λ ys. Some (record_item code ys)
 record_taken code name takes _ = None
 
 -- a value whose item is seen to be null is read as none

@@ -1,8 +1,12 @@
 -- The canonical text of an item: of its wire forms the shortest constructor, and in an array the widest.
-use Rattle.std.specs.Prelude.{ℕ, ◌+◌, ◌*◌, ◌^◌, ◌==◌, nat_lt, Bool, true, false, List, [], ◌∷◌, ◌++◌, length, Option, Some, None, if◌then◌else◌, ℤ, pos, negsuc}
+use Rattle.std.specs.Prelude.{ℕ, ◌+◌, ◌*◌, ◌^◌, ◌==◌, nat_lt, Bool, true, false, List, [], ◌∷◌, ◌++◌, length, Option}
+use Rattle.std.specs.Prelude.{Some, None, if◌then◌else◌, ℤ, pos, negsuc}
 use Rattle.std.specs.Int.{w8, w16, w32, w64, to_be_bytes, cast_unsigned}
 use Rattle.std.specs.Str.{is_utf8}
-use Rattle.serde_amqp_item.specs.Item.{Scalar, null, boolean, ubyte, ushort, uint, ulong, byte, short, int, long, float, double, decimal32, decimal64, decimal128, char, timestamp, uuid, binary, string, symbol, Item, scalar, raw, list, map, array, described, Items, no_items, more_items, item_count, Pairs, no_pairs, more_pairs, pair_count}
+use Rattle.serde_amqp_item.specs.Item.{Scalar, null, boolean, ubyte, ushort, uint, ulong, byte, short, int, long, float}
+use Rattle.serde_amqp_item.specs.Item.{double, decimal32, decimal64, decimal128, char, timestamp, uuid, binary, string}
+use Rattle.serde_amqp_item.specs.Item.{symbol, Item, scalar, raw, list, map, array, described, Items, no_items}
+use Rattle.serde_amqp_item.specs.Item.{more_items, item_count, Pairs, no_pairs, more_pairs, pair_count}
 use Rattle.serde_amqp_item.specs.Wire.{is_scalar_value, NoRaw}
 
 infixl 10 ◌>>=◌
@@ -58,7 +62,8 @@ scalar_text (symbol bs) = if is_utf8 bs then sized_text 0xa3 0xb3 bs else None
 
 -- the constructor of the wide form, and what stands behind it
 abbrev pub wide_sized : ℕ → List ℕ → Option (ℕ × List ℕ)
-wide_sized c content = if nat_lt (length content) (2 ^ 32) then Some (c, to_be_bytes w32 (length content) ++ content) else None
+wide_sized c content =
+    if nat_lt (length content) (2 ^ 32) then Some (c, to_be_bytes w32 (length content) ++ content) else None
 
 abbrev pub scalar_wide : Scalar → Option (ℕ × List ℕ)
 scalar_wide null = None
@@ -84,15 +89,18 @@ scalar_wide (binary bs) = wide_sized 0xb0 bs
 scalar_wide (string bs) = if is_utf8 bs then wide_sized 0xb1 bs else None
 scalar_wide (symbol bs) = if is_utf8 bs then wide_sized 0xb3 bs else None
 
--- a size, a count and this content: the narrow constructor up to 254 bytes of content, the wide one up to a size of 2^32 - 1
+-- a size, a count and this content: the narrow constructor up to 254 bytes of content, the wide one up to a size of
+-- 2^32 - 1
 abbrev pub counted_text : ℕ → ℕ → ℕ → List ℕ → Option (List ℕ)
 counted_text narrow wide count content =
     if nat_lt (length content) 255 then Some (narrow ∷ (length content + 1) ∷ count ∷ content) else
-    if nat_lt (length content + 4) (2 ^ 32) then Some (wide ∷ (to_be_bytes w32 (length content + 4) ++ to_be_bytes w32 count ++ content)) else None
+    if nat_lt (length content + 4) (2 ^ 32) then Some
+    (wide ∷ (to_be_bytes w32 (length content + 4) ++ to_be_bytes w32 count ++ content)) else None
 
 abbrev pub counted_wide : ℕ → ℕ → List ℕ → Option (ℕ × List ℕ)
 counted_wide c count content =
-    if nat_lt (length content + 4) (2 ^ 32) then Some (c, to_be_bytes w32 (length content + 4) ++ to_be_bytes w32 count ++ content) else None
+    if nat_lt (length content + 4) (2 ^ 32) then Some
+    (c, to_be_bytes w32 (length content + 4) ++ to_be_bytes w32 count ++ content) else None
 
 -- a list of so many items with this content (section 1.6.22)
 abbrev pub list_text : ℕ → List ℕ → Option (List ℕ)
@@ -193,7 +201,8 @@ abbrev mutual
   wide (array xs) = elements xs >>= array_wide (item_count xs)
   wide (described d v) = None
 
-  -- the content of an array: the constructor of its first element, and the elements; an empty array has the constructor of null
+  -- the content of an array: the constructor of its first element, and the elements; an empty array has the constructor
+  -- of null
   pub elements : Items → Option (List ℕ)
   elements no_items = Some (0x40 ∷ [])
   elements (more_items x xs) = wide x >>= λ e. elements_of e.0 xs >>= λ b. Some (e.0 ∷ e.1 ++ b)

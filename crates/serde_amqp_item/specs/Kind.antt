@@ -1,7 +1,16 @@
 -- The types of items (part 1, section 1.6), and the type that a constructor is of.
-use Rattle.serde_amqp_item.specs.Item.{null, boolean, ubyte, ushort, uint, ulong, byte, short, int, long, float, double, decimal32, decimal64, decimal128, char, timestamp, uuid, binary, string, symbol, Item, scalar, raw, list, map, array, described}
+use Rattle.serde_amqp_item.specs.Item.{null, boolean, ubyte, ushort, uint, ulong, byte, short, int, long, float, double}
+use Rattle.serde_amqp_item.specs.Item.{decimal32, decimal64, decimal128, char, timestamp, uuid, binary, string, symbol}
+use Rattle.serde_amqp_item.specs.Item.{Item, scalar, raw, list, map, array, described}
 use Rattle.serde_amqp_item.specs.declared.codes.EncodingCodes.{EncodingCodes}
-use Rattle.serde_amqp_item.specs.declared.codes.EncodingCodes.TheVariants.{DescribedType, Null, BooleanTrue, BooleanFalse, Boolean, UByte, UShort, UInt, SmallUInt, UInt0, ULong, SmallULong, ULong0, Byte, Short, Int, SmallInt, Long, SmallLong, Float, Double, Decimal32, Decimal64, Decimal128, Char, Timestamp, Uuid, Vbin8, Vbin32, Str8, Str32, Sym8, Sym32, List0, List8, List32, Map8, Map32, Array8, Array32}
+use Rattle.serde_amqp_item.specs.declared.codes.EncodingCodes.TheVariants.{DescribedType, Null, BooleanTrue}
+use Rattle.serde_amqp_item.specs.declared.codes.EncodingCodes.TheVariants.{BooleanFalse, Boolean, UByte, UShort, UInt}
+use Rattle.serde_amqp_item.specs.declared.codes.EncodingCodes.TheVariants.{SmallUInt, UInt0, ULong, SmallULong, ULong0}
+use Rattle.serde_amqp_item.specs.declared.codes.EncodingCodes.TheVariants.{Byte, Short, Int, SmallInt, Long, SmallLong}
+use Rattle.serde_amqp_item.specs.declared.codes.EncodingCodes.TheVariants.{Float, Double, Decimal32, Decimal64}
+use Rattle.serde_amqp_item.specs.declared.codes.EncodingCodes.TheVariants.{Decimal128, Char, Timestamp, Uuid, Vbin8}
+use Rattle.serde_amqp_item.specs.declared.codes.EncodingCodes.TheVariants.{Vbin32, Str8, Str32, Sym8, Sym32, List0}
+use Rattle.serde_amqp_item.specs.declared.codes.EncodingCodes.TheVariants.{List8, List32, Map8, Map32, Array8, Array32}
 
 pub data Kind : Type 0 where
   null_kind : Kind

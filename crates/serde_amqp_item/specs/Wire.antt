@@ -1,13 +1,24 @@
 -- The wire forms of items: the constructors of part 1, section 1.6, and the layouts of section 1.2.
-use Rattle.std.specs.Prelude.{◌≡◌, ◌≢◌, ℕ, ◌*◌, ◌<◌, ◌≤◌, ◌^◌, ◌==◌, ◌⊎◌, true, false, List, [], ◌∷◌, ◌++◌, length, slice_index, Option, Some, None, IsSome, if◌then◌else◌}
+use Rattle.std.specs.Prelude.{◌≡◌, ◌≢◌, ℕ, ◌*◌, ◌<◌, ◌≤◌, ◌^◌, ◌==◌, ◌⊎◌, true, false, List, [], ◌∷◌, ◌++◌, length}
+use Rattle.std.specs.Prelude.{slice_index, Option, Some, None, IsSome, if◌then◌else◌}
 use Rattle.std.specs.Int.{w8, w16, w32, w64, to_be_bytes, from_be_bytes, cast_signed}
 use Rattle.std.specs.Str.{is_utf8}
 pub use lib.Utf8.{scalar as is_scalar_value}
 use Rattle.serde_amqp_item.specs.declared.codes.EncodingCodes.{EncodingCodes}
-use Rattle.serde_amqp_item.specs.declared.codes.EncodingCodes.TheVariants.{DescribedType, Null, BooleanTrue, BooleanFalse, Boolean, UByte, UShort, UInt, SmallUInt, UInt0, ULong, SmallULong, ULong0, Byte, Short, Int, SmallInt, Long, SmallLong, Float, Double, Decimal32, Decimal64, Decimal128, Char, Timestamp, Uuid, Vbin8, Vbin32, Str8, Str32, Sym8, Sym32, List0, List8, List32, Map8, Map32, Array8, Array32}
+use Rattle.serde_amqp_item.specs.declared.codes.EncodingCodes.TheVariants.{DescribedType, Null, BooleanTrue}
+use Rattle.serde_amqp_item.specs.declared.codes.EncodingCodes.TheVariants.{BooleanFalse, Boolean, UByte, UShort, UInt}
+use Rattle.serde_amqp_item.specs.declared.codes.EncodingCodes.TheVariants.{SmallUInt, UInt0, ULong, SmallULong, ULong0}
+use Rattle.serde_amqp_item.specs.declared.codes.EncodingCodes.TheVariants.{Byte, Short, Int, SmallInt, Long, SmallLong}
+use Rattle.serde_amqp_item.specs.declared.codes.EncodingCodes.TheVariants.{Float, Double, Decimal32, Decimal64}
+use Rattle.serde_amqp_item.specs.declared.codes.EncodingCodes.TheVariants.{Decimal128, Char, Timestamp, Uuid, Vbin8}
+use Rattle.serde_amqp_item.specs.declared.codes.EncodingCodes.TheVariants.{Vbin32, Str8, Str32, Sym8, Sym32, List0}
+use Rattle.serde_amqp_item.specs.declared.codes.EncodingCodes.TheVariants.{List8, List32, Map8, Map32, Array8, Array32}
 use Rattle.serde_amqp_item.specs.declared.codes.Category.{Category}
 use Rattle.serde_amqp_item.specs.declared.codes.Category.TheVariants.{Fixed, Variable, Compound, Array}
-use Rattle.serde_amqp_item.specs.Item.{Scalar, null, boolean, ubyte, ushort, uint, ulong, byte, short, int, long, float, double, decimal32, decimal64, decimal128, char, timestamp, uuid, binary, string, symbol, Item, scalar, raw, list, map, array, described, Items, no_items, more_items, item_count, Pairs, no_pairs, more_pairs, pair_count}
+use Rattle.serde_amqp_item.specs.Item.{Scalar, null, boolean, ubyte, ushort, uint, ulong, byte, short, int, long, float}
+use Rattle.serde_amqp_item.specs.Item.{double, decimal32, decimal64, decimal128, char, timestamp, uuid, binary, string}
+use Rattle.serde_amqp_item.specs.Item.{symbol, Item, scalar, raw, list, map, array, described, Items, no_items}
+use Rattle.serde_amqp_item.specs.Item.{more_items, item_count, Pairs, no_pairs, more_pairs, pair_count}
 
 -- the two widths of size and count fields (section 1.2)
 pub data Width : Type 0 where
@@ -247,9 +258,9 @@ ScalarForm s (fixed n read) bytes = (length bytes ≡ n) × (read bytes ≡ Some
 ScalarForm s (variable w read) bytes = (content : List ℕ) × IsSized w content bytes × (read content ≡ Some s)
 ScalarForm s _ bytes = ⊥
 
--- The bytes stand behind a constructor of this row and are a form of the item.
--- `within` says which counts there may be. `kept` says what a raw item may be, by its constructor and what stands behind it.
--- A raw item has a constructor of its own, so it is no element of an array.
+-- The bytes stand behind a constructor of this row and are a form of the item. `within` says which counts there may be.
+-- `kept` says what a raw item may be, by its constructor and what stands behind it. A raw item has a constructor of its
+-- own, so it is no element of an array.
 abbrev mutual
   pub Form : (ℕ → Type 0) → (ℕ → List ℕ → Type 0) → Item → Option ℕ → Row → List ℕ → Type 0
   Form within kept (raw text) (Some c) r bytes = (text ≡ c ∷ bytes) × kept c bytes
@@ -265,7 +276,8 @@ abbrev mutual
   Form within kept (array xs) o (array_of w) bytes =
       IsBareArray w xs bytes
       ⊎ ((d : ℕ) × (content : List ℕ) × within (item_count xs) × (item_count xs < room w)
-      × IsSized w (field w (item_count xs) ++ d ∷ content) bytes × IsElementCode (item_count xs) d × Forms within kept xs (Some d) content)
+      × IsSized w (field w (item_count xs) ++ d ∷ content) bytes × IsElementCode (item_count xs) d
+      × Forms within kept xs (Some d) content)
   Form within kept (described d v) o described_by bytes =
       (c : ℕ) × (a : List ℕ) × (k : ℕ) × (b : List ℕ) × (bytes ≡ c ∷ (a ++ k ∷ b))
       × Form within kept d (Some c) (row_of c) a × Form within kept v (Some k) (row_of k) b
@@ -275,14 +287,16 @@ abbrev mutual
   pub Forms : (ℕ → Type 0) → (ℕ → List ℕ → Type 0) → Items → Option ℕ → List ℕ → Type 0
   Forms within kept no_items k bytes = bytes ≡ []
   Forms within kept (more_items x xs) k bytes =
-      (c : ℕ) × (a : List ℕ) × (b : List ℕ) × Leads k bytes c (a ++ b) × Form within kept x (own k c) (row_of c) a × Forms within kept xs k b
+      (c : ℕ) × (a : List ℕ) × (b : List ℕ) × Leads k bytes c (a ++ b) × Form within kept x (own k c) (row_of c) a
+      × Forms within kept xs k b
 
   -- keys and values in turn
   pub PairForms : (ℕ → Type 0) → (ℕ → List ℕ → Type 0) → Pairs → List ℕ → Type 0
   PairForms within kept no_pairs bytes = bytes ≡ []
   PairForms within kept (more_pairs x y ps) bytes =
       (c : ℕ) × (a : List ℕ) × (k : ℕ) × (b : List ℕ) × (rest : List ℕ) × (bytes ≡ c ∷ (a ++ k ∷ (b ++ rest)))
-      × Form within kept x (Some c) (row_of c) a × Form within kept y (Some k) (row_of k) b × PairForms within kept ps rest
+      × Form within kept x (Some c) (row_of c) a × Form within kept y (Some k) (row_of k) b
+      × PairForms within kept ps rest
 
 abbrev pub AnyCount : ℕ → Type 0
 AnyCount n = Unit {0}

@@ -12,7 +12,8 @@ module _ {K V : Type 0} where
   abbrev pub pair_order : (K → K → Ordering) → (V → V → Ordering) → K × V → K × V → Ordering
   pair_order by_key by_value p q = ordering_then (by_key p.0 q.0) (by_value p.1 q.1)
 
-  abbrev pub partial_pair_order : (K → K → Option Ordering) → (V → V → Option Ordering) → K × V → K × V → Option Ordering
+  abbrev pub partial_pair_order : (K → K → Option Ordering) → (V → V → Option Ordering) → K × V → K × V
+      → Option Ordering
   partial_pair_order by_key by_value p q = partial_ordering_then (by_key p.0 q.0) (by_value p.1 q.1)
 
   -- what a pair feeds a hasher

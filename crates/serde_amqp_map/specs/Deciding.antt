@@ -18,16 +18,20 @@ pub no_wire : (x : Item) (k : Option ℕ) (a : List ℕ) → Wire (no_map x) k a
 no_wire x k a w = no_form x (own k w.0) (row_of w.0) w.1 w.3
 
 -- of an item that has a form the pairs are taken, each key once
-pub plainly : (key value : Item → Option Item) (x : Item) (k : Option ℕ) (a : List ℕ) → Wire x k a → ordered_taken key value x ≡ (pairs_taken key value x >>= λ y. Some (merged y))
+pub plainly : (key value : Item → Option Item) (x : Item) (k : Option ℕ) (a : List ℕ) → Wire x k a
+    → ordered_taken key value x ≡ (pairs_taken key value x >>= λ y. Some (merged y))
 unfolding ordered_taken
 plainly key value (described (raw []) x) k a w = absurd (no_wire x k a w)
 plainly key value x k a w = refl
 
-merged_one : (o p : Option Item) (u v : Item) → ((y z : Item) → o ≡ Some y → p ≡ Some z → y ≡ z) → (o >>= λ y. Some (merged y)) ≡ Some u → (p >>= λ y. Some (merged y)) ≡ Some v → u ≡ v
+merged_one : (o p : Option Item) (u v : Item) → ((y z : Item) → o ≡ Some y → p ≡ Some z → y ≡ z)
+    → (o >>= λ y. Some (merged y)) ≡ Some u → (p >>= λ y. Some (merged y)) ≡ Some v → u ≡ v
 merged_one None p u v d e f = absurd cc
 merged_one (Some y) None u v d e f = absurd cc
 merged_one (Some y) (Some z) u v d e f = let both = ap merged (d y z refl refl) in cc
 
 pub ordered_decided : (key value : Item → Option Item) → Decided key → Decided value → Decided (ordered_taken key value)
 ordered_decided key value d i x y k a u v w z e f =
-    merged_one (pairs_taken key value x) (pairs_taken key value y) u v (λ s t m n. pairs_decided key value d i x y k a s t w z m n) (sym (plainly key value x k a w) ∙ e) (sym (plainly key value y k a z) ∙ f)
+    merged_one (pairs_taken key value x) (pairs_taken key value y) u v
+    (λ s t m n. pairs_decided key value d i x y k a s t w z m n) (sym (plainly key value x k a w) ∙ e)
+    (sym (plainly key value y k a z) ∙ f)

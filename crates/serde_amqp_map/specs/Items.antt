@@ -16,4 +16,5 @@ no_map x = described (raw []) x
 
 -- a map of these keys and values, in order, where no key stands twice
 unfoldable pub ordered_item : {K V : Type 0} → (K → K → Bool) → (K → Item) → (V → Item) → List (K × V) → Item
-ordered_item same key value ps = if are_apart same (keys_of ps) then map_item key value ps else no_map (map_item key value ps)
+ordered_item same key value ps =
+    if are_apart same (keys_of ps) then map_item key value ps else no_map (map_item key value ps)

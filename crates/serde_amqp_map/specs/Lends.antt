@@ -19,7 +19,10 @@ module _ (K V : RattleType) (key : HashMembers K.Denot) where
 
   -- the type of the `IndexMap` inside
   abbrev pub inner_row : RattleType
-  inner_row = index_map.the_row K V (build_hasher.the_row fold_hasher.the_row) global.the_row fold_hasher.the_row (record { eq = key.eq }) (record { hash_input = key.hash_input }) (record { build_hasher = initial_hasher }) folds.ghosts heap.ghosts
+  inner_row =
+      index_map.the_row K V (build_hasher.the_row fold_hasher.the_row) global.the_row fold_hasher.the_row
+      (record { eq = key.eq }) (record { hash_input = key.hash_input }) (record { build_hasher = initial_hasher })
+      folds.ghosts heap.ghosts
 
   module _ (m : MutBor (List (K.Denot × V.Denot))) where
     -- the map has the pairs of the last `IndexMap` behind r

@@ -2,7 +2,10 @@
 use Rattle.std.specs.Prelude.{◌==◌, ◌&&◌, Bool, true, false, nat_eq}
 use Rattle.std.specs.Ordering.{int_eq}
 use Rattle.std.specs.Cmp.Lexicographic.{pointwise}
-use Rattle.serde_amqp_item.specs.Item.{Scalar, null, boolean, ubyte, ushort, uint, ulong, byte, short, int, long, float, double, decimal32, decimal64, decimal128, char, timestamp, uuid, binary, string, symbol, Item, scalar, raw, list, map, array, described, Items, no_items, more_items, Pairs, no_pairs, more_pairs}
+use Rattle.serde_amqp_item.specs.Item.{Scalar, null, boolean, ubyte, ushort, uint, ulong, byte, short, int, long, float}
+use Rattle.serde_amqp_item.specs.Item.{double, decimal32, decimal64, decimal128, char, timestamp, uuid, binary, string}
+use Rattle.serde_amqp_item.specs.Item.{symbol, Item, scalar, raw, list, map, array, described, Items, no_items}
+use Rattle.serde_amqp_item.specs.Item.{more_items, Pairs, no_pairs, more_pairs}
 
 abbrev pub same_truth : Bool → Bool → Bool
 same_truth true b = b

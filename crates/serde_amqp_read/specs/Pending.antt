@@ -1,12 +1,15 @@
 -- What is still to be taken of strict forms that hold one another (part 1, section 1.2).
-use Rattle.std.specs.Prelude.{◌≡◌, ◌≢◌, ℕ, ◌+◌, ◌-◌, ◌*◌, ◌%◌, ◌<◌, ◌≤◌, ◌==◌, Bool, true, false, is_some, List, [], ◌∷◌, ◌++◌, length, Option, Some, None, if◌then◌else◌}
+use Rattle.std.specs.Prelude.{◌≡◌, ◌≢◌, ℕ, ◌+◌, ◌-◌, ◌*◌, ◌%◌, ◌<◌, ◌≤◌, ◌==◌, Bool, true, false, is_some, List, []}
+use Rattle.std.specs.Prelude.{◌∷◌, ◌++◌, length, Option, Some, None, if◌then◌else◌}
 use Rattle.serde_amqp_item.specs.declared.codes.EncodingCodes.{EncodingCodes}
 use Rattle.serde_amqp_item.specs.declared.codes.EncodingCodes.TheVariants.{DescribedType, Null, Boolean, Char}
 use Rattle.serde_amqp_item.specs.declared.codes.Category.{Category}
 use Rattle.serde_amqp_item.specs.declared.codes.Category.TheVariants.{Fixed}
 use Rattle.serde_amqp_item.specs.declared.error.Error.{Error}
 use Rattle.serde_amqp_item.specs.Item.{Item, Items, item_count}
-use Rattle.serde_amqp_item.specs.Wire.{Row, fixed, variable, empty_list, map_of, described_by, Width, field, room, Form, Forms, Leads, AnyCount, NoRaw, IsStrict, own, code_of, row_at, row_of, category_of}
+use Rattle.serde_amqp_item.specs.Wire.{Row, fixed, variable, empty_list, map_of, described_by, Width, field, room, Form}
+use Rattle.serde_amqp_item.specs.Wire.{Forms, Leads, AnyCount, NoRaw, IsStrict, own, code_of, row_at, row_of}
+use Rattle.serde_amqp_item.specs.Wire.{category_of}
 use Rattle.serde_amqp_read.specs.Reads.{with_more}
 use Rattle.serde_amqp_read.specs.declared.measure.Frame.{Frame}
 
@@ -95,14 +98,17 @@ TakesBytes r = Unit {0}
 
 -- the items that a frame says, in these bytes
 abbrev pub Held : Frame → ℕ → Items → List ℕ → Type 0
-Held f at xs content = Forms AnyCount NoRaw xs f.inherited content × (item_count xs ≡ f.left) × Ends f.end (at + length content)
+Held f at xs content =
+    Forms AnyCount NoRaw xs f.inherited content × (item_count xs ≡ f.left) × Ends f.end (at + length content)
 
 -- what stands behind a constructor, but for the items that the frame says
 pub record Opens (r : Row) (old new : Place) (f : Frame) : Type 0 where
   pub front : List ℕ
   pub moves : Moves old new front
-  pub there : (xs : Items) (content : List ℕ) (o : Option ℕ) → Held f (length new.taken) xs content → (x : Item) × Form AnyCount NoRaw x o r (front ++ content)
-  pub back : (x : Item) (o : Option ℕ) (a more : List ℕ) → Form AnyCount NoRaw x o r a → old.rest ≡ a ++ more → (xs : Items) × (content : List ℕ) × (a ≡ front ++ content) × Held f (length new.taken) xs content
+  pub there : (xs : Items) (content : List ℕ) (o : Option ℕ) → Held f (length new.taken) xs content
+      → (x : Item) × Form AnyCount NoRaw x o r (front ++ content)
+  pub back : (x : Item) (o : Option ℕ) (a more : List ℕ) → Form AnyCount NoRaw x o r a → old.rest ≡ a ++ more
+      → (xs : Items) × (content : List ℕ) × (a ≡ front ++ content) × Held f (length new.taken) xs content
   pub filled : TakesBytes r → 0 < length front
   pub sound : 0 < f.left → f.inherited ≢ Some 0
 
@@ -123,13 +129,18 @@ pub record Headed (k : Option ℕ) (old new : Place) (code : EncodingCodes) : Ty
 pub record Enters (k : Option ℕ) (old new : Place) (f : Frame) : Type 0 where
   pub front : List ℕ
   pub moves : Moves old new front
-  pub there : (xs : Items) (content : List ℕ) → Held f (length new.taken) xs content → (x : Item) × (c : ℕ) × (a : List ℕ) × Leads k (front ++ content) c a × Form AnyCount NoRaw x (own k c) (row_of c) a
-  pub back : (x : Item) (c : ℕ) (a w more : List ℕ) → Leads k w c a → Form AnyCount NoRaw x (own k c) (row_of c) a → old.rest ≡ w ++ more → (xs : Items) × (content : List ℕ) × (w ≡ front ++ content) × Held f (length new.taken) xs content
+  pub there : (xs : Items) (content : List ℕ) → Held f (length new.taken) xs content
+      → (x : Item) × (c : ℕ) × (a : List ℕ) × Leads k (front ++ content) c a
+      × Form AnyCount NoRaw x (own k c) (row_of c) a
+  pub back : (x : Item) (c : ℕ) (a w more : List ℕ) → Leads k w c a → Form AnyCount NoRaw x (own k c) (row_of c) a
+      → old.rest ≡ w ++ more → (xs : Items) × (content : List ℕ) × (w ≡ front ++ content)
+      × Held f (length new.taken) xs content
   pub filled : 0 < length front
   pub sound : 0 < f.left → f.inherited ≢ Some 0
 
 pub record NoForm (k : Option ℕ) (rest : List ℕ) : Type 0 where
-  pub none : (x : Item) (c : ℕ) (a w more : List ℕ) → Leads k w c a → Form AnyCount NoRaw x (own k c) (row_of c) a → rest ≡ w ++ more → ⊥
+  pub none : (x : Item) (c : ℕ) (a w more : List ℕ) → Leads k w c a → Form AnyCount NoRaw x (own k c) (row_of c) a
+      → rest ≡ w ++ more → ⊥
 
 -- the bytes of each form behind a constructor, where any so many bytes are one
 abbrev pub width_of : Option Category → Option ℕ
@@ -161,13 +172,15 @@ pub record Finishes (f : Frame) (width : ℕ) (old new : Place) : Type 0 where
   pub ends : Ends f.end (length new.taken)
 
 pub record Unfinished (f : Frame) (width : ℕ) (old : Place) : Type 0 where
-  pub none : (front more : List ℕ) → old.rest ≡ front ++ more → length front ≡ f.left * width → Ends f.end (length old.taken + length front) → ⊥
+  pub none : (front more : List ℕ) → old.rest ≡ front ++ more → length front ≡ f.left * width
+      → Ends f.end (length old.taken + length front) → ⊥
 
 -- the bytes are the forms that the frames say, the innermost first, and then more
 abbrev pub Pending : List Frame → ℕ → List ℕ → List ℕ → Type 0
 Pending [] at bytes more = bytes ≡ more
 Pending (f ∷ fs) at bytes more =
-    (xs : Items) × (front : List ℕ) × (behind : List ℕ) × (bytes ≡ front ++ behind) × Held f at xs front × Pending fs (at + length front) behind more
+    (xs : Items) × (front : List ℕ) × (behind : List ℕ) × (bytes ≡ front ++ behind) × Held f at xs front
+    × Pending fs (at + length front) behind more
 
 -- a strict form was taken
 pub record TookStrict (old new : Place) : Type 0 where

@@ -46,7 +46,8 @@ BeginsStruct encoding.DescribedMap code s d = IsDescribed s code d
 BeginsStruct encoding.DescribedBasic code s d = ⊥
 
 -- these fields, by their names and values, stand behind the state at which the struct began, which is marked
-pub record HoldsFields (begins : ℕ → ℕ) (s : State) (e : StructEncoding) (code : ℕ) (fields : List (Item × Item)) (outer : Opened) (c : Content) (now : State) : Type 0 where
+pub record HoldsFields (begins : ℕ → ℕ) (s : State) (e : StructEncoding) (code : ℕ) (fields : List (Item × Item))
+    (outer : Opened) (c : Content) (now : State) : Type 0 where
   pub mark : IsMark s outer
   pub start : State
   pub begun : BeginsStruct e code s start
@@ -57,7 +58,8 @@ abbrev pub variant_item : ℕ → List Item → Item
 variant_item index xs = map (pairs_of ((scalar (uint index), list (items_of xs)) ∷ []))
 
 -- these fields of a variant stand behind the state at which its map began
-pub record HoldsVariant (begins : ℕ → ℕ) (s : State) (index : ℕ) (xs : List Item) (outer : Opened) (c : Content) (now : State) : Type 0 where
+pub record HoldsVariant (begins : ℕ → ℕ) (s : State) (index : ℕ) (xs : List Item) (outer : Opened) (c : Content)
+    (now : State) : Type 0 where
   pub mark : IsMark s outer
   pub start : State
   pub key : IsOpen begins s.written (scalar (uint index) ∷ []) start

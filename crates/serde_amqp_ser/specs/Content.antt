@@ -17,6 +17,7 @@ turns ps None = in_turn ps
 turns ps (Some k) = in_turn ps ++ k ∷ []
 
 -- these pairs, and this key without its value, stand behind the state at which the map began
-pub record HoldsPairs (begins : ℕ → ℕ) (s : State) (ps : List (Item × Item)) (key : Option Item) (c : Content) (keyed : Bool) (now : State) : Type 0 where
+pub record HoldsPairs (begins : ℕ → ℕ) (s : State) (ps : List (Item × Item)) (key : Option Item) (c : Content)
+    (keyed : Bool) (now : State) : Type 0 where
   pub items : Holds begins s (turns ps key) c now
   pub half : keyed ≡ is_some key

@@ -1,7 +1,9 @@
 -- What a value adds to what a serializer has written.
-use Rattle.std.specs.Prelude.{◌≡◌, ◌≢◌, ◌==◌, ℕ, List, [], ◌∷◌, length, Bool, true, Option, Some, None, Result, Ok, Err, if◌then◌else◌}
+use Rattle.std.specs.Prelude.{◌≡◌, ◌≢◌, ◌==◌, ℕ, List, [], ◌∷◌, length, Bool, true, Option, Some, None, Result, Ok, Err}
+use Rattle.std.specs.Prelude.{if◌then◌else◌}
 use Rattle.serde_amqp_item.specs.Item.{Item, Items}
-use Rattle.serde_amqp_item.specs.Canon.{Place, alone, first, next, placed, settled, canon_all, sized_text, wide_sized, counted_text, counted_wide, ◌>>=◌}
+use Rattle.serde_amqp_item.specs.Canon.{Place, alone, first, next, placed, settled, canon_all, sized_text, wide_sized}
+use Rattle.serde_amqp_item.specs.Canon.{counted_text, counted_wide, ◌>>=◌}
 use Rattle.serde_amqp_item.specs.declared.error.Error.{Error}
 use Rattle.serde_amqp_item.specs.declared.error.Error.TheVariants.{Memory}
 use Rattle.serde_amqp_ser.specs.Written.{Written, capped, extended}
@@ -25,7 +27,8 @@ state_of written s = record { written = written s.writer; place = place_of s.ele
 
 -- the state of a serializer over these bytes
 abbrev pub bytes_state : List ℕ → IsArrayElement → State
-bytes_state bytes element = record { written = record { size = capped (length bytes); bytes = Some bytes }; place = place_of element }
+bytes_state bytes element =
+    record { written = record { size = capped (length bytes); bytes = Some bytes }; place = place_of element }
 
 -- the state behind what is added; none where there is nothing to add
 abbrev pub behind : State → Option (Place × List ℕ) → Option State

@@ -9,7 +9,8 @@ longer_none : (o : Option (List ℕ)) → longer o [] ≡ o
 longer_none None = refl
 longer_none (Some b) = simp append-nil
 
-pub whole_capped : (n : ℕ) (b : Option (List ℕ)) → extended (record { size = capped n; bytes = b }) [] ≡ record { size = capped n; bytes = b }
+pub whole_capped : (n : ℕ) (b : Option (List ℕ))
+    → extended (record { size = capped n; bytes = b }) [] ≡ record { size = capped n; bytes = b }
 unfolding extended
 whole_capped n b =
     let size : capped (capped n + 0) ≡ capped n = omega arith in

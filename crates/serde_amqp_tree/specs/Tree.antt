@@ -1,11 +1,19 @@
 -- Values that are finished from the last byte to the first: what each is, and its text.
-use Rattle.std.specs.Prelude.{◌≡◌, ◌≢◌, ℕ, ◌+◌, ◌^◌, ◌<◌, ◌==◌, if◌then◌else◌, Bool, true, false, List, [], ◌∷◌, ◌++◌, length, Option, Some, None}
+use Rattle.std.specs.Prelude.{◌≡◌, ◌≢◌, ℕ, ◌+◌, ◌^◌, ◌<◌, ◌==◌, if◌then◌else◌, Bool, true, false, List, [], ◌∷◌, ◌++◌}
+use Rattle.std.specs.Prelude.{length, Option, Some, None}
 use Rattle.std.specs.Int.{w32, to_be_bytes}
 use Rattle.serde_amqp_item.specs.declared.codes.EncodingCodes.{EncodingCodes}
-use Rattle.serde_amqp_item.specs.declared.codes.EncodingCodes.TheVariants.{BooleanTrue, BooleanFalse, Boolean, UInt, SmallUInt, UInt0, ULong, SmallULong, ULong0, Int, SmallInt, Long, SmallLong, Vbin8, Vbin32, Str8, Str32, Sym8, Sym32, List0, List8, List32, Map8, Map32, Array8, Array32}
+use Rattle.serde_amqp_item.specs.declared.codes.EncodingCodes.TheVariants.{BooleanTrue, BooleanFalse, Boolean, UInt}
+use Rattle.serde_amqp_item.specs.declared.codes.EncodingCodes.TheVariants.{SmallUInt, UInt0, ULong, SmallULong, ULong0}
+use Rattle.serde_amqp_item.specs.declared.codes.EncodingCodes.TheVariants.{Int, SmallInt, Long, SmallLong, Vbin8}
+use Rattle.serde_amqp_item.specs.declared.codes.EncodingCodes.TheVariants.{Vbin32, Str8, Str32, Sym8, Sym32, List0}
+use Rattle.serde_amqp_item.specs.declared.codes.EncodingCodes.TheVariants.{List8, List32, Map8, Map32, Array8, Array32}
 use Rattle.serde_amqp_item.specs.Item.{Scalar, Item, Items, item_count}
-use Rattle.serde_amqp_item.specs.Wire.{Row, fixed, variable, empty_list, Width, one_byte, four_bytes, field, field_width, room, Form, Forms, Wire, IsCapped, IsStrict, NoRaw, byte_of, row_at}
-use Rattle.serde_amqp_item.specs.Canon.{◌>>=◌, canon, canon_all, wide, elements_of, same_constructor, scalar_text, scalar_wide, sized_text, wide_sized, counted_text, counted_wide, list_text, list_wide, WithoutRaw, EachRawKept}
+use Rattle.serde_amqp_item.specs.Wire.{Row, fixed, variable, empty_list, Width, one_byte, four_bytes, field}
+use Rattle.serde_amqp_item.specs.Wire.{field_width, room, Form, Forms, Wire, IsCapped, IsStrict, NoRaw, byte_of, row_at}
+use Rattle.serde_amqp_item.specs.Canon.{◌>>=◌, canon, canon_all, wide, elements_of, same_constructor, scalar_text}
+use Rattle.serde_amqp_item.specs.Canon.{scalar_wide, sized_text, wide_sized, counted_text, counted_wide, list_text}
+use Rattle.serde_amqp_item.specs.Canon.{list_wide, WithoutRaw, EachRawKept}
 use Rattle.serde_amqp_tree.specs.declared.finished.Finished.{Finished}
 use Rattle.serde_amqp_tree.specs.declared.finished.Lengths.{Lengths}
 
@@ -38,7 +46,8 @@ wide_code code = code
 abbrev pub wide_byte : EncodingCodes → ℕ
 wide_byte code = byte_of (wide_code code)
 
--- the text of an item: the canonical one, or, where its constructor is inherited, the wide form behind the constructor c
+-- the text of an item: the canonical one, or, where its constructor is inherited, the wide form behind the constructor
+-- c
 abbrev pub text_of : Bool → ℕ → Item → Option (List ℕ)
 text_of false c x = canon x
 text_of true c x = wide x >>= same_constructor c
@@ -77,14 +86,17 @@ pub record Body (inherited : Bool) (row : Row) (c : ℕ) (bytes text : List ℕ)
 
 -- the bytes are a value, which inherits its constructor or has one of its own
 abbrev pub Value : Option EncodingCodes → List ℕ → List ℕ → Type 0
-Value None bytes text = (code : EncodingCodes) × (behind : List ℕ) × (bytes ≡ byte_of code ∷ behind) × Body false (row_at (Some code)) (wide_byte code) behind text
+Value None bytes text =
+    (code : EncodingCodes) × (behind : List ℕ) × (bytes ≡ byte_of code ∷ behind)
+    × Body false (row_at (Some code)) (wide_byte code) behind text
 Value (Some code) bytes text = Body true (row_at (Some code)) (wide_byte code) bytes text
 
 -- the bytes are these values one behind the other, and so is the text
 abbrev pub Forest : List Finished → List ℕ → List ℕ → Type 0
 Forest [] bytes text = (bytes ≡ []) × (text ≡ [])
 Forest (f ∷ fs) bytes text =
-    (a : List ℕ) × (b : List ℕ) × (t : List ℕ) × (u : List ℕ) × (bytes ≡ a ++ b) × (text ≡ t ++ u) × (length a ≡ f.bytes) × (length t ≡ f.text)
+    (a : List ℕ) × (b : List ℕ) × (t : List ℕ) × (u : List ℕ) × (bytes ≡ a ++ b) × (text ≡ t ++ u)
+    × (length a ≡ f.bytes) × (length t ≡ f.text)
     × Value f.inherited a t × Forest fs b u
 
 abbrev pub constructor_of : Option EncodingCodes → Option ℕ
@@ -104,7 +116,8 @@ pub record Group (k : Option EncodingCodes) (count : ℕ) (bytes text : List ℕ
   pub written : texts_of k items ≡ Some text
 
 -- such a group stands in front, and then the others
-pub record Grouped (k : Option EncodingCodes) (count : ℕ) (l : Lengths) (new : List Finished) (bytes text : List ℕ) : Type 0 where
+pub record Grouped (k : Option EncodingCodes) (count : ℕ) (l : Lengths) (new : List Finished)
+    (bytes text : List ℕ) : Type 0 where
   pub front : List ℕ
   pub behind : List ℕ
   pub front_text : List ℕ
@@ -121,7 +134,8 @@ pub record Joins (k : Option EncodingCodes) (count : ℕ) (l : Lengths) (old new
   pub there : (bytes text : List ℕ) → Forest old bytes text → Grouped k count l new bytes text
 
 -- a body of this head and of parts that were finished stands in front, and then the others
-pub record Closed (inherited : Bool) (row : Row) (c : ℕ) (l : Lengths) (head : List ℕ) (new : List Finished) (old_text new_text bytes : List ℕ) : Type 0 where
+pub record Closed (inherited : Bool) (row : Row) (c : ℕ) (l : Lengths) (head : List ℕ) (new : List Finished)
+    (old_text new_text bytes : List ℕ) : Type 0 where
   pub parts : List ℕ
   pub behind : List ℕ
   pub text : List ℕ
@@ -134,7 +148,8 @@ pub record Closed (inherited : Bool) (row : Row) (c : ℕ) (l : Lengths) (head :
   pub others : Forest new behind behind_text
 
 -- the parts of a value were taken off, its head cut off and its text put
-pub record Closes (inherited : Bool) (row : Row) (c : ℕ) (l : Lengths) (front rest : List ℕ) (old new : List Finished) (old_text new_text : List ℕ) : Type 0 where
+pub record Closes (inherited : Bool) (row : Row) (c : ℕ) (l : Lengths) (front rest : List ℕ) (old new : List Finished)
+    (old_text new_text : List ℕ) : Type 0 where
   pub head : List ℕ
   pub cut : front ≡ rest ++ head
   pub there : (bytes : List ℕ) → Forest old bytes old_text → Closed inherited row c l head new old_text new_text bytes
@@ -158,7 +173,8 @@ pub record CutsHead (w : Width) (count long : ℕ) (front rest : List ℕ) : Typ
 
 -- the first so many bytes of the text became what the function makes of them
 pub record Puts (made : List ℕ → Option (List ℕ)) (long : ℕ) (old new : List ℕ) : Type 0 where
-  pub there : (content behind : List ℕ) → old ≡ content ++ behind → length content ≡ long → (text : List ℕ) × (made content ≡ Some text) × (new ≡ text ++ behind)
+  pub there : (content behind : List ℕ) → old ≡ content ++ behind → length content ≡ long
+      → (text : List ℕ) × (made content ≡ Some text) × (new ≡ text ++ behind)
 
 -- the size and the count of so many bytes were put, in four bytes each
 pub record PutsWide (count long : ℕ) (old new : List ℕ) : Type 0 where

@@ -17,7 +17,8 @@ unless_same (Some array_kind) o n m = absurd (m refl)
 unless_same (Some t) o n m = refl
 
 -- of an item that is seen to be neither null nor an array one element is taken
-pub one_same : (take : Item → Option Item) (x : Item) → kind_seen x ≢ Some null_kind → kind_seen x ≢ Some array_kind → array_or_one_taken take x ≡ as_one (take x)
+pub one_same : (take : Item → Option Item) (x : Item) → kind_seen x ≢ Some null_kind → kind_seen x ≢ Some array_kind
+    → array_or_one_taken take x ≡ as_one (take x)
 unfolding array_or_one_taken
 one_same take (raw text) n m = unless_same (kind_seen (raw text)) (as_one (take (raw text))) n m
 one_same take (array xs) n m = absurd (m refl)
@@ -26,7 +27,8 @@ one_same take (scalar s) n m = refl
 one_same take x n m = refl
 
 -- of an item that is seen to be an array its elements are taken
-pub elements_same : (take : Item → Option Item) (x : Item) → kind_seen x ≡ Some array_kind → array_or_one_taken take x ≡ elements_taken take x
+pub elements_same : (take : Item → Option Item) (x : Item) → kind_seen x ≡ Some array_kind
+    → array_or_one_taken take x ≡ elements_taken take x
 unfolding array_or_one_taken elements_taken
 elements_same take (raw text) e = ap (λ (t : Option Kind). unless_several t (as_one (take (raw text)))) e
 elements_same take (array xs) e = refl
@@ -35,7 +37,8 @@ elements_same take (scalar s) e = absurd cc
 elements_same take x e = absurd cc
 
 -- an item that is seen to be null is not taken
-pub null_refused : (take : Item → Option Item) (x : Item) → kind_seen x ≡ Some null_kind → array_or_one_taken take x ≡ None
+pub null_refused : (take : Item → Option Item) (x : Item) → kind_seen x ≡ Some null_kind
+    → array_or_one_taken take x ≡ None
 unfolding array_or_one_taken
 null_refused take (raw text) e = ap (λ (t : Option Kind). unless_several t (as_one (take (raw text)))) e
 null_refused take (array xs) e = absurd cc
@@ -55,23 +58,30 @@ three (Some null_kind) = is_null
 three (Some array_kind) = is_array
 three (Some t) = is_other (λ e. cc) (λ e. cc)
 
-as_one_decided : (p q : Option Item) (u v : Item) → ((m n : Item) → p ≡ Some m → q ≡ Some n → m ≡ n) → as_one p ≡ Some u → as_one q ≡ Some v → u ≡ v
+as_one_decided : (p q : Option Item) (u v : Item) → ((m n : Item) → p ≡ Some m → q ≡ Some n → m ≡ n) → as_one p ≡ Some u
+    → as_one q ≡ Some v → u ≡ v
 as_one_decided None q u v d e f = absurd cc
 as_one_decided (Some m) None u v d e f = absurd cc
 as_one_decided (Some m) (Some n) u v d e f =
     let same = ap (λ (y : Item). array (items_of (y ∷ []))) (d m n refl refl) in
     cc
 
-by_kind : (take : Item → Option Item) → Decided take → (x y : Item) (k : Option ℕ) (a : List ℕ) (u v : Item) (t : Option Kind) → Three t → kind_seen x ≡ t → kind_seen y ≡ t → Wire x k a → Wire y k a → array_or_one_taken take x ≡ Some u → array_or_one_taken take y ≡ Some v → u ≡ v
-by_kind take d x y k a u v _ is_null m n g h e f = let none : None ≡ Some u = sym (null_refused take x m) ∙ e in absurd cc
-by_kind take d x y k a u v _ is_array m n g h e f = elements_decided take d x y k a u v g h (sym (elements_same take x m) ∙ e) (sym (elements_same take y n) ∙ f)
+by_kind : (take : Item → Option Item) → Decided take
+    → (x y : Item) (k : Option ℕ) (a : List ℕ) (u v : Item) (t : Option Kind) → Three t → kind_seen x ≡ t
+    → kind_seen y ≡ t → Wire x k a → Wire y k a → array_or_one_taken take x ≡ Some u
+    → array_or_one_taken take y ≡ Some v → u ≡ v
+by_kind take d x y k a u v _ is_null m n g h e f = let none : None ≡ Some u =
+    sym (null_refused take x m) ∙ e in absurd cc
+by_kind take d x y k a u v _ is_array m n g h e f =
+    elements_decided take d x y k a u v g h (sym (elements_same take x m) ∙ e) (sym (elements_same take y n) ∙ f)
 by_kind take d x y k a u v _ (is_other p q) m n g h e f =
     as_one_decided (take x) (take y) u v (λ i j s t. d x y k a i j g h s t)
     (sym (one_same take x (λ z. p (sym m ∙ z)) (λ z. q (sym m ∙ z))) ∙ e)
     (sym (one_same take y (λ z. p (sym n ∙ z)) (λ z. q (sym n ∙ z))) ∙ f)
 
 pub array_or_one_decided : (take : Item → Option Item) → Decided take → Decided (array_or_one_taken take)
-array_or_one_decided take d x y k a u v g h e f = by_kind take d x y k a u v (kind_seen x) (three (kind_seen x)) refl (sym (seen_same x y k a g h)) g h e f
+array_or_one_decided take d x y k a u v g h e f =
+    by_kind take d x y k a u v (kind_seen x) (three (kind_seen x)) refl (sym (seen_same x y k a g h)) g h e f
 
 descriptor_as_it_is : (x u : Item) → any_descriptor_taken x ≡ Some u → (x ≡ u) × WithoutRaw x
 unfolding any_descriptor_taken
@@ -84,7 +94,8 @@ pub any_descriptor_decided : Decided any_descriptor_taken
 any_descriptor_decided = as_it_is_decided any_descriptor_taken descriptor_as_it_is
 
 -- what is made of a descriptor and a value
-both_taken : (o p : Option Item) (u : Item) → (o >>= λ c. p >>= λ y. Some (described c y)) ≡ Some u → (c : Item) × (y : Item) × (o ≡ Some c) × (p ≡ Some y) × (u ≡ described c y)
+both_taken : (o p : Option Item) (u : Item) → (o >>= λ c. p >>= λ y. Some (described c y)) ≡ Some u
+    → (c : Item) × (y : Item) × (o ≡ Some c) × (p ≡ Some y) × (u ≡ described c y)
 both_taken None p u e = absurd cc
 both_taken (Some c) None u e = absurd cc
 both_taken (Some c) (Some y) u e = (c, y, refl, refl, cc)

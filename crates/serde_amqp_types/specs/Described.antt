@@ -18,7 +18,8 @@ unfolding any_descriptor_taken
 descriptor_again (Name name) = refl
 descriptor_again (Code code) = refl
 
-pub described_again : (take : Item → Option Item) (y : Item) → take y ≡ Some y → (d : Descriptor) → described_with take (described (descriptor_item d) y) ≡ Some (described (descriptor_item d) y)
+pub described_again : (take : Item → Option Item) (y : Item) → take y ≡ Some y → (d : Descriptor)
+    → described_with take (described (descriptor_item d) y) ≡ Some (described (descriptor_item d) y)
 unfolding described_with
 described_again take y again d =
     ap (λ (o : Option Item). o >>= λ c. take y >>= λ z. Some (described c z)) (descriptor_again d)
@@ -39,5 +40,6 @@ descriptor_present (Code code) = refl
 pub same_value : (c d v w : Item) → described c v ≡ described d w → v ≡ w
 same_value c d v w e = cc
 
-pub same_descriptor : (c d : Descriptor) (v w : Item) → described (descriptor_item c) v ≡ described (descriptor_item d) w → c ≡ d
+pub same_descriptor : (c d : Descriptor) (v w : Item)
+    → described (descriptor_item c) v ≡ described (descriptor_item d) w → c ≡ d
 same_descriptor c d v w e = let same : descriptor_item c ≡ descriptor_item d = cc in descriptor_faithful c d same

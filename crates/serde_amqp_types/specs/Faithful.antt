@@ -1,6 +1,7 @@
 -- A value's item says which value it is.
 use Rattle.std.proofs.Common.{◌≡◌, ℕ, ℤ, List}
-use Rattle.serde_amqp_item.specs.Item.{scalar, decimal32, decimal64, decimal128, timestamp, uuid, binary, string, symbol}
+use Rattle.serde_amqp_item.specs.Item.{scalar, decimal32, decimal64, decimal128, timestamp, uuid, binary, string}
+use Rattle.serde_amqp_item.specs.Item.{symbol}
 
 pub symbol_faithful : (x y : List ℕ) → scalar (symbol x) ≡ scalar (symbol y) → x ≡ y
 symbol_faithful x y e = cc
