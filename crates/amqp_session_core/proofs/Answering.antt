@@ -10,7 +10,7 @@ use Rattle.amqp_session_outgoing.specs.State as sending
 use Rattle.amqp_session_core.specs.declared.flows.Answer.{Answer}
 use Rattle.amqp_session_core.specs.declared.flows.Answer.TheVariants as answer
 use Rattle.amqp_session_core.specs.Frames.{has_flow, frames_left}
-use Rattle.amqp_session_core.specs.Flowing.{Sending, Told, FlowsTo, LinkFlowed, IsAnswer, Replied, IsReplyOf, Opens, SameRefusal}
+use Rattle.amqp_session_core.specs.Flowing.{Sending, Told, FlowsTo, LinkFlowed, IsAnsweredBy, Replied, IsReplyOf, OpensWindow, SameRefusal}
 use Rattle.amqp_session_core.specs.Relay.{Relations}
 use Rattle.amqp_session_core.specs.State.{State, leads, leads_in}
 use Rattle.amqp_session_core.specs.Steps.{Reply, NoReply, OfSession, OfLink, IsReply, Replies, FlowAt, reply_frames}
@@ -20,7 +20,7 @@ use Rattle.amqp_session_core.proofs.Handing.{has_flow-append}
 
 -- the refusal of a Flow
 refused-as : (out : Sending) (flow : Flow) (handle : Option Handle) (told : Told) (answer : Result Answer SessionError) (result : Result ⊤ SessionError)
-    → ((h : Handle) → handle ≡ Some h → told ≡ None → ⊥) → IsAnswer out flow handle told answer → SameRefusal answer result → flow_answer handle told result
+    → ((h : Handle) → handle ≡ Some h → told ≡ None → ⊥) → IsAnsweredBy out flow handle told answer → SameRefusal answer result → flow_answer handle told result
 refused-as out flow None told answer result live is same = subst (λ a. SameRefusal a result) is same
 refused-as out flow (Some handle) None answer result live is same = absurd (live handle refl refl)
 refused-as out flow (Some handle) (Some (h, Err e)) answer result live is same = (is.0, subst (λ a. SameRefusal a result) is.1 same)
@@ -33,7 +33,7 @@ session-reply flow false reply e has is = subst (λ r. IsReply flow None r) (sym
 
 -- the reply to a Flow
 reply-to : (out : Sending) (flow : Flow) (handle : Option Handle) (told : Told) (answer : Result Answer SessionError) (reply : Reply)
-    → flow.handle ≡ handle → (handle ≡ None → told ≡ None) → ((h : Handle) → handle ≡ Some h → told ≡ None → ⊥) → IsAnswer out flow handle told answer → IsReplyOf answer reply → IsReply flow told reply
+    → flow.handle ≡ handle → (handle ≡ None → told ≡ None) → ((h : Handle) → handle ≡ Some h → told ≡ None → ⊥) → IsAnsweredBy out flow handle told answer → IsReplyOf answer reply → IsReply flow told reply
 reply-to out flow None None answer reply has only live is of = session-reply flow flow.echo reply refl has (subst (λ a. IsReplyOf a reply) is of)
 reply-to out flow None (Some told) answer reply has only live is of = absurd (let e = only refl in cc)
 reply-to out flow (Some handle) None answer reply has only live is of =
@@ -82,7 +82,7 @@ module _ {R A T D : Type 0} (gives : Relations R A T D) where
       → LinkFlowed gives s.outgoing s.routes flow s.links answer n.links
       → SameRefusal answer result
       → Replied n.fields s.outgoing out answer flowed mid mid_out
-      → Opens n.fields mid mid_out flow.next_incoming_id flow.incoming_window left n.outgoing out_new
+      → OpensWindow n.fields mid mid_out flow.next_incoming_id flow.incoming_window left n.outgoing out_new
       → n ≡ record s { fields = record s.fields { next_incoming_id = Some flow.next_outgoing_id }; taken = (if flowed || left then 0 else s.taken); links = n.links; outgoing = n.outgoing }
       → FlowTaken gives s out flow result n out_new
   flow-taken s n flow out mid_out out_new answer result mid flowed left led linked same replied opened becomes =

@@ -20,7 +20,7 @@ use Rattle.amqp_session_core.specs.declared.fields.SessionFields.{SessionFields}
 use Rattle.amqp_session_core.specs.declared.flows.Answer.{Answer}
 use Rattle.amqp_session_core.specs.declared.flows.Answer.TheVariants as answer
 use Rattle.amqp_session_core.specs.Frames.{behind_frame, has_flow}
-use Rattle.amqp_session_core.specs.Flowing.{Sending, FlowsTo, LinkFlowed, FlowedAt, IsAnswer, Replied, IsReplyOf, answer_count}
+use Rattle.amqp_session_core.specs.Flowing.{Sending, FlowsTo, LinkFlowed, FlowedAt, IsAnsweredBy, Replied, IsReplyOf, answer_count}
 use Rattle.amqp_session_core.specs.Relay.{Relations}
 use Rattle.amqp_session_core.specs.State.{live_in}
 use Rattle.amqp_session_core.specs.Steps.{OfLink, told_to_link}
@@ -80,13 +80,13 @@ module _ {R A T D : Type 0} (gives : Relations R A T D)
       record {
         told = None;
         link = subst (λ h. FlowsTo gives old routes flow h None new) (sym has) (is, at.1);
-        answered = subst (λ h. IsAnswer out flow h None result) (sym has) at.0;
+        answered = subst (λ h. IsAnsweredBy out flow h None result) (sym has) at.0;
       }
   at-found flow handle (Some h) has is at =
       record {
         told = Some (h, at.0);
         link = subst (λ x. FlowsTo gives old routes flow x (Some (h, at.0)) new) (sym has) (is, at.1);
-        answered = subst (λ x. IsAnswer out flow x (Some (h, at.0)) result) (sym has) at.2;
+        answered = subst (λ x. IsAnsweredBy out flow x (Some (h, at.0)) result) (sym has) at.2;
       }
 
   -- a Flow that has a handle

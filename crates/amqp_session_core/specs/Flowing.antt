@@ -37,10 +37,10 @@ AnswersFlow out h (Ok None) result = result ≡ Ok answer.Nothing
 AnswersFlow out h (Ok (Some f)) result =
     result ≡ Ok (answer.OfLink (record { 0 = h }) (record f { handle = record { 0 = h } }))
 
-abbrev pub IsAnswer : Sending → Flow → Option Handle → Told → Result Answer SessionError → Type 0
-IsAnswer out flow None told result = result ≡ Ok (if flow.echo then answer.OfSession else answer.Nothing)
-IsAnswer out flow (Some handle) None result = result ≡ Err session.UnattachedHandle
-IsAnswer out flow (Some handle) (Some (h, said)) result = AnswersFlow out h said result
+abbrev pub IsAnsweredBy : Sending → Flow → Option Handle → Told → Result Answer SessionError → Type 0
+IsAnsweredBy out flow None told result = result ≡ Ok (if flow.echo then answer.OfSession else answer.Nothing)
+IsAnsweredBy out flow (Some handle) None result = result ≡ Err session.UnattachedHandle
+IsAnsweredBy out flow (Some handle) (Some (h, said)) result = AnswersFlow out h said result
 
 module _ {R A T D : Type 0} (gives : Relations R A T D) where
   -- which link takes a Flow, if one is reached, and what it tells
@@ -53,7 +53,7 @@ module _ {R A T D : Type 0} (gives : Relations R A T D) where
       (result : Result Answer SessionError) (new : List (Option R)) : Type 0 where
     pub told : Told
     pub link : FlowsTo old routes flow flow.handle told new
-    pub answered : IsAnswer out flow flow.handle told result
+    pub answered : IsAnsweredBy out flow flow.handle told result
 
 -- a link took a Flow at the handle that it reaches, and this is the answer
 abbrev pub FlowedAt : {R : Type 0} → (R → LinkFlow → Result (Option LinkFlow) RelayError → R → Type 0) → Sending
@@ -101,18 +101,19 @@ SameRefusal (Ok answer) result = IsOk result
 SameRefusal (Err e) result = result ≡ Err e
 
 -- a window was taken, and what left was handed out
-pub record Hands (fields : SessionFields) (step : Left → sending_history.Step TransferFrame BehindFrame) (old : Sending)
-    (out : List SessionFrame) (flows : Bool) (new : Sending) (out_new : List SessionFrame) : Type 0 where
+pub record HandsOut (fields : SessionFields) (step : Left → sending_history.Step TransferFrame BehindFrame)
+    (old : Sending) (out : List SessionFrame) (flows : Bool) (new : Sending) (out_new : List SessionFrame) : Type 0
+    where
   pub left : Left
   pub window : sending_history.Steps old (step left) new
   pub added : out_new ≡ out ++ frames_left fields left
   pub flows_is : flows ≡ has_flow (frames_left fields left)
 
-abbrev pub Opens : SessionFields → Sending → List SessionFrame → Option ℕ → ℕ → Bool → Sending → List SessionFrame
+abbrev pub OpensWindow : SessionFields → Sending → List SessionFrame → Option ℕ → ℕ → Bool → Sending → List SessionFrame
     → Type 0
-Opens fields old out base width flows new out_new =
-    Hands fields (sending_history.TakesWindow (sending.base_of old base) width) old out flows new out_new
+OpensWindow fields old out base width flows new out_new =
+    HandsOut fields (sending_history.TakesWindow (sending.base_of old base) width) old out flows new out_new
 
-abbrev pub Begins : SessionFields → Sending → List SessionFrame → ℕ → Bool → Sending → List SessionFrame → Type 0
-Begins fields old out width flows new out_new =
-    Hands fields (sending_history.TakesWindow old.next_outgoing_id width) old out flows new out_new
+abbrev pub OpensByBegin : SessionFields → Sending → List SessionFrame → ℕ → Bool → Sending → List SessionFrame → Type 0
+OpensByBegin fields old out width flows new out_new =
+    HandsOut fields (sending_history.TakesWindow old.next_outgoing_id width) old out flows new out_new

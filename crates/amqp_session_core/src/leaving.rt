@@ -5,7 +5,7 @@ ghost use Rattle.amqp_session_outgoing.specs.Frames.{sent_count};
 ghost use Rattle.amqp_session_outgoing.specs.Queues.{held_in, frames_in};
 ghost use Rattle.amqp_session_core.specs.Frames.{transfer_frame, behind_frame, frames_behind, frames_sent, frames_left};
 ghost use Rattle.amqp_session_core.specs.Frames.{has_flow};
-ghost use Rattle.amqp_session_core.specs.Flowing.{Opens, Begins};
+ghost use Rattle.amqp_session_core.specs.Flowing.{OpensWindow, OpensByBegin};
 
 use crate::batch::{BehindFrame, TransferFrame};
 use crate::fields::SessionFields;
@@ -66,7 +66,7 @@ pub(crate) fn take_window(
     requires empty { sent.old.items ≡ [] }
     requires sent_room { vec_len sent.old + held_in outgoing.old.queues ≤ vec_capacity sent.old }
     requires out_room { deque_len out.old + frames_in outgoing.old.queues ≤ deque_capacity out.old }
-    ensures opens { Opens fields outgoing.old out.old.items window.base window.width result
+    ensures opens { OpensWindow fields outgoing.old out.old.items window.base window.width result
         outgoing.new out.new.items }
     ensures empty { sent.new.items ≡ [] }
     ensures capacity { vec_capacity sent.old ≤ vec_capacity sent.new }
@@ -91,7 +91,7 @@ pub(crate) fn take_begin(
     requires empty { sent.old.items ≡ [] }
     requires sent_room { vec_len sent.old + held_in outgoing.old.queues ≤ vec_capacity sent.old }
     requires out_room { deque_len out.old + frames_in outgoing.old.queues ≤ deque_capacity out.old }
-    ensures begins { Begins fields outgoing.old out.old.items width result outgoing.new
+    ensures begins { OpensByBegin fields outgoing.old out.old.items width result outgoing.new
         out.new.items }
     ensures empty { sent.new.items ≡ [] }
     ensures capacity { vec_capacity sent.old ≤ vec_capacity sent.new }
