@@ -181,6 +181,35 @@ abbrev pub come_to : {A : Type 0} → (A → Deed → A) → A → List Deed →
 come_to behind from [] = from
 come_to behind from (deed ∷ deeds) = come_to behind (behind from deed) deeds
 
+-- whether a connection is up behind a deed, where it was so before it or wasn't: from where it begins anew up to where
+-- it is over
+abbrev pub up_behind : Bool → Deed → Bool
+up_behind up (Refuses limit frame error own_close) = false
+up_behind up Renews = true
+up_behind up Finishes = false
+up_behind up deed = up
+
+-- frames are taken as long as the connection is up, and else nothing is handed out. It begins anew where it isn't up
+abbrev pub MayPass : Bool → Deed → Type 0
+MayPass up (Hears frame events) = up ≡ true
+MayPass up (Takes limit frame frames events) = up ≡ true
+MayPass up (Refuses limit frame error own_close) = up ≡ true
+MayPass up (Does limit call answer frames) = up ≡ false → frames ≡ []
+MayPass up Renews = up ≡ false
+MayPass up deed = Unit {0}
+
+-- by none of these deeds the connection begins anew
+abbrev pub NoneRenews : List Deed → Type 0
+NoneRenews [] = Unit {0}
+NoneRenews (Renews ∷ later) = ⊥
+NoneRenews (deed ∷ later) = NoneRenews later
+
+-- deeds of one connection, from where it begins anew on
+pub record AreOfOne (deeds : List Deed) : Type 0 where
+  pub later : List Deed
+  pub is : deeds ≡ Renews ∷ later
+  pub none : NoneRenews later
+
 -- the own Close waits to be pulled
 abbrev pub is_own_close : Waiting → Bool
 is_own_close the_header = false
