@@ -16,6 +16,7 @@ mod PassedHeard
 mod PassedCalled
 mod PassedKept
 mod PassedWindows
+mod JudgedAnew
 mod PassedSteps
 mod Parted
 mod Agreeing
