@@ -137,8 +137,8 @@ module _ {A S : Type 0} where
       }
 
   -- by one step, or by none
-  pub by-one : (old new : State A S) (frames : List Wired) (step : Step A S) → Steps old step new → OnConnection (step ∷ [])
-      → ((r : Reader) → behind_all r frames ≡ behind_step r step) → Follows frames old new
+  pub by-one : (old new : State A S) (frames : List Wired) (step : Step A S) → Steps old step new
+      → OnConnection (step ∷ []) → ((r : Reader) → behind_all r frames ≡ behind_step r step) → Follows frames old new
   by-one old new frames step s on reads =
       record { steps = step ∷ []; history = (new, s, refl); goes_on = on; reads = reads }
 

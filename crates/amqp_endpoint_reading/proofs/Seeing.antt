@@ -72,6 +72,9 @@ on-for base m r channel (frame ∷ frames) here (on, plain, are) = (
       (on-for base m r channel frames here are),
 )
 
+none-for : (base m : ℕ) (r : Reader) (frames : List SessionFrame) → frames ≡ [] → AreFor base m r (goes frames)
+none-for base m r frames none = subst (λ (fs : List SessionFrame). AreFor base m r (goes fs)) (sym none) tt
+
 -- behind an End each session speaks where it did
 ends-same : (o : Option ℕ) (r : Reader) (channel : ℕ) → (peer_ends o r).speaks channel ≡ r.speaks channel
 ends-same None r channel = refl
@@ -236,22 +239,21 @@ module _ {R : Type 0} where
 
   -- the peer's End, and the answer to it
   replied-for : (stood : Place (Box AskedSession) (Box (AskingSession R))) (ended : Option (Box (AskingSession R)))
-      (frames : List SessionFrame) (base number channel : ℕ) (r : Reader) (s : Sessions R)
-      → place_at s number ≡ Some stood → EndReply stood ended [] frames → InTables s → Agrees base r s → Speaks r
-      → AreFor base number (peer_ends (reaches r channel) r) (goes frames)
-  replied-for (Live own session) ended frames base number channel r s e reply stands agrees speaks =
-      let q : Reader = peer_ends (reaches r channel) r in
+      (frames : List SessionFrame) (base number : ℕ) (r q : Reader) (s : Sessions R)
+      → ((channel : ℕ) → q.speaks channel ≡ r.speaks channel) → place_at s number ≡ Some stood
+      → EndReply stood ended [] frames → InTables s → Agrees base r s → Speaks r → AreFor base number q (goes frames)
+  replied-for (Live own session) ended frames base number r q s same e reply stands agrees speaks =
       subst (λ (fs : List SessionFrame). AreFor base number q (goes fs)) (sym reply.1) (
-        ap (from base) (ends-same (reaches r channel) r own.0)
+        ap (from base) (same own.0)
             ∙ speaks-for base r s number own.0 (stands.has number own.0 (ap role_of e)) agrees speaks,
         tt,
       )
-  replied-for (Asked own a) ended frames base number channel r s e reply stands agrees speaks =
-      subst (λ (fs : List SessionFrame). AreFor base number (peer_ends (reaches r channel) r) (goes fs)) (sym reply.1) tt
-  replied-for (Ending own) ended frames base number channel r s e reply stands agrees speaks =
-      subst (λ (fs : List SessionFrame). AreFor base number (peer_ends (reaches r channel) r) (goes fs)) (sym reply.1) tt
-  replied-for (Over peer_end complete) ended frames base number channel r s e reply stands agrees speaks =
-      subst (λ (fs : List SessionFrame). AreFor base number (peer_ends (reaches r channel) r) (goes fs)) (sym reply.1) tt
+  replied-for (Asked own a) ended frames base number r q s same e reply stands agrees speaks =
+      none-for base number q frames reply.1
+  replied-for (Ending own) ended frames base number r q s same e reply stands agrees speaks =
+      none-for base number q frames reply.1
+  replied-for (Over peer_end complete) ended frames base number r q s same e reply stands agrees speaks =
+      none-for base number q frames reply.1
 
   pub sees-ended : (channel : IncomingChannel) (end : End) (h : EndHeard R) (frames : List SessionFrame)
       (old new : Conversation R) → EndsThere old [] channel end h new frames
@@ -261,8 +263,8 @@ module _ {R : Type 0} where
         follows = λ stands. end-follows old new channel end h frames e;
         are = λ base r stands on agrees speaks. (
           (end-for base r old new channel end h frames e agrees).0,
-          replied-for e.stood h.ended frames base h.number channel.0 r old.sessions (e.stepped).1 e.reply stands agrees
-              speaks,
+          replied-for e.stood h.ended frames base h.number r (peer_ends (reaches r channel.0) r) old.sessions
+              (ends-same (reaches r channel.0) r) (e.stepped).1 e.reply stands agrees speaks,
         );
       }
 

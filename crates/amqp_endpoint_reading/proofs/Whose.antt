@@ -99,7 +99,8 @@ module _ (base : ℕ) (r : Reader) where
         → Agrees base r old.sessions → Speaks r → AreFor base number r (goes frames)
     ends-for old new number error session frames e tables agrees speaks =
         one-goes number frames (end_frame e.channel error) (end_frame e.channel error) e.queued refl (
-          speaks-for old.sessions number (e.channel).0 (tables.has number (e.channel).0 (ap role_of (e.stepped).0)) agrees speaks,
+          speaks-for old.sessions number (e.channel).0 (tables.has number (e.channel).0 (ap role_of (e.stepped).0))
+              agrees speaks,
           tt,
         )
 
