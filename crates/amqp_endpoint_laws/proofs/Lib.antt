@@ -12,6 +12,8 @@ mod SessionsGoing
 mod SessionsHeard
 mod SessionsKept
 mod PassedPlaces
+mod PassedWalk
+mod PassedJudged
 mod PassedHeard
 mod PassedCalled
 mod PassedKept
