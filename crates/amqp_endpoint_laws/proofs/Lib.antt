@@ -42,3 +42,5 @@ mod QueuedOrder
 mod QueuedKept
 mod QueuedSince
 mod QueuedAttached
+mod SeenWalk
+pub mod Seen
