@@ -12,6 +12,8 @@ mod SessionsGoing
 mod SessionsHeard
 mod SessionsKept
 mod PassedPlaces
+mod PassedWalk
+mod PassedJudged
 mod PassedHeard
 mod PassedCalled
 mod PassedKept
@@ -41,3 +43,5 @@ mod QueuedOrder
 mod QueuedKept
 mod QueuedSince
 mod QueuedAttached
+mod SeenWalk
+pub mod Seen
