@@ -1,5 +1,5 @@
 -- While no connection is up every session of an endpoint is over; so one that begins anew is read from nothing.
-use Rattle.std.proofs.Common.{◌≡◌, ◌⊎◌, inl, inr, ℕ, Bool, true, false, List, [], ◌∷◌, ◌++◌, Option, Some, None, Ok}
+use Rattle.std.proofs.Common.{◌≡◌, ◌⊎◌, inl, inr, ℕ, Bool, true, false, List, [], ◌∷◌, ◌++◌, Option, Some, None}
 use Rattle.std.proofs.Common.{ap, length, refl, slice_get, sym, subst, ◌∙◌}
 use Rattle.std.specs.FinMap.{get-empty}
 use Rattle.std.specs.Global.{Box}

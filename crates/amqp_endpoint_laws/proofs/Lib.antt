@@ -44,4 +44,5 @@ mod QueuedKept
 mod QueuedSince
 mod QueuedAttached
 mod SeenWalk
-pub mod Seen
+mod Seen
+mod Judged
