@@ -23,9 +23,10 @@ use Rattle.amqp_endpoint_model.specs.declared.call.Call.TheVariants.{Grant, Drai
 use Rattle.amqp_endpoint_model.specs.declared.call.Call.TheVariants.{Waiting as WaitingCall}
 use Rattle.amqp_endpoint_model.specs.declared.call.Call.TheVariants.{Send, Dispose, DisposeAll}
 use Rattle.amqp_endpoint_model.specs.declared.error.EndpointError.{EndpointError}
-use Rattle.amqp_endpoint_model.specs.declared.error.EndpointError.TheVariants.{PeerLimitUnder512, Memory}
-use Rattle.amqp_endpoint_model.specs.declared.error.EndpointError.TheVariants.{Connection, IllegalState, NotConnected}
-use Rattle.amqp_endpoint_model.specs.declared.error.EndpointError.TheVariants.{NumbersUsedUp, Session}
+use Rattle.amqp_endpoint_model.specs.declared.error.EndpointError.TheVariants.{AlreadyConnected, Connection, Memory}
+use Rattle.amqp_endpoint_model.specs.declared.error.EndpointError.TheVariants.{IllegalState, NotConnected}
+use Rattle.amqp_endpoint_model.specs.declared.error.EndpointError.TheVariants.{NumbersUsedUp, PeerLimitUnder512}
+use Rattle.amqp_endpoint_model.specs.declared.error.EndpointError.TheVariants.{Session}
 use Rattle.amqp_endpoint_model.specs.declared.event.Event.{Event}
 use Rattle.amqp_endpoint_model.specs.declared.phase.Phase.{Phase}
 use Rattle.amqp_endpoint_model.specs.declared.phase.Phase.TheVariants.{Unconnected, Greeting, Running, Over}
@@ -33,8 +34,8 @@ use Rattle.amqp_endpoint_model.specs.declared.settings.Settings.{Settings}
 use Rattle.amqp_endpoint_model.specs.Relay.{IsOfSession, IsSessionFault, Relations}
 use Rattle.amqp_endpoint_model.specs.Said.{Said, done, refused, fed, pulled, count, truth, tried_close, session_begun}
 use Rattle.amqp_endpoint_model.specs.Said.{tried_end, attaching, link_closed, credit_is, waiting, message_sent, Told}
-use Rattle.amqp_endpoint_model.specs.State.{State, Waiting, fits, frame_of, has_opened, is_unconnected, limit_of}
-use Rattle.amqp_endpoint_model.specs.State.{own_close_with, own_open}
+use Rattle.amqp_endpoint_model.specs.State.{State, Waiting, fits, frame_of, has_opened, is_running, is_unconnected}
+use Rattle.amqp_endpoint_model.specs.State.{limit_of, own_close_with, own_open}
 use Rattle.amqp_endpoint_model.specs.State.{error_of, fresh, heartbeat, protocol_header, text_of, the_frame, the_header}
 use Rattle.amqp_endpoint_model.specs.State.{waiting_of}
 use Rattle.amqp_endpoint_model.specs.Step.{Admits, AfterFault, Breaks, BreaksGreeting, ClosesBoth, ClosesBy, ClosesOwn}
@@ -45,8 +46,9 @@ use Rattle.amqp_endpoint_model.specs.Step.{with_close}
 use Rattle.amqp_endpoint_model.specs.History.{BodyTells, Run, is_close}
 use Rattle.amqp_endpoint_model.proofs.Keeping.{step-settings}
 use Rattle.amqp_endpoint_deeds.specs.Deeds.{AreDone, AreRead, Closes, Deed, Does, Finishes, Hears, IsDeed, IsDone}
-use Rattle.amqp_endpoint_deeds.specs.Deeds.{IsInOrder, MayClose, MayOpen, Moves, MovesByFrame, Tell, Throughout}
-use Rattle.amqp_endpoint_deeds.specs.Deeds.{closed_behind, come_to, opened_behind, opened_with}
+use Rattle.amqp_endpoint_deeds.specs.Deeds.{IsInOrder, MayClose, MayOpen, MayPass, Moves, MovesByFrame, NoneRenews}
+use Rattle.amqp_endpoint_deeds.specs.Deeds.{Tell, Throughout, closed_behind, come_to, is_up, opened_behind}
+use Rattle.amqp_endpoint_deeds.specs.Deeds.{opened_with, up_behind}
 use Rattle.amqp_endpoint_deeds.specs.Deeds.{Queues, Refuses, Renews, Takes, done_by, done_in, done_since, fed_by}
 use Rattle.amqp_endpoint_deeds.specs.Deeds.{fed_since, given_by, note, pulled_since, queued_by, queued_in, taken_by}
 use Rattle.amqp_endpoint_deeds.specs.Deeds.{taken_in, told_by, told_in, told_since}
@@ -135,6 +137,60 @@ writing-both before mid behind deeds more a b = along-both opened_behind IsInOrd
 writing-none : (peer : Option ℕ) → Writing peer [] peer
 writing-none peer = record { holds = tt; comes = refl }
 
+none-append : (deeds more : List Deed) → NoneRenews deeds → NoneRenews more → NoneRenews (deeds ++ more)
+none-append [] more n m = m
+none-append (Queues it ∷ deeds) more n m = none-append deeds more n m
+none-append (Hears frame events ∷ deeds) more n m = none-append deeds more n m
+none-append (Takes limit frame frames events ∷ deeds) more n m = none-append deeds more n m
+none-append (Refuses limit frame error own_close ∷ deeds) more n m = none-append deeds more n m
+none-append (Does limit call answer frames ∷ deeds) more n m = none-append deeds more n m
+none-append (Moves connection ∷ deeds) more n m = none-append deeds more n m
+none-append (Renews ∷ deeds) more n m = absurd n
+none-append (Closes ∷ deeds) more n m = none-append deeds more n m
+none-append (Finishes ∷ deeds) more n m = none-append deeds more n m
+
+-- deeds of a connection that was up or wasn't, by which it doesn't begin anew, and behind them it is up or isn't
+record Going (before : Bool) (deeds : List Deed) (behind : Bool) : Type 0 where
+  along : Along up_behind MayPass before deeds behind
+  none : NoneRenews deeds
+
+going-both : (before mid behind : Bool) (deeds more : List Deed) → Going before deeds mid → Going mid more behind
+    → Going before (deeds ++ more) behind
+going-both before mid behind deeds more a b =
+    record {
+      along = along-both up_behind MayPass before mid behind deeds more a.along b.along;
+      none = none-append deeds more a.none b.none;
+    }
+
+going-none : (up : Bool) → Going up [] up
+going-none up = record { along = record { holds = tt; comes = refl }; none = tt }
+
+-- by one deed
+going-by : (deed : Deed) (before behind : Bool) → MayPass before deed → up_behind before deed ≡ behind
+    → NoneRenews (deed ∷ []) → Going before (deed ∷ []) behind
+going-by deed before behind may is none =
+    record { along = record { holds = (may, tt); comes = is }; none = none }
+
+-- a connection stays as it is, or is over
+abbrev still : Bool → Bool
+still up = up
+
+abbrev ended : Bool → Bool
+ended up = false
+
+not-up : (phase : Phase) → (if is_unconnected phase then None else Some AlreadyConnected) ≡ None
+    → is_up phase ≡ false
+not-up Unconnected none = refl
+not-up Greeting none = absurd cc
+not-up Running none = absurd cc
+not-up Over none = absurd cc
+
+not-running : (phase : Phase) → is_up phase ≡ false → is_running phase ≡ false
+not-running Unconnected down = refl
+not-running Greeting down = absurd cc
+not-running Running down = absurd cc
+not-running Over down = refl
+
 not-so : {A : Type 0} → false ≡ true → A
 not-so clash = absurd cc
 
@@ -166,6 +222,10 @@ close-writes : (own : Bool) (error : Option Error) (peer : Option ℕ)
     → Writing peer (close-deeds own (own_close_with error)) peer
 close-writes true error peer = writing-none peer
 close-writes false error peer = record { holds = (λ theirs. theirs, tt); comes = refl }
+
+close-goes : (own : Bool) (close : Frame) (up : Bool) → Going up (close-deeds own close) up
+close-goes true close up = going-none up
+close-goes false close up = going-by (Queues (the_frame close)) up up tt refl tt
 
 close-queues : {S : Type 0} (s : State S) (own : Bool) (close : Frame) → s.own_close ≡ own
     → with_close s close ≡ s.queue ++ queued_by (close-deeds own close)
@@ -229,8 +289,8 @@ module _ {S : Type 0} (does : Relations S) where
   done-append old mid new (deed ∷ deeds) more (next, one, others) d =
       (next, one, done-append next mid new deeds more others d)
 
-  -- sessions go on without anything that passes, is told or called
-  record Went (old new : S) : Type 0 where
+  -- sessions go on without anything that passes, is told or called, and their connection is up behind that or isn't
+  record Went (over : Bool → Bool) (old new : S) : Type 0 where
     deeds : List Deed
     are_done : AreDone does old deeds new
     silent : queued_by deeds ≡ []
@@ -238,8 +298,9 @@ module _ {S : Type 0} (does : Relations S) where
     tell : Tell deeds [] []
     closing : (own : Bool) → Closing own deeds own
     writing : (peer : Option ℕ) → Writing peer deeds peer
+    going : (up : Bool) → Going up deeds (over up)
 
-  stood : (old new : S) → new ≡ old → Went old new
+  stood : (old new : S) → new ≡ old → Went still old new
   stood old new same =
       record {
         deeds = [];
@@ -249,10 +310,12 @@ module _ {S : Type 0} (does : Relations S) where
         tell = tell-nothing;
         closing = closing-none;
         writing = writing-none;
+        going = going-none;
       }
 
-  went-on : (old mid new : S) → Went old mid → Went mid new → Went old new
-  went-on old mid new w v =
+  went-on : (over end : Bool → Bool) (old mid new : S) → Went over old mid → Went end mid new
+      → Went (λ up. end (over up)) old new
+  went-on over end old mid new w v =
       record {
         deeds = w.deeds ++ v.deeds;
         are_done = done-append old mid new w.deeds v.deeds w.are_done v.are_done;
@@ -261,13 +324,15 @@ module _ {S : Type 0} (does : Relations S) where
         tell = tell-both w.deeds v.deeds [] [] [] [] w.tell v.tell;
         closing = λ own. closing-both own own own w.deeds v.deeds (w.closing own) (v.closing own);
         writing = λ peer. writing-both peer peer peer w.deeds v.deeds (w.writing peer) (v.writing peer);
+        going = λ up. going-both up (over up) (end (over up)) w.deeds v.deeds (w.going up) (v.going (over up));
       }
 
   -- by one deed, by which nothing passes
-  went-by : (deed : Deed) (old new : S) → IsDeed does old deed new → queued_in deed ≡ [] → taken_in deed ≡ []
-      → Tell (deed ∷ []) [] [] → ((own : Bool) → Closing own (deed ∷ []) own)
-      → ((peer : Option ℕ) → Writing peer (deed ∷ []) peer) → Went old new
-  went-by deed old new d silent untaken tell closing writing =
+  went-by : (deed : Deed) (over : Bool → Bool) (old new : S) → IsDeed does old deed new → queued_in deed ≡ []
+      → taken_in deed ≡ [] → Tell (deed ∷ []) [] [] → ((own : Bool) → Closing own (deed ∷ []) own)
+      → ((peer : Option ℕ) → Writing peer (deed ∷ []) peer) → ((up : Bool) → Going up (deed ∷ []) (over up))
+      → Went over old new
+  went-by deed over old new d silent untaken tell closing writing going =
       record {
         deeds = deed ∷ [];
         are_done = (new, d, refl);
@@ -276,38 +341,42 @@ module _ {S : Type 0} (does : Relations S) where
         tell = tell;
         closing = closing;
         writing = writing;
+        going = going;
       }
 
-  finished : (old new : S) → does.finishes old new → Went old new
+  finished : (old new : S) → does.finishes old new → Went ended old new
   finished old new over =
-      went-by Finishes old new over refl refl (record { told = refl; calls = refl })
+      went-by Finishes ended old new over refl refl (record { told = refl; calls = refl })
       (λ own. record { holds = (tt, tt); comes = refl }) (λ peer. record { holds = (tt, tt); comes = refl })
+      (λ up. going-by Finishes up false tt refl tt)
 
-  sends-it : (error : Bool) (old new : S) → MovesBy does (after_send_close error) old new → Went old new
+  sends-it : (error : Bool) (old new : S) → MovesBy does (after_send_close error) old new → Went still old new
   sends-it error old new m =
-      went-by (Moves (record (does.connection old) { local_state = (does.connection new).local_state })) old new
-      (inr (error, m.to, refl), m.is) refl refl (record { told = refl; calls = refl })
+      let moves : Deed = Moves (record (does.connection old) { local_state = (does.connection new).local_state }) in
+      went-by moves still old new (inr (error, m.to, refl), m.is) refl refl (record { told = refl; calls = refl })
       (λ own. record { holds = (tt, tt); comes = refl }) (λ peer. record { holds = (tt, tt); comes = refl })
+      (λ up. going-by moves up up tt refl tt)
 
-  sends-close : (own error : Bool) (old new : S) → SendsClose does own error old new → Went old new
+  sends-close : (own error : Bool) (old new : S) → SendsClose does own error old new → Went still old new
   sends-close true error old new same = stood old new same
   sends-close false error old new m = sends-it error old new m
 
   -- the peer's Close is answered
-  closes-both : (own : Bool) (old new : S) (c : ClosesBoth does own old new) → Went c.taken new
+  closes-both : (own : Bool) (old new : S) (c : ClosesBoth does own old new) → Went ended c.taken new
   closes-both own old new c =
-      went-on c.taken c.answered new (sends-close own false c.taken c.answered c.answers)
+      went-on still ended c.taken c.answered new (sends-close own false c.taken c.answered c.answers)
       (finished c.answered new c.over)
 
-  closes-by : (own : Bool) (old new : S) → ClosesBy does own old new → Went old new
+  closes-by : (own : Bool) (old new : S) → ClosesBy does own old new → Went ended old new
   closes-by own old new c =
-      went-on old c.told new (sends-close own true old c.told c.tells) (finished c.told new c.over)
+      went-on still ended old c.told new (sends-close own true old c.told c.tells) (finished c.told new c.over)
 
-  closes-own : (old new : S) → ClosesOwn does old new → Went old new
+  closes-own : (old new : S) → ClosesOwn does old new → Went still old new
   closes-own old new c =
-      went-on old c.sent new (sends-it false old c.sent c.sends)
-      (went-by Closes c.sent new c.left refl refl (record { told = refl; calls = refl })
-      (λ own. record { holds = (tt, tt); comes = refl }) (λ peer. record { holds = (tt, tt); comes = refl }))
+      went-on still still old c.sent new (sends-it false old c.sent c.sends)
+      (went-by Closes still c.sent new c.left refl refl (record { told = refl; calls = refl })
+      (λ own. record { holds = (tt, tt); comes = refl }) (λ peer. record { holds = (tt, tt); comes = refl })
+      (λ up. going-by Closes up up tt refl tt))
 
   -- the frame in front is refused by the sessions, or not by them
   data Fronted (limit : ℕ) (old new : S) : Type 0 where
@@ -352,6 +421,7 @@ module _ {S : Type 0} (does : Relations S) where
     tell : Tell deeds events []
     closing : Closing old.own_close deeds new.own_close
     writing : Writing old.peer_limit deeds new.peer_limit
+    going : Going (is_up old.phase) deeds (is_up new.phase)
 
   abbrev AddsTo : State S → List Frame → List Event → State S → Type 0
   AddsTo old frames events new = Adds old frames events new
@@ -372,6 +442,8 @@ module _ {S : Type 0} (does : Relations S) where
         tell = tell-both a.deeds b.deeds events others [] [] a.tell b.tell;
         closing = closing-both old.own_close mid.own_close new.own_close a.deeds b.deeds a.closing b.closing;
         writing = writing-both old.peer_limit mid.peer_limit new.peer_limit a.deeds b.deeds a.writing b.writing;
+        going =
+            going-both (is_up old.phase) (is_up mid.phase) (is_up new.phase) a.deeds b.deeds a.going b.going;
       }
 
   close-done : (own : Bool) (close : Frame) (s : S) → AreDone does s (close-deeds own close) s
@@ -395,8 +467,8 @@ module _ {S : Type 0} (does : Relations S) where
       }
 
   takes-body : (f : Frame) (body : FrameBody) → f.body ≡ body → (old : State S) (events : List Event) (new : State S)
-      → TakesBody does old f.channel body events new → Adds old (f ∷ []) events new
-  takes-body f Empty is old events new (told, same) =
+      → is_up old.phase ≡ true → TakesBody does old f.channel body events new → Adds old (f ∷ []) events new
+  takes-body f Empty is old events new up (told, same) =
       subst (AddsTo old (f ∷ []) events) (sym same)
       (record {
         deeds = Hears f events ∷ [];
@@ -406,8 +478,9 @@ module _ {S : Type 0} (does : Relations S) where
         tell = record { told = append-nil events; calls = refl };
         closing = record { holds = (tt, tt); comes = refl };
         writing = heard-writes f Empty events old.peer_limit is tt;
+        going = going-by (Hears f events) (is_up old.phase) (is_up old.phase) up refl tt;
       })
-  takes-body f (Open o) is old events new (none, least, told, moves, after) =
+  takes-body f (Open o) is old events new up (none, least, told, moves, after) =
       subst (AddsTo old (f ∷ []) events) (sym after)
       (record {
         deeds = Hears f events ∷ [];
@@ -417,8 +490,9 @@ module _ {S : Type 0} (does : Relations S) where
         tell = record { told = append-nil events; calls = refl };
         closing = record { holds = (tt, tt); comes = refl };
         writing = heard-writes f (Open o) events old.peer_limit is (none, least);
+        going = going-by (Hears f events) (is_up old.phase) (is_up old.phase) up refl tt;
       })
-  takes-body f (Close c) is old events new (told, closes, after) =
+  takes-body f (Close c) is old events new up (told, closes, after) =
       let w = closes-both old.own_close old.sessions new.sessions closes in
       let frame : Frame = own_close_with None in
       let close : List Deed = close-deeds old.own_close frame in
@@ -452,8 +526,13 @@ module _ {S : Type 0} (does : Relations S) where
             (heard-writes f (Close c) events old.peer_limit is tt)
             (writing-both old.peer_limit old.peer_limit old.peer_limit w.deeds close (w.writing old.peer_limit)
             (close-writes old.own_close None old.peer_limit));
+        going =
+            going-both (is_up old.phase) (is_up old.phase) false (Hears f events ∷ []) (w.deeds ++ close)
+            (going-by (Hears f events) (is_up old.phase) (is_up old.phase) up refl tt)
+            (going-both (is_up old.phase) false false w.deeds close (w.going (is_up old.phase))
+            (close-goes old.own_close frame false));
       })
-  takes-body f body is old events new t =
+  takes-body f body is old events new up t =
       subst (AddsTo old (f ∷ []) events) (sym t.queued)
       (record {
         deeds = Takes (limit_of old.peer_limit) f t.frames events ∷ [];
@@ -473,6 +552,9 @@ module _ {S : Type 0} (does : Relations S) where
           holds = ((subst (λ (b : FrameBody). IsOfSession b) (sym is) t.theirs, (refl, t.fit)), tt);
           comes = refl;
         };
+        going =
+            going-by (Takes (limit_of old.peer_limit) f t.frames events) (is_up old.phase) (is_up old.phase) up refl
+            tt;
       })
 
   takes-all : (old : State S) (frames : List Frame) (events : List Event) (new : State S)
@@ -488,10 +570,11 @@ module _ {S : Type 0} (does : Relations S) where
         tell = tell-nothing;
         closing = closing-none old.own_close;
         writing = writing-none old.peer_limit;
+        going = going-none (is_up old.phase);
       }))
   takes-all old (f ∷ fs) events new (mid, first, others, one, all, split) =
       subst (λ (es : List Event). Adds old (f ∷ fs) es new) (sym split)
-      (adds-on old mid new (f ∷ []) fs first others (takes-body f f.body refl old first mid one.1)
+      (adds-on old mid new (f ∷ []) fs first others (takes-body f f.body refl old first mid (ap is_up one.0) one.1)
       (takes-all mid fs others new all))
 
   -- the connection may be cut off; where it isn't, what is queued is behind what was
@@ -503,6 +586,7 @@ module _ {S : Type 0} (does : Relations S) where
     over : is_unconnected new.phase ≡ false → (new.queue ≡ old.queue ++ queued_by deeds) × (new.phase ≡ Over)
     closing : is_unconnected new.phase ≡ false → Closing old.own_close deeds new.own_close
     writing : Writing old.peer_limit deeds new.peer_limit
+    going : Going (is_up old.phase) deeds (is_up new.phase)
 
   never : {A : Type 0} (phase : Phase) → phase ≡ Unconnected → is_unconnected phase ≡ false → A
   never phase is up = let clash : true ≡ false = sym (ap is_unconnected is) ∙ up in absurd cc
@@ -517,6 +601,9 @@ module _ {S : Type 0} (does : Relations S) where
         over = λ up. never new.phase (ap (λ (s : State S). s.phase) after) up;
         closing = λ up. never new.phase (ap (λ (s : State S). s.phase) after) up;
         writing = record { holds = (tt, tt); comes = sym (ap (λ (s : State S). s.peer_limit) after) };
+        going =
+            going-by Finishes (is_up old.phase) (is_up new.phase) tt
+            (sym (ap (λ (s : State S). is_up s.phase) after)) tt;
       }
 
   after-fault : (condition : Option (List ℕ)) (s new : State S) → AfterFault does condition s new → MayCut s new
@@ -547,12 +634,17 @@ module _ {S : Type 0} (does : Relations S) where
             (sym (ap (λ (t : State S). t.peer_limit) is))
             (writing-both s.peer_limit s.peer_limit s.peer_limit w.deeds close (w.writing s.peer_limit)
             (close-writes s.own_close (Some (error_of condition)) s.peer_limit));
+        going =
+            subst (λ (up : Bool). Going (is_up s.phase) (w.deeds ++ close) up)
+            (sym (ap (λ (t : State S). is_up t.phase) is))
+            (going-both (is_up s.phase) false false w.deeds close (w.going (is_up s.phase))
+            (close-goes s.own_close frame false));
       }
 
-  after-front : (condition : Option (List ℕ)) (s : State S) (sessions : S) (new : State S)
+  after-front : (condition : Option (List ℕ)) (s : State S) (sessions : S) (new : State S) → is_up s.phase ≡ true
       → Fronted (limit_of s.peer_limit) s.sessions sessions
       → AfterFault does condition (record s { sessions = sessions }) new → MayCut s new
-  after-front condition s sessions new (stays-so same) a =
+  after-front condition s sessions new running (stays-so same) a =
       let c = after-fault condition (record s { sessions = sessions }) new a in
       record {
         deeds = c.deeds;
@@ -562,8 +654,9 @@ module _ {S : Type 0} (does : Relations S) where
         over = c.over;
         closing = c.closing;
         writing = c.writing;
+        going = c.going;
       }
-  after-front None s sessions new (bars f e theirs ends r) (finishes, after) =
+  after-front None s sessions new running (bars f e theirs ends r) (finishes, after) =
       record {
         deeds = Refuses (limit_of s.peer_limit) f e true ∷ [];
         are_done = (
@@ -583,8 +676,11 @@ module _ {S : Type 0} (does : Relations S) where
           holds = ((theirs, ends, refl), tt);
           comes = sym (ap (λ (t : State S). t.peer_limit) after);
         };
+        going =
+            going-by (Refuses (limit_of s.peer_limit) f e true) (is_up s.phase) (is_up new.phase) running
+            (sym (ap (λ (t : State S). is_up t.phase) after)) tt;
       }
-  after-front (Some condition) s sessions new (bars f e theirs ends r) (closes, is) =
+  after-front (Some condition) s sessions new running (bars f e theirs ends r) (closes, is) =
       let frame : Frame = own_close_with (Some (error_of condition)) in
       let close = close-writes s.own_close (Some (error_of condition)) s.peer_limit in
       record {
@@ -611,6 +707,12 @@ module _ {S : Type 0} (does : Relations S) where
           holds = ((theirs, ends, refl), close.holds);
           comes = close.comes ∙ sym (ap (λ (t : State S). t.peer_limit) is);
         };
+        going =
+            let refuses : Deed = Refuses (limit_of s.peer_limit) f e s.own_close in
+            subst (λ (up : Bool). Going (is_up s.phase) (refuses ∷ close-deeds s.own_close frame) up)
+            (sym (ap (λ (t : State S). is_up t.phase) is))
+            (going-both (is_up s.phase) false false (refuses ∷ []) (close-deeds s.own_close frame)
+            (going-by refuses (is_up s.phase) false running refl tt) (close-goes s.own_close frame false));
       }
 
   -- these bytes were read and these events told, and so much was taken
@@ -624,14 +726,15 @@ module _ {S : Type 0} (does : Relations S) where
     tell : Tell deeds events []
     closing : is_unconnected new.phase ≡ false → Closing old.own_close deeds new.own_close
     writing : Writing old.peer_limit deeds new.peer_limit
+    going : Going (is_up old.phase) deeds (is_up new.phase)
 
   -- all was taken that comes
   read-all : (old mid : State S) (all left : List ℕ) (frames : List Frame) (events : List Event) (new : State S)
       → ReadsAs (Admits old.settings.max_frame_size) all frames left → (a : Adds old frames events mid)
       → new.sessions ≡ mid.sessions → new.queue ≡ mid.queue → new.own_close ≡ mid.own_close
-      → new.peer_limit ≡ mid.peer_limit → ReadNow new.phase old.settings.max_frame_size all frames new.rest
-      → ReadsThem old all events new
-  read-all old mid all left frames events new read a sessions queue own peer now =
+      → new.peer_limit ≡ mid.peer_limit → new.phase ≡ mid.phase
+      → ReadNow new.phase old.settings.max_frame_size all frames new.rest → ReadsThem old all events new
+  read-all old mid all left frames events new read a sessions queue own peer phase now =
       record {
         deeds = a.deeds;
         are_done = subst (λ (s : S). AreDone does old.sessions a.deeds s) (sym sessions) a.are_done;
@@ -642,15 +745,18 @@ module _ {S : Type 0} (does : Relations S) where
         tell = a.tell;
         closing = λ up. subst (λ (c : Bool). Closing old.own_close a.deeds c) (sym own) a.closing;
         writing = subst (λ (p : Option ℕ). Writing old.peer_limit a.deeds p) (sym peer) a.writing;
+        going = subst (λ (p : Phase). Going (is_up old.phase) a.deeds (is_up p)) (sym phase) a.going;
       }
 
   -- a fault stands in front of what is left
   read-faulted : (old mid : State S) (all left : List ℕ) (frames : List Frame) (events : List Event)
-      (e : EndpointError) (new : State S) → ReadsAs (Admits old.settings.max_frame_size) all frames left
-      → Adds old frames events mid → EndsRunning does mid left (Some e) new → ReadsThem old all events new
-  read-faulted old mid all left frames events e new read a r =
+      (e : EndpointError) (new : State S) → mid.phase ≡ Running
+      → ReadsAs (Admits old.settings.max_frame_size) all frames left → Adds old frames events mid
+      → EndsRunning does mid left (Some e) new → ReadsThem old all events new
+  read-faulted old mid all left frames events e new running read a r =
       let c =
-      after-front (condition_of e) mid r.sessions new (front-refused e mid left r.sessions r.refused) r.after in
+      after-front (condition_of e) mid r.sessions new (ap is_up running)
+      (front-refused e mid left r.sessions r.refused) r.after in
       let taken : taken_by (a.deeds ++ c.deeds) ≡ frames =
       flat-append taken_in a.deeds c.deeds ∙ ap (λ (fs : List Frame). taken_by a.deeds ++ fs) c.untaken
       ∙ append-nil (taken_by a.deeds) ∙ a.taken in
@@ -675,6 +781,8 @@ module _ {S : Type 0} (does : Relations S) where
         closing = λ up.
             closing-both old.own_close mid.own_close new.own_close a.deeds c.deeds a.closing (c.closing up);
         writing = writing-both old.peer_limit mid.peer_limit new.peer_limit a.deeds c.deeds a.writing c.writing;
+        going =
+            going-both (is_up old.phase) (is_up mid.phase) (is_up new.phase) a.deeds c.deeds a.going c.going;
       }
 
   read-ends : (phase : Phase) (old mid : State S) (all left : List ℕ) (frames : List Frame) (events : List Event)
@@ -683,13 +791,13 @@ module _ {S : Type 0} (does : Relations S) where
       → Ends does mid phase left fault new → ReadsThem old all events new
   read-ends Running old mid all left frames events None new is read a (waits, after) =
       subst (λ (s : State S). ReadsThem old all events s) (sym after)
-      (read-all old mid all left frames events (record mid { rest = left }) read a refl refl refl refl
+      (read-all old mid all left frames events (record mid { rest = left }) read a refl refl refl refl refl
       (subst (λ (p : Phase). ReadNow p old.settings.max_frame_size all frames left) (sym is) read))
   read-ends Running old mid all left frames events (Some e) new is read a r =
-      read-faulted old mid all left frames events e new read a r
+      read-faulted old mid all left frames events e new is read a r
   read-ends Over old mid all left frames events None new is read a same =
       subst (λ (s : State S). ReadsThem old all events s) (sym same)
-      (read-all old mid all left frames events mid read a refl refl refl refl
+      (read-all old mid all left frames events mid read a refl refl refl refl refl
       (subst (λ (p : Phase). ReadNow p old.settings.max_frame_size all frames mid.rest) (sym is) (left, read)))
   read-ends Over old mid all left frames events (Some e) new is read a r = absurd r
   read-ends phase old mid all left frames events fault new is read a r = absurd r
@@ -707,6 +815,7 @@ module _ {S : Type 0} (does : Relations S) where
         tell = a.tell;
         closing = a.closing;
         writing = a.writing;
+        going = a.going;
       }) r.ends
 
   -- what passes in a call: so much is given of what was queued, and these bytes are fed
@@ -727,14 +836,16 @@ module _ {S : Type 0} (does : Relations S) where
     on : is_unconnected new.phase ≡ false → PassesOn old gone bytes deeds new
     tell : Tell deeds events did
     writing : Writing old.peer_limit deeds new.peer_limit
+    going : Going (is_up old.phase) deeds (is_up new.phase)
 
   -- nothing is read by it, and the phase stays
   plainly : (old : State S) (gone : List Waiting) (deeds : List Deed) (events : List Event)
       (did : List (Call × Said)) (new : State S) → AreDone does old.sessions deeds new.sessions
       → new.phase ≡ old.phase → new.rest ≡ old.rest → old.queue ++ queued_by deeds ≡ gone ++ new.queue
       → taken_by deeds ≡ [] → Tell deeds events did → Closing old.own_close deeds new.own_close
-      → Writing old.peer_limit deeds new.peer_limit → Did old gone [] events did new
-  plainly old gone deeds events did new are_done phase rest queued untaken tell closing writing =
+      → Writing old.peer_limit deeds new.peer_limit → Going (is_up old.phase) deeds (is_up old.phase)
+      → Did old gone [] events did new
+  plainly old gone deeds events did new are_done phase rest queued untaken tell closing writing going =
       record {
         deeds = deeds;
         are_done = are_done;
@@ -754,6 +865,7 @@ module _ {S : Type 0} (does : Relations S) where
         };
         tell = tell;
         writing = writing;
+        going = subst (λ (p : Phase). Going (is_up old.phase) deeds (is_up p)) (sym phase) going;
       }
 
   -- nothing is told, and the sessions do no call
@@ -761,26 +873,28 @@ module _ {S : Type 0} (does : Relations S) where
       → AreDone does old.sessions deeds new.sessions → new.phase ≡ old.phase → new.rest ≡ old.rest
       → old.queue ++ queued_by deeds ≡ gone ++ new.queue → taken_by deeds ≡ [] → Tell deeds [] []
       → Closing old.own_close deeds new.own_close → Writing old.peer_limit deeds new.peer_limit
-      → Did old gone [] [] [] new
-  quietly old gone deeds new are_done phase rest queued untaken tell closing writing =
-      plainly old gone deeds [] [] new are_done phase rest queued untaken tell closing writing
+      → Going (is_up old.phase) deeds (is_up old.phase) → Did old gone [] [] [] new
+  quietly old gone deeds new are_done phase rest queued untaken tell closing writing going =
+      plainly old gone deeds [] [] new are_done phase rest queued untaken tell closing writing going
 
   stays : (old new : State S) → new ≡ old → Did old [] [] [] [] new
   stays old new same =
       subst (λ (s : State S). Did old [] [] [] [] s) (sym same)
       (quietly old [] [] old refl refl refl (append-nil old.queue) refl tell-nothing (closing-none old.own_close)
-      (writing-none old.peer_limit))
+      (writing-none old.peer_limit) (going-none (is_up old.phase)))
 
   cuts : (old : State S) (bytes : List ℕ) (deeds : List Deed) (new : State S)
       → AreDone does old.sessions deeds new.sessions → new.phase ≡ Unconnected → Tell deeds [] []
-      → Writing old.peer_limit deeds new.peer_limit → Did old [] bytes [] [] new
-  cuts old bytes deeds new are_done is tell writing =
+      → Writing old.peer_limit deeds new.peer_limit → Going (is_up old.phase) deeds false
+      → Did old [] bytes [] [] new
+  cuts old bytes deeds new are_done is tell writing going =
       record {
         deeds = deeds;
         are_done = are_done;
         on = λ up. never new.phase is up;
         tell = tell;
         writing = writing;
+        going = subst (λ (up : Bool). Going (is_up old.phase) deeds up) (sym (ap is_up is)) going;
       }
 
   broken : (old : State S) (bytes : List ℕ) (new : State S) → Breaks does old new → Did old [] bytes [] [] new
@@ -788,17 +902,19 @@ module _ {S : Type 0} (does : Relations S) where
       cuts old bytes (Finishes ∷ []) new (new.sessions, finishes, refl) (ap (λ (s : State S). s.phase) after)
       (record { told = refl; calls = refl })
       (record { holds = (tt, tt); comes = sym (ap (λ (s : State S). s.peer_limit) after) })
+      (going-by Finishes (is_up old.phase) false tt refl tt)
 
   broken-greeting : (old : State S) (bytes : List ℕ) (new : State S) → BreaksGreeting does old new
       → Did old [] bytes [] [] new
   broken-greeting old bytes new (inl b) = broken old bytes new b
   broken-greeting old bytes new (inr (finishes, after)) =
       let greeted : S = at_state does old.sessions HeaderExchange in
-      cuts old bytes
-      (Moves (record (does.connection old.sessions) { local_state = HeaderExchange }) ∷ Finishes ∷ []) new
+      let moves : Deed = Moves (record (does.connection old.sessions) { local_state = HeaderExchange }) in
+      cuts old bytes (moves ∷ Finishes ∷ []) new
       (greeted, (inl (inr refl), refl), (new.sessions, finishes, refl)) (ap (λ (s : State S). s.phase) after)
       (record { told = refl; calls = refl })
       (record { holds = (tt, (tt, tt)); comes = sym (ap (λ (s : State S). s.peer_limit) after) })
+      (record { along = record { holds = (tt, (tt, tt)); comes = refl }; none = tt })
 
   -- bytes are fed while frames are read
   runs : (old : State S) (bytes : List ℕ) (events : List Event) (fault : Option EndpointError) (new : State S)
@@ -819,6 +935,7 @@ module _ {S : Type 0} (does : Relations S) where
         };
         tell = t.tell;
         writing = t.writing;
+        going = t.going;
       }
 
   -- the peer's header is whole with them
@@ -829,9 +946,9 @@ module _ {S : Type 0} (does : Relations S) where
       let t = reads-on (opened does old) (drop 8 (old.rest ++ bytes)) events fault new r in
       let first : Waiting = the_frame (own_open old.settings) in
       let begun : S = at_state does old.sessions OpenSent in
+      let moves : Deed = Moves (record (does.connection old.sessions) { local_state = OpenSent }) in
       record {
-        deeds =
-            Moves (record (does.connection old.sessions) { local_state = OpenSent }) ∷ Queues first ∷ t.deeds;
+        deeds = moves ∷ Queues first ∷ t.deeds;
         are_done = (begun, (inl (inl refl), refl), (begun, refl, t.are_done));
         on = λ up. record {
           was = ap is_unconnected is;
@@ -852,6 +969,12 @@ module _ {S : Type 0} (does : Relations S) where
         };
         tell = record { told = t.tell.told; calls = t.tell.calls };
         writing = record { holds = (tt, (λ theirs. theirs, t.writing.holds)); comes = t.writing.comes };
+        going =
+            subst (λ (up : Bool). Going up (moves ∷ Queues first ∷ t.deeds) (is_up new.phase)) (sym (ap is_up is))
+            (record {
+              along = record { holds = (tt, (tt, t.going.along.holds)); comes = t.going.along.comes };
+              none = t.going.none;
+            });
       }
 
   untold : (old : State S) (bytes : List ℕ) (events : List Event) (new : State S) → events ≡ []
@@ -880,6 +1003,7 @@ module _ {S : Type 0} (does : Relations S) where
         };
         tell = tell-nothing;
         writing = writing-none old.peer_limit;
+        going = going-none (is_up old.phase);
       }))
   greets old bytes events fault new is (inr (inl (long, other, none, why, b))) =
       untold old bytes events new none (broken old bytes new b)
@@ -893,7 +1017,8 @@ module _ {S : Type 0} (does : Relations S) where
   feeds-in Unconnected old bytes events fault new is (none, why, same) =
       untold old bytes events new none
       (cuts old bytes [] new (ap (λ (s : State S). s.sessions) same) (ap (λ (s : State S). s.phase) same ∙ is)
-      tell-nothing (record { holds = tt; comes = sym (ap (λ (s : State S). s.peer_limit) same) }))
+      tell-nothing (record { holds = tt; comes = sym (ap (λ (s : State S). s.peer_limit) same) })
+      (record { along = record { holds = tt; comes = ap is_up is }; none = tt }))
   feeds-in Greeting old bytes events fault new is g = greets old bytes events fault new is g
   feeds-in Running old bytes events fault new is r = runs old bytes events fault new is r
   feeds-in Over old bytes events fault new is (none, why, same) =
@@ -914,6 +1039,7 @@ module _ {S : Type 0} (does : Relations S) where
         };
         tell = tell-nothing;
         writing = writing-none old.peer_limit;
+        going = going-none (is_up old.phase);
       }))
 
   -- the sessions do a call
@@ -921,19 +1047,22 @@ module _ {S : Type 0} (does : Relations S) where
       → does.calls old.sessions (limit_of old.peer_limit) call answer frames new.sessions
       → All (λ (f : SessionFrame). fits (limit_of old.peer_limit) (frame_of f) ≡ true) frames
       → new ≡ record old { sessions = new.sessions; queue = old.queue ++ map waiting_of frames }
-      → Did old [] [] (events_of answer) ((call, answer) ∷ []) new
-  called old call answer frames new c fit queued =
+      → (is_up old.phase ≡ false → frames ≡ []) → Did old [] [] (events_of answer) ((call, answer) ∷ []) new
+  called old call answer frames new c fit queued quiet =
       let did : List (Call × Said) = (call, answer) ∷ [] in
       subst (λ (t : State S). Did old [] [] (events_of answer) did t) (sym queued)
       (plainly old [] (Does (limit_of old.peer_limit) call answer frames ∷ []) (events_of answer) did
       (record old { sessions = new.sessions; queue = old.queue ++ map waiting_of frames }) (new.sessions, c, refl)
       refl refl (ap (λ (ws : List Waiting). old.queue ++ ws) (append-nil (map waiting_of frames))) refl
       (record { told = append-nil (events_of answer); calls = refl }) (record { holds = (tt, tt); comes = refl })
-      (record { holds = ((refl, fit), tt); comes = refl }))
+      (record { holds = ((refl, fit), tt); comes = refl })
+      (going-by (Does (limit_of old.peer_limit) call answer frames) (is_up old.phase) (is_up old.phase) quiet refl
+      tt))
 
   does-call : (old : State S) (call : Call) (answer : Said) (new : State S) → SessionsDo does old call answer new
       → Did old [] [] (events_of answer) ((call, answer) ∷ []) new
-  does-call old call answer new s = called old call answer s.frames new s.calls s.fit s.queued
+  does-call old call answer new s =
+      called old call answer s.frames new s.calls s.fit s.queued (λ down. s.quiet (not-running old.phase down))
 
   -- they answer one, and nothing changes
   answers-call : (old : State S) (call : Call) (answer : Said) (new : State S) → SessionsAnswer does old call answer new
@@ -943,7 +1072,7 @@ module _ {S : Type 0} (does : Relations S) where
       subst (λ (t : State S). Did old [] [] (events_of answer) did t) (sym s.same)
       (called old call answer [] old s.calls
       (All-nil (λ (f : SessionFrame). fits (limit_of old.peer_limit) (frame_of f) ≡ true))
-      (ap (λ (ws : List Waiting). record old { queue = ws }) (sym (append-nil old.queue))))
+      (ap (λ (ws : List Waiting). record old { queue = ws }) (sym (append-nil old.queue))) (λ down. refl))
 
   beats : (old new : State S) → new ≡ record old { queue = old.queue ++ the_frame heartbeat ∷ [] }
       → Did old [] [] [] [] new
@@ -951,14 +1080,15 @@ module _ {S : Type 0} (does : Relations S) where
       subst (λ (t : State S). Did old [] [] [] [] t) (sym after)
       (quietly old [] (Queues (the_frame heartbeat) ∷ []) (record old { queue = old.queue ++ the_frame heartbeat ∷ [] })
       (old.sessions, refl, refl) refl refl refl refl (record { told = refl; calls = refl })
-      (record { holds = (not-so, tt); comes = refl }) (record { holds = (λ theirs. theirs, tt); comes = refl }))
+      (record { holds = (not-so, tt); comes = refl }) (record { holds = (λ theirs. theirs, tt); comes = refl })
+      (going-by (Queues (the_frame heartbeat)) (is_up old.phase) (is_up old.phase) tt refl tt))
 
   pulls : (old : State S) (first : Waiting) (others : List Waiting) (new : State S) → old.queue ≡ first ∷ others
       → new ≡ record old { queue = others } → Did old (first ∷ []) [] [] [] new
   pulls old first others new is after =
       subst (λ (t : State S). Did old (first ∷ []) [] [] [] t) (sym after)
       (quietly old (first ∷ []) [] (record old { queue = others }) refl refl refl (append-nil old.queue ∙ is) refl
-      tell-nothing (closing-none old.own_close) (writing-none old.peer_limit))
+      tell-nothing (closing-none old.own_close) (writing-none old.peer_limit) (going-none (is_up old.phase)))
 
   sends-own-close : (old new : State S) → old.own_close ≡ false → ClosesOwn does old.sessions new.sessions
       → new ≡ record old {
@@ -983,7 +1113,9 @@ module _ {S : Type 0} (does : Relations S) where
       (closing-both old.own_close old.own_close true w.deeds close (w.closing old.own_close)
       (record { holds = (λ e. unsent, tt); comes = refl }))
       (writing-both old.peer_limit old.peer_limit old.peer_limit w.deeds close (w.writing old.peer_limit)
-      (record { holds = (λ theirs. theirs, tt); comes = refl })))
+      (record { holds = (λ theirs. theirs, tt); comes = refl }))
+      (going-both (is_up old.phase) (is_up old.phase) (is_up old.phase) w.deeds close (w.going (is_up old.phase))
+      (going-by (Queues (the_frame (own_close_with None))) (is_up old.phase) (is_up old.phase) tt refl tt)))
 
   abbrev Done : ℕ → S → List (List ℕ) → List ℕ → List Event → List (Call × Said) → List Event → List (Call × Said)
       → State S → Type 0
@@ -1019,6 +1151,11 @@ module _ {S : Type 0} (does : Relations S) where
         subst (λ (ds : List Deed). Writing None ds new.peer_limit) (append_assoc i.before i.since d.deeds)
         (writing-both None old.peer_limit new.peer_limit (i.before ++ i.since) d.deeds
         (record { holds = i.in_order; comes = i.peer }) d.writing) in
+        let passing : Along up_behind MayPass false (i.before ++ (i.since ++ d.deeds)) (is_up new.phase) =
+        subst (λ (ds : List Deed). Along up_behind MayPass false ds (is_up new.phase))
+        (append_assoc i.before i.since d.deeds)
+        (along-both up_behind MayPass false (is_up old.phase) (is_up new.phase) (i.before ++ i.since) d.deeds
+        (record { holds = i.up_in_order; comes = i.up }) d.going.along) in
         record {
           before = i.before;
           since = i.since ++ d.deeds;
@@ -1055,15 +1192,27 @@ module _ {S : Type 0} (does : Relations S) where
           all = tell-more i.before i.since d.deeds all_events others all_did later i.all d.tell;
           in_order = writing.holds;
           peer = writing.comes;
+          up_in_order = passing.holds;
+          up = passing.comes;
+          of_one = λ up.
+              let one = i.of_one (d.on up).was in
+              record {
+                later = one.later ++ d.deeds;
+                is = ap (λ (ds : List Deed). ds ++ d.deeds) one.is;
+                none = none-append one.later d.deeds one.none d.going.none;
+              };
         }
 
-    -- the connection begins anew
-    connects : (new : State S) → new ≡ connected does old → Was → Is Connect done new
-    connects new after i =
+    -- the connection begins anew, where it isn't up
+    connects : (new : State S) → is_up old.phase ≡ false → new ≡ connected does old → Was → Is Connect done new
+    connects new down after i =
         let anew_deeds : List Deed = Renews ∷ Queues the_header ∷ [] in
         let writing : Writing None ((i.before ++ i.since) ++ anew_deeds) None =
         writing-both None old.peer_limit None (i.before ++ i.since) anew_deeds
         (record { holds = i.in_order; comes = i.peer }) (record { holds = (tt, (tt, tt)); comes = refl }) in
+        let passing : Along up_behind MayPass false ((i.before ++ i.since) ++ anew_deeds) true =
+        along-both up_behind MayPass false (is_up old.phase) true (i.before ++ i.since) anew_deeds
+        (record { holds = i.up_in_order; comes = i.up }) (record { holds = (down, (tt, tt)); comes = refl }) in
         subst (λ (s : State S). Is Connect done s) (sym after)
         (record {
           before = i.before ++ i.since;
@@ -1083,6 +1232,9 @@ module _ {S : Type 0} (does : Relations S) where
               (record { told = refl; calls = refl });
           in_order = writing.holds;
           peer = writing.comes;
+          up_in_order = passing.holds;
+          up = passing.comes;
+          of_one = λ up. record { later = Queues the_header ∷ []; is = refl; none = tt };
         })
 
     quiet : (new : State S) → Did old [] [] [] [] new → Was
@@ -1120,7 +1272,7 @@ module _ {S : Type 0} (does : Relations S) where
     step call (refused e) new (may, same) i = refusing call e new same i
     step (Feed more) (fed told fault) new s i =
         further [] more told [] new (feeds-in old.phase old more told fault new refl s) i
-    step Connect done new (may, after) i = connects new after i
+    step Connect done new (may, after) i = connects new (not-up old.phase may) after i
     step Pull (pulled None) new (empty, same) i = unchanged new same i
     step Pull (pulled (Some text)) new (first, others, is, said_so, after) i =
         subst
@@ -1139,7 +1291,7 @@ module _ {S : Type 0} (does : Relations S) where
         quiet new
         (subst (λ (t : State S). Did old [] [] [] [] t) (sym after)
         (quietly old [] [] _ refl refl refl (append-nil old.queue) refl tell-nothing
-        (closing-none old.own_close) (writing-none old.peer_limit))) i
+        (closing-none old.own_close) (writing-none old.peer_limit) (going-none (is_up old.phase)))) i
     step Begin (session_begun n) new s i = does-it _ _ new s i
     step (AcceptBegin c) (session_begun n) new s i = does-it _ _ new s i
     step (End n) done new s i = does-it _ _ new s i
@@ -1214,4 +1366,7 @@ module _ {S : Type 0} (does : Relations S) where
         all = tell-nothing;
         in_order = tt;
         peer = refl;
+        up_in_order = tt;
+        up = refl;
+        of_one = λ up. never Unconnected refl up;
       })

@@ -181,6 +181,41 @@ abbrev pub come_to : {A : Type 0} → (A → Deed → A) → A → List Deed →
 come_to behind from [] = from
 come_to behind from (deed ∷ deeds) = come_to behind (behind from deed) deeds
 
+-- whether a connection is up behind a deed, where it was so before it or wasn't: from where it begins anew up to where
+-- it is over
+abbrev pub up_behind : Bool → Deed → Bool
+up_behind up (Refuses limit frame error own_close) = false
+up_behind up Renews = true
+up_behind up Finishes = false
+up_behind up deed = up
+
+-- a connection is up in these phases: the peer's header is awaited, or frames are read
+abbrev pub is_up : Phase → Bool
+is_up Greeting = true
+is_up Running = true
+is_up phase = false
+
+-- frames are taken as long as the connection is up, and else nothing is handed out. It begins anew where it isn't up
+abbrev pub MayPass : Bool → Deed → Type 0
+MayPass up (Hears frame events) = up ≡ true
+MayPass up (Takes limit frame frames events) = up ≡ true
+MayPass up (Refuses limit frame error own_close) = up ≡ true
+MayPass up (Does limit call answer frames) = up ≡ false → frames ≡ []
+MayPass up Renews = up ≡ false
+MayPass up deed = Unit {0}
+
+-- by none of these deeds the connection begins anew
+abbrev pub NoneRenews : List Deed → Type 0
+NoneRenews [] = Unit {0}
+NoneRenews (Renews ∷ later) = ⊥
+NoneRenews (deed ∷ later) = NoneRenews later
+
+-- deeds of one connection, from where it begins anew on
+pub record AreOfOne (deeds : List Deed) : Type 0 where
+  pub later : List Deed
+  pub is : deeds ≡ Renews ∷ later
+  pub none : NoneRenews later
+
 -- the own Close waits to be pulled
 abbrev pub is_own_close : Waiting → Bool
 is_own_close the_header = false
@@ -248,7 +283,8 @@ pub record Tell (deeds : List Deed) (events : List Event) (did : List (Call × S
 
 -- sessions stand as these deeds leave them, up to the latest connect and since, where pull gave so much since then,
 -- these bytes were fed, these events told and these calls done, and so many were told and done in all; and what they
--- write keeps to the peer's limit
+-- write keeps to the peer's limit. Frames pass while the connection is up, and the deeds since the latest connect are
+-- those of one connection, as long as it isn't cut off
 pub record IsDone {S : Type 0} (does : Relations S) (limit : ℕ) (start : S) (given : List (List ℕ)) (bytes : List ℕ)
     (events : List Event) (did : List (Call × Said)) (all_events : List Event) (all_did : List (Call × Said))
     (s : State S) : Type 0 where
@@ -260,3 +296,6 @@ pub record IsDone {S : Type 0} (does : Relations S) (limit : ℕ) (start : S) (g
   pub all : Tell (before ++ since) all_events all_did
   pub in_order : Throughout opened_behind IsInOrder None (before ++ since)
   pub peer : come_to opened_behind None (before ++ since) ≡ s.peer_limit
+  pub up_in_order : Throughout up_behind MayPass false (before ++ since)
+  pub up : come_to up_behind false (before ++ since) ≡ is_up s.phase
+  pub of_one : is_unconnected s.phase ≡ false → AreOfOne since

@@ -12,10 +12,13 @@ mod SessionsGoing
 mod SessionsHeard
 mod SessionsKept
 mod PassedPlaces
+mod PassedWalk
+mod PassedJudged
 mod PassedHeard
 mod PassedCalled
 mod PassedKept
 mod PassedWindows
+mod JudgedAnew
 mod PassedSteps
 mod Parted
 mod Agreeing
@@ -40,3 +43,6 @@ mod QueuedOrder
 mod QueuedKept
 mod QueuedSince
 mod QueuedAttached
+mod SeenWalk
+mod Seen
+mod Judged

@@ -1,11 +1,11 @@
 -- What passes in a session as its peer says something in it.
 use Rattle.std.proofs.Common.{◌≡◌, ◌≢◌, inl, inr, ℕ, Bool, true, false, List, [], ◌∷◌, ◌++◌, Option, Some, None}
 use Rattle.std.proofs.Common.{Ok, Err, ap, append-nil, refl, sym, subst, ◌∙◌}
-use Rattle.std.specs.Prelude.{IsSome, Result, if◌then◌else◌, option_map, option_to_list}
+use Rattle.std.specs.Prelude.{Result, if◌then◌else◌, option_to_list}
 use Rattle.std.specs.Global.{Box}
+use Rattle.std.proofs.lemmas.List.{map-append}
 use Rattle.std.proofs.lemmas.Option.{none-some, same_Some}
 use Rattle.amqp_session_types.specs.declared.channels.IncomingChannel.{IncomingChannel}
-use Rattle.amqp_session_types.specs.declared.error.Error.{Error}
 use Rattle.amqp_session_types.specs.declared.handles.OutputHandle.{OutputHandle}
 use Rattle.amqp_session_types.specs.declared.refusals.SessionError.{SessionError}
 use Rattle.amqp_session_types.specs.declared.refusals.SessionError.TheVariants.{IllegalState, Memory}
@@ -18,14 +18,11 @@ use Rattle.amqp_session_performatives.specs.declared.session_frame.SessionFrame.
 use Rattle.amqp_session_performatives.specs.declared.transfer.Transfer.{Transfer}
 use Rattle.amqp_session_frames.specs.declared.frame.FrameBody.{FrameBody}
 use Rattle.amqp_session_frames.specs.declared.frame.FrameBody.TheVariants as body
-use Rattle.amqp_session_connection.specs.Steps.{named_session}
 use Rattle.amqp_session_core.specs.Frames.{session_flow}
 use Rattle.amqp_session_core.specs.State.{reached as link_reached}
 use Rattle.amqp_session_core.specs.Told.{TransferAt}
 use Rattle.amqp_session_core.specs.declared.fields.SessionFields.{SessionFields}
 use Rattle.amqp_session_core.specs.declared.incoming.TransferTaken.{TransferTaken}
-use Rattle.amqp_link_base.specs.declared.detached.Detached.{Detached}
-use Rattle.amqp_link_ends.specs.declared.relay.AttachTold.{AttachTold}
 use Rattle.amqp_link_receiving.specs.declared.answer.Told.{Told}
 use Rattle.amqp_link_receiving.specs.declared.answer.Told.TheVariants as told
 use Rattle.amqp_link_sender.specs.declared.attaching.Attaching.{Attaching}
@@ -38,12 +35,9 @@ use Rattle.amqp_endpoint_links.specs.declared.asking.AttachTaken.TheVariants as 
 use Rattle.amqp_endpoint_links.specs.declared.asking.DetachTaken.TheVariants as detach_answer
 use Rattle.amqp_endpoint_links.specs.declared.hearing.LinkPerformative.{LinkPerformative}
 use Rattle.amqp_endpoint_links.specs.declared.hearing.LinkPerformative.TheVariants as said
-use Rattle.amqp_endpoint_links.specs.declared.hearing.PerformativeTaken.{PerformativeTaken}
 use Rattle.amqp_endpoint_links.specs.declared.hearing.PerformativeTaken.TheVariants as taken
-use Rattle.amqp_endpoint_sessions.specs.State.{asked_at, asked_of, asked_on, ended_place}
-use Rattle.amqp_endpoint_sessions.specs.State.{first_of, live_at, live_of, place_at}
-use Rattle.amqp_endpoint_sessions.specs.State.{reached, routed, routed_in, asked_in, when_asked, with_channel}
-use Rattle.amqp_endpoint_sessions.specs.Steps.{Asks, Ends, TakesBegin, TakesEnd}
+use Rattle.amqp_endpoint_sessions.specs.State.{asked_at, live_at, live_of, reached, with_live}
+use Rattle.amqp_endpoint_sessions.specs.Steps.{ChangesLive, Steps}
 use Rattle.amqp_endpoint_sessions.specs.declared.place.Place.TheVariants.{Asked, Live, Ending, Over}
 use Rattle.amqp_endpoint_sessions.proofs.Owning.{at}
 use Rattle.amqp_endpoint_conversation.specs.declared.beginning.BeginHeard.{BeginHeard}
@@ -51,10 +45,11 @@ use Rattle.amqp_endpoint_conversation.specs.declared.beginning.BeginHeard.TheVar
 use Rattle.amqp_endpoint_conversation.specs.declared.beginning.BeginRefusal.TheVariants as begin_refused
 use Rattle.amqp_endpoint_conversation.specs.declared.hearing.HearRefusal.TheVariants as refused
 use Rattle.amqp_endpoint_conversation.specs.declared.hearing.Heard.TheVariants as heard
-use Rattle.amqp_endpoint_conversation.specs.Beginning.{BeginAnswered, Leads}
-use Rattle.amqp_endpoint_conversation.specs.Ending.{EndReply, EndsHere, end_frame}
+use Rattle.amqp_endpoint_conversation.specs.Beginning.{BeginAnswered}
+use Rattle.amqp_endpoint_conversation.specs.Ending.{end_frame}
+use Rattle.amqp_endpoint_conversation.specs.Faults.{fault_error}
 use Rattle.amqp_endpoint_conversation.specs.Hearing.{Answered, AnsweredAt, AnsweredIn, AskedAnswered, LiveAnswered}
-use Rattle.amqp_endpoint_conversation.specs.Hearing.{LiveFails, LiveHears}
+use Rattle.amqp_endpoint_conversation.specs.Hearing.{LiveFails}
 use Rattle.amqp_endpoint_model.specs.declared.event.Event.{Event}
 use Rattle.amqp_endpoint_linking.specs.Hearing.{HearsBegin, TakesEnd as EndTaken}
 use Rattle.amqp_endpoint_linking.specs.Linking.{Link, Links, Session, Sessions, Stood, Talk}
@@ -74,62 +69,15 @@ use Rattle.amqp_endpoint_link_hearing.proofs.Inside.{closes-inside, leave-inside
 use Rattle.amqp_endpoint_link_hearing.proofs.Inside.{tells-parts-inside}
 use Rattle.amqp_endpoint_linked.specs.Hearing.{Hears as HearsFrame}
 use Rattle.amqp_endpoint_linked.specs.declared.linked.LinkedSessions.{LinkedSessions}
-use Rattle.amqp_endpoint_talk.specs.Inside.{Batches, DoneInside, said_in}
-use Rattle.amqp_endpoint_talk.specs.Windows.{Came, Passing, body_said, went}
-use Rattle.amqp_endpoint_talk.proofs.Windows.{went-append}
-use Rattle.amqp_endpoint_laws.specs.Passed.{begun_by, live_only, sent_in, session_taking}
-use Rattle.amqp_endpoint_laws.proofs.PassedPlaces.{AllPassed, GoesBy, IsGone, Keeping, Passed, all-passed, asked-passed}
-use Rattle.amqp_endpoint_laws.proofs.PassedPlaces.{by-step, eq-same, free-passed, hears, inside-passed, judged-at}
-use Rattle.amqp_endpoint_laws.proofs.PassedPlaces.{live-passed, none-passed, opens, passed-on}
-
--- a session that a channel of the peer's reaches stands somewhere
-abbrev IsThere : Option Stood → Type 0
-IsThere None = ⊥
-IsThere (Some stood) = Unit {0}
-
-channel-there : (k n : ℕ) (o : Option Stood) → with_channel k o ≡ Some n → (k ≡ n) × IsThere o
-channel-there k n None e = absurd (none-some n e)
-channel-there k n (Some (Live channel s)) e = (same_Some k n e, tt)
-channel-there k n (Some (Ending channel)) e = (same_Some k n e, tt)
-channel-there k n (Some (Asked channel a)) e = absurd (none-some n e)
-channel-there k n (Some (Over peer_end complete)) e = absurd (none-some n e)
-
-asked-there : (k n : ℕ) (o : Option Stood) → when_asked k o ≡ Some n → (k ≡ n) × IsThere o
-asked-there k n None e = absurd (none-some n e)
-asked-there k n (Some (Asked channel a)) e = (same_Some k n e, tt)
-asked-there k n (Some (Live channel s)) e = absurd (none-some n e)
-asked-there k n (Some (Ending channel)) e = absurd (none-some n e)
-asked-there k n (Some (Over peer_end complete)) e = absurd (none-some n e)
-
-module _ (s : Sessions) (n : ℕ) where
-  routed-there : (o : Option ℕ) → routed_in s o ≡ Some n → IsThere (place_at s n)
-  routed-there None e = absurd (none-some n e)
-  routed-there (Some k) e =
-      let (same, there) = channel-there k n (place_at s k) e in
-      subst (λ (m : ℕ). IsThere (place_at s m)) same there
-
-  asked-in-there : (o : Option ℕ) → asked_in s o ≡ Some n → IsThere (place_at s n)
-  asked-in-there None e = absurd (none-some n e)
-  asked-in-there (Some k) e =
-      let (same, there) = asked-there k n (place_at s k) e in
-      subst (λ (m : ℕ). IsThere (place_at s m)) same there
-
-  either-there : (a b : Option ℕ) → (a ≡ Some n → IsThere (place_at s n)) → (b ≡ Some n → IsThere (place_at s n))
-      → first_of a b ≡ Some n → IsThere (place_at s n)
-  either-there None b f g e = g e
-  either-there (Some k) b f g e = f e
-
-  reached-there : (channel : ℕ) → reached s channel ≡ Some n → IsThere (place_at s n)
-  reached-there channel e =
-      either-there (routed s channel) (asked_on s channel) (routed-there _) (asked-in-there _) e
-
--- one that neither goes on nor is asked for is over
-is-gone : (o : Option Stood) → asked_of o ≡ None → live_of o ≡ None → IsThere o → IsGone o
-is-gone None a l there = absurd there
-is-gone (Some (Asked channel asked)) a l there = absurd (none-some asked (sym a))
-is-gone (Some (Live channel s)) a l there = absurd (none-some s (sym l))
-is-gone (Some (Ending channel)) a l there = tt
-is-gone (Some (Over peer_end complete)) a l there = tt
+use Rattle.amqp_endpoint_reading.specs.Following.{comes, goes}
+use Rattle.amqp_endpoint_reading.specs.Reading.{Goes, Wired}
+use Rattle.amqp_endpoint_talk.specs.Inside.{AreOn, Batches, DoneInside, said_in}
+use Rattle.amqp_endpoint_talk.specs.Windows.{body_said}
+use Rattle.amqp_endpoint_talk.proofs.Inside.{alike-inside, both-on, said-both}
+use Rattle.amqp_endpoint_laws.specs.Passed.{begun_by, session_taking}
+use Rattle.amqp_endpoint_laws.proofs.PassedJudged.{live-begun}
+use Rattle.amqp_endpoint_laws.proofs.PassedPlaces.{eq-same}
+use Rattle.amqp_endpoint_laws.proofs.PassedWalk.{Walk}
 
 abbrev pub number_of : LinkHeard → ℕ
 number_of (heard.Asked n) = n
@@ -139,31 +87,69 @@ number_of (heard.Dropped n) = n
 no-memory : {X : Type 0} (t : X) → Ok t ≢ Err Memory
 no-memory t is = let clash = is in absurd cc
 
--- a Flow that is due is of no link
-due-none : (due : Bool) (f : SessionFields) (number : ℕ)
+-- frames by which no link says anything are to go in a session that goes on, on its channel
+record Due (talk : Talk) (n : ℕ) (frames : List SessionFrame) : Type 0 where
+  session : Session
+  live : live_at talk.sessions n ≡ Some session
+  free : said_in frames ≡ []
+  on : AreOn session.value.session.fields.channel.0 frames
+
+-- a Flow that is due is such
+due-free : (due : Bool) (f : SessionFields) (number : ℕ)
     → said_in (option_to_list (if due then Some (session_flow f number) else None)) ≡ []
-due-none true f number = refl
-due-none false f number = refl
+due-free true f number = refl
+due-free false f number = refl
+
+due-on : (due : Bool) (f : SessionFields) (number : ℕ)
+    → AreOn (f.channel).0 (option_to_list (if due then Some (session_flow f number) else None))
+due-on true f number = (refl, tt, tt)
+due-on false f number = tt
 
 -- the Flow of a session that a Transfer makes due
 due-at-link : (it : Transfer) (payload : List ℕ) (o : Option ℕ) (before after : Linked) (t : TransferTaken Told)
-    → TransferAt gives before.session it payload o (Ok t) after.session → said_in (option_to_list t.flow) ≡ []
+    → TransferAt gives before.session it payload o (Ok t) after.session
+    → (said_in (option_to_list t.flow) ≡ []) × AreOn after.session.fields.channel.0 (option_to_list t.flow)
 due-at-link it payload None before after t h = absurd h
-due-at-link it payload (Some handle) before after t h =
-    ap (λ (f : Option SessionFrame). said_in (option_to_list f)) ((h.stepped).2).told ∙ due-none _ _ _
+due-at-link it payload (Some handle) before after t h = (
+  ap (λ (f : Option SessionFrame). said_in (option_to_list f)) ((h.stepped).2).told ∙ due-free _ _ _,
+  subst (λ (f : Option SessionFrame). AreOn after.session.fields.channel.0 (option_to_list f))
+      (sym ((h.stepped).2).told) (due-on _ after.session.fields _),
+)
+
+live-behind : (stood : Stood) (before after : Session) → live_of (Some stood) ≡ Some before
+    → live_of (Some (with_live stood after)) ≡ Some after
+live-behind (Live channel s) before after is = refl
+live-behind (Asked channel a) before after is = absurd (none-some before is)
+live-behind (Ending channel) before after is = absurd (none-some before is)
+live-behind (Over peer_end complete) before after is = absurd (none-some before is)
+
+changed-live : (number : ℕ) (before after : Session) (old new : Sessions)
+    → Steps old (ChangesLive number before after) new → live_at new number ≡ Some after
+changed-live number before after old new s =
+    let (stood, was, lives, becomes) =
+    (at number old (ChangesLive number before after) new s).about (eq-same number) in
+    ap live_of becomes ∙ live-behind stood before after lives
 
 due-live : (it : Transfer) (payload : List ℕ) (old : Talk) (number n : ℕ) (before : Session) (t : TransferTaken Told)
     (frames : List SessionFrame) (new : Talk)
     → LiveAnswered gives old [] number before (said.Transfer it payload) (Ok (heard.Live n (taken.Transfer t))) new
-    frames → said_in (option_to_list t.flow) ≡ []
+    frames → Due new n (option_to_list t.flow)
 due-live it payload old number n before t frames new (same, l) =
+    let (free, on) =
     due-at-link it payload (link_reached before.value.session it.handle.0) before.value l.after.value t
-    (((l.hears).heard).0).0
+    (((l.hears).heard).0).0 in
+    subst (λ (k : ℕ). Due new k (option_to_list t.flow)) (sym same)
+    (record {
+      session = l.after;
+      live = changed-live number before l.after old.sessions new.sessions (l.hears).stepped;
+      free = free;
+      on = on;
+    })
 
 due-at : (asked : Option (Box AskedSession)) (live : Option Session) (it : Transfer) (payload : List ℕ) (old : Talk)
     (number n : ℕ) (t : TransferTaken Told) (frames : List SessionFrame) (new : Talk)
     → AnsweredAt gives asked live old [] number (said.Transfer it payload) (Ok (heard.Live n (taken.Transfer t))) new
-    frames → said_in (option_to_list t.flow) ≡ []
+    frames → Due new n (option_to_list t.flow)
 due-at (Some asked) live it payload old number n t frames new a = absurd a.0
 due-at None (Some before) it payload old number n t frames new a =
     due-live it payload old number n before t frames new a
@@ -172,65 +158,42 @@ due-at None None it payload old number n t frames new (is, same, none) = let cla
 due-in : (number : Option ℕ) (it : Transfer) (payload : List ℕ) (old : Talk) (n : ℕ) (t : TransferTaken Told)
     (frames : List SessionFrame) (new : Talk)
     → AnsweredIn gives number old [] (said.Transfer it payload) (Ok (heard.Live n (taken.Transfer t))) new frames
-    → said_in (option_to_list t.flow) ≡ []
+    → Due new n (option_to_list t.flow)
 due-in None it payload old n t frames new (wrong, same, none) = let clash = wrong in absurd cc
 due-in (Some number) it payload old n t frames new a = due-at _ _ it payload old number n t frames new a
 
--- the answer to the peer's End is of no link
-end-free : (stood : Stood) (ended : Option Session) (frames : List SessionFrame) → EndReply stood ended [] frames
-    → said_in (sent_in (went frames)) ≡ []
-end-free (Live channel s) ended frames (is, sent) =
-    ap (λ (fs : List SessionFrame). said_in (sent_in (went fs))) sent
-end-free (Asked channel a) ended frames (is, none) =
-    ap (λ (fs : List SessionFrame). said_in (sent_in (went fs))) none
-end-free (Ending channel) ended frames (is, none) =
-    ap (λ (fs : List SessionFrame). said_in (sent_in (went fs))) none
-end-free (Over peer_end complete) ended frames (is, none) =
-    ap (λ (fs : List SessionFrame). said_in (sent_in (went fs))) none
+-- frames behind others
+behind-others : (frames more : List SessionFrame) → goes (frames ++ more) ≡ goes frames ++ goes more
+behind-others frames more = map-append Goes frames more
 
-end-gone : (stood : Stood) → IsGone (Some (ended_place stood))
-end-gone (Asked channel a) = tt
-end-gone (Live channel s) = tt
-end-gone (Ending channel) = tt
-end-gone (Over peer_end complete) = tt
+-- they go behind what is done inside of a session
+module _ (old new : Linked) (frames more : List SessionFrame) where
+  more-inside : said_in more ≡ [] → AreOn old.session.fields.channel.0 more
+      → DoneInside gives old.session frames new.session → DoneInside gives old.session (frames ++ more) new.session
+  more-inside free on d =
+      alike-inside gives old.session new.session frames (frames ++ more)
+      (said-both frames more ∙ ap (λ (fs : List SessionFrame). said_in frames ++ fs) free
+      ∙ append-nil (said_in frames))
+      (both-on old.session.fields.channel.0 frames more d.on on) d
 
-module _ {Allows : Batches → Type 0} (J : ℕ → Option Stood → List Passing → Option Stood → Type 0)
-    (k : Keeping Allows J) where
+module _ {Allows : Batches → Type 0} (P : ℕ → List Wired → Talk → Talk → Type 0)
+    (Q : Option ℕ → List Wired → Talk → Talk → Type 0) (w : Walk Allows P Q) where
   -- what the session that a channel reaches hears passes there
   pub record HeardThere (old : Talk) (channel : ℕ) (it : FrameBody) (session : ℕ) (frames : List SessionFrame)
       (new : Talk)
       : Type 0 where
     pub reaches : reached old.sessions channel ≡ Some session
-    pub passed : Passed J k session (Came it ∷ went frames) old new
-
-  -- a session's own side ends
-  ends-passed : (number : ℕ) (error : Option Error) (session : Session) (ps : List Passing) (old new : Talk)
-      (out out_new : List SessionFrame) → said_in (sent_in ps) ≡ []
-      → EndsHere old out number error session new out_new → Passed J k number ps old new
-  ends-passed number error session ps old new out out_new all e =
-      let (was, is) =
-      (at number old.sessions (Ends number e.channel session) new.sessions e.stepped).about (eq-same number) in
-      by-step J k number (Ends number e.channel session) old new ps (λ n other. other) e.stepped e.rest
-      (judged-at J k old.first_transfer_number (Some (Live e.channel session)) (Some (Ending e.channel)) _ _ ps was is
-      (k.gone _ _ _ ps tt all))
+    pub passed : P session (comes channel it ∷ goes frames) old new
 
   module _ (old : Talk) (channel : ℕ) (it : LinkPerformative) where
     abbrev There : ℕ → List SessionFrame → Talk → Type 0
     There session frames new = HeardThere old channel (body_said it) session frames new
 
-    live-hears : (number : ℕ) (before after : Session) (result : Result (PerformativeTaken AttachTold Told Detached)
-        SessionError) (frames : List SessionFrame) (new : Talk) → result ≢ Err Memory
-        → LiveHears gives old.sessions [] number before it result after new.sessions frames
-        → new ≡ record old { sessions = new.sessions } → Passed J k number (Came (body_said it) ∷ went frames) old new
-    live-hears number before after result frames new memory h rest =
-        live-passed J k number before after old new (Came (body_said it) ∷ went frames) h.stepped rest
-        (hears refl it result frames before.value after.value memory h.heard refl refl refl)
-
     silently : (number : ℕ) (frames : List SessionFrame) (new : Talk) → frames ≡ []
-        → Passed J k number (Came (body_said it) ∷ []) old new
-        → Passed J k number (Came (body_said it) ∷ went frames) old new
+        → P number (comes channel (body_said it) ∷ []) old new
+        → P number (comes channel (body_said it) ∷ goes frames) old new
     silently number frames new none p =
-        subst (λ (fs : List SessionFrame). Passed J k number (Came (body_said it) ∷ went fs) old new) (sym none) p
+        subst (λ (fs : List SessionFrame). P number (comes channel (body_said it) ∷ goes fs) old new) (sym none) p
 
     asked-ok : (number : ℕ) (before : Box AskedSession) (h : LinkHeard) (frames : List SessionFrame) (new : Talk)
         → reached old.sessions channel ≡ Some number → frames ≡ [] → AskedAnswered old number before it (Ok h) new
@@ -239,9 +202,7 @@ module _ {Allows : Batches → Type 0} (J : ℕ → Option Stood → List Passin
         subst (λ (k : ℕ). There k frames new) (sym same)
         (record {
           reaches = reaches;
-          passed =
-              silently number frames new none (asked-passed J k number before t.after it old new t.stepped t.rest
-              t.heard);
+          passed = silently number frames new none (w.asked number channel it before old new reaches t);
         })
     asked-ok number before (heard.Live n told_so) frames new reaches none a = absurd a
     asked-ok number before (heard.Dropped n) frames new reaches none a = absurd a
@@ -254,7 +215,8 @@ module _ {Allows : Batches → Type 0} (J : ℕ → Option Stood → List Passin
         (record {
           reaches = reaches;
           passed =
-              live-hears number before t.after (Ok told_so) frames new (no-memory told_so) t.hears t.rest;
+              w.hears number channel it (Ok told_so) frames before t.after old new reaches (no-memory told_so) t.hears
+              t.rest;
         })
     live-ok number before (heard.Asked n) frames new reaches a = absurd a
     live-ok number before (heard.Dropped n) frames new reaches a = absurd a
@@ -264,21 +226,13 @@ module _ {Allows : Batches → Type 0} (J : ℕ → Option Stood → List Passin
         → reached old.sessions channel ≡ Some number → h ≡ heard.Dropped number → new ≡ old → frames ≡ []
         → There (number_of h) frames new
     dropped-ok number h frames new asked live reaches is same none =
-        let p : Passed J k number (Came (body_said it) ∷ []) old old =
-        record {
-          here =
-              k.gone _ _ _ (Came (body_said it) ∷ [])
-              (is-gone (place_at old.sessions number) asked live (reached-there old.sessions number channel reaches))
-              refl;
-          others = λ n e. k.still _ _ _ refl;
-          first = refl;
-        } in
         subst (λ (k : LinkHeard). There (number_of k) frames new) (sym is)
         (record {
           reaches = reaches;
           passed =
               silently number frames new none
-              (subst (λ (t : Talk). Passed J k number (Came (body_said it) ∷ []) old t) (sym same) p);
+              (subst (λ (t : Talk). P number (comes channel (body_said it) ∷ []) old t) (sym same)
+              (w.unheard number channel it old reaches asked live));
         })
 
     ok-at : (asked : Option (Box AskedSession)) (live : Option Session) (number : ℕ) (h : LinkHeard)
@@ -302,22 +256,21 @@ module _ {Allows : Batches → Type 0} (J : ℕ → Option Stood → List Passin
         (frames : List SessionFrame) (new : Talk) → reached old.sessions channel ≡ Some number → n ≡ number
         → LiveFails gives old [] number before it fault session new frames → There n frames new
     live-fails number n before fault session frames new reaches same f =
-        let h = f.refuses.hears in
-        let first : Passed J k number (Came (body_said it) ∷ went f.out_mid) old f.mid =
-        live-hears number before session (Err fault) f.out_mid f.mid
-        (λ (is : Err fault ≡ Err Memory). f.refuses.is_fault (let x : fault ≡ Memory = cc in x)) h f.refuses.rest in
-        let end : List SessionFrame = end_frame f.ends.channel _ ∷ [] in
-        let later : Passed J k number (went end) f.mid new =
-        ends-passed number _ session (went end) f.mid new f.out_mid frames refl f.ends in
-        let both : Passed J k number (Came (body_said it) ∷ went (f.out_mid ++ end)) old new =
-        subst (λ (ps : List Passing). Passed J k number (Came (body_said it) ∷ ps) old new)
-        (sym (went-append f.out_mid end))
-        (passed-on J k number (Came (body_said it) ∷ went f.out_mid) (went end) old f.mid new first later) in
+        let first : P number (comes channel (body_said it) ∷ goes f.out_mid) old f.mid =
+        w.hears number channel it (Err fault) f.out_mid before session old f.mid reaches
+        (λ (is : Err fault ≡ Err Memory). f.refuses.is_fault (let x : fault ≡ Memory = cc in x)) f.refuses.hears
+        f.refuses.rest in
+        let end : List SessionFrame = end_frame f.ends.channel (Some (fault_error fault)) ∷ [] in
+        let later : P number (goes end) f.mid new = w.ends number _ session f.out_mid frames f.mid new f.ends in
+        let both : P number (comes channel (body_said it) ∷ goes (f.out_mid ++ end)) old new =
+        subst (λ (ws : List Wired). P number (comes channel (body_said it) ∷ ws) old new)
+        (sym (behind-others f.out_mid end))
+        (w.on number (comes channel (body_said it) ∷ goes f.out_mid) (goes end) old f.mid new first later) in
         subst (λ (k : ℕ). There k frames new) (sym same)
         (record {
           reaches = reaches;
           passed =
-              subst (λ (fs : List SessionFrame). Passed J k number (Came (body_said it) ∷ went fs) old new)
+              subst (λ (fs : List SessionFrame). P number (comes channel (body_said it) ∷ goes fs) old new)
               (sym f.ends.queued) both;
         })
 
@@ -352,29 +305,43 @@ module _ {Allows : Batches → Type 0} (J : ℕ → Option Stood → List Passin
   -- what comes of it in the session
   goes-passed : (Does : Linked → Linked → Type 0) (old : Talk) (session : ℕ) (new : Talk) (frames : List SessionFrame)
       → ((before after : Linked) → Does before after → DoneInside gives before.session frames after.session)
-      → GoesOn Does old session new → Passed J k session (went frames) old new
+      → GoesOn Does old session new → P session (goes frames) old new
   goes-passed Does old session new frames inside g =
-      inside-passed J k session g.before g.after old new frames g.stepped g.rest
+      w.inside session [] frames g.before g.after old new w.quiet g.stepped g.rest
       (inside g.before.value g.after.value g.done)
 
-  silent-passed : (m : ℕ) (frames : List SessionFrame) (old new : Talk) → frames ≡ [] → Passed J k m [] old new
-      → Passed J k m (went frames) old new
+  -- and what is due goes behind it
+  due-passed : (Does : Linked → Linked → Type 0) (old : Talk) (session : ℕ) (new : Talk)
+      (frames more : List SessionFrame) → Due old session more
+      → ((before after : Linked) → Does before after → DoneInside gives before.session frames after.session)
+      → GoesOn Does old session new → P session (goes (frames ++ more)) old new
+  due-passed Does old session new frames more due inside g =
+      let same : due.session ≡ g.before = same_Some due.session g.before (sym due.live ∙ (g.stepped).0) in
+      w.inside session [] (frames ++ more) g.before g.after old new w.quiet g.stepped g.rest
+      (more-inside g.before.value g.after.value frames more due.free
+      (subst (λ (s : Session). AreOn s.value.session.fields.channel.0 more) same due.on)
+      (inside g.before.value g.after.value g.done))
+
+  alone-passed : (session : ℕ) (old new : Talk) (frames more : List SessionFrame) → Due old session more → frames ≡ []
+      → new ≡ old → P session (goes (frames ++ more)) old new
+  alone-passed session old new frames more due none same =
+      subst (λ (fs : List SessionFrame). P session (goes (fs ++ more)) old new) (sym none)
+      (subst (λ (t : Talk). P session (goes more) old t) (sym same)
+      (w.free session more due.session old due.live due.free due.on))
+
+  silent-passed : (m : ℕ) (frames : List SessionFrame) (old new : Talk) → frames ≡ [] → P m [] old new
+      → P m (goes frames) old new
   silent-passed m frames old new none p =
-      subst (λ (fs : List SessionFrame). Passed J k m (went fs) old new) (sym none) p
+      subst (λ (fs : List SessionFrame). P m (goes fs) old new) (sym none) p
 
   nothing-passed : (m : ℕ) (frames : List SessionFrame) (old new : Talk) → frames ≡ [] → new ≡ old
-      → Passed J k m (went frames) old new
-  nothing-passed m frames old new none same = silent-passed m frames old new none (none-passed J k m old new same)
-
-  -- of what was heard by which session
-  abbrev OfSession : {X : Type 0} → Option (ℕ × X) → ℕ → Type 0
-  OfSession None n = Unit {0}
-  OfSession (Some (session, x)) n = session ≡ n
+      → P m (goes frames) old new
+  nothing-passed m frames old new none same = silent-passed m frames old new none (w.none m old new same)
 
   -- an Attach
   attach-taken : (outcome : Result Attaching LinkError) (old new : Talk) (session : ℕ) (handle : OutputHandle)
       (link : Link) (left : Option LinkAttached) (frames : List SessionFrame) (events : List Event)
-      → LinkTakes outcome old session handle link left frames events new → Passed J k session (went frames) old new
+      → LinkTakes outcome old session handle link left frames events new → P session (goes frames) old new
   attach-taken (Ok made) old new session handle link left frames events t =
       nothing-passed session frames old new t.1 t.3
   attach-taken (Err error) old new session handle link left frames events t =
@@ -383,7 +350,7 @@ module _ {Allows : Batches → Type 0} (J : ℕ → Option Stood → List Passin
   attach-comes : (h : LinkHeard) (named : NamedLink) (old new : Talk) (attach : Attach) (left : Option LinkAttached)
       (frames : List SessionFrame) (events : List Event)
       → attaching.Becomes (attach_of h) named old attach left frames events new
-      → Passed J k (number_of h) (went frames) old new
+      → P (number_of h) (goes frames) old new
   attach-comes (heard.Asked n) named old new attach left frames events b = nothing-passed n frames old new b.1 b.3
   attach-comes (heard.Live n (taken.Attach attach_answer.Asked)) named old new attach left frames events b =
       nothing-passed n frames old new b.1 b.3
@@ -407,44 +374,42 @@ module _ {Allows : Batches → Type 0} (J : ℕ → Option Stood → List Passin
 
   -- a Flow lets links leave
   flow-comes : (h : LinkHeard) (frames : List SessionFrame) (mid new : Talk) (links links_new : Links)
-      → LetsGo (session_of h) frames mid links new links_new → Passed J k (number_of h) [] mid new
-  flow-comes (heard.Asked n) frames mid new links links_new l = none-passed J k n mid new l.0
-  flow-comes (heard.Dropped n) frames mid new links links_new l = none-passed J k n mid new l.0
+      → LetsGo (session_of h) frames mid links new links_new → P (number_of h) [] mid new
+  flow-comes (heard.Asked n) frames mid new links links_new l = w.none n mid new l.0
+  flow-comes (heard.Dropped n) frames mid new links links_new l = w.none n mid new l.0
   flow-comes (heard.Live n told_so) frames mid new links links_new g =
       goes-passed _ mid n new [] (λ a b l. leave-inside frames a links b links_new l) g
 
-  -- a Transfer
+  -- a Transfer, behind which a Flow may be due
   remembered : (settled : Bool) (handle : OutputHandle) (tag : List ℕ) (number : ℕ) (old : Talk) (session : ℕ)
-      (new : Talk) → RemembersUnless settled handle tag number old session new → Passed J k session [] old new
-  remembered true handle tag number old session new same = none-passed J k session old new same
-  remembered false handle tag number old session new g =
-      goes-passed _ old session new [] (λ a b r. remembers-inside handle tag number a b r) g
+      (new : Talk) (frames more : List SessionFrame) → Due old session more → frames ≡ []
+      → RemembersUnless settled handle tag number old session new → P session (goes (frames ++ more)) old new
+  remembered true handle tag number old session new frames more due none same =
+      alone-passed session old new frames more due none same
+  remembered false handle tag number old session new frames more due none g =
+      subst (λ (fs : List SessionFrame). P session (goes (fs ++ more)) old new) (sym none)
+      (due-passed _ old session new [] more due (λ a b r. remembers-inside handle tag number a b r) g)
 
   transfer-tells : (it_told : Told) (old mid new : Talk) (given session : ℕ) (it : Transfer)
-      (frames : List SessionFrame) (events : List Event) (given_new : ℕ)
-      → Comes it_told old given it session mid frames events new given_new → Passed J k session (went frames) mid new
-  transfer-tells (told.Message message) old mid new given session it frames events given_new c =
-      silent-passed session frames mid new c.silent
-      (remembered message.settled c.handle message.delivery_tag given mid session new c.remembers)
-  transfer-tells (told.Refused error) old mid new given session it frames events given_new (c, g) =
-      goes-passed _ mid session new frames (λ a b d. closes-inside _ c.handle frames a b d) c.closes
-  transfer-tells other old mid new given session it frames events given_new c =
-      nothing-passed session frames mid new c.silent c.stays
+      (frames more : List SessionFrame) (events : List Event) (given_new : ℕ) → Due mid session more
+      → Comes it_told old given it session mid frames events new given_new → P session (goes (frames ++ more)) mid new
+  transfer-tells (told.Message message) old mid new given session it frames more events given_new due c =
+      remembered message.settled c.handle message.delivery_tag given mid session new frames more due c.silent
+      c.remembers
+  transfer-tells (told.Refused error) old mid new given session it frames more events given_new due (c, g) =
+      due-passed _ mid session new frames more due (λ a b d. closes-inside _ c.handle frames a b d) c.closes
+  transfer-tells other old mid new given session it frames more events given_new due c =
+      alone-passed session mid new frames more due c.silent c.stays
 
   module _ (old : Talk) (channel : IncomingChannel) (it : Transfer) (payload : List ℕ) (mid new : Talk) (given : ℕ)
       (frames : List SessionFrame) (events : List Event) (given_new : ℕ) where
     transfer-comes : (h : LinkHeard) → Answered gives old [] channel (said.Transfer it payload) (Ok h) mid []
         → transferring.Becomes (transfer_of h) old given it mid frames events new given_new
-        → Passed J k (number_of h) (went frames) mid new
+        → P (number_of h) (goes frames) mid new
     transfer-comes (heard.Live n (taken.Transfer t)) a b =
-        let own : Passed J k n (went b.own) mid new =
-        transfer-tells t.told old mid new given n it b.own events given_new b.comes in
-        let due : Passed J k n (went (option_to_list t.flow)) new new =
-        free-passed J k n (option_to_list t.flow) new
-        (due-in (reached old.sessions channel.0) it payload old n t [] mid a) in
-        subst (λ (ps : List Passing). Passed J k n ps mid new)
-        (sym (ap went b.sent ∙ went-append b.own (option_to_list t.flow)))
-        (passed-on J k n (went b.own) (went (option_to_list t.flow)) mid new new own due)
+        subst (λ (fs : List SessionFrame). P n (goes fs) mid new) (sym b.sent)
+        (transfer-tells t.told old mid new given n it b.own (option_to_list t.flow) events given_new
+        (due-in (reached old.sessions channel.0) it payload old n t [] mid a) b.comes)
     transfer-comes (heard.Asked n) a c = nothing-passed n frames mid new c.silent c.stays
     transfer-comes (heard.Dropped n) a c = nothing-passed n frames mid new c.silent c.stays
     transfer-comes (heard.Live n (taken.Attach t)) a c = nothing-passed n frames mid new c.silent c.stays
@@ -455,7 +420,7 @@ module _ {Allows : Batches → Type 0} (J : ℕ → Option Stood → List Passin
   -- a Disposition
   disposition-comes : (h : LinkHeard) (limit : ℕ) (old mid new : Talk) (it : Disposition) (frames : List SessionFrame)
       (events : List Event) → disposing.Follows (runs_of h) limit old it mid frames events new
-      → Passed J k (number_of h) (went frames) mid new
+      → P (number_of h) (goes frames) mid new
   disposition-comes (heard.Live n (taken.Disposition back runs)) limit old mid new it frames events d =
       goes-passed _ mid n new frames (λ a b t. tells-echoes-inside d.deliveries _ runs.items frames events a b t) d.done
   disposition-comes (heard.Asked n) limit old mid new it frames events r =
@@ -475,7 +440,7 @@ module _ {Allows : Batches → Type 0} (J : ℕ → Option Stood → List Passin
   detach-comes : (h : LinkHeard) (old mid new : Talk) (links links_new : Links) (it : Detach)
       (frames : List SessionFrame) (events : List Event)
       → detaching.Becomes (detach_of h) old links it mid frames events new links_new
-      → Passed J k (number_of h) (went frames) mid new
+      → P (number_of h) (goes frames) mid new
   detach-comes (heard.Live n (taken.Detach (detach_answer.ByLink told_so))) old mid new links links_new it frames
       events b =
       goes-passed _ mid n new frames (λ a c t. tells-parts-inside _ b.handle _ _ _ b.left frames a c t) b.parts
@@ -497,158 +462,80 @@ module _ {Allows : Batches → Type 0} (J : ℕ → Option Stood → List Passin
   -- first it is heard, and then something comes of it
   there-on : (old : Talk) (channel : ℕ) (it : FrameBody) (session : ℕ) (frames more : List SessionFrame)
       (mid new : Talk)
-      → HeardThere old channel it session frames mid → Passed J k session (went more) mid new
+      → HeardThere old channel it session frames mid → P session (goes more) mid new
       → HeardThere old channel it session (frames ++ more) new
   there-on old channel it session frames more mid new h p =
       record {
         reaches = h.reaches;
         passed =
-            subst (λ (ps : List Passing). Passed J k session (Came it ∷ ps) old new) (sym (went-append frames more))
-            (passed-on J k session (Came it ∷ went frames) (went more) old mid new h.passed p);
+            subst (λ (ws : List Wired). P session (comes channel it ∷ ws) old new) (sym (behind-others frames more))
+            (w.on session (comes channel it ∷ goes frames) (goes more) old mid new h.passed p);
       }
 
-  -- in the session that takes a frame, it passes
-  abbrev pub TakenIn : Option ℕ → FrameBody → List SessionFrame → Talk → Talk → Type 0
-  TakenIn o it frames old new = AllPassed J k o (Came it ∷ went frames) old new
-
   taken-there : (old : Talk) (channel : ℕ) (it : FrameBody) (session : ℕ) (frames : List SessionFrame) (new : Talk)
-      → HeardThere old channel it session frames new → TakenIn (reached old.sessions channel) it frames old new
+      → HeardThere old channel it session frames new
+      → Q (reached old.sessions channel) (comes channel it ∷ goes frames) old new
   taken-there old channel it session frames new h =
-      subst (λ (o : Option ℕ). TakenIn o it frames old new) (sym h.reaches)
-      (all-passed J k session (Came it ∷ went frames) old new h.passed)
+      subst (λ (o : Option ℕ). Q o (comes channel it ∷ goes frames) old new) (sym h.reaches)
+      (w.at session (comes channel it ∷ goes frames) old new h.passed)
 
   -- the peer's Begin
-  begun-takes : (old : Talk) (channel : IncomingChannel) (begin : Begin) (number : ℕ) (mid : Sessions)
-      → Leads gives old channel begin number mid
-      → begun_by old.sessions begin.remote_channel ≡ live_only old.sessions (Some number)
-  begun-takes old channel begin number mid l = by begin.remote_channel refl l.names_one
-    where
-      by : (o : Option ℕ) → begin.remote_channel ≡ o → IsSome o
-          → begun_by old.sessions o ≡ live_only old.sessions (Some number)
-      by None e some = absurd cc
-      by (Some named) e some =
-          ap (λ (x : Option ℕ). live_only old.sessions x)
-          (ap (λ (x : Option ℕ). named_session old.sessions.connection x) (sym e) ∙ ((l.stepped).0).0)
-
-  -- behind the step that leads the channel all stand as before
-  led-same : (old : Talk) (channel : IncomingChannel) (begin : Begin) (number : ℕ) (mid : Sessions)
-      → Leads gives old channel begin number mid → (n : ℕ) → place_at mid n ≡ place_at old.sessions n
-  led-same old channel begin number mid l n =
-      (at n old.sessions (TakesBegin number channel begin) mid l.stepped).other refl
-
   module _ (old : Talk) (channel : IncomingChannel) (begin : Begin) (frames : List SessionFrame) (new : Talk) where
-    abbrev beginning : FrameBody
-    beginning = body.Begin begin
+    abbrev TakenBegin : Type 0
+    TakenBegin =
+        Q (begun_by old.sessions begin.remote_channel) (comes channel.0 (body.Begin begin) ∷ goes frames) old new
 
-    begin-passed : (number : ℕ) → Passed J k number (Came beginning ∷ went frames) old new
-        → begun_by old.sessions begin.remote_channel ≡ Some number
-        → TakenIn (begun_by old.sessions begin.remote_channel) beginning frames old new
+    begin-passed : (number : ℕ) → P number (comes channel.0 (body.Begin begin) ∷ goes frames) old new
+        → begun_by old.sessions begin.remote_channel ≡ Some number → TakenBegin
     begin-passed number p is =
-        subst (λ (o : Option ℕ). TakenIn o beginning frames old new) (sym is) (all-passed J k number (Came beginning ∷
-        went frames) old new p)
+        subst (λ (o : Option ℕ). Q o (comes channel.0 (body.Begin begin) ∷ goes frames) old new) (sym is)
+        (w.at number (comes channel.0 (body.Begin begin) ∷ goes frames) old new p)
 
-    -- the session that has the channel stands as the others do behind the step that leads the channel to it
-    led : (number : ℕ) (mid : Sessions) → Leads gives old channel begin number mid
-        → Passed J k number [] old (record old { sessions = mid })
-    led number mid l =
-        record {
-          here = k.still _ _ _ (led-same old channel begin number mid l number);
-          others = λ n e. k.still _ _ _ (led-same old channel begin number mid l n);
-          first = refl;
-        }
-
-    live-begun : (number : ℕ) (mid : Sessions) (before : Session) → Leads gives old channel begin number mid
-        → live_at mid number ≡ Some before → begun_by old.sessions begin.remote_channel ≡ Some number
-    live-begun number mid before l live =
-        begun-takes old channel begin number mid l
-        ∙ ap (λ (o : Option Session). option_map (λ (session : Session). number) o)
-        (ap live_of (sym (led-same old channel begin number mid l number)) ∙ live)
-
-    dead-begun : (number : ℕ) (mid : Sessions) → Leads gives old channel begin number mid → live_at mid number ≡ None
-        → begun_by old.sessions begin.remote_channel ≡ None
-    dead-begun number mid l live =
-        begun-takes old channel begin number mid l
-        ∙ ap (λ (o : Option Session). option_map (λ (session : Session). number) o)
-        (ap live_of (sym (led-same old channel begin number mid l number)) ∙ live)
-
-    begin-ok : (h : BeginHeard) → BeginAnswered gives old [] channel begin (Ok h) new frames
-        → TakenIn (begun_by old.sessions begin.remote_channel) beginning frames old new
+    begin-ok : (h : BeginHeard) → BeginAnswered gives old [] channel begin (Ok h) new frames → TakenBegin
     begin-ok (begin_heard.Asked number) (a, none) =
-        let (was, is) =
-        (at number old.sessions (Asks number channel a.asked) new.sessions a.stepped).about (eq-same number) in
-        let j : J old.first_transfer_number None (Came beginning ∷ []) (Some (Asked channel a.asked)) =
-        k.asks old.first_transfer_number channel a.asked begin a.by_begin in
-        let p : Passed J k number (Came beginning ∷ []) old new =
-        by-step J k number (Asks number channel a.asked) old new (Came beginning ∷ []) (λ n e. e) a.stepped a.rest
-        (judged-at J k old.first_transfer_number None (Some (Asked channel a.asked)) _ _ (Came beginning ∷ []) was is
-        j) in
         begin-passed number
-        (subst (λ (fs : List SessionFrame). Passed J k number (Came beginning ∷ went fs) old new) (sym none) p)
+        (subst (λ (fs : List SessionFrame). P number (comes channel.0 (body.Begin begin) ∷ goes fs) old new) (sym none)
+        (w.asks channel begin number old new a))
         (ap (begun_by old.sessions) a.names_none ∙ ap Some (sym (a.stepped).1))
     begin-ok (begin_heard.Begun number) b =
-        let t = b.takes in
-        let taken_so = (t.taken).0 in
-        let g : GoesBy [] t.before.value.session t.after.value.session (Came beginning ∷ went frames) =
-        opens refl channel begin taken_so.base taken_so.left taken_so.frames taken_so.stepped
-        (ap (λ (fs : List SessionFrame). Came beginning ∷ went fs) taken_so.added) in
-        let there : Talk = record old { sessions = b.mid } in
-        let p : Passed J k number (Came beginning ∷ went frames) there new =
-        live-passed J k number t.before t.after there new (Came beginning ∷ went frames) t.stepped b.rest g in
-        begin-passed number (passed-on J k number [] (Came beginning ∷ went frames) old there new (led number b.mid
-        b.led) p)
-        (live-begun number b.mid t.before b.led (t.stepped).0)
+        begin-passed number (w.begun channel begin number frames old new b)
+        (live-begun old channel begin number b.mid b.takes.before b.led ((b.takes).stepped).0)
     begin-ok begin_heard.Dropped (d, none) =
-        subst (λ (o : Option ℕ). TakenIn o beginning frames old new)
-        (sym (dead-begun d.number new.sessions d.led d.not_live))
-        (record {
-          all = λ n. k.still _ _ _ (led-same old channel begin d.number new.sessions d.led n);
-          first = ap (λ (t : Talk). t.first_transfer_number) d.rest;
-        })
+        subst
+        (λ (fs : List SessionFrame).
+        Q (begun_by old.sessions begin.remote_channel) (comes channel.0 (body.Begin begin) ∷ goes fs) old new)
+        (sym none) (w.dropped channel begin old new d)
 
-    pub begin-heard : (links links_new : Links) (events : List Event)
-        → HearsBegin old links channel begin frames events new links_new
-        → TakenIn (begun_by old.sessions begin.remote_channel) beginning frames old new
+    begin-heard : (links links_new : Links) (events : List Event)
+        → HearsBegin old links channel begin frames events new links_new → TakenBegin
     begin-heard links links_new events (inl t) = begin-ok t.heard t.answered
     begin-heard links links_new events (inr f) = by f.fault f.refused
       where
         by : (fault : SessionError)
             → BeginAnswered gives old [] channel begin (Err (begin_refused.Session f.number fault)) f.mid []
-            → TakenIn (begun_by old.sessions begin.remote_channel) beginning frames old new
+            → TakenBegin
         by IllegalState (b, none) =
-            let to_mid : Passed J k f.number [] old f.mid =
-            subst (λ (t : Talk). Passed J k f.number [] old t) (sym b.rest) (led f.number f.mid.sessions b.led) in
-            let over : Passed J k f.number (Came beginning ∷ went frames) f.mid new =
-            subst (λ (fs : List SessionFrame). Passed J k f.number (Came beginning ∷ went fs) f.mid new) (sym
-            f.fails.ends.queued)
-            (ends-passed f.number _ f.fails.session _ f.mid new [] frames refl f.fails.ends) in
-            begin-passed f.number (passed-on J k f.number [] (Came beginning ∷ went frames) old f.mid new to_mid over)
-            (live-begun f.number f.mid.sessions b.session b.led b.live)
+            begin-passed f.number
+            (w.barred channel begin f.number _ f.fails.session frames old f.mid new b f.fails.ends)
+            (live-begun old channel begin f.number f.mid.sessions b.session b.led b.live)
         by e r = absurd r
 
   end-heard : (old : Talk) (links : Links) (channel : IncomingChannel) (end : End) (frames : List SessionFrame)
       (events : List Event) (new : Talk) (links_new : Links)
       → EndTaken old links channel end frames events new links_new
-      → TakenIn (reached old.sessions channel.0) (body.End end) frames old new
+      → Q (reached old.sessions channel.0) (comes channel.0 (body.End end) ∷ goes frames) old new
   end-heard old links channel end frames events new links_new t =
-      let a = t.answered in
-      let number : ℕ = t.heard.number in
-      let (was, is) =
-      (at number old.sessions (TakesEnd number channel end a.stood) new.sessions a.stepped).about (eq-same number) in
-      let ps : List Passing = Came (body.End end) ∷ went frames in
-      taken-there old channel.0 (body.End end) number frames new
+      taken-there old channel.0 (body.End end) t.heard.number frames new
       (record {
-        reaches = (a.stepped).0;
-        passed =
-            by-step J k number (TakesEnd number channel end a.stood) old new ps (λ n e. e) a.stepped a.rest
-            (judged-at J k old.first_transfer_number (Some a.stood) (Some (ended_place a.stood)) _ _ ps was is
-            (k.gone _ _ _ ps (end-gone a.stood) (end-free a.stood t.heard.ended frames a.reply)));
+        reaches = ((t.answered).stepped).0;
+        passed = w.ended channel end t.heard frames old new t.answered;
       })
 
   -- whatever the peer says
   pub frame-heard : (it : FrameBody) (old new : LinkedSessions) (limit : ℕ) (channel : IncomingChannel)
       (frames : List SessionFrame) (events : List Event)
       → HearsFrame old.talk old.links old.given limit channel it frames events new.talk new.links new.given
-      → TakenIn (session_taking old channel.0 it) it frames old.talk new.talk
+      → Q (session_taking old channel.0 it) (comes channel.0 it ∷ goes frames) old.talk new.talk
   frame-heard (body.Begin begin) old new limit channel frames events (b, g) =
       begin-heard old.talk channel begin frames new.talk old.links new.links events b
   frame-heard (body.Attach attach) old new limit channel frames events (a, g) =

@@ -35,8 +35,11 @@ use Rattle.amqp_endpoint_linking.specs.Ending.{FinishesFirst, LeavesFirst}
 use Rattle.amqp_endpoint_linking.specs.Hearing.{RefusesBegin}
 use Rattle.amqp_endpoint_linking.specs.Linking.{Links, Session, Sessions, Stood, Talk}
 use Rattle.amqp_endpoint_model.specs.Relay.{IsNew}
+use Rattle.amqp_endpoint_model.specs.Said.{Said}
 use Rattle.amqp_endpoint_model.specs.Step.{SendsClose}
+use Rattle.amqp_endpoint_model.specs.declared.call.Call.{Call}
 use Rattle.amqp_endpoint_model.specs.declared.error.EndpointError.{EndpointError}
+use Rattle.amqp_endpoint_model.specs.declared.event.Event.{Event}
 use Rattle.amqp_endpoint_model.specs.declared.settings.Settings.{Settings}
 use Rattle.amqp_endpoint_sessions.specs.Own.{PlaceHistory, PlaceSteps, steps_of}
 use Rattle.amqp_endpoint_sessions.specs.State.{finished_place, place_at, reached}
@@ -47,12 +50,13 @@ use Rattle.amqp_endpoint_sessions.specs.Steps.{TellsEnd}
 use Rattle.amqp_endpoint_sessions.specs.declared.place.Place.TheVariants.{Asked, Live, Ending, Over}
 use Rattle.amqp_endpoint_sessions.proofs.Owning.{at, other_number, own, same_number}
 use Rattle.amqp_endpoint_talk.specs.Inside.{Batches}
-use Rattle.amqp_endpoint_talk.specs.Windows.{Passing}
+use Rattle.amqp_endpoint_talk.specs.Windows.{Came, Passing, went}
 use Rattle.amqp_endpoint_laws.specs.Conversing.{SessionsStep}
-use Rattle.amqp_endpoint_laws.specs.Passed.{PassesIn, passes_in}
+use Rattle.amqp_endpoint_laws.specs.Passed.{PassesIn, called_in, passes_in, session_taking}
 use Rattle.amqp_endpoint_laws.proofs.PassedCalled.{IsSend, called}
 use Rattle.amqp_endpoint_laws.proofs.PassedHeard.{frame-heard}
-use Rattle.amqp_endpoint_laws.proofs.PassedPlaces.{IsGone, Keeping, eq-same}
+use Rattle.amqp_endpoint_laws.proofs.PassedJudged.{AllPassedBy, PassedBy, coming-judged, going-judged, judging}
+use Rattle.amqp_endpoint_laws.proofs.PassedPlaces.{AllPassed, IsGone, Keeping, eq-same}
 use Rattle.amqp_endpoint_laws.proofs.SessionsGoing.{Go}
 use Rattle.amqp_endpoint_laws.proofs.SessionsHeard.{refused-goes}
 
@@ -335,6 +339,21 @@ module _ {Allows : Batches → Type 0} (J : ℕ → Option Stood → List Passin
       → J old.talk.first_transfer_number (place_at old.talk.sessions n) [] (place_at new.talk.sessions n)
   still-judges old new n same = k.still _ _ _ (ap (λ (ps : List Stood). slice_get ps n) same)
 
+  taken-judges : (limit : ℕ) (f : Frame) (frames : List SessionFrame) (events : List Event) (old new : LinkedSessions)
+      → linked.takes old limit f.channel f.body frames events new
+      → AllPassed J k (session_taking old f.channel f.body) (Came f.body ∷ went frames) old.talk new.talk
+  taken-judges limit f frames events old new h =
+      coming-judged J k (session_taking old f.channel f.body) frames old.talk new.talk f.channel f.body
+      (frame-heard (PassedBy J k) (AllPassedBy J k) (judging J k) f.body old new limit (record { 0 = f.channel }) frames
+      events h.0)
+
+  call-judges : (limit : ℕ) (it : Call) (answer : Said) (frames : List SessionFrame) (old new : LinkedSessions)
+      → (IsSend it → (accepted : Batches) → Allows accepted) → linked.calls old limit it answer frames new
+      → AllPassed J k (called_in old it answer) (went frames) old.talk new.talk
+  call-judges limit it answer frames old new may c =
+      going-judged J k (called_in old it answer) frames old.talk new.talk
+      (called (PassedBy J k) (AllPassedBy J k) (judging J k) it answer old new limit frames may c.0)
+
   pub deed-judges : (deed : Deed) (old new : LinkedSessions)
       → (IsSending deed → (accepted : Batches) → Allows accepted) → IsDeed linked old deed new → (n : ℕ)
       → J old.talk.first_transfer_number (place_at old.talk.sessions n) (passes_in n old deed)
@@ -344,11 +363,11 @@ module _ {Allows : Batches → Type 0} (J : ℕ → Option Stood → List Passin
   deed-judges (Hears frame events) old new may (moves, told) n =
       still-judges old new n (by-frame-still frame.body old new moves).0
   deed-judges (Takes limit f frames events) old new may h n =
-      (frame-heard J k f.body old new limit (record { 0 = f.channel }) frames events h.0).all n
+      (taken-judges limit f frames events old new h).all n
   deed-judges (Refuses limit f error own_close) old new may e n =
       ends-judges limit f error own_close old new e n
   deed-judges (Does limit it answer frames) old new may c n =
-      (called J k it answer old new limit frames may c.0).all n
+      (call-judges limit it answer frames old new may c).all n
   deed-judges (Moves connection) old new may m n =
       still-judges old new n (ap (λ (s : LinkedSessions). s.talk.sessions.places) m.1)
   deed-judges Renews old new may is n =
@@ -366,9 +385,9 @@ module _ {Allows : Batches → Type 0} (J : ℕ → Option Stood → List Passin
   deed-first (Queues it) old new may same = ap (λ (s : LinkedSessions). s.talk.first_transfer_number) same
   deed-first (Hears frame events) old new may (moves, told) = (by-frame-still frame.body old new moves).1
   deed-first (Takes limit f frames events) old new may h =
-      (frame-heard J k f.body old new limit (record { 0 = f.channel }) frames events h.0).first
+      (taken-judges limit f frames events old new h).first
   deed-first (Refuses limit f error own_close) old new may e = ends-first limit f error own_close old new e
-  deed-first (Does limit it answer frames) old new may c = (called J k it answer old new limit frames may c.0).first
+  deed-first (Does limit it answer frames) old new may c = (call-judges limit it answer frames old new may c).first
   deed-first (Moves connection) old new may m = ap (λ (s : LinkedSessions). s.talk.first_transfer_number) m.1
   deed-first Renews old new may is = ap (λ (s : LinkedSessions). s.talk.first_transfer_number) is
   deed-first Closes old new may l = first-rest old.talk new.talk (l.0).rest

@@ -29,7 +29,7 @@ use Rattle.amqp_endpoint_linked.specs.declared.linked.LinkedSessions.{LinkedSess
 use Rattle.amqp_endpoint_linking.specs.Linking.{Link, Session, Stood}
 use Rattle.amqp_endpoint_model.specs.Relay.{IsNew}
 use Rattle.amqp_endpoint_model.specs.declared.settings.Settings.{Settings}
-use Rattle.amqp_endpoint_sessions.specs.State.{asked_of, live_of, with_asked, with_live}
+use Rattle.amqp_endpoint_sessions.specs.State.{asked_of, live_of, place_at, with_asked, with_live}
 use Rattle.amqp_endpoint_sessions.specs.declared.place.Place.TheVariants.{Asked, Live, Ending, Over}
 use Rattle.amqp_endpoint_talk.specs.Inside.{Batches, is_transfer, said_in, transfers_in}
 use Rattle.amqp_endpoint_talk.specs.Windows.{Came, Count, IsAllowed, Keeps, KeepsWindow, Passing, Went, base_by}
@@ -39,7 +39,7 @@ use Rattle.amqp_endpoint_talk.proofs.Inside.{same-transfers}
 use Rattle.amqp_endpoint_talk.proofs.Windows.{begin-keeps, counts-append, each-append, inside-keeps, keeps-still}
 use Rattle.amqp_endpoint_talk.proofs.Windows.{with-others}
 use Rattle.amqp_endpoint_laws.specs.Passed.{PassesIn, sent_in}
-use Rattle.amqp_endpoint_laws.proofs.PassedKept.{new-judges}
+use Rattle.amqp_endpoint_laws.proofs.PassedKept.{deeds-judge, new-judges}
 use Rattle.amqp_endpoint_laws.proofs.PassedPlaces.{GoesBy, IsGone, Keeping, by-steps, hears, opens}
 
 -- of a session that is asked for it is what the peer told so far
@@ -275,6 +275,15 @@ windows-keep =
       begins = judges-begins;
       accepts = judges-accepts;
     }
+
+-- from where there is none with this number yet
+pub window-kept-from : (old new : LinkedSessions) (deeds : List Deed) (n : ℕ) (passings : List Passing)
+    → place_at old.talk.sessions n ≡ None → PassesIn n old deeds new passings
+    → KeepsWindow (begins_with old.talk.first_transfer_number) passings
+window-kept-from old new deeds n passings none p =
+    let first : ℕ = old.talk.first_transfer_number in
+    (deeds-judge Judges windows-keep (λ accepted. tt) deeds n old new passings p).each (begins_with first)
+    (subst (λ (o : Option Stood). Counts first o (begins_with first)) (sym none) refl)
 
 pub window-kept : (sessions end : LinkedSessions) (settings : Settings) (deeds : List Deed) (n : ℕ)
     (passings : List Passing) → IsNew linked settings sessions → PassesIn n sessions deeds end passings

@@ -84,7 +84,7 @@ pub data ByCall (may_begin : Type 0) (old new : Sessions) : Type 0 where
       → Steps old (Accepts number incoming wanted outgoing session) mid
       → Steps mid (ChangesLive number session after) new → ByCall may_begin old new
 
-called : (phase : Phase) (by_call : Call) (answer : Said) (old new : LinkedSessions) (limit : ℕ)
+pub called : (phase : Phase) (by_call : Call) (answer : Said) (old new : LinkedSessions) (limit : ℕ)
     (frames : List SessionFrame) → MayDo phase by_call → Calls old limit by_call answer frames new
     → ByCall (phase ≡ Running) old.talk.sessions new.talk.sessions
 called phase call.Begin (session_begun n) old new limit frames may c =
@@ -172,7 +172,7 @@ module _ (start : Sessions) where
             (finishes-first _ old.talk.sessions new.talk.sessions old.links new.links f.0.each) on;
       }
 
-  go-keep : Keeps linked (λ seen tags phase s. Goes phase s)
+  pub go-keep : Keeps linked (λ seen tags phase s. Goes phase s)
   go-keep =
       record {
         silent = λ seen tags. go-silent;
@@ -227,7 +227,7 @@ call-stand phase old new (accepted may number incoming wanted outgoing session a
       none = λ is. absurd (never (sym may ∙ is));
     }
 
-finishes-none : (number : ℕ) (old new : Sessions) (links links_new : Links)
+pub finishes-none : (number : ℕ) (old new : Sessions) (links links_new : Links)
     → FinishesFirst number old links new links_new → FirstOver number old new
 finishes-none zero old new links links_new f = none-over old new f.0
 finishes-none (suc number) old new links links_new (mid, links_mid, first, one) =

@@ -6,3 +6,5 @@ pub mod Held
 pub mod Agreeing
 pub mod Handed
 pub mod Queued
+pub mod Seen
+pub mod Judged

@@ -1,6 +1,6 @@
 -- What passes in each session of an endpoint by what is done (part 2, 2.5).
 use Rattle.std.specs.Prelude.{◌≡◌, ◌==◌, ℕ, Bool, false, List, [], ◌∷◌, ◌++◌, length, Option, Some, None}
-use Rattle.std.specs.Prelude.{if◌then◌else◌, option_and_then, option_map}
+use Rattle.std.specs.Prelude.{if◌then◌else◌}
 use Rattle.amqp_session_types.specs.declared.channels.OutgoingChannel.{OutgoingChannel}
 use Rattle.amqp_link_base.specs.declared.detached.Detached.{Detached}
 use Rattle.amqp_link_ends.specs.declared.end.End.{End}
@@ -25,19 +25,15 @@ use Rattle.amqp_endpoint_model.specs.Said.{Said, session_begun}
 use Rattle.amqp_endpoint_names.specs.State.{place_at}
 use Rattle.amqp_endpoint_names.specs.declared.place.LinkPlace.{LinkPlace}
 use Rattle.amqp_endpoint_names.specs.declared.place.LinkPlace.TheVariants.{AtRest, Held}
-use Rattle.amqp_endpoint_sessions.specs.State.{live_at, reached}
+use Rattle.amqp_endpoint_sessions.specs.State.{reached, routed_in}
 use Rattle.amqp_endpoint_talk.specs.Inside.{said_in}
 use Rattle.amqp_endpoint_talk.specs.Windows.{Came, Passing, Went, went}
 
--- the number of a session, where that has begun
-abbrev pub live_only : Sessions → Option ℕ → Option ℕ
-live_only s numbered = option_and_then (λ number. option_map (λ session. number) (live_at s number)) numbered
-
 -- the session that takes a Begin of the peer's: where it names no channel the next one, for which it asks; and else the
--- one that has the channel, if its own side goes on
+-- one that has the channel
 abbrev pub begun_by : Sessions → Option ℕ → Option ℕ
 begun_by s None = Some (length s.places)
-begun_by s (Some channel) = live_only s (named_session s.connection (Some channel))
+begun_by s (Some channel) = routed_in s (named_session s.connection (Some channel))
 
 -- the session that takes a frame of the peer's: any other than a Begin is for the one that its channel reaches
 abbrev pub session_taking : LinkedSessions → ℕ → FrameBody → Option ℕ

@@ -1,5 +1,5 @@
 //! The laws. A function here does nothing but name the laws that it rests on: its contract is the law.
-ghost use Rattle.std.specs.Prelude.{◌≡◌, ℕ, List, map, slice_get, Option, Some};
+ghost use Rattle.std.specs.Prelude.{◌≡◌, ◌+◌, ◌∷◌, ◌++◌, [], ℕ, List, false, length, map, slice_get, Option, Some};
 ghost use Rattle.amqp_session_performatives.specs.declared.session_frame.SessionFrame.{SessionFrame};
 ghost use Rattle.amqp_session_types.specs.declared.channels.OutgoingChannel.{OutgoingChannel};
 ghost use Rattle.amqp_session_types.specs.declared.handles.OutputHandle.{OutputHandle};
@@ -13,7 +13,7 @@ ghost use Rattle.amqp_endpoint_sessions.specs.State.{channel_at, live_at};
 ghost use Rattle.amqp_endpoint_model.specs.History.{Run};
 ghost use Rattle.amqp_endpoint_model.specs.Relay.{IsNew};
 ghost use Rattle.amqp_endpoint_model.specs.Said.{Told, attaching};
-ghost use Rattle.amqp_endpoint_model.specs.State.{State, fresh};
+ghost use Rattle.amqp_endpoint_model.specs.State.{State, fresh, is_unconnected};
 ghost use Rattle.amqp_endpoint_model.specs.declared.call.Call.{Call};
 ghost use Rattle.amqp_endpoint_model.specs.declared.call.Call.TheVariants.{AttachSender};
 ghost use Rattle.amqp_endpoint_model.specs.declared.event.Event.{Event};
@@ -21,17 +21,21 @@ ghost use Rattle.amqp_endpoint_model.specs.declared.settings.Settings.{Settings}
 ghost use Rattle.amqp_endpoint_linked.specs.Does.{linked};
 ghost use Rattle.amqp_endpoint_linked.specs.Sending.{tag_of};
 ghost use Rattle.amqp_endpoint_linked.specs.declared.linked.LinkedSessions.{LinkedSessions};
-ghost use Rattle.amqp_endpoint_deeds.specs.Deeds.{AreDone, Deed, Does, IsDeed, told_by};
+ghost use Rattle.amqp_endpoint_deeds.specs.Deeds.{AreDone, Deed, Does, IsDeed, MayPass, NoneRenews, Renews, Throughout};
+ghost use Rattle.amqp_endpoint_deeds.specs.Deeds.{fed_since, pulled_since, told_by, up_behind};
 ghost use Rattle.amqp_endpoint_deeds.specs.Telling.{events_told};
 ghost use Rattle.amqp_endpoint_settings.specs.declared.link.LinkSettings.{LinkSettings};
 ghost use Rattle.amqp_endpoint_talk.specs.Windows.{KeepsWindow, Passing, begins_with};
+ghost use Rattle.amqp_endpoint_reading.specs.Reading.{nothing_read};
 ghost use Rattle.amqp_endpoint_laws.specs.Conversing.{SessionsGoOn};
 ghost use Rattle.amqp_endpoint_laws.specs.Handed.{IsReceiving, NoneResumes, PassesOn, ReachIn, handed_as};
 ghost use Rattle.amqp_endpoint_laws.specs.Handed.{handed_by, pieces_on};
 ghost use Rattle.amqp_endpoint_laws.specs.Held.{IsHeldThere, number_at};
+ghost use Rattle.amqp_endpoint_laws.specs.Judged.{Judged};
 ghost use Rattle.amqp_endpoint_laws.specs.Linking.{HaveCome};
 ghost use Rattle.amqp_endpoint_laws.specs.Passed.{HasCome, PassesIn};
 ghost use Rattle.amqp_endpoint_laws.specs.Queued.{AttachesFirst, SayMessages, messages_by, queued};
+ghost use Rattle.amqp_endpoint_laws.specs.Seen.{passing_in, wired_by};
 ghost use Rattle.amqp_endpoint_laws.specs.Telling.{numbers_told, numbers_under, tags_given};
 
 use amqp_endpoint_linking::laws::links_given_back_go_on;
@@ -223,3 +227,35 @@ pub fn what_is_sent_is_queued_in_order()
     links_given_back_go_on();
     no_two_links_share_a_handle();
 }
+
+/// What passes in the sessions of a connection is what one reads who has its frames alone, and tells sessions apart by
+/// the channels on which these go and come and by what Begins and Ends say (part 2, 2.5.1, 2.5.2). The frames are those
+/// of the peer that are taken and those that sessions hand out, in order, from where the connection begins anew on; and
+/// a session is the one that was asked for on it behind so many others, at whichever end. Behind the end of the
+/// connection nothing passes.
+pub fn what_passes_is_read()
+    ensures { (sessions start end : LinkedSessions) (settings : Settings) (before later : List Deed) (number : ℕ)
+        (passings : List Passing) → IsNew linked settings sessions → AreDone linked sessions before start →
+        Throughout up_behind MayPass false (before ++ Renews ∷ later) → NoneRenews later →
+        PassesIn (length start.talk.sessions.places + number) start (Renews ∷ later) end passings →
+        passings ≡ passing_in number nothing_read (wired_by later) }
+{}
+
+/// Each transfer that passes on a connection lies in the window that the peer gave its session, as one finds who reads
+/// the connection's frames and tells sessions apart by channels (part 2, 2.5.1, 2.5.6). So it is with the deeds of one
+/// connection; and behind each run, unless the connection is broken off, with such deeds as queue what `pull` gave
+/// since the latest connect and what is queued still, and as take the frames that are read of the bytes fed since then.
+/// Each frame that the sessions hand out by these fits the limit that is in force: 512 bytes, and from the peer's Open
+/// on its max-frame-size (part 2, 2.4.1, 2.7.1).
+pub fn transfers_are_read_in_their_windows()
+    ensures by_deeds { (sessions start end : LinkedSessions) (settings : Settings) (before later : List Deed)
+        (number : ℕ) → IsNew linked settings sessions → AreDone linked sessions before start →
+        AreDone linked start (Renews ∷ later) end →
+        Throughout up_behind MayPass false (before ++ Renews ∷ later) → NoneRenews later →
+        KeepsWindow (begins_with settings.first_transfer_number) (passing_in number nothing_read (wired_by later)) }
+    ensures by_calls { (sessions : LinkedSessions) (settings : Settings) (calls : List Call) (told : List Told)
+        (end : State LinkedSessions) → IsNew linked settings sessions →
+        Run linked (fresh settings sessions) calls told end → is_unconnected end.phase ≡ false →
+        Judged settings.first_transfer_number settings.max_frame_size (pulled_since [] calls told)
+        (fed_since [] calls told) end }
+{}

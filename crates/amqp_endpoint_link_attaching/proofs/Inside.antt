@@ -1,14 +1,15 @@
 -- What a link does inside of the session in which it attaches.
-use Rattle.std.proofs.Common.{ℕ, List, [], ◌∷◌, Option, Some, None, refl, ap}
+use Rattle.std.proofs.Common.{◌≡◌, ℕ, List, [], ◌∷◌, Option, Some, None, refl, sym, ap, subst}
 use Rattle.std.specs.Prelude.{option_to_list}
 use Rattle.amqp_session_types.specs.declared.handles.InputHandle.{InputHandle}
+use Rattle.amqp_session_performatives.specs.declared.attach.Attach.{Attach}
 use Rattle.amqp_session_performatives.specs.declared.link_flow.LinkFlow.{LinkFlow}
 use Rattle.amqp_session_performatives.specs.declared.session_frame.SessionFrame.{SessionFrame}
 use Rattle.amqp_session_core.specs.declared.batch.BehindFrame.TheVariants as behind
 use Rattle.amqp_session_core.specs.Steps.{Allocates}
 use Rattle.amqp_link_attach.specs.declared.exchange.AttachExchange.{AttachExchange}
 use Rattle.amqp_link_ends.specs.declared.end.End.{End}
-use Rattle.amqp_endpoint_talk.specs.Inside.{DoneInside, said_in}
+use Rattle.amqp_endpoint_talk.specs.Inside.{AreOn, DoneInside, said_in}
 use Rattle.amqp_endpoint_talk.proofs.Inside.{alike-inside, none-inside, one-inside, said-inside, step-inside}
 use Rattle.amqp_endpoint_attached.specs.Answering.{Replies}
 use Rattle.amqp_endpoint_attached.specs.Linked.{Linked, gives}
@@ -18,38 +19,44 @@ use Rattle.amqp_endpoint_link_attaching.specs.Places.{LinkTalk}
 use Rattle.amqp_endpoint_link_attaching.specs.declared.placed.Placed.{Placed}
 
 module _ (before after : Linked) (limit : ℕ) (link : End) (placed : Placed) (frames : List SessionFrame) where
+  -- an Attach goes before what is said
+  attach-before : (attach : Attach) (later : List SessionFrame) → frames ≡ attach_frame before.session attach ∷ later
+      → DoneInside gives before.session later after.session → DoneInside gives before.session frames after.session
+  attach-before attach later is d =
+      alike-inside gives before.session after.session later frames (ap said_in is)
+      (subst (AreOn _) (sym is) (refl, tt, d.on)) d
+
   -- a link that answers one of the peer's
   module _ (input : InputHandle) (exchange : AttachExchange)
       (a : AttachedBy (Some input) (Some exchange) before [] limit link placed after frames) where
+    allocated-inside : (later : List SessionFrame) → frames ≡ attach_frame before.session a.attach ∷ later
+        → DoneInside gives a.mid later after.session → DoneInside gives before.session frames after.session
+    allocated-inside later is d =
+        attach-before a.attach later is
+        (step-inside gives before.session a.mid after.session
+        (Allocates (placed.handle).0 (with_number placed.link a.becomes) (Some input.0)) later a.allocates tt tt d)
+
     -- behind its Attach it replies with a Flow, or with none
     reply-inside : (reply : Option LinkFlow)
         → Replies gives placed.handle reply a.mid (attach_frame before.session a.attach ∷ []) after.session frames
-        → DoneInside gives a.mid frames after.session
-    reply-inside None r =
-        alike-inside gives a.mid after.session [] frames (ap said_in r.1)
-        (none-inside gives a.mid after.session r.0)
+        → DoneInside gives before.session frames after.session
+    reply-inside None r = allocated-inside [] r.1 (none-inside gives a.mid after.session r.0)
     reply-inside (Some flow) r =
-        alike-inside gives a.mid after.session (option_to_list r.frame) frames (ap said_in r.handed)
+        allocated-inside (option_to_list r.frame) r.handed
         (said-inside gives a.mid after.session placed.handle
         (behind.Flow (record flow { handle = record { 0 = (placed.handle).0 } })) (r.sent).left r.frame
         (option_to_list r.frame) (r.sent).stepped refl)
-
-    answered-inside : DoneInside gives before.session frames after.session
-    answered-inside =
-        step-inside gives before.session a.mid after.session
-        (Allocates (placed.handle).0 (with_number placed.link a.becomes) (Some input.0)) frames a.allocates tt
-        (reply-inside a.reply a.replies)
 
   pub attached-inside : (input : Option InputHandle) (exchange : Option AttachExchange)
       → AttachedBy input exchange before [] limit link placed after frames
       → DoneInside gives before.session frames after.session
   attached-inside None None (a, aborts) =
-      alike-inside gives before.session after.session [] frames (ap said_in a.handed)
+      attach-before a.attach [] a.handed
       (one-inside gives before.session after.session
-      (Allocates (placed.handle).0 (with_number placed.link a.attaching) None) a.allocates tt)
+      (Allocates (placed.handle).0 (with_number placed.link a.attaching) None) a.allocates tt tt)
   attached-inside None (Some exchange) a = absurd a
   attached-inside (Some input) None a = absurd a
-  attached-inside (Some input) (Some exchange) a = answered-inside input exchange a
+  attached-inside (Some input) (Some exchange) a = reply-inside input exchange a a.reply a.replies
 
 -- a link attaches in a session, which hands out its Attach first
 pub attaches-inside : (old new : LinkTalk) (limit session : ℕ) (link : End) (placed : Placed)

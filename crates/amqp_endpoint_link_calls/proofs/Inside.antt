@@ -47,7 +47,7 @@ told-inside : (count : ℕ) (handle : OutputHandle) (link : Option (Numbered End
     → TellsIn count handle link old new → DoneInside gives old [] new
 told-inside count handle None old new is = none-inside gives old new is
 told-inside count handle (Some link) old new stepped =
-    one-inside gives old new (Changes handle.0 link (record link { link = behind_told count link.link })) stepped tt
+    one-inside gives old new (Changes handle.0 link (record link { link = behind_told count link.link })) stepped tt tt
 
 pub detaches-inside : (closed : Bool) → StaysInside (detaches closed)
 detaches-inside closed handle before after frames d = detach-inside handle closed before after frames d

@@ -1,5 +1,5 @@
 -- What is done for a link is done inside of its session.
-use Rattle.std.proofs.Common.{◌≡◌, ℕ, Bool, true, false, List, [], ◌∷◌, Option, Some, None, refl, ap, ◌∙◌}
+use Rattle.std.proofs.Common.{◌≡◌, ℕ, Bool, true, false, List, [], ◌∷◌, Option, Some, None, refl, sym, ap, subst, ◌∙◌}
 use Rattle.amqp_session_types.specs.declared.error.Error.{Error}
 use Rattle.amqp_session_types.specs.declared.handles.OutputHandle.{OutputHandle}
 use Rattle.amqp_session_states.specs.declared.delivery_state.DeliveryState.{DeliveryState}
@@ -11,8 +11,8 @@ use Rattle.amqp_session_core.specs.declared.batch.BehindFrame.TheVariants as beh
 use Rattle.amqp_session_core.specs.declared.dispositions.Touched.{Touched}
 use Rattle.amqp_endpoint_links.specs.History.{AskingHistory}
 use Rattle.amqp_endpoint_model.specs.declared.event.Event.{Event}
-use Rattle.amqp_endpoint_talk.specs.Inside.{DoneInside, said_in}
-use Rattle.amqp_endpoint_talk.proofs.Inside.{alike-inside, both-inside, changed-inside, none-said, none-inside}
+use Rattle.amqp_endpoint_talk.specs.Inside.{AreOn, DoneInside, said_in}
+use Rattle.amqp_endpoint_talk.proofs.Inside.{alike-inside, all-on, both-inside, changed-inside, none-said, none-inside}
 use Rattle.amqp_endpoint_talk.proofs.Inside.{one-inside, said-inside, same-inside, silent-behind, step-inside}
 use Rattle.amqp_endpoint_attached.specs.Detaching.{DetachGiven, is_there, own_detach}
 use Rattle.amqp_endpoint_attached.specs.Linked.{Linked, LinksIn, end_at, gives}
@@ -63,7 +63,7 @@ out-inside : (handle : OutputHandle) (left : Option Link) (old new : Linked) →
     → DoneInside gives old.session [] new.session
 out-inside handle None old new (why, same) = stays-inside old [] new same refl
 out-inside handle (Some link) old new (there, stepped, rest) =
-    one-inside gives old.session new.session (Deallocates handle.0) stepped tt
+    one-inside gives old.session new.session (Deallocates handle.0) stepped tt tt
 
 -- the peer's Detach is answered, or not
 answered-inside : (answers : Bool) (handle : OutputHandle) (closed : Bool) (error : Option Error)
@@ -87,7 +87,7 @@ told-inside : (count : ℕ) (handle : OutputHandle) (link : Option Link) (old ne
     → TellsIn count handle link old new → DoneInside gives old [] new
 told-inside count handle None old new is = none-inside gives old new is
 told-inside count handle (Some link) old new stepped =
-    one-inside gives old new (Changes handle.0 link (record link { link = behind_told count link.link })) stepped tt
+    one-inside gives old new (Changes handle.0 link (record link { link = behind_told count link.link })) stepped tt tt
 
 pub tells-parts-inside : (count : ℕ) (handle : OutputHandle) (answers closed : Bool) (error : Option Error)
     (left : Option Link) (frames : List SessionFrame) (old new : Linked)
@@ -117,7 +117,8 @@ each-inside : (old : LinksIn) (told : List Disposition) (new : LinksIn) → Send
     → DoneInside gives old [] new
 each-inside old [] new is = none-inside gives old new is
 each-inside old (d ∷ rest) new (mid, one, others) =
-    step-inside gives old mid new (SendsDisposition d one.settled) [] one.stepped tt (each-inside mid rest new others)
+    step-inside gives old mid new (SendsDisposition d one.settled) [] one.stepped tt tt
+    (each-inside mid rest new others)
 
 pub tells-echoes-inside : (deliveries : List Touched) (state : Option DeliveryState) (runs : List (ℕ × ℕ))
     (frames : List SessionFrame) (events : List Event) (old new : Linked)
@@ -125,24 +126,27 @@ pub tells-echoes-inside : (deliveries : List Touched) (state : Option DeliverySt
 tells-echoes-inside deliveries state runs frames events old new t =
     let e = t.echoes in
     let mid : LinksIn = behind_reached old.session deliveries in
-    alike-inside gives old.session new.session [] frames
+    reached-inside old.session deliveries frames new.session
+    (alike-inside gives mid new.session [] frames
     (ap said_in e.frames_are
     ∙ none-said (said_by mid.fields) (λ (it : Disposition). refl) (echoes_of state runs))
-    (reached-inside old.session deliveries [] new.session (each-inside mid (echoes_of state runs) new.session e.sends))
+    (subst (AreOn _) (sym e.frames_are)
+    (all-on _ (said_by mid.fields) (λ (it : Disposition). (refl, tt)) (echoes_of state runs)))
+    (each-inside mid (echoes_of state runs) new.session e.sends))
 
 -- a link remembers the number of a message, and nothing is handed out
 pub remembers-inside : (handle : OutputHandle) (tag : List ℕ) (number : ℕ) (old new : Linked)
     → Remembers handle tag number old new → DoneInside gives old.session [] new.session
 remembers-inside handle tag number old new r =
     one-inside gives old.session new.session
-    (Changes handle.0 r.link (record r.link { link = remembering (r.link).link tag number })) r.changed tt
+    (Changes handle.0 r.link (record r.link { link = remembering (r.link).link tag number })) r.changed tt tt
 
 -- own handles are taken back
 freed-inside : (handles : List OutputHandle) (old new : Linked) → AskingHistory gives old (frees handles) new
     → DoneInside gives old.session [] new.session
 freed-inside [] old new same = stays-inside old [] new same refl
 freed-inside (handle ∷ handles) old new (mid, (stepped, rest), others) =
-    step-inside gives old.session mid.session new.session (Deallocates handle.0) [] stepped tt
+    step-inside gives old.session mid.session new.session (Deallocates handle.0) [] stepped tt tt
     (freed-inside handles mid new others)
 
 -- links leave with frames that were handed out before, and nothing is handed out

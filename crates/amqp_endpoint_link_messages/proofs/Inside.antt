@@ -1,5 +1,5 @@
 -- What is done inside of the session that holds a link, as it sends a message or disposes of messages.
-use Rattle.std.proofs.Common.{ℕ, Bool, List, [], ◌∷◌, ◌++◌, refl, sym, ap, ◌∙◌, append-nil}
+use Rattle.std.proofs.Common.{ℕ, Bool, List, [], ◌∷◌, ◌++◌, refl, sym, ap, subst, ◌∙◌, append-nil}
 use Rattle.amqp_session_types.specs.declared.handles.OutputHandle.{OutputHandle}
 use Rattle.amqp_session_performatives.specs.declared.disposition.Disposition.{Disposition}
 use Rattle.amqp_session_performatives.specs.declared.session_frame.SessionFrame.{SessionFrame}
@@ -7,9 +7,9 @@ use Rattle.amqp_session_core.specs.Steps.{Changes, SendsDisposition, SendsTransf
 use Rattle.amqp_link_sender.specs.Sends.{entry_unless, sent, with_room}
 use Rattle.amqp_endpoint_model.specs.declared.call.Disposal.{Disposal}
 use Rattle.amqp_endpoint_model.specs.declared.call.Sending.{Sending}
-use Rattle.amqp_endpoint_talk.specs.Inside.{AcceptsInside, DoneInside, said_in}
-use Rattle.amqp_endpoint_talk.proofs.Inside.{alike-inside, changed-inside, none-said, none-inside, one-inside}
-use Rattle.amqp_endpoint_talk.proofs.Inside.{same-inside, step-inside}
+use Rattle.amqp_endpoint_talk.specs.Inside.{AcceptsInside, AreOn, DoneInside, said_in}
+use Rattle.amqp_endpoint_talk.proofs.Inside.{alike-inside, all-on, changed-inside, left-on, none-said, none-inside}
+use Rattle.amqp_endpoint_talk.proofs.Inside.{one-inside, same-inside, step-inside}
 use Rattle.amqp_endpoint_attached.specs.Linked.{Linked, LinksIn, end_at, gives}
 use Rattle.amqp_endpoint_disposing.specs.Disposing.{DisposesOfAll, DisposesOfOne}
 use Rattle.amqp_endpoint_disposing.specs.Sending.{IsDisposed, SendsEach, said_by}
@@ -30,11 +30,11 @@ message-inside limit m settled handle before after frames did =
     (sending did.number (with_room did.before)) frames did.prepares
     (same-inside gives did.mid after.session (s.frames ++ []) frames (s.added ∙ sym (append-nil s.frames))
     (step-inside gives did.mid did.taken after.session (SendsTransfers handle did.transfers s.left s.frames) []
-    s.stepped tt
+    s.stepped tt (subst (AreOn _) (sym (s.stepped).1) (left-on (did.mid).fields s.left))
     (one-inside gives did.taken after.session
     (Changes handle.0 (sending did.number (with_room did.before))
     (sending did.number (sent (with_room did.before) (entry_unless settled m.tag m.format m.payload)))) did.commits
-    tt)))
+    tt tt)))
 
 pub sends-inside : (limit : ℕ) (tag : List ℕ) (message : Sending) (settled : Bool) (handle : OutputHandle)
     (before after : Linked) (frames : List SessionFrame)
@@ -48,7 +48,8 @@ each-inside : (old : LinksIn) (told : List Disposition) (new : LinksIn) → Send
     → DoneInside gives old [] new
 each-inside old [] new is = none-inside gives old new is
 each-inside old (d ∷ rest) new (mid, one, others) =
-    step-inside gives old mid new (SendsDisposition d one.settled) [] one.stepped tt (each-inside mid rest new others)
+    step-inside gives old mid new (SendsDisposition d one.settled) [] one.stepped tt tt
+    (each-inside mid rest new others)
 
 -- a link is changed, and they tell it
 disposed-inside : (handle : OutputHandle) (Disposes : LinksIn → List Disposition → LinksIn → Type 0)
@@ -59,6 +60,8 @@ disposed-inside handle Disposes change limit before after frames d =
     let l : ChangesLink handle before.session d.mid = change before.session d.told d.mid d.disposes in
     alike-inside gives before.session after.session [] frames
     (ap said_in d.added ∙ none-said (said_by (before.session).fields) (λ (it : Disposition). refl) d.told)
+    (subst (AreOn _) (sym d.added)
+    (all-on _ (said_by (before.session).fields) (λ (it : Disposition). (refl, tt)) d.told))
     (changed-inside gives before.session d.mid after.session handle.0 l.stood l.stands [] l.changed
     (each-inside d.mid d.told after.session d.sends))
 

@@ -259,7 +259,7 @@ going-speaks channel (session.Disposition disposition) r s = s
 going-speaks channel (session.Detach detach) r s = s
 going-speaks channel (session.End end) r s = s
 
-all-speak : (frames : List Wired) (r : Reader) → Speaks r → Speaks (behind_all r frames)
+pub all-speak : (frames : List Wired) (r : Reader) → Speaks r → Speaks (behind_all r frames)
 all-speak [] r s = s
 all-speak (Comes frame ∷ frames) r s =
     all-speak frames (behind_coming frame.channel frame.body r) (coming-speaks frame.channel frame.body r s)

@@ -52,7 +52,7 @@ use Rattle.amqp_endpoint_reading.proofs.Agreeing.{channels-tell}
 use Rattle.amqp_endpoint_reading.proofs.Handing.{hears-of, plain-of, step-of}
 
 -- frames without a Begin among them leave the reader where he stands
-going-same : (channel : ℕ) (it : SessionFrameBody) → IsNoBegin it → (r : Reader) → behind_going channel it r ≡ r
+pub going-same : (channel : ℕ) (it : SessionFrameBody) → IsNoBegin it → (r : Reader) → behind_going channel it r ≡ r
 going-same channel (session.Begin begin) plain r = absurd plain
 going-same channel (session.Attach attach) plain r = refl
 going-same channel (session.Flow flow) plain r = refl
@@ -87,7 +87,7 @@ same-none : (frames others : List SessionFrame) → frames ≡ others → NoBegi
 same-none frames others is plain = subst NoBegins (sym is) plain
 
 -- a frame comes that is neither Begin nor End, and no Begin goes
-heard-read : (channel : ℕ) (it : FrameBody) (frames : List SessionFrame) → IsWithin it → NoBegins frames
+pub heard-read : (channel : ℕ) (it : FrameBody) (frames : List SessionFrame) → IsWithin it → NoBegins frames
     → (r : Reader) → behind_all r (comes channel it ∷ goes frames) ≡ r
 heard-read channel it frames is plain r =
     ap (λ (s : Reader). behind_all s (goes frames)) (within-read channel it is r) ∙ none-read frames plain r
@@ -137,12 +137,12 @@ module _ {A S : Type 0} where
       }
 
   -- by one step, or by none
-  by-one : (old new : State A S) (frames : List Wired) (step : Step A S) → Steps old step new → OnConnection (step ∷ [])
-      → ((r : Reader) → behind_all r frames ≡ behind_step r step) → Follows frames old new
+  pub by-one : (old new : State A S) (frames : List Wired) (step : Step A S) → Steps old step new
+      → OnConnection (step ∷ []) → ((r : Reader) → behind_all r frames ≡ behind_step r step) → Follows frames old new
   by-one old new frames step s on reads =
       record { steps = step ∷ []; history = (new, s, refl); goes_on = on; reads = reads }
 
-  by-none : (old new : State A S) (frames : List Wired) → new ≡ old → ((r : Reader) → behind_all r frames ≡ r)
+  pub by-none : (old new : State A S) (frames : List Wired) → new ≡ old → ((r : Reader) → behind_all r frames ≡ r)
       → Follows frames old new
   by-none old new frames same reads = record { steps = []; history = same; goes_on = tt; reads = reads }
 

@@ -46,7 +46,7 @@ both-of : (channel : ℕ) (first later : List SessionFrame) → AreOf channel fi
 both-of channel [] later are more = more
 both-of channel (frame ∷ first) later (on, plain, are) more = (on, plain, both-of channel first later are more)
 
-same-of : (channel : ℕ) (frames others : List SessionFrame) → frames ≡ others → AreOf channel others
+pub same-of : (channel : ℕ) (frames others : List SessionFrame) → frames ≡ others → AreOf channel others
     → AreOf channel frames
 same-of channel frames others is are = subst (AreOf channel) (sym is) are
 

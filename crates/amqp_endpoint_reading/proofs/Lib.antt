@@ -5,3 +5,4 @@ pub mod Handing
 pub mod Rows
 pub mod Views
 pub mod Whose
+pub mod Seeing

@@ -52,7 +52,7 @@ module _ (base : ℕ) (r : Reader) where
         one-goes number frames a.frame _ a.queued says (sym (agrees.asked channel.0) ∙ a.asked, tt)
 
     -- the session that has the channel which the peer's Begin names
-    named-for : (old : Conversation R) (channel : IncomingChannel) (begin : Begin) (number : ℕ)
+    pub named-for : (old : Conversation R) (channel : IncomingChannel) (begin : Begin) (number : ℕ)
         (mid : State (Box AskedSession) (Box (AskingSession R))) → Leads gives old channel begin number mid
         → Agrees base r old.sessions → from base (begun_there r begin.remote_channel) ≡ Some number
     named-for old channel begin number mid l agrees = by begin.remote_channel refl
@@ -81,25 +81,26 @@ module _ (base : ℕ) (r : Reader) where
     begun-for old new channel begin number frames b agrees =
         (named-for old channel begin number b.mid b.led agrees, tt)
 
-  module _ {R : Type 0} where
-    -- the session that has an own channel speaks on it
-    speaks-for : (old : Conversation R) (number channel : ℕ)
-        → map.get old.sessions.connection.live channel ≡ Some number
-        → Agrees base r old.sessions → Speaks r → from base (r.speaks channel) ≡ Some number
-    speaks-for old number channel here agrees speaks = by (r.own channel) refl
-      where
-        by : (o : Option ℕ) → r.own channel ≡ o → from base (r.speaks channel) ≡ Some number
-        by None e =
-            absurd (none-some number (sym (agrees.own channel ∙ ap (from base) e) ∙ here))
-        by (Some k) e =
-            ap (from base) (speaks channel k e) ∙ sym (ap (from base) e) ∙ sym (agrees.own channel) ∙ here
+  -- the session that has an own channel speaks on it
+  pub speaks-for : {A S : Type 0} (s : State A S) (number channel : ℕ)
+      → map.get s.connection.live channel ≡ Some number
+      → Agrees base r s → Speaks r → from base (r.speaks channel) ≡ Some number
+  speaks-for s number channel here agrees speaks = by (r.own channel) refl
+    where
+      by : (o : Option ℕ) → r.own channel ≡ o → from base (r.speaks channel) ≡ Some number
+      by None e =
+          absurd (none-some number (sym (agrees.own channel ∙ ap (from base) e) ∙ here))
+      by (Some k) e =
+          ap (from base) (speaks channel k e) ∙ sym (ap (from base) e) ∙ sym (agrees.own channel) ∙ here
 
+  module _ {R : Type 0} where
     pub ends-for : (old new : Conversation R) (number : ℕ) (error : Option Error) (session : Box (AskingSession R))
         (frames : List SessionFrame) → EndsHere old [] number error session new frames → InTables old.sessions
         → Agrees base r old.sessions → Speaks r → AreFor base number r (goes frames)
     ends-for old new number error session frames e tables agrees speaks =
         one-goes number frames (end_frame e.channel error) (end_frame e.channel error) e.queued refl (
-          speaks-for old number (e.channel).0 (tables.has number (e.channel).0 (ap role_of (e.stepped).0)) agrees speaks,
+          speaks-for old.sessions number (e.channel).0 (tables.has number (e.channel).0 (ap role_of (e.stepped).0))
+              agrees speaks,
           tt,
         )
 

@@ -1,21 +1,28 @@
 -- What is done inside of a session, one step after another.
-use Rattle.std.proofs.Common.{◌≡◌, ℕ, Bool, true, false, List, [], ◌∷◌, ◌++◌, Option, refl, sym, ap, subst, ◌∙◌}
+use Rattle.std.proofs.Common.{◌≡◌, ℕ, Bool, true, false, List, [], ◌∷◌, ◌++◌, Option, Some, None, refl, sym, ap}
+use Rattle.std.proofs.Common.{subst, ◌∙◌}
 use Rattle.std.proofs.Common.{append-nil, append_assoc}
 use Rattle.std.specs.Prelude.{if◌then◌else◌, is_some, map, option_to_list}
+use Rattle.amqp_session_types.specs.declared.channels.OutgoingChannel.{OutgoingChannel}
 use Rattle.amqp_session_types.specs.declared.handles.OutputHandle.{OutputHandle}
 use Rattle.amqp_session_performatives.specs.declared.session_frame.SessionFrame.{SessionFrame}
 use Rattle.amqp_session_performatives.specs.declared.session_frame.SessionFrameBody.{SessionFrameBody}
 use Rattle.amqp_session_performatives.specs.declared.session_frame.SessionFrameBody.TheVariants.{Attach, Begin, Detach}
 use Rattle.amqp_session_performatives.specs.declared.session_frame.SessionFrameBody.TheVariants.{Disposition, End, Flow}
 use Rattle.amqp_session_performatives.specs.declared.session_frame.SessionFrameBody.TheVariants.{Transfer}
+use Rattle.amqp_session_core.specs.Frames.{Left, behind_frame, frames_behind, frames_left}
 use Rattle.amqp_session_core.specs.History.{History}
 use Rattle.amqp_session_core.specs.Relay.{Relations}
 use Rattle.amqp_session_core.specs.State.{State}
-use Rattle.amqp_session_core.specs.Steps.{Changes, SendsBehind, Step, Steps}
+use Rattle.amqp_session_core.specs.Steps.{Changes, SendsBehind, Step, Steps, at_once}
 use Rattle.amqp_session_core.specs.declared.batch.BehindFrame.{BehindFrame}
+use Rattle.amqp_session_core.specs.declared.batch.BehindFrame.TheVariants as behind
+use Rattle.amqp_session_core.specs.declared.fields.SessionFields.{SessionFields}
 use Rattle.amqp_endpoint_fitting.specs.Handed.{handed, handed_of}
-use Rattle.amqp_endpoint_talk.specs.Inside.{AcceptsInside, Batches, DoneInside, SetNoWindow, SetsNoWindow}
-use Rattle.amqp_endpoint_talk.specs.Inside.{accepted_in, accepted_of, is_of_link, is_transfer, said_in, transfers_in}
+use Rattle.amqp_endpoint_fitting.proofs.Handing.{history-channel, step-channel}
+use Rattle.amqp_endpoint_talk.specs.Inside.{AcceptsInside, AreOn, Batches, DoneInside, IsNoBeginOrEnd, SetNoWindow}
+use Rattle.amqp_endpoint_talk.specs.Inside.{SetsNoWindow, accepted_in, accepted_of, is_of_link, is_transfer, said_in}
+use Rattle.amqp_endpoint_talk.specs.Inside.{transfers_in}
 
 -- a frame before others is one before those to which others are added
 one-more : (counts : Bool) (frame : SessionFrame) (all first later : List SessionFrame) → all ≡ first ++ later
@@ -68,6 +75,37 @@ pub same-transfers : (frames others : List SessionFrame) → said_in frames ≡ 
     → transfers_in frames ≡ transfers_in others
 same-transfers frames others same = sym (transfers-said frames) ∙ ap transfers_in same ∙ transfers-said others
 
+pub both-on : (channel : ℕ) (first later : List SessionFrame) → AreOn channel first → AreOn channel later
+    → AreOn channel (first ++ later)
+both-on channel [] later are more = more
+both-on channel (frame ∷ first) later (on, plain, are) more = (on, plain, both-on channel first later are more)
+
+pub all-on : {X : Type 0} (channel : ℕ) (said : X → SessionFrame)
+    → ((x : X) → ((said x).channel ≡ channel) × IsNoBeginOrEnd (said x).body) → (xs : List X)
+    → AreOn channel (map said xs)
+all-on channel said on [] = tt
+all-on channel said on (x ∷ xs) = ((on x).0, (on x).1, all-on channel said on xs)
+
+-- a frame that stood behind transfers, and all that left, are on the channel of their session
+module _ (f : SessionFields) where
+  behind-on : (number : ℕ) (frames : List SessionFrame) (it : BehindFrame) → AreOn (f.channel).0 frames
+      → AreOn (f.channel).0 (behind_frame f number it ∷ frames)
+  behind-on number frames (behind.Flow link) are = (refl, tt, are)
+  behind-on number frames (behind.Detach detach) are = (refl, tt, are)
+
+  all-behind-on : (number : ℕ) (its : List BehindFrame) → AreOn (f.channel).0 (frames_behind f number its)
+  all-behind-on number [] = tt
+  all-behind-on number (it ∷ its) = behind-on number (frames_behind f number its) it (all-behind-on number its)
+
+  pub left-on : (left : Left) → AreOn (f.channel).0 (frames_left f left)
+  left-on [] = tt
+  left-on (s ∷ left) = (refl, tt, both-on _ _ (frames_left f left) (all-behind-on _ s.behind) (left-on left))
+
+  at-once-on : (number : ℕ) (left : Option BehindFrame)
+      → AreOn (f.channel).0 (option_to_list (at_once f number left))
+  at-once-on number None = tt
+  at-once-on number (Some it) = behind-on number [] it tt
+
 module _ {R A T D : Type 0} where
   -- what is handed out by two lists of steps
   pub handed-both : (first later : List (Step R A T D))
@@ -90,6 +128,9 @@ module _ {R A T D : Type 0} where
       ∙ sym (append_assoc (accepted_in step) (accepted_of first) (accepted_of later))
 
 module _ {R A T D : Type 0} (gives : Relations R A T D) where
+  abbrev channel_of : State R → ℕ
+  channel_of s = ((s.fields).channel).0
+
   pub history-both : (first later : List (Step R A T D)) (old mid new : State R) → History gives old first mid
       → History gives mid later new → History gives old (first ++ later) new
   history-both [] later old mid new same others = subst (λ (s : State R). History gives s later new) same others
@@ -98,13 +139,14 @@ module _ {R A T D : Type 0} (gives : Relations R A T D) where
 
   -- nothing is done
   pub none-inside : (old new : State R) → new ≡ old → DoneInside gives old [] new
-  none-inside old new is = record { steps = []; history = is; still = tt; accepts = refl; says = refl }
+  none-inside old new is = record { steps = []; history = is; still = tt; accepts = refl; says = refl; on = tt }
 
   -- a step, and what is done behind it
   pub step-inside : {accepted : Batches} (old mid new : State R) (step : Step R A T D) (frames : List SessionFrame)
-      → Steps gives old step mid → SetsNoWindow step → AcceptsInside gives accepted mid frames new
+      → Steps gives old step mid → SetsNoWindow step → AreOn (channel_of old) (handed step)
+      → AcceptsInside gives accepted mid frames new
       → AcceptsInside gives (accepted_in step ++ accepted) old (handed step ++ frames) new
-  step-inside old mid new step frames stepped still d =
+  step-inside old mid new step frames stepped still on d =
       record {
         steps = step ∷ d.steps;
         history = (mid, stepped, d.history);
@@ -114,18 +156,22 @@ module _ {R A T D : Type 0} (gives : Relations R A T D) where
             said-both (handed step) frames
             ∙ ap (λ (fs : List SessionFrame). said_in (handed step) ++ fs) d.says
             ∙ sym (said-both (handed step) (handed_of d.steps));
+        on =
+            both-on (channel_of old) (handed step) frames on
+            (subst (λ (c : OutgoingChannel). AreOn c.0 frames) (step-channel gives step old mid stepped) d.on);
       }
 
   -- one step alone
   pub one-inside : (old new : State R) (step : Step R A T D) → Steps gives old step new → SetsNoWindow step
-      → AcceptsInside gives (accepted_in step) old (handed step) new
-  one-inside old new step stepped still =
+      → AreOn (channel_of old) (handed step) → AcceptsInside gives (accepted_in step) old (handed step) new
+  one-inside old new step stepped still on =
       record {
         steps = step ∷ [];
         history = (new, stepped, refl);
         still = (still, tt);
         accepts = append-nil (accepted_in step);
         says = ap said_in (sym (append-nil (handed step)));
+        on = on;
       }
 
   -- one after another
@@ -144,24 +190,29 @@ module _ {R A T D : Type 0} (gives : Relations R A T D) where
             ∙ ap (λ (fs : List SessionFrame). said_in (handed_of d.steps) ++ fs) e.says
             ∙ sym (said-both (handed_of d.steps) (handed_of e.steps))
             ∙ ap said_in (sym (handed-both d.steps e.steps));
+        on =
+            both-on (channel_of old) first later d.on
+            (subst (λ (c : OutgoingChannel). AreOn c.0 later) (history-channel gives d.steps old mid d.history) e.on);
       }
 
   -- other frames are handed out, among which links say the same
   pub alike-inside : {accepted : Batches} (old new : State R) (frames others : List SessionFrame)
-      → said_in others ≡ said_in frames → AcceptsInside gives accepted old frames new
+      → said_in others ≡ said_in frames → AreOn (channel_of old) others → AcceptsInside gives accepted old frames new
       → AcceptsInside gives accepted old others new
-  alike-inside old new frames others same d =
+  alike-inside old new frames others same on d =
       record {
         steps = d.steps;
         history = d.history;
         still = d.still;
         accepts = d.accepts;
         says = same ∙ d.says;
+        on = on;
       }
 
   pub same-inside : {accepted : Batches} (old new : State R) (frames others : List SessionFrame) → others ≡ frames
       → AcceptsInside gives accepted old frames new → AcceptsInside gives accepted old others new
-  same-inside old new frames others is d = alike-inside old new frames others (ap said_in is) d
+  same-inside old new frames others is d =
+      alike-inside old new frames others (ap said_in is) (subst (AreOn (channel_of old)) (sym is) d.on) d
 
   -- nothing is handed out behind
   pub silent-behind : (old mid new : State R) (frames : List SessionFrame) → DoneInside gives old frames mid
@@ -176,11 +227,13 @@ module _ {R A T D : Type 0} (gives : Relations R A T D) where
       → DoneInside gives old frames new
   said-inside old new handle frame left answer frames sent are =
       same-inside old new (option_to_list answer) frames are
-      (one-inside old new (SendsBehind handle frame left answer) sent tt)
+      (one-inside old new (SendsBehind handle frame left answer) sent tt
+      (subst (λ (a : Option SessionFrame). AreOn (channel_of old) (option_to_list a)) (sym sent.1)
+      (at-once-on old.fields _ left)))
 
   -- a link is changed before
   pub changed-inside : {accepted : Batches} (old mid new : State R) (handle : ℕ) (stood stands : R)
       (frames : List SessionFrame) → Steps gives old (Changes handle stood stands) mid
       → AcceptsInside gives accepted mid frames new → AcceptsInside gives accepted old frames new
   changed-inside old mid new handle stood stands frames changed d =
-      step-inside old mid new (Changes handle stood stands) frames changed tt d
+      step-inside old mid new (Changes handle stood stands) frames changed tt tt d

@@ -2,7 +2,8 @@
 use Rattle.std.specs.Prelude.{◌≡◌, ℕ, List, [], ◌∷◌, ◌++◌, Bool, true, false, if◌then◌else◌, is_some}
 use Rattle.amqp_session_performatives.specs.declared.session_frame.SessionFrame.{SessionFrame}
 use Rattle.amqp_session_performatives.specs.declared.session_frame.SessionFrameBody.{SessionFrameBody}
-use Rattle.amqp_session_performatives.specs.declared.session_frame.SessionFrameBody.TheVariants.{Detach, Flow, Transfer}
+use Rattle.amqp_session_performatives.specs.declared.session_frame.SessionFrameBody.TheVariants.{Begin, Detach, End}
+use Rattle.amqp_session_performatives.specs.declared.session_frame.SessionFrameBody.TheVariants.{Flow, Transfer}
 use Rattle.amqp_session_core.specs.Batch.{Transfers}
 use Rattle.amqp_session_core.specs.History.{History}
 use Rattle.amqp_session_core.specs.Relay.{Relations}
@@ -32,6 +33,16 @@ abbrev pub said_in : List SessionFrame → List SessionFrame
 said_in [] = []
 said_in (frame ∷ frames) = if is_of_link frame.body then frame ∷ said_in frames else said_in frames
 
+abbrev pub IsNoBeginOrEnd : SessionFrameBody → Type 0
+IsNoBeginOrEnd (Begin begin) = ⊥
+IsNoBeginOrEnd (End end) = ⊥
+IsNoBeginOrEnd body = Unit {0}
+
+-- frames on this channel, neither a Begin nor an End among them
+abbrev pub AreOn : ℕ → List SessionFrame → Type 0
+AreOn channel [] = Unit {0}
+AreOn channel (frame ∷ frames) = (frame.channel ≡ channel) × IsNoBeginOrEnd frame.body × AreOn channel frames
+
 module _ {R A T D : Type 0} where
   -- a step by which the peer's window stays as it is
   abbrev pub SetsNoWindow : Step R A T D → Type 0
@@ -58,8 +69,8 @@ module _ {R A T D : Type 0} where
   accepted_of (step ∷ steps) = accepted_in step ++ accepted_of steps
 
 module _ {R A T D : Type 0} (gives : Relations R A T D) where
-  -- a session goes on by steps of its own, by which its peer's window stays as it is and which accept these transfers,
-  -- and what links say among what is handed out is theirs
+  -- a session goes on by steps of its own, by which its peer's window stays as it is and which accept these transfers.
+  -- What is handed out is on its channel, and what links say among it is said by these steps
   pub record AcceptsInside (accepted : Batches) (old : State R) (frames : List SessionFrame) (new : State R) : Type 0
     where
       pub steps : List (Step R A T D)
@@ -67,6 +78,7 @@ module _ {R A T D : Type 0} (gives : Relations R A T D) where
       pub still : SetNoWindow steps
       pub accepts : accepted_of steps ≡ accepted
       pub says : said_in frames ≡ said_in (handed_of steps)
+      pub on : AreOn ((old.fields).channel).0 frames
 
   -- it accepts none
   abbrev pub DoneInside : State R → List SessionFrame → State R → Type 0

@@ -1,0 +1,37 @@
+-- What passes on an endpoint's connection, as one sees it who reads along (part 2, 2.4, 2.5).
+use Rattle.std.specs.Prelude.{◌≡◌, ℕ, List, [], ◌∷◌, Some, flat_map, map}
+use Rattle.amqp_session_types.specs.declared.channels.OutgoingChannel.{OutgoingChannel}
+use Rattle.amqp_endpoint_deeds.specs.Deeds.{Deed, Does, Hears, Takes}
+use Rattle.amqp_endpoint_linked.specs.declared.linked.LinkedSessions.{LinkedSessions}
+use Rattle.amqp_endpoint_linking.specs.Linking.{Session}
+use Rattle.amqp_endpoint_reading.specs.Following.{goes}
+use Rattle.amqp_endpoint_reading.specs.Reading.{Comes, Goes, Reader, Wired, read_on}
+use Rattle.amqp_endpoint_sessions.specs.State.{place_at}
+use Rattle.amqp_endpoint_sessions.specs.declared.place.Place.TheVariants.{Live}
+use Rattle.amqp_endpoint_talk.specs.Windows.{Came, Passing, Went}
+
+-- the frames that pass by a deed: the peer's that is taken, and behind it those that sessions hand out
+abbrev pub wired_in : Deed → List Wired
+wired_in (Hears frame events) = Comes frame ∷ []
+wired_in (Takes limit frame frames events) = Comes frame ∷ goes frames
+wired_in (Does limit call answer frames) = goes frames
+wired_in deed = []
+
+abbrev pub wired_by : List Deed → List Wired
+wired_by deeds = flat_map wired_in deeds
+
+-- a frame of a session's, as it passes in the session
+abbrev pub passing_of : Wired → Passing
+passing_of (Comes frame) = Came frame.body
+passing_of (Goes frame) = Went frame
+
+-- what passes in the session with this number on a connection, as it is read
+abbrev pub passing_in : ℕ → Reader → List Wired → List Passing
+passing_in number r frames = map passing_of (read_on number r frames)
+
+-- each session that goes on is on the channel on which it hands its frames out
+abbrev pub OnOwnChannels : LinkedSessions → Type 0
+OnOwnChannels s =
+    (number : ℕ) (channel : OutgoingChannel) (session : Session)
+    → place_at s.talk.sessions number ≡ Some (Live channel session)
+    → ((session.value).session).fields.channel ≡ channel
