@@ -34,7 +34,10 @@ mod HoldingDeeds
 mod HandedOut
 mod HandedBy
 mod HandedOn
+mod LifePlace
+mod LifeDeeds
 mod HandedRuns
+mod LifeRuns
 mod QueuedSaid
 mod QueuedOrder
 mod QueuedKept

@@ -5,4 +5,5 @@ pub mod Passed
 pub mod Held
 pub mod Agreeing
 pub mod Handed
+pub mod Life
 pub mod Queued

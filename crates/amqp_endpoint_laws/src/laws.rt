@@ -1,5 +1,6 @@
 //! The laws. A function here does nothing but name the laws that it rests on: its contract is the law.
 ghost use Rattle.std.specs.Prelude.{◌≡◌, ℕ, List, map, slice_get, Option, Some};
+ghost use Rattle.std.specs.Prelude.{◌⊎◌, [], ◌++◌};
 ghost use Rattle.amqp_session_performatives.specs.declared.session_frame.SessionFrame.{SessionFrame};
 ghost use Rattle.amqp_session_types.specs.declared.channels.OutgoingChannel.{OutgoingChannel};
 ghost use Rattle.amqp_session_types.specs.declared.handles.OutputHandle.{OutputHandle};
@@ -21,14 +22,16 @@ ghost use Rattle.amqp_endpoint_model.specs.declared.settings.Settings.{Settings}
 ghost use Rattle.amqp_endpoint_linked.specs.Does.{linked};
 ghost use Rattle.amqp_endpoint_linked.specs.Sending.{tag_of};
 ghost use Rattle.amqp_endpoint_linked.specs.declared.linked.LinkedSessions.{LinkedSessions};
-ghost use Rattle.amqp_endpoint_deeds.specs.Deeds.{AreDone, Deed, Does, IsDeed, told_by};
-ghost use Rattle.amqp_endpoint_deeds.specs.Telling.{events_told};
+ghost use Rattle.amqp_endpoint_deeds.specs.Deeds.{AreDone, Deed, Does, IsDeed, IsDone, done_since, fed_since};
+ghost use Rattle.amqp_endpoint_deeds.specs.Deeds.{pulled_since, told_by, told_in, told_since};
+ghost use Rattle.amqp_endpoint_deeds.specs.Telling.{calls_done, events_told};
 ghost use Rattle.amqp_endpoint_settings.specs.declared.link.LinkSettings.{LinkSettings};
 ghost use Rattle.amqp_endpoint_talk.specs.Windows.{KeepsWindow, Passing, begins_with};
 ghost use Rattle.amqp_endpoint_laws.specs.Conversing.{SessionsGoOn};
 ghost use Rattle.amqp_endpoint_laws.specs.Handed.{IsReceiving, NoneResumes, PassesOn, ReachIn, handed_as};
 ghost use Rattle.amqp_endpoint_laws.specs.Handed.{handed_by, pieces_on};
 ghost use Rattle.amqp_endpoint_laws.specs.Held.{IsHeldThere, number_at};
+ghost use Rattle.amqp_endpoint_laws.specs.Life.{Reach, StaysSomewhere};
 ghost use Rattle.amqp_endpoint_laws.specs.Linking.{HaveCome};
 ghost use Rattle.amqp_endpoint_laws.specs.Passed.{HasCome, PassesIn};
 ghost use Rattle.amqp_endpoint_laws.specs.Queued.{AttachesFirst, SayMessages, messages_by, queued};
@@ -195,7 +198,44 @@ pub fn what_is_handed_out_is_what_was_said()
     ensures on_a_handle { (start end : LinkedSessions) (since : List Deed) (link session : ℕ) (own : OutputHandle)
         (theirs : ℕ) (passings : List Passing) → PassesOn link session own theirs start since end passings →
         ReachIn link session own start since end (pieces_on theirs passings) }
+{
+    links_given_back_go_on();
+}
+
+/// An endpoint hands a message out by a link only in a deed before and behind which that is attached as a receiving
+/// link, in one session and under one own handle. So the deed that ends an attachment hands out none of its link, nor do
+/// those before and behind the attachment (part 2, 2.6.3, 2.6.4, 2.6.12).
+pub fn messages_come_while_attached()
+    ensures { (old new : LinkedSessions) (deed : Deed) (link : ℕ) → IsDeed linked old deed new →
+        (handed_by link (told_in deed) ≡ []) ⊎ StaysSomewhere old new link }
 {}
+
+/// All that an endpoint ever hands out by a link is what the transfers say that reach the link while it is attached, in
+/// order, from nothing on, where none of them says that it resumes a delivery. So what the link holds of a message as its
+/// attachment ends is never handed out (part 2, 2.6.12, 2.6.14). A link is attached in one session alone, and under one
+/// own handle alone, whichever deeds its endpoint's run consists of; and each run consists of deeds by which the events
+/// are those that it tells.
+pub fn all_that_is_handed_out()
+    ensures says { (sessions end : LinkedSessions) (settings : Settings) (deeds : List Deed) (link session : ℕ)
+        (own : OutputHandle) (pieces : List Piece) → IsNew linked settings sessions →
+        Reach link session own sessions deeds end pieces → NoneResumes pieces →
+        handed_by link (told_by deeds) ≡ map (handed_as own) (readings nothing pieces).messages }
+    ensures some { (sessions end : LinkedSessions) (settings : Settings) (deeds : List Deed) (link : ℕ) →
+        IsNew linked settings sessions → AreDone linked sessions deeds end →
+        (session : ℕ) × (own : OutputHandle) × (pieces : List Piece) ×
+        Reach link session own sessions deeds end pieces }
+    ensures by_calls { (sessions : LinkedSessions) (settings : Settings) (calls : List Call) (told : List Told)
+        (end : State LinkedSessions) (link : ℕ) → IsNew linked settings sessions →
+        Run linked (fresh settings sessions) calls told end →
+        (did : IsDone linked settings.max_frame_size sessions (pulled_since [] calls told) (fed_since [] calls told)
+        (told_since [] calls told) (done_since [] calls told) (events_told told) (calls_done calls told) end) ×
+        (session : ℕ) × (own : OutputHandle) × (pieces : List Piece) ×
+        Reach link session own sessions (did.before ++ did.since) end.sessions pieces ×
+        (NoneResumes pieces →
+        handed_by link (events_told told) ≡ map (handed_as own) (readings nothing pieces).messages) }
+{
+    links_given_back_go_on();
+}
 
 /// What a sending link is given to send is queued in order. Its Attach is the first frame of the call by which it
 /// attaches, and says its own handle and its name. The transfers with that handle among all that passes in its session
