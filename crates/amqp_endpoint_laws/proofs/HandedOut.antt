@@ -87,7 +87,8 @@ ends-of None own = refl
 ends-of (Some session) own = refl
 
 pub as-receiving : (l : Link) (r : ReceiverState) → l.link ≡ Receiver r → Some l ≡ Some (receiving l.number r)
-as-receiving l r is = let by_end : End → Option Link = λ e. Some (record { number = l.number; link = e }) in ap by_end is
+as-receiving l r is =
+    let by_end : End → Option Link = λ e. Some (record { number = l.number; link = e }) in ap by_end is
 
 whole-link : (l : Option Link) (link : ℕ) (end : ReceiverState)
     → option_map (λ (n : Link). n.link) l ≡ Some (Receiver end) → number_of l ≡ Some link

@@ -1,4 +1,4 @@
--- Where a receiving link stands, and what it holds of a message, whatever is done to it but that a transfer comes to it.
+-- Where a receiving link stands, and what it holds of a message, whatever is done to it but that a transfer comes.
 use Rattle.std.proofs.Common.{◌≡◌, ◌⊎◌, inl, inr, ℕ, Bool, true, false, List, Option, Some, None, Result, Ok, Err}
 use Rattle.std.proofs.Common.{ap, refl, subst, sym, ◌∙◌, if◌then◌else◌}
 use Rattle.std.proofs.lemmas.Option.{none-some, same_Some}
@@ -153,9 +153,11 @@ taken-apart old new false is = ap stands_so (sym (same_Some state.Detached new i
 abbrev Moves : LinkState → LinkState → Type 0
 Moves old new = ((stands_so old ≡ Some false) × (stands_so new ≡ Some true)) ⊎ (stands_so new ≡ None)
 
-attach-moves : (old new : LinkState) (incomplete : Bool) → after_incoming_attach old incomplete ≡ Some new → Moves old new
+attach-moves : (old new : LinkState) (incomplete : Bool) → after_incoming_attach old incomplete ≡ Some new
+    → Moves old new
 attach-moves state.AttachSent new false is = inl (refl, ap stands_so (sym (same_Some state.Attached new is)))
-attach-moves state.AttachSent new true is = inl (refl, ap stands_so (sym (same_Some state.IncompleteAttachExchanged new is)))
+attach-moves state.AttachSent new true is =
+    inl (refl, ap stands_so (sym (same_Some state.IncompleteAttachExchanged new is)))
 attach-moves state.IncompleteAttachSent new false is =
     inl (refl, ap stands_so (sym (same_Some state.IncompleteAttachExchanged new is)))
 attach-moves state.IncompleteAttachSent new true is =
@@ -347,7 +349,8 @@ pub empty-sent : (e : End) (incomplete : Bool) (new : End) → IsEmpty e → att
     → IsEmpty new
 empty-sent (Sender s) incomplete new empty is = sent-sender (sending.attach_sent s incomplete) new is
 empty-sent (Receiver r) incomplete new empty is =
-    sent-receiver r (flow_attached r.end.flow r.end.flow.initial_delivery_count) (sent_attach r.base incomplete) new empty is
+    sent-receiver r (flow_attached r.end.flow r.end.flow.initial_delivery_count) (sent_attach r.base incomplete) new
+    empty is
 
 -- it takes the peer's
 taken-held : (moved : Option LinkBase) (error : Option ReceiverAttachError) (old : ReceiverState) (attach : Attach)

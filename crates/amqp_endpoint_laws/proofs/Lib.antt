@@ -43,3 +43,4 @@ mod QueuedOrder
 mod QueuedKept
 mod QueuedSince
 mod QueuedAttached
+mod QueuedCalled

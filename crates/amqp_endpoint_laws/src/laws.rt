@@ -34,7 +34,8 @@ ghost use Rattle.amqp_endpoint_laws.specs.Held.{IsHeldThere, number_at};
 ghost use Rattle.amqp_endpoint_laws.specs.Life.{Reach, StaysSomewhere};
 ghost use Rattle.amqp_endpoint_laws.specs.Linking.{HaveCome};
 ghost use Rattle.amqp_endpoint_laws.specs.Passed.{HasCome, PassesIn};
-ghost use Rattle.amqp_endpoint_laws.specs.Queued.{AttachesFirst, SayMessages, messages_by, queued};
+ghost use Rattle.amqp_endpoint_laws.specs.Queued.{AttachesFirst, SayMessages, SaysSince, messages_by};
+ghost use Rattle.amqp_endpoint_laws.specs.Queued.{messages_done, queued};
 ghost use Rattle.amqp_endpoint_laws.specs.Telling.{numbers_told, numbers_under, tags_given};
 
 use amqp_endpoint_linking::laws::links_given_back_go_on;
@@ -203,18 +204,18 @@ pub fn what_is_handed_out_is_what_was_said()
 }
 
 /// An endpoint hands a message out by a link only in a deed before and behind which that is attached as a receiving
-/// link, in one session and under one own handle. So the deed that ends an attachment hands out none of its link, nor do
-/// those before and behind the attachment (part 2, 2.6.3, 2.6.4, 2.6.12).
+/// link, in one session and under one own handle. So the deed that ends an attachment hands out none of its link, nor
+/// do those before and behind the attachment (part 2, 2.6.3, 2.6.4, 2.6.12).
 pub fn messages_come_while_attached()
     ensures { (old new : LinkedSessions) (deed : Deed) (link : ℕ) → IsDeed linked old deed new →
         (handed_by link (told_in deed) ≡ []) ⊎ StaysSomewhere old new link }
 {}
 
 /// All that an endpoint ever hands out by a link is what the transfers say that reach the link while it is attached, in
-/// order, from nothing on, where none of them says that it resumes a delivery. So what the link holds of a message as its
-/// attachment ends is never handed out (part 2, 2.6.12, 2.6.14). A link is attached in one session alone, and under one
-/// own handle alone, whichever deeds its endpoint's run consists of; and each run consists of deeds by which the events
-/// are those that it tells.
+/// order, from nothing on, where none of them says that it resumes a delivery. So what the link holds of a message as
+/// its attachment ends is never handed out (part 2, 2.6.12, 2.6.14). There are such transfers: a link is attached in
+/// one session alone, and under one own handle alone, whichever deeds its endpoint's run consists of. And each run
+/// consists of deeds that tell its events.
 pub fn all_that_is_handed_out()
     ensures says { (sessions end : LinkedSessions) (settings : Settings) (deeds : List Deed) (link session : ℕ)
         (own : OutputHandle) (pieces : List Piece) → IsNew linked settings sessions →
@@ -242,7 +243,8 @@ pub fn all_that_is_handed_out()
 /// from then on, and behind them those that wait there for the peer's window, say the messages that the link accepted
 /// since, one after the other, each with its tag, its format, whether it goes settled, and all of its bytes; and no
 /// message is left half said (part 2, 2.6.12, 2.6.14). So it is whatever else the endpoint does and hears, as long as
-/// the session holds the link and goes on.
+/// the session holds the link and goes on. In a run these are all messages that the link is given by a call that is
+/// done, where the link attaches by such a call.
 pub fn what_is_sent_is_queued_in_order()
     ensures says { (sessions old new end : LinkedSessions) (settings : Settings) (before since : List Deed)
         (number link limit : ℕ) (its : LinkSettings) (events : List Event) (frames : List SessionFrame)
@@ -259,6 +261,17 @@ pub fn what_is_sent_is_queued_in_order()
         IsDeed linked old (Does limit (AttachSender number its) (attaching link events) frames) new →
         PassesIn number new since end passings → place_at end.links link ≡ Some (Held number handle) →
         AttachesFirst handle its.name frames }
+    ensures by_calls { (sessions : LinkedSessions) (settings : Settings) (calls : List Call) (told : List Told)
+        (end : State LinkedSessions) (link n number : ℕ) (its : LinkSettings) (events : List Event)
+        (handle : OutputHandle) (session : Session) → IsNew linked settings sessions →
+        Run linked (fresh settings sessions) calls told end →
+        slice_get (calls_done calls told) n ≡ Some (AttachSender number its, attaching link events) →
+        place_at end.sessions.links link ≡ Some (Held number handle) →
+        live_at end.sessions.talk.sessions number ≡ Some session →
+        (did : IsDone linked settings.max_frame_size sessions (pulled_since [] calls told) (fed_since [] calls told)
+        (told_since [] calls told) (done_since [] calls told) (events_told told) (calls_done calls told) end) ×
+        SaysSince sessions (did.before ++ did.since) number link its events handle end.sessions session
+        (messages_done link (calls_done calls told)) }
 {
     links_given_back_go_on();
     no_two_links_share_a_handle();
