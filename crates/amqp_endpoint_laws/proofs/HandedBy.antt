@@ -1,6 +1,6 @@
 -- One deed after the other, what a receiving link hands out is what the transfers say that reach it.
-use Rattle.std.proofs.Common.{◌≡◌, ◌==◌, ◌&&◌, inl, inr, ℕ, Bool, true, false, List, [], ◌∷◌, ◌++◌, Option, Some, None}
-use Rattle.std.proofs.Common.{Ok, Err, ap, refl, sym, subst, ◌∙◌, if◌then◌else◌, map, arith, append_assoc}
+use Rattle.std.proofs.Common.{◌≡◌, ◌==◌, ◌&&◌, ◌⊎◌, inl, inr, ℕ, Bool, true, false, List, [], ◌∷◌, ◌++◌, Option}
+use Rattle.std.proofs.Common.{None, Some, Ok, Err, ap, refl, sym, subst, ◌∙◌, if◌then◌else◌, map, arith, append_assoc}
 use Rattle.std.proofs.lemmas.List.{append-nil}
 use Rattle.std.proofs.lemmas.Option.{none-some}
 use Rattle.std.specs.Global.{Box}
@@ -12,9 +12,11 @@ use Rattle.amqp_session_performatives.specs.declared.transfer.Transfer.{Transfer
 use Rattle.amqp_session_frames.specs.declared.frame.Frame.{Frame}
 use Rattle.amqp_session_frames.specs.declared.frame.FrameBody.{FrameBody}
 use Rattle.amqp_session_frames.specs.declared.frame.FrameBody.TheVariants as body
+use Rattle.amqp_session_core.specs.declared.incoming.TransferTaken.{TransferTaken}
 use Rattle.amqp_link_place.specs.Readings.{Piece, Reading, readings}
 use Rattle.amqp_link_receiving.specs.Deliveries.{Delivery}
 use Rattle.amqp_link_receiving.specs.Readings.{held_said}
+use Rattle.amqp_link_receiving.specs.declared.answer.Told.{Told}
 use Rattle.amqp_endpoint_asked.specs.declared.session.AskedSession.{AskedSession}
 use Rattle.amqp_endpoint_attached.specs.Linked.{gives}
 use Rattle.amqp_endpoint_conversation.specs.Hearing.{Answered, AnsweredAt, AnsweredIn, AskedAnswered, LiveAnswered}
@@ -24,8 +26,8 @@ use Rattle.amqp_endpoint_deeds.specs.Deeds.{Closes, Deed, Does, Finishes, Hears,
 use Rattle.amqp_endpoint_deeds.specs.Deeds.{Refuses, Renews, Takes, told_by, told_in}
 use Rattle.amqp_endpoint_link_hearing.specs.Naming.{link_in}
 use Rattle.amqp_endpoint_link_hearing.specs.Saying.{LinkHeard}
-use Rattle.amqp_endpoint_link_hearing.specs.Transferring.{Becomes, FailsByTransfer, HearsTransfer, transfer_of}
-use Rattle.amqp_endpoint_link_hearing.proofs.Heard.{taken-in}
+use Rattle.amqp_endpoint_link_hearing.specs.Transferring.{Becomes, Comes, HearsTransfer, transfer_of}
+use Rattle.amqp_endpoint_link_hearing.proofs.Heard.{IsTaken as IsHeard, taken-in}
 use Rattle.amqp_endpoint_linked.specs.Does.{linked}
 use Rattle.amqp_endpoint_linked.specs.Hearing.{Hears as HearsFrame}
 use Rattle.amqp_endpoint_linked.specs.declared.linked.LinkedSessions.{LinkedSessions}
@@ -40,14 +42,15 @@ use Rattle.amqp_endpoint_sessions.proofs.Owning.{at, same_number}
 use Rattle.amqp_endpoint_laws.specs.Handed.{Handed, IsReceiving, NoneResumes, ReachIn, handed_as, handed_by}
 use Rattle.amqp_endpoint_laws.specs.Handed.{leads_there}
 use Rattle.amqp_endpoint_laws.specs.Handed.{piece_of, pieces_in}
+use Rattle.amqp_endpoint_laws.specs.Life.{StaysSomewhere}
 use Rattle.amqp_endpoint_laws.specs.Passed.{is_it}
 use Rattle.amqp_endpoint_laws.specs.Telling.{numbers_told}
 use Rattle.amqp_endpoint_laws.proofs.Counted.{answer-unnumbered}
-use Rattle.amqp_endpoint_laws.proofs.HandedOut.{Receives, Says, StandsAlone, goes-same, handed-both, none-handed}
-use Rattle.amqp_endpoint_laws.proofs.HandedOut.{none-resume}
-use Rattle.amqp_endpoint_laws.proofs.HandedOut.{readings-both, receives-holds, says-none, says-so}
-use Rattle.amqp_endpoint_laws.proofs.HoldingDeeds.{IsNotTransfer, TakesNoTransfer, deed-goes}
-use Rattle.amqp_endpoint_laws.proofs.HoldingEnds.{Goes}
+use Rattle.amqp_endpoint_laws.proofs.HandedOut.{HearsOne, IsTold, Receives, Says, StandsAlone, each-hears, goes-same}
+use Rattle.amqp_endpoint_laws.proofs.HandedOut.{handed-both, hands-out, none-handed, none-resume, readings-both}
+use Rattle.amqp_endpoint_laws.proofs.HandedOut.{receives-holds, says-none, says-so}
+use Rattle.amqp_endpoint_laws.proofs.HoldingDeeds.{GoesBy, IsNotTransfer, TakesNoTransfer, deed-goes}
+use Rattle.amqp_endpoint_laws.proofs.HoldingEnds.{Holding, Stays}
 use Rattle.amqp_endpoint_laws.proofs.HoldingTalk.{EachOf, fails-stay, held_in}
 use Rattle.amqp_endpoint_laws.proofs.Numbered.{GivesNext, gives-next}
 use Rattle.amqp_endpoint_laws.proofs.PassedPlaces.{eq-same}
@@ -131,95 +134,145 @@ module _ (old : Talk) (channel : IncomingChannel) (it : Transfer) (payload : Lis
 
 -- a Transfer is heard
 module _ (old new : LinkedSessions) (channel : IncomingChannel) (it : Transfer) (payload : List ℕ)
-    (frames : List SessionFrame) (events : List Event) (link n : ℕ) (own : OutputHandle) (reading : Reading)
-    (later : Option Delivery) (r : Receives old link n own (held_said reading.held)) (q : Receives new link n own later)
-    (alone : StandsAlone old link n own) where
-  abbrev pieces : List Piece
-  pieces = piece_of old n own channel.0 (body.Transfer it payload)
+    (frames : List SessionFrame) (events : List Event) where
+  -- by a link
+  record ByLink : Type 0 where
+    mid : Talk
+    session : ℕ
+    took : TransferTaken Told
+    own : List SessionFrame
+    heard : IsHeard old.talk channel [] (said.Transfer it payload) session (taken.Transfer took) mid []
+    comes : Comes took.told old.talk old.given it session mid own events new.talk new.given
 
-  abbrev Done : Type 0
-  Done = Says own reading pieces (handed_by link events) later
+  -- or by none, where its session is ending
+  record ByNone : Type 0 where
+    dropped : IsDropped old.talk channel new.talk
+    untold : events ≡ []
 
-  -- it reaches no link of this session
-  no-pieces : (number : ℕ) → reached old.talk.sessions channel.0 ≡ Some number → (number ≡ n → ⊥) → pieces ≡ []
-  no-pieces number reaches other = by (n == number) refl
-    where
-      by : (b : Bool) → (n == number) ≡ b → pieces ≡ []
-      by true e = absurd (other (sym (same_number n number e)))
-      by false e =
-          ap
-          (λ (b : Bool).
-          if b && leads_there (live_at old.talk.sessions n) it.handle.0 own
-          then record { performative = it; payload = payload } ∷ [] else [])
-          (ap (λ (o : Option ℕ). is_it o n) reaches ∙ e)
+  -- or its session ends by its fault
+  record ByFault : Type 0 where
+    ended : IsEnded old.talk channel new.talk
+    stays : EachOf Stays old.talk.sessions new.talk.sessions
+    untold : (link : ℕ) → handed_by link events ≡ []
 
-  stayed : EachOf Goes old.talk.sessions new.talk.sessions → later ≡ held_said reading.held
-  stayed goes =
-      ap (λ (x : ℕ × Option Delivery). x.1)
-      (goes-same (held_in (live_at old.talk.sessions n) own.0) (held_in (live_at new.talk.sessions n) own.0)
-      (link, held_said reading.held) (link, later) (goes n own.0)
-      (receives-holds old link n own (held_said reading.held) r) (receives-holds new link n own later q))
+  abbrev HeardBy : Type 0
+  HeardBy = ByLink ⊎ (ByNone ⊎ ByFault)
 
-  taken-none : (mid : Talk) (h : LinkHeard) (given given_new : ℕ)
+  by-none : (mid : Talk) (h : LinkHeard)
       → Answered gives old.talk [] channel (said.Transfer it payload) (Ok h) mid []
-      → IsUntaken old.talk channel it payload mid [] h → events ≡ [] → new.talk ≡ mid → Done
-  taken-none mid h given given_new answered untaken silent stays =
+      → IsUntaken old.talk channel it payload mid [] h → events ≡ [] → new.talk ≡ mid → HeardBy
+  by-none mid h answered untaken silent stays =
       let d = drops old.talk channel it payload mid [] h untaken answered in
-      says-none own reading pieces (handed_by link events) later
-      (no-pieces d.number d.reaches
-      (λ same.
-      has-session (live_at old.talk.sessions n) own _ r.there
-      (ap (λ (k : ℕ). live_at old.talk.sessions k) (sym same) ∙ d.dead)))
-      (ap (handed_by link) silent)
-      (stayed (λ m h. inr (inl (ap (λ (t : Talk). held_in (live_at t.sessions m) h) (stays ∙ d.same)))))
+      inr (inl (record {
+        dropped = record { number = d.number; reaches = d.reaches; dead = d.dead; same = stays ∙ d.same };
+        untold = silent;
+      }))
 
-  transfer-says : (h : LinkHeard) (mid : Talk)
+  by-link : (h : LinkHeard) (mid : Talk)
       → Answered gives old.talk [] channel (said.Transfer it payload) (Ok h) mid []
-      → Becomes (transfer_of h) old.talk old.given it mid frames events new.talk new.given → NoneResumes pieces → Done
-  transfer-says (heard_as.Live session (taken.Transfer took)) mid answered b none =
-      says-so old new mid channel it payload session took b.own events
-      (taken-in old.talk channel [] (said.Transfer it payload) session (taken.Transfer took) mid [] answered)
-      b.comes link n own reading later r q alone none
-  transfer-says (heard_as.Asked k) mid answered b none =
-      taken-none mid (heard_as.Asked k) old.given new.given answered tt b.untold b.stays
-  transfer-says (heard_as.Dropped k) mid answered b none =
-      taken-none mid (heard_as.Dropped k) old.given new.given answered tt b.untold b.stays
-  transfer-says (heard_as.Live session (taken.Attach t)) mid answered b none =
+      → Becomes (transfer_of h) old.talk old.given it mid frames events new.talk new.given → HeardBy
+  by-link (heard_as.Live session (taken.Transfer took)) mid answered b =
+      inl (record {
+        mid = mid;
+        session = session;
+        took = took;
+        own = b.own;
+        heard = taken-in old.talk channel [] (said.Transfer it payload) session (taken.Transfer took) mid [] answered;
+        comes = b.comes;
+      })
+  by-link (heard_as.Asked k) mid answered b = by-none mid (heard_as.Asked k) answered tt b.untold b.stays
+  by-link (heard_as.Dropped k) mid answered b = by-none mid (heard_as.Dropped k) answered tt b.untold b.stays
+  by-link (heard_as.Live session (taken.Attach t)) mid answered b =
       absurd
       (taken-in old.talk channel [] (said.Transfer it payload) session (taken.Attach t) mid []
       answered).takes.hears.heard.0
-  transfer-says (heard_as.Live session taken.Flow) mid answered b none =
+  by-link (heard_as.Live session taken.Flow) mid answered b =
       absurd
       (taken-in old.talk channel [] (said.Transfer it payload) session taken.Flow mid [] answered).takes.hears.heard.0
-  transfer-says (heard_as.Live session (taken.Disposition back runs)) mid answered b none =
+  by-link (heard_as.Live session (taken.Disposition back runs)) mid answered b =
       absurd
       (taken-in old.talk channel [] (said.Transfer it payload) session (taken.Disposition back runs) mid []
       answered).takes.hears.heard.0
-  transfer-says (heard_as.Live session (taken.Detach t)) mid answered b none =
+  by-link (heard_as.Live session (taken.Detach t)) mid answered b =
       absurd
       (taken-in old.talk channel [] (said.Transfer it payload) session (taken.Detach t) mid []
       answered).takes.hears.heard.0
 
-  failed-says : FailsByTransfer old.talk old.links old.given channel it payload frames events new.talk new.links
-      new.given → Done
-  failed-says f =
-      let e =
-      ended-in old.talk channel it payload new.talk frames f.fails.number f.fails.fault f.fails.session
-      (reached old.talk.sessions channel.0) refl f.fails.answered in
-      says-none own reading pieces (handed_by link events) later
-      (no-pieces e.number e.reaches
-      (λ same.
-      has-session (live_at new.talk.sessions n) own _ q.there
-      (ap (λ (k : ℕ). live_at new.talk.sessions k) (sym same) ∙ e.dead)))
-      (ap (handed_by link) f.fails.told)
-      (stayed (λ m h.
-      inr (fails-stay (said.Transfer it payload) old.talk new.talk f.fails.number f.fails.fault f.fails.session frames
-      channel f.fails.answered m h)))
+  heard-so : HearsTransfer old.talk old.links old.given channel it payload frames events new.talk new.links new.given
+      → HeardBy
+  heard-so (left, inl t) = by-link t.heard t.mid t.answered t.becomes
+  heard-so (left, inr f) =
+      inr (inr (record {
+        ended =
+            ended-in old.talk channel it payload new.talk frames f.fails.number f.fails.fault f.fails.session
+            (reached old.talk.sessions channel.0) refl f.fails.answered;
+        stays =
+            fails-stay (said.Transfer it payload) old.talk new.talk f.fails.number f.fails.fault f.fails.session frames
+            channel f.fails.answered;
+        untold = λ link. ap (handed_by link) f.fails.told;
+      }))
 
-  pub heard-says : HearsTransfer old.talk old.links old.given channel it payload frames events new.talk new.links
-      new.given → NoneResumes pieces → Done
-  heard-says (left, inl t) none = transfer-says t.heard t.mid t.answered t.becomes none
-  heard-says (left, inr f) none = failed-says f
+  -- what links hold goes on so
+  heard-moves : HeardBy → EachOf HearsOne old.talk.sessions new.talk.sessions
+  heard-moves (inl b) =
+      each-hears old new b.mid channel it payload b.session b.took b.own events b.heard b.comes
+  heard-moves (inr (inl b)) =
+      λ m h. inr (inl (ap (λ (t : Talk). held_in (live_at t.sessions m) h) b.dropped.same))
+  heard-moves (inr (inr b)) = λ m h. inr (b.stays m h)
+
+  -- and what is handed out is so by a link that stays attached
+  heard-hands : (link : ℕ) → HeardBy → (handed_by link events ≡ []) ⊎ StaysSomewhere old new link
+  heard-hands link (inl b) =
+      hands-out old new b.mid channel it payload b.session b.took b.own events b.heard b.comes link
+  heard-hands link (inr (inl b)) = inl (ap (handed_by link) b.untold)
+  heard-hands link (inr (inr b)) = inl (b.untold link)
+
+  module _ (link n : ℕ) (own : OutputHandle) (reading : Reading) (later : Option Delivery)
+      (r : Receives old link n own (held_said reading.held)) (q : Receives new link n own later)
+      (alone : StandsAlone old link n own.0) where
+    abbrev pieces : List Piece
+    pieces = piece_of old n own channel.0 (body.Transfer it payload)
+
+    -- it reaches no link of this session
+    no-pieces : (number : ℕ) → reached old.talk.sessions channel.0 ≡ Some number → (number ≡ n → ⊥) → pieces ≡ []
+    no-pieces number reaches other = by (n == number) refl
+      where
+        by : (b : Bool) → (n == number) ≡ b → pieces ≡ []
+        by true e = absurd (other (sym (same_number n number e)))
+        by false e =
+            ap
+            (λ (b : Bool).
+            if b && leads_there (live_at old.talk.sessions n) it.handle.0 own
+            then record { performative = it; payload = payload } ∷ [] else [])
+            (ap (λ (o : Option ℕ). is_it o n) reaches ∙ e)
+
+    stayed : EachOf Stays old.talk.sessions new.talk.sessions → later ≡ held_said reading.held
+    stayed stays =
+        goes-same (held_in (live_at old.talk.sessions n) own.0) (held_in (live_at new.talk.sessions n) own.0) link
+        (held_said reading.held) later (inr (stays n own.0))
+        (receives-holds old link n own (held_said reading.held) r) (receives-holds new link n own later q)
+
+    heard-says : HeardBy → NoneResumes pieces → Says own reading pieces (handed_by link events) later
+    heard-says (inl b) none =
+        says-so old new b.mid channel it payload b.session b.took b.own events b.heard b.comes link n own reading later
+        r q alone none
+    heard-says (inr (inl b)) none =
+        let d = b.dropped in
+        says-none own reading pieces (handed_by link events) later
+        (no-pieces d.number d.reaches
+        (λ same.
+        has-session (live_at old.talk.sessions n) own _ r.there
+        (ap (λ (k : ℕ). live_at old.talk.sessions k) (sym same) ∙ d.dead)))
+        (ap (handed_by link) b.untold)
+        (stayed (λ m h. inl (ap (λ (t : Talk). held_in (live_at t.sessions m) h) d.same)))
+    heard-says (inr (inr b)) none =
+        let e = b.ended in
+        says-none own reading pieces (handed_by link events) later
+        (no-pieces e.number e.reaches
+        (λ same.
+        has-session (live_at new.talk.sessions n) own _ q.there
+        (ap (λ (k : ℕ). live_at new.talk.sessions k) (sym same) ∙ e.dead)))
+        (b.untold link) (stayed b.stays)
 
 -- no other frame hands a message out
 uncounted : (it : FrameBody) → IsNotTransfer it → (old new : Talk) (links links_new : Links)
@@ -273,6 +326,54 @@ deed-none Renews other old new d = refl
 deed-none Closes other old new d = refl
 deed-none Finishes other old new d = refl
 
+-- what a link holds that hears a transfer goes on, or all that is held does as by any other deed
+abbrev pub MovesBy : LinkedSessions → LinkedSessions → Holding → Holding → Type 0
+MovesBy old new was is = IsTold was is ⊎ GoesBy old new was is
+
+frame-moves : (it : FrameBody) (limit channel : ℕ) (frames : List SessionFrame) (events : List Event)
+    (old new : LinkedSessions)
+    → IsDeed linked old (Takes limit (record { channel = channel; body = it }) frames events) new
+    → EachOf (MovesBy old new) old.talk.sessions new.talk.sessions
+frame-moves (body.Transfer transfer payload) limit channel frames events old new d n h =
+    by (heard-moves old new (record { 0 = channel }) transfer payload frames events
+    (heard-so old new (record { 0 = channel }) transfer payload frames events d.0) n h)
+  where
+    by : HearsOne (held_in (live_at old.talk.sessions n) h) (held_in (live_at new.talk.sessions n) h)
+        → MovesBy old new (held_in (live_at old.talk.sessions n) h) (held_in (live_at new.talk.sessions n) h)
+    by (inl t) = inl t
+    by (inr stays) = inr (inr (inr stays))
+frame-moves it limit channel frames events old new d n h =
+    inr (deed-goes (Takes limit (record { channel = channel; body = it }) frames events) tt old new d n h)
+
+pub deed-moves : (deed : Deed) (old new : LinkedSessions) → IsDeed linked old deed new
+    → EachOf (MovesBy old new) old.talk.sessions new.talk.sessions
+deed-moves (Takes limit f frames events) old new d n h =
+    frame-moves f.body limit f.channel frames events old new d n h
+deed-moves deed old new d n h = inr (deed-goes deed tt old new d n h)
+
+-- what a deed hands out by a link it does so while that is attached
+frame-hands : (it : FrameBody) (limit channel : ℕ) (frames : List SessionFrame) (events : List Event)
+    (old new : LinkedSessions)
+    → IsDeed linked old (Takes limit (record { channel = channel; body = it }) frames events) new
+    → (link : ℕ) → (handed_by link events ≡ []) ⊎ StaysSomewhere old new link
+frame-hands (body.Transfer transfer payload) limit channel frames events old new d link =
+    heard-hands old new (record { 0 = channel }) transfer payload frames events link
+    (heard-so old new (record { 0 = channel }) transfer payload frames events d.0)
+frame-hands it limit channel frames events old new d link =
+    inl (none-handed link events
+    (deed-none (Takes limit (record { channel = channel; body = it }) frames events) tt old new d))
+
+pub deed-hands : (deed : Deed) (old new : LinkedSessions) (link : ℕ) → IsDeed linked old deed new
+    → (handed_by link (told_in deed) ≡ []) ⊎ StaysSomewhere old new link
+deed-hands (Takes limit f frames events) old new link d =
+    frame-hands f.body limit f.channel frames events old new d link
+deed-hands deed old new link d = inl (none-handed link (told_in deed) (deed-none deed tt old new d))
+
+by-same : (old new : LinkedSessions) (a b : Holding) (link : ℕ) (held later : Option Delivery) → GoesBy old new a b
+    → a ≡ Some (link, (true, held)) → b ≡ Some (link, (true, later)) → later ≡ held
+by-same old new a b link held later (inl e) first is = absurd (none-some _ (sym e.vacant ∙ first))
+by-same old new a b link held later (inr g) first is = goes-same a b link held later g first is
+
 module _ (link n : ℕ) (own : OutputHandle) where
   -- one deed
   frame-pieces : (it : FrameBody) → IsNotTransfer it → (old : LinkedSessions) (channel : ℕ)
@@ -298,27 +399,26 @@ module _ (link n : ℕ) (own : OutputHandle) where
   other-says deed other old new d reading later r q =
       says-none own reading (pieces_in n own old deed) (handed_by link (told_in deed)) later
       (no-transfer deed other old) (none-handed link (told_in deed) (deed-none deed other old new d))
-      (ap (λ (x : ℕ × Option Delivery). x.1)
-      (goes-same (held_in (live_at old.talk.sessions n) own.0) (held_in (live_at new.talk.sessions n) own.0)
-      (link, held_said reading.held) (link, later) (deed-goes deed other old new d n own.0)
-      (receives-holds old link n own (held_said reading.held) r) (receives-holds new link n own later q)))
+      (by-same old new (held_in (live_at old.talk.sessions n) own.0) (held_in (live_at new.talk.sessions n) own.0) link
+      (held_said reading.held) later (deed-goes deed other old new d n own.0)
+      (receives-holds old link n own (held_said reading.held) r) (receives-holds new link n own later q))
 
   frame-says : (it : FrameBody) (limit channel : ℕ) (frames : List SessionFrame) (events : List Event)
       (old new : LinkedSessions)
       → IsDeed linked old (Takes limit (record { channel = channel; body = it }) frames events)
       new
       → (reading : Reading) (later : Option Delivery) → Receives old link n own (held_said reading.held)
-      → Receives new link n own later → StandsAlone old link n own → NoneResumes (piece_of old n own channel it)
+      → Receives new link n own later → StandsAlone old link n own.0 → NoneResumes (piece_of old n own channel it)
       → Says own reading (piece_of old n own channel it) (handed_by link events) later
   frame-says (body.Transfer transfer payload) limit channel frames events old new d reading later r q alone none =
       heard-says old new (record { 0 = channel }) transfer payload frames events link n own reading later r q alone
-      d.0 none
+      (heard-so old new (record { 0 = channel }) transfer payload frames events d.0) none
   frame-says it limit channel frames events old new d reading later r q alone none =
       other-says (Takes limit (record { channel = channel; body = it }) frames events) tt old new d reading later r q
 
-  deed-says : (deed : Deed) (old new : LinkedSessions) → IsDeed linked old deed new → (reading : Reading)
+  pub deed-says : (deed : Deed) (old new : LinkedSessions) → IsDeed linked old deed new → (reading : Reading)
       (later : Option Delivery) → Receives old link n own (held_said reading.held) → Receives new link n own later
-      → StandsAlone old link n own → NoneResumes (pieces_in n own old deed)
+      → StandsAlone old link n own.0 → NoneResumes (pieces_in n own old deed)
       → Says own reading (pieces_in n own old deed) (handed_by link (told_in deed)) later
   deed-says (Takes limit f frames events) old new d reading later r q alone none =
       frame-says f.body limit f.channel frames events old new d reading later r q alone none
@@ -339,12 +439,12 @@ module _ (link n : ℕ) (own : OutputHandle) where
   receives-as : (s : LinkedSessions) (held other : Option Delivery) → held ≡ other → IsReceiving s link n own held
       → IsReceiving s link n own other
   receives-as s held other is r =
-      record { place = r.place; end = r.end; there = r.there; attached = r.attached; holds = r.holds ∙ is }
+      record { numbered = r.numbered; end = r.end; there = r.there; attached = r.attached; holds = r.holds ∙ is }
 
   -- what a link that receives stands by, where sessions and links agree
   pub record Stands (s : LinkedSessions) (held : Option Delivery) : Type 0 where
     pub receives : Receives s link n own held
-    pub alone : StandsAlone s link n own
+    pub alone : StandsAlone s link n own.0
 
   -- one after the other, where what makes links stand so is kept
   module _ (Kept : LinkedSessions → Type 0)

@@ -1,6 +1,6 @@
 -- What a receiving link of an endpoint hands out is what the transfers say that reach it.
-use Rattle.std.proofs.Common.{◌≡◌, ◌==◌, ◌&&◌, inl, inr, ℕ, Bool, true, false, List, [], ◌∷◌, ◌++◌, Option}
-use Rattle.std.proofs.Common.{Some, None, Ok, ap, refl, sym, subst, ◌∙◌, if◌then◌else◌, map, append_assoc}
+use Rattle.std.proofs.Common.{◌≡◌, ◌==◌, ◌&&◌, ◌⊎◌, inl, inr, ℕ, Bool, true, false, List, [], ◌∷◌, ◌++◌, Option}
+use Rattle.std.proofs.Common.{Some, None, Ok, ap, refl, sym, subst, true≢false, ◌∙◌, if◌then◌else◌, map, append_assoc}
 use Rattle.std.proofs.lemmas.List.{append-nil, get_or-set_other, map-append}
 use Rattle.std.proofs.lemmas.Option.{none-some, same_Some}
 use Rattle.std.specs.Prelude.{option_map, slice_index_or}
@@ -17,7 +17,7 @@ use Rattle.amqp_link_attach.specs.State.{is_attached}
 use Rattle.amqp_link_attach.specs.declared.state.LinkState.{LinkState}
 use Rattle.amqp_link_attach.specs.declared.state.LinkState.TheVariants as state
 use Rattle.amqp_link_ends.specs.Ends.{state_of}
-use Rattle.amqp_link_ends.specs.Gives.{answer_of, receives, transfers, transfers_at}
+use Rattle.amqp_link_ends.specs.Gives.{answer_of, dropped, receives, transfers, transfers_at}
 use Rattle.amqp_link_ends.specs.Standing.{standing_of}
 use Rattle.amqp_link_ends.specs.declared.end.End.{End}
 use Rattle.amqp_link_ends.specs.declared.end.End.TheVariants.{Receiver, Sender}
@@ -25,6 +25,7 @@ use Rattle.amqp_link_ends.specs.declared.standing.Standing.{Standing}
 use Rattle.amqp_link_ends.specs.declared.standing.Standing.TheVariants as standing
 use Rattle.amqp_link_place.specs.Readings.{Piece, Reading, read_on, readings}
 use Rattle.amqp_link_place.specs.Said.{Said}
+use Rattle.amqp_link_receiver.specs.Disposing.{message_numbered}
 use Rattle.amqp_link_receiver.specs.Incoming.{TakesTransfer}
 use Rattle.amqp_link_receiver.specs.State.{ReceiverState, attachment_of}
 use Rattle.amqp_link_receiving.specs.Deliveries.{Delivery}
@@ -38,9 +39,10 @@ use Rattle.amqp_link_receiving.proofs.Handing.{all-handed}
 use Rattle.amqp_endpoint_attached.specs.Detaching.{is_there}
 use Rattle.amqp_endpoint_attached.specs.Linked.{LinksIn, end_at, gives}
 use Rattle.amqp_endpoint_attached.specs.Receiving.{receiving}
+use Rattle.amqp_endpoint_attached.proofs.There.{replaced}
+use Rattle.amqp_endpoint_link_calls.specs.Places.{end_live}
 use Rattle.amqp_endpoint_link_hearing.specs.Naming.{link_in, link_of}
-use Rattle.amqp_endpoint_link_hearing.specs.Transferring.{Comes, RemembersUnless}
-use Rattle.amqp_endpoint_link_hearing.specs.Transferring.{message_told}
+use Rattle.amqp_endpoint_link_hearing.specs.Transferring.{Comes, HandsOver, RemembersUnless, message_told, remembering}
 use Rattle.amqp_endpoint_link_hearing.proofs.Heard.{IsTaken as IsHeard, stepped-there}
 use Rattle.amqp_endpoint_linked.specs.declared.linked.LinkedSessions.{LinkedSessions}
 use Rattle.amqp_endpoint_linking.specs.Linking.{Link, Session, Stood, Talk}
@@ -51,13 +53,18 @@ use Rattle.amqp_endpoint_model.specs.declared.event.Event.TheVariants as event
 use Rattle.amqp_endpoint_sessions.specs.State.{live_at, live_of, reached}
 use Rattle.amqp_endpoint_sessions.specs.Steps.{ChangesLive}
 use Rattle.amqp_endpoint_sessions.proofs.Owning.{at as place-at, other_number, same_number}
-use Rattle.amqp_endpoint_laws.specs.Handed.{Handed, NoneResumes, handed_as, handed_by, handed_in}
+use Rattle.amqp_endpoint_laws.specs.Handed.{Handed, IsReceiving, NoneResumes, handed_as, handed_by, handed_in}
 use Rattle.amqp_endpoint_laws.specs.Handed.{handed_of, leads_there, piece_of}
+use Rattle.amqp_endpoint_laws.specs.Held.{number_live, number_of}
+use Rattle.amqp_endpoint_laws.specs.Life.{StaysAttached, StaysSomewhere}
 use Rattle.amqp_endpoint_laws.specs.Passed.{is_it}
-use Rattle.amqp_endpoint_laws.proofs.HoldingEnds.{Goes, Holding, Stays, held_end, held_if, held_link}
+use Rattle.amqp_endpoint_laws.proofs.HoldingEnds.{Goes, Holding, Part, Stays, attached-so, held_end, held_if, held_link}
+use Rattle.amqp_endpoint_laws.proofs.HoldingEnds.{stays-on}
+use Rattle.amqp_endpoint_laws.proofs.HoldingInside.{at-one}
 use Rattle.amqp_endpoint_laws.proofs.HoldingDeeds.{talk-same}
 use Rattle.amqp_endpoint_laws.proofs.HoldingDone.{closes-none, closes-stays, remembers-stays}
 use Rattle.amqp_endpoint_laws.proofs.HoldingTalk.{EachOf, changed-live, goes-on-stays, held-of, held_in}
+use Rattle.amqp_endpoint_laws.proofs.HoldingTalk.{live-changes}
 use Rattle.amqp_endpoint_laws.proofs.PassedPlaces.{eq-same}
 use Rattle.amqp_endpoint_laws.proofs.Unnumbered.{Unnumbered}
 
@@ -69,17 +76,109 @@ pub record Receives (s : LinkedSessions) (link session : ℕ) (own : OutputHandl
     pub attached : is_attached end.base.local_state ≡ true
     pub holds : end.end.held ≡ held
 
+-- a link's number and its end
+numbers-of : (o : Option Session) (own : OutputHandle) → number_live o own.0 ≡ number_of (link_in o own)
+numbers-of None own = refl
+numbers-of (Some session) own = refl
+
+ends-of : (o : Option Session) (own : OutputHandle)
+    → end_live o own ≡ option_map (λ (l : Link). l.link) (link_in o own)
+ends-of None own = refl
+ends-of (Some session) own = refl
+
+pub as-receiving : (l : Link) (r : ReceiverState) → l.link ≡ Receiver r → Some l ≡ Some (receiving l.number r)
+as-receiving l r is =
+    let by_end : End → Option Link = λ e. Some (record { number = l.number; link = e }) in ap by_end is
+
+whole-link : (l : Option Link) (link : ℕ) (end : ReceiverState)
+    → option_map (λ (n : Link). n.link) l ≡ Some (Receiver end) → number_of l ≡ Some link
+    → l ≡ Some (receiving link end)
+whole-link None link end is number = absurd (none-some (Receiver end) is)
+whole-link (Some l) link end is number =
+    as-receiving l end (same_Some l.link (Receiver end) is)
+    ∙ ap (λ (k : ℕ). Some (receiving k end)) (same_Some l.number link number)
+
+module _ (s : LinkedSessions) (link session : ℕ) (own : OutputHandle) (held : Option Delivery) where
+  pub receives-so : IsReceiving s link session own held → Receives s link session own held
+  receives-so r =
+      let o : Option Session = live_at s.talk.sessions session in
+      record {
+        end = r.end;
+        there =
+            whole-link (link_in o own) link r.end (sym (ends-of o own) ∙ r.there)
+            (sym (numbers-of o own) ∙ r.numbered);
+        attached = r.attached;
+        holds = r.holds;
+      }
+
+  pub is-receiving : Receives s link session own held → IsReceiving s link session own held
+  is-receiving r =
+      let o : Option Session = live_at s.talk.sessions session in
+      record {
+        numbered = numbers-of o own ∙ ap number_of r.there;
+        end = r.end;
+        there = ends-of o own ∙ ap (option_map (λ (l : Link). l.link)) r.there;
+        attached = r.attached;
+        holds = r.holds;
+      }
+
 pub receives-holds : (s : LinkedSessions) (link session : ℕ) (own : OutputHandle) (held : Option Delivery)
-    → Receives s link session own held → held_in (live_at s.talk.sessions session) own.0 ≡ Some (link, held)
+    → Receives s link session own held → held_in (live_at s.talk.sessions session) own.0 ≡ Some (link, (true, held))
 receives-holds s link session own held r =
     held-of (live_at s.talk.sessions session) own ∙ ap held_link r.there
-    ∙ ap (λ (b : Bool). held_if b link r.end.end.held) r.attached
-    ∙ ap (λ (h : Option Delivery). Some (link, h)) r.holds
+    ∙ ap (λ (o : Option Bool). held_if o link r.end.end.held) (attached-so r.end.base.local_state r.attached)
+    ∙ ap (λ (h : Option Delivery). Some (link, (true, h))) r.holds
 
-pub goes-same : (a b : Holding) (x y : ℕ × Option Delivery) → Goes a b → a ≡ Some x → b ≡ Some y → y ≡ x
-goes-same a b x y (inl none) first later = absurd (none-some x (sym none ∙ first))
-goes-same a b x y (inr (inl same)) first later = same_Some y x (sym later ∙ same ∙ first)
-goes-same a b x y (inr (inr gone)) first later = absurd (none-some y (sym gone ∙ later))
+pub goes-same : (a b : Holding) (link : ℕ) (held later : Option Delivery) → Goes a b → a ≡ Some (link, (true, held))
+    → b ≡ Some (link, (true, later)) → later ≡ held
+goes-same a b link held later (inl t) first is =
+    absurd
+    (true≢false
+    (sym
+    (ap (λ (x : ℕ × Part). x.1.0)
+    (same_Some (t.number, (false, t.held)) (link, (true, held)) (sym t.was ∙ first)))))
+goes-same a b link held later (inr (inl same)) first is =
+    ap (λ (x : ℕ × Part). x.1.1)
+    (same_Some (link, (true, later)) (link, (true, held)) (sym is ∙ same ∙ first))
+goes-same a b link held later (inr (inr gone)) first is = absurd (none-some _ (sym gone ∙ is))
+
+-- only a receiving link that is attached takes a transfer. Where the own Detach was sent it is dropped
+pub record IsTaker (e : End) : Type 0 where
+  pub receiver : ReceiverState
+  pub is : e ≡ Receiver receiver
+  pub attached : is_attached receiver.base.local_state ≡ true
+
+standing-attached : (s : LinkState) → standing_of s ≡ standing.Attached → is_attached s ≡ true
+standing-attached state.Attached is = refl
+standing-attached state.IncompleteAttachExchanged is = refl
+standing-attached s is = absurd cc
+
+taker-at : (s : Standing) (e : End) (it : Transfer) (payload : List ℕ) (answer : TransferAnswer Told) (new : End)
+    → standing_of (state_of e) ≡ s → transfers_at s e it payload (Ok answer) new
+    → IsTaker e ⊎ ((answer ≡ dropped) × (new ≡ e))
+taker-at standing.Attached (Receiver r) it payload answer new stands t =
+    inl (record { receiver = r; is = refl; attached = standing-attached r.base.local_state stands })
+taker-at standing.Attached (Sender s) it payload answer new stands t = let clash = t.0 in absurd cc
+taker-at standing.Detaching e it payload answer new stands t =
+    let is = t.0 in let same : answer ≡ dropped = cc in inr (same, t.1)
+taker-at standing.Apart e it payload answer new stands t = let clash = t.0 in absurd cc
+
+-- what the link holds that takes one goes on
+pub record IsTold (old new : Holding) : Type 0 where
+  pub number : ℕ
+  pub held : Option Delivery
+  pub later : Option Delivery
+  pub was : old ≡ Some (number, (true, held))
+  pub is : new ≡ Some (number, (true, later))
+
+abbrev pub HearsOne : Holding → Holding → Type 0
+HearsOne old new = IsTold old new ⊎ Stays old new
+
+hears-on : (a b c : Holding) → HearsOne a b → Stays b c → HearsOne a c
+hears-on a b c (inl t) (inl is) =
+    inl (record { number = t.number; held = t.held; later = t.later; was = t.was; is = is ∙ t.is })
+hears-on a b c (inl t) (inr gone) = inr (inr gone)
+hears-on a b c (inr first) s = inr (stays-on a b c first s)
 
 -- where no message is among events, none of a link is
 pub none-handed : (link : ℕ) (events : List Event) → Unnumbered events → handed_by link events ≡ []
@@ -178,11 +277,11 @@ other-links does old new handle h st apart =
     ap (λ (ls : List (Option Link)). slice_index_or ls h None) st.others
     ∙ get_or-set_other old.links handle h (Some st.after) None (other_number h handle apart)
 
--- no other link of a session that goes on has the number
-abbrev pub StandsAlone : LinkedSessions → ℕ → ℕ → OutputHandle → Type 0
+-- in no other place of a session that goes on a receiving link with this number is attached, or waits to be
+abbrev pub StandsAlone : LinkedSessions → ℕ → ℕ → ℕ → Type 0
 StandsAlone s link session own =
-    (other : ℕ) (theirs : OutputHandle) (it : Link) → link_of s.talk other theirs ≡ Some it → it.number ≡ link
-    → (other ≡ session) × (theirs.0 ≡ own.0)
+    (other handle : ℕ) (x : Part) → held_in (live_at s.talk.sessions other) handle ≡ Some (link, x)
+    → (other ≡ session) × (handle ≡ own)
 
 -- what comes of what the link tells leaves what is held, unless the link is closed by that
 remembers-stay : (settled : Bool) (handle : OutputHandle) (tag : List ℕ) (number : ℕ) (old : Talk) (session : ℕ)
@@ -236,8 +335,177 @@ module _ (old new : LinkedSessions) (mid : Talk) (channel : IncomingChannel) (it
       ∙ ap (λ (k : ℕ). link_at after.value.session k) same
       ∙ stepped-there _ before.value.session at.handle after.value.session at.stepped
 
-  there-before : link_of old.talk session (record { 0 = at.handle }) ≡ Some at.stepped.before
-  there-before = ap (λ (o : Option Session). link_in o (record { 0 = at.handle })) heard.live ∙ at.stepped.had
+  -- which of them takes it
+  taker : IsTaker at.stepped.before.link ⊎ ((at.answer ≡ dropped) × (became.link ≡ at.stepped.before.link))
+  taker =
+      taker-at (standing_of (state_of at.stepped.before.link)) at.stepped.before.link it payload at.answer became.link
+      refl at.stepped.stepped.0
+
+  took-it : (t : IsTaker at.stepped.before.link)
+      → TakesPiece t.receiver it payload (answer_of at.answer) became.link
+  took-it t =
+      takes-transfer t.receiver it payload at.answer became.link t.attached
+      (subst (λ (e : End). transfers e it payload (Ok at.answer) became.link) t.is at.stepped.stepped.0)
+
+  still-so : (t : IsTaker at.stepped.before.link) → is_attached (took-it t).after.base.local_state ≡ true
+  still-so t = ap (λ (x : ReceiverState). is_attached x.base.local_state) (took-it t).rest ∙ t.attached
+
+  holds-before : (t : IsTaker at.stepped.before.link)
+      → held_link (Some at.stepped.before) ≡ Some (at.stepped.before.number, (true, t.receiver.end.held))
+  holds-before t =
+      ap (held_end at.stepped.before.number) t.is
+      ∙ ap (λ (o : Option Bool). held_if o at.stepped.before.number t.receiver.end.held)
+      (attached-so t.receiver.base.local_state t.attached)
+
+  holds-behind : (t : IsTaker at.stepped.before.link)
+      → held_link (Some became) ≡ Some (at.stepped.before.number, (true, (took-it t).after.end.held))
+  holds-behind t =
+      ap (λ (k : ℕ). held_end k became.link) at.stepped.stepped.1
+      ∙ ap (held_end at.stepped.before.number) (took-it t).is
+      ∙ ap (λ (o : Option Bool). held_if o at.stepped.before.number (took-it t).after.end.held)
+      (attached-so (took-it t).after.base.local_state (still-so t))
+
+  -- one that hands a message out is attached
+  told-taker : (message : Message) → took.told ≡ told.Message message → IsTaker at.stepped.before.link
+  told-taker message is = by taker
+    where
+      by : IsTaker at.stepped.before.link ⊎ ((at.answer ≡ dropped) × (became.link ≡ at.stepped.before.link))
+          → IsTaker at.stepped.before.link
+      by (inl t) = t
+      by (inr (none, same)) =
+          let clash : told.Message message ≡ told.Dropped =
+          sym is ∙ at.is ∙ ap (λ (a : TransferAnswer Told). a.told) none in
+          absurd cc
+
+  -- what is held under each handle goes on so
+  one-hears : HearsOne (held_link (Some at.stepped.before)) (held_link (Some became))
+  one-hears = by taker
+    where
+      by : IsTaker at.stepped.before.link ⊎ ((at.answer ≡ dropped) × (became.link ≡ at.stepped.before.link))
+          → HearsOne (held_link (Some at.stepped.before)) (held_link (Some became))
+      by (inl t) =
+          inl (record {
+            number = at.stepped.before.number;
+            held = t.receiver.end.held;
+            later = (took-it t).after.end.held;
+            was = holds-before t;
+            is = holds-behind t;
+          })
+      by (inr (none, same)) =
+          inr (inl (ap (λ (k : ℕ). held_end k became.link) at.stepped.stepped.1
+          ∙ ap (held_end at.stepped.before.number) same))
+
+  stays : EachOf Stays mid.sessions new.talk.sessions
+  stays = comes-stay took.told old.talk mid new.talk old.given session it own_frames events new.given comes
+
+  pub each-hears : EachOf HearsOne old.talk.sessions new.talk.sessions
+  each-hears n h =
+      hears-on (held_in (live_at old.talk.sessions n) h) (held_in (live_at mid.sessions n) h)
+      (held_in (live_at new.talk.sessions n) h)
+      (live-changes HearsOne (λ x. inr (inl refl)) session before after old.talk.sessions mid.sessions
+      heard.takes.hears.stepped
+      (at-one HearsOne (λ x. inr (inl refl)) before.value.session after.value.session at.handle at.stepped.before became
+      at.stepped.had at.stepped.others one-hears) n h)
+      (stays n h)
+
+  -- a message that comes whole is handed out by a link that is attached before and behind
+  module _ (message : Message) (t : IsTaker at.stepped.before.link)
+      (c : HandsOver old.talk old.given it session message mid own_frames events new.talk new.given) where
+    same-handle : c.handle.0 ≡ at.handle
+    same-handle = handle-same c.stood c.handle c.live c.reaches
+
+    receives-before : Receives old became.number session c.handle t.receiver.end.held
+    receives-before =
+        record {
+          end = t.receiver;
+          there =
+              ap (λ (o : Option Session). link_in o c.handle) heard.live
+              ∙ ap (λ (k : ℕ). link_at before.value.session k) same-handle ∙ at.stepped.had
+              ∙ as-receiving at.stepped.before t.receiver t.is
+              ∙ ap (λ (k : ℕ). Some (receiving k t.receiver)) (sym at.stepped.stepped.1);
+          attached = t.attached;
+          holds = refl;
+        }
+
+    remembered : (settled : Bool) (tag : List ℕ) (number : ℕ)
+        → RemembersUnless settled c.handle tag number mid session new.talk
+        → Receives new became.number session c.handle (took-it t).after.end.held
+    remembered true tag number same =
+        record {
+          end = (took-it t).after;
+          there =
+              ap (λ (x : Talk). link_of x session c.handle) same ∙ there-now c.handle same-handle
+              ∙ as-receiving became (took-it t).after (took-it t).is;
+          attached = still-so t;
+          holds = refl;
+        }
+    remembered false tag number g =
+        let r = g.done in
+        let was : g.before ≡ after = same_Some g.before after (sym g.stepped.0 ∙ heard.stands) in
+        let its : r.link ≡ became =
+        same_Some r.link became
+        (sym r.changed.0 ∙ ap (λ (x : Session). link_at x.value.session c.handle.0) was
+        ∙ ap (λ (k : ℕ). link_at after.value.session k) same-handle
+        ∙ stepped-there _ before.value.session at.handle after.value.session at.stepped) in
+        let by_end : End → Option Link =
+        λ e. Some (record { number = became.number; link = remembering e tag number }) in
+        record {
+          end = message_numbered (took-it t).after tag number;
+          there =
+              ap (λ (o : Option Session). link_in o c.handle)
+              (changed-live session g.before g.after mid.sessions new.talk.sessions g.stepped)
+              ∙ ap (λ (x : LinksIn). link_at x c.handle.0) r.changed.1
+              ∙ replaced g.before.value.session c.handle.0 r.link
+              (record r.link { link = remembering r.link.link tag number }) (sym r.changed.0)
+              ∙ ap (λ (l : Link). Some (record l { link = remembering l.link tag number })) its
+              ∙ ap by_end (took-it t).is;
+          attached = still-so t;
+          holds = refl;
+        }
+
+    stays-attached : (link : ℕ) → became.number ≡ link → StaysAttached old new link session c.handle
+    stays-attached link is =
+        record {
+          held = t.receiver.end.held;
+          later = (took-it t).after.end.held;
+          before =
+              is-receiving old link session c.handle t.receiver.end.held
+              (subst (λ (k : ℕ). Receives old k session c.handle t.receiver.end.held) is receives-before);
+          behind =
+              is-receiving new link session c.handle (took-it t).after.end.held
+              (subst (λ (k : ℕ). Receives new k session c.handle (took-it t).after.end.held) is
+              (remembered message.settled message.delivery_tag old.given c.remembers));
+        }
+
+  hands-it : (link : ℕ) (it_told : Told) → took.told ≡ it_told
+      → Comes it_told old.talk old.given it session mid own_frames events new.talk new.given
+      → (handed_by link events ≡ []) ⊎ StaysSomewhere old new link
+  hands-it link (told.Message message) told_so c = by (c.link.number == link) refl
+    where
+      t : IsTaker at.stepped.before.link
+      t = told-taker message told_so
+
+      by : (b : Bool) → (c.link.number == link) ≡ b → (handed_by link events ≡ []) ⊎ StaysSomewhere old new link
+      by true e =
+          inr (
+            session,
+            c.handle,
+            stays-attached message t c link
+                (ap (λ (l : Link). l.number)
+                (same_Some became c.link (sym (there-now c.handle (same-handle message t c)) ∙ c.there))
+                ∙ same_number c.link.number link e),
+          )
+      by false e =
+          inl (ap (handed_by link) c.tells
+          ∙ ap (λ (b : Bool). (if b then handed_of c.handle message ∷ [] else []) ++ []) e)
+  hands-it link (told.Refused error) told_so (c, g) = inl (ap (handed_by link) c.tells)
+  hands-it link other told_so c = inl (ap (handed_by link) c.untold)
+
+  pub hands-out : (link : ℕ) → (handed_by link events ≡ []) ⊎ StaysSomewhere old new link
+  hands-out link = hands-it link took.told refl comes
+
+  there-before : held_in (live_at old.talk.sessions session) at.handle ≡ held_link (Some at.stepped.before)
+  there-before = ap (λ (o : Option Session). held_in o at.handle) heard.live ∙ ap held_link at.stepped.had
 
   module _ (link n : ℕ) (own : OutputHandle) (reading : Reading) (later : Option Delivery)
       (r : Receives old link n own (held_said reading.held)) (q : Receives new link n own later) where
@@ -264,52 +532,54 @@ module _ (old new : LinkedSessions) (mid : Talk) (channel : IncomingChannel) (it
         ∙ ap (λ (o : Option Session). leads_there o it.handle.0 own) heard.live
         ∙ ap (λ (o : Option ℕ). is_it o own.0) at.reaches
 
-    held-new : held_in (live_at new.talk.sessions n) own.0 ≡ Some (link, later)
+    held-new : held_in (live_at new.talk.sessions n) own.0 ≡ Some (link, (true, later))
     held-new = receives-holds new link n own later q
 
-    stays : EachOf Stays mid.sessions new.talk.sessions
-    stays = comes-stay took.told old.talk mid new.talk old.given session it own_frames events new.given comes
-
     -- what is held behind the transfer is held behind what comes of it
-    held-on : (x : ℕ × Option Delivery) → held_in (live_at mid.sessions n) own.0 ≡ Some x → later ≡ x.1
-    held-on x is =
-        ap (λ (y : ℕ × Option Delivery). y.1)
-        (goes-same (held_in (live_at mid.sessions n) own.0) (held_in (live_at new.talk.sessions n) own.0) x
-        (link, later) (inr (stays n own.0)) is held-new)
+    held-on : (held : Option Delivery) → held_in (live_at mid.sessions n) own.0 ≡ Some (link, (true, held))
+        → later ≡ held
+    held-on held is =
+        goes-same (held_in (live_at mid.sessions n) own.0) (held_in (live_at new.talk.sessions n) own.0) link held later
+        (inr (stays n own.0)) is held-new
 
     -- it reaches another
-    module _ (alone : StandsAlone old link n own) (other : (session ≡ n) → at.handle ≡ own.0 → ⊥) where
-      not-its : (number : ℕ) → number ≡ became.number → number ≡ link → ⊥
-      not-its number is same =
+    module _ (alone : StandsAlone old link n own.0) (other : (session ≡ n) → at.handle ≡ own.0 → ⊥) where
+      not-its : (message : Message) → took.told ≡ told.Message message → (number : ℕ) → number ≡ became.number
+          → number ≡ link → ⊥
+      not-its message told_so number is same =
+          let t = told-taker message told_so in
           let (sessions_same, handles_same) =
-          alone session (record { 0 = at.handle }) at.stepped.before there-before
-          (sym at.stepped.stepped.1 ∙ sym is ∙ same) in
+          alone session at.handle (true, t.receiver.end.held)
+          (there-before ∙ holds-before t
+          ∙ ap (λ (k : ℕ). Some (k, (true, t.receiver.end.held))) (sym at.stepped.stepped.1 ∙ sym is ∙ same)) in
           other sessions_same handles_same
 
-      not-handed : (number given : ℕ) (handle : OutputHandle) (message : Message) → number ≡ became.number
+      not-handed : (number given : ℕ) (handle : OutputHandle) (message : Message)
+          → took.told ≡ told.Message message → number ≡ became.number
           → handed_by link (message_told number given handle message) ≡ []
-      not-handed number given handle message is = by (number == link) refl
+      not-handed number given handle message told_so is = by (number == link) refl
         where
           by : (b : Bool) → (number == link) ≡ b → handed_by link (message_told number given handle message) ≡ []
-          by true e = absurd (not-its number is (same_number number link e))
+          by true e = absurd (not-its message told_so number is (same_number number link e))
           by false e =
               ap (λ (b : Bool). (if b then handed_of handle message ∷ [] else []) ++ []) e
 
-      others-events : (it_told : Told) → Comes it_told old.talk old.given it session mid own_frames events new.talk
-          new.given → handed_by link events ≡ []
-      others-events (told.Message message) c =
+      others-events : (it_told : Told) → took.told ≡ it_told
+          → Comes it_told old.talk old.given it session mid own_frames events new.talk new.given
+          → handed_by link events ≡ []
+      others-events (told.Message message) told_so c =
           ap (handed_by link) c.tells
-          ∙ not-handed c.link.number old.given c.handle message
+          ∙ not-handed c.link.number old.given c.handle message told_so
           (ap (λ (l : Link). l.number)
           (same_Some c.link became (sym c.there ∙ there-now c.handle (handle-same c.stood c.handle c.live c.reaches))))
-      others-events (told.Refused error) (c, g) = ap (handed_by link) c.tells
-      others-events it_told c = ap (handed_by link) c.untold
+      others-events (told.Refused error) told_so (c, g) = ap (handed_by link) c.tells
+      others-events it_told told_so c = ap (handed_by link) c.untold
 
-      held-same : held_in (live_at mid.sessions n) own.0 ≡ Some (link, held_said reading.held)
+      held-same : held_in (live_at mid.sessions n) own.0 ≡ Some (link, (true, held_said reading.held))
       held-same = by (n == session) refl
         where
           in-session : n ≡ session → (b : Bool) → (own.0 == at.handle) ≡ b
-              → held_in (live_at mid.sessions n) own.0 ≡ Some (link, held_said reading.held)
+              → held_in (live_at mid.sessions n) own.0 ≡ Some (link, (true, held_said reading.held))
           in-session same true e = absurd (other (sym same) (sym (same_number own.0 at.handle e)))
           in-session same false e =
               ap (λ (k : ℕ). held_in (live_at mid.sessions k) own.0) same
@@ -321,7 +591,7 @@ module _ (old new : LinkedSessions) (mid : Talk) (channel : IncomingChannel) (it
               ∙ receives-holds old link n own (held_said reading.held) r
 
           by : (b : Bool) → (n == session) ≡ b
-              → held_in (live_at mid.sessions n) own.0 ≡ Some (link, held_said reading.held)
+              → held_in (live_at mid.sessions n) own.0 ≡ Some (link, (true, held_said reading.held))
           by true e = in-session (same_number n session e) (own.0 == at.handle) refl
           by false e =
               ap (λ (o : Option Stood). held_in (live_of o) own.0)
@@ -342,8 +612,8 @@ module _ (old new : LinkedSessions) (mid : Talk) (channel : IncomingChannel) (it
 
       says-nothing : Says own reading pieces (handed_by link events) later
       says-nothing =
-          says-none own reading pieces (handed_by link events) later no-pieces (others-events took.told comes)
-          (held-on (link, held_said reading.held) held-same)
+          says-none own reading pieces (handed_by link events) later no-pieces (others-events took.told refl comes)
+          (held-on (held_said reading.held) held-same)
 
     -- it reaches this one
     module _ (same : session ≡ n) (own_same : at.handle ≡ own.0) where
@@ -372,14 +642,15 @@ module _ (old new : LinkedSessions) (mid : Talk) (channel : IncomingChannel) (it
       still-attached : is_attached took-piece.after.base.local_state ≡ true
       still-attached = ap (λ (x : ReceiverState). is_attached x.base.local_state) took-piece.rest ∙ r.attached
 
-      held-mid : held_in (live_at mid.sessions n) own.0 ≡ Some (link, took-piece.after.end.held)
+      held-mid : held_in (live_at mid.sessions n) own.0 ≡ Some (link, (true, took-piece.after.end.held))
       held-mid =
           ap (λ (k : ℕ). held_in (live_at mid.sessions k) own.0) (sym same)
           ∙ ap (λ (o : Option Session). held_in o own.0) heard.stands
           ∙ ap (λ (k : ℕ). held_link (link_at after.value.session k)) (sym own_same)
           ∙ ap held_link (stepped-there _ before.value.session at.handle after.value.session at.stepped)
           ∙ ap (λ (k : ℕ). held_end k became.link) became-number ∙ ap (held_end link) took-piece.is
-          ∙ ap (λ (b : Bool). held_if b link took-piece.after.end.held) still-attached
+          ∙ ap (λ (o : Option Bool). held_if o link took-piece.after.end.held)
+          (attached-so took-piece.after.base.local_state still-attached)
 
       handle-own : (handle : OutputHandle) → handle.0 ≡ at.handle → handle ≡ own
       handle-own handle is = ap (λ (k : ℕ). let h : OutputHandle = record { 0 = k } in h) (is ∙ own_same)
@@ -400,7 +671,7 @@ module _ (old new : LinkedSessions) (mid : Talk) (channel : IncomingChannel) (it
           ∙ ap (λ (e : End). is_attached (state_of e)) took-piece.is ∙ still-attached in
           let gone : held_link (link_at done.after.value.session c.handle.0) ≡ None =
           closes-none _ c.handle own_frames done.before.value done.after.value attached done.done in
-          absurd (none-some (link, later)
+          absurd (none-some (link, (true, later))
           (sym (ap (λ (k : ℕ). held_in (live_at new.talk.sessions k) own.0) (sym same)
           ∙ ap (λ (o : Option Session). held_in o own.0)
           (changed-live session done.before done.after mid.sessions new.talk.sessions done.stepped)
@@ -443,7 +714,7 @@ module _ (old new : LinkedSessions) (mid : Talk) (channel : IncomingChannel) (it
                 (as-said own reading.messages)
                 ∙ ap (λ (hs : List Handed). map (handed_as own) reading.messages ++ hs)
                 (ap (map (handed_of own)) (append-nil (messages_in at.answer.told)) ∙ sym told_all);
-            holds = held-on (link, took-piece.after.end.held) held-mid ∙ all.1;
+            holds = held-on took-piece.after.end.held held-mid ∙ all.1;
           }
 
       says-its : NoneResumes pieces → Says own reading pieces (handed_by link events) later
@@ -452,7 +723,7 @@ module _ (old new : LinkedSessions) (mid : Talk) (channel : IncomingChannel) (it
           (says-one (subst NoneResumes its-piece none).0)
 
     -- whichever it reaches
-    pub says-so : StandsAlone old link n own → NoneResumes pieces
+    pub says-so : StandsAlone old link n own.0 → NoneResumes pieces
         → Says own reading pieces (handed_by link events) later
     says-so alone none = by (session == n) refl
       where

@@ -138,12 +138,12 @@ accepting-keeps : (first : ℕ) (incoming : IncomingChannel) (begin : Begin) (fl
 accepting-keeps first incoming begin None frame = (tt, (tt, tt))
 accepting-keeps first incoming begin (Some flow) frame = (tt, (tt, (tt, tt)))
 
-begun-none : (s : LinksIn) (channel : OutgoingChannel) (first window : ℕ) (frame : SessionFrame)
+pub begun-none : (s : LinksIn) (channel : OutgoingChannel) (first window : ℕ) (frame : SessionFrame)
     → History gives (fresh channel first window) (SendsBegin frame ∷ []) s → (handle : ℕ) → number_in s handle ≡ None
 begun-none s channel first window frame h handle =
     history-kept end_gives (SendsBegin frame ∷ []) (fresh channel first window) s h (tt, tt) handle
 
-accepted-none : (s : LinksIn) (channel : OutgoingChannel) (first window : ℕ) (incoming : IncomingChannel)
+pub accepted-none : (s : LinksIn) (channel : OutgoingChannel) (first window : ℕ) (incoming : IncomingChannel)
     (begin : Begin) (flow : Option SessionFlow) (frame : SessionFrame)
     → History gives (fresh channel first window) (accept_steps first incoming begin flow frame) s → (handle : ℕ)
     → number_in s handle ≡ None

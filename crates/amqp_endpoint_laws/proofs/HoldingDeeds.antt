@@ -1,6 +1,7 @@
 -- What links hold of their messages, whatever an endpoint does but that it takes a Transfer.
-use Rattle.std.proofs.Common.{◌≡◌, inl, inr, ℕ, Bool, false, List, [], ◌∷◌, Option, Some, None}
-use Rattle.std.proofs.Common.{Ok, Err, ap, refl, slice_get, ◌∙◌}
+use Rattle.std.proofs.Common.{◌≡◌, ◌≢◌, ◌⊎◌, inl, inr, ℕ, Bool, false, List, [], ◌∷◌, Option, Some, None}
+use Rattle.std.proofs.Common.{Ok, Err, ap, refl, slice_get, sym, ◌∙◌}
+use Rattle.std.proofs.lemmas.Option.{none-some}
 use Rattle.std.specs.Prelude.{Result, ⊤}
 use Rattle.amqp_session_types.specs.declared.channels.IncomingChannel.{IncomingChannel}
 use Rattle.amqp_session_types.specs.declared.handles.OutputHandle.{OutputHandle}
@@ -16,6 +17,7 @@ use Rattle.amqp_session_performatives.specs.declared.session_frame.SessionFrame.
 use Rattle.amqp_session_frames.specs.declared.frame.Frame.{Frame}
 use Rattle.amqp_session_frames.specs.declared.frame.FrameBody.{FrameBody}
 use Rattle.amqp_session_frames.specs.declared.frame.FrameBody.TheVariants as body
+use Rattle.amqp_session_core.specs.State.{link_at}
 use Rattle.amqp_session_core.specs.Steps.{TakesBegin as SessionTakesBegin}
 use Rattle.amqp_link_base.specs.declared.detached.Detached.{Detached}
 use Rattle.amqp_link_ends.specs.declared.end.End.{End}
@@ -23,6 +25,7 @@ use Rattle.amqp_link_sender.specs.declared.attaching.Attaching.{Attaching}
 use Rattle.amqp_link_types.specs.declared.link_error.LinkError.{LinkError}
 use Rattle.std.specs.Global.{Vec}
 use Rattle.amqp_endpoint_attached.specs.Linked.{gives}
+use Rattle.amqp_endpoint_attached.specs.Links.{receiver_by, sender_by}
 use Rattle.amqp_endpoint_conversation.specs.Beginning.{AcceptsHere, BeginAnswered, BeginsHere, Leads, with_links}
 use Rattle.amqp_endpoint_conversation.specs.declared.beginning.BeginHeard.{BeginHeard}
 use Rattle.amqp_endpoint_conversation.specs.declared.beginning.BeginHeard.TheVariants as begin_heard
@@ -30,6 +33,7 @@ use Rattle.amqp_endpoint_conversation.specs.declared.beginning.BeginRefusal.TheV
 use Rattle.amqp_endpoint_conversation.specs.declared.hearing.Heard.TheVariants as heard
 use Rattle.amqp_endpoint_deeds.specs.Deeds.{Closes, Deed, Does, EndsBy, Finishes, Hears, IsDeed, Moves, Queues}
 use Rattle.amqp_endpoint_deeds.specs.Deeds.{Refuses, Renews, Takes}
+use Rattle.amqp_endpoint_link_attaching.specs.Attaching.{with_room}
 use Rattle.amqp_endpoint_link_calls.specs.Calling.{Does as DoesTo, DoneAt, DoneIn, detaches, gives_credit, wants_drain}
 use Rattle.amqp_endpoint_link_calls.specs.Closing.{ClosedAt, closes}
 use Rattle.amqp_endpoint_link_calls.specs.Places.{LinksBy, Where}
@@ -64,6 +68,7 @@ use Rattle.amqp_endpoint_model.specs.declared.call.Call.TheVariants as call
 use Rattle.amqp_endpoint_model.specs.declared.call.Disposal.{Disposal}
 use Rattle.amqp_endpoint_model.specs.declared.error.EndpointError.{EndpointError}
 use Rattle.amqp_endpoint_model.specs.declared.event.Event.{Event}
+use Rattle.amqp_endpoint_names.specs.Own.{slot_at}
 use Rattle.amqp_endpoint_names.specs.State.{place_at as link_place}
 use Rattle.amqp_endpoint_names.specs.declared.place.LinkPlace.TheVariants.{AtRest, Held}
 use Rattle.amqp_endpoint_sessions.specs.State.{ended_place, live_at, live_of, peer_end_of, place_at, told_place}
@@ -72,15 +77,19 @@ use Rattle.amqp_endpoint_sessions.specs.Steps.{TellsEnd}
 use Rattle.amqp_endpoint_sessions.specs.declared.place.PeerEnd.TheVariants.{Missing, Received}
 use Rattle.amqp_endpoint_sessions.specs.declared.place.Place.TheVariants.{Asked, Live, Ending, Over}
 use Rattle.amqp_endpoint_sessions.proofs.Owning.{at}
-use Rattle.amqp_endpoint_laws.proofs.HoldingDone.{StaysBy, attached-goes, closes-stays, closing-stays, detaches-stay}
+use Rattle.amqp_endpoint_laws.specs.Held.{number_of}
+use Rattle.amqp_endpoint_laws.proofs.HeldCalled.{accepted-none, begun-none}
+use Rattle.amqp_endpoint_laws.proofs.HoldingDone.{StaysBy, attached-comes, closes-stays, closing-stays, detaches-stay}
 use Rattle.amqp_endpoint_laws.proofs.HoldingDone.{disposes-all, disposes-one, drains-stays, echoes-stay, gives-stays}
 use Rattle.amqp_endpoint_laws.proofs.HoldingDone.{leave-stay, parts-stay, sends-stays}
-use Rattle.amqp_endpoint_laws.proofs.HoldingEnds.{Goes, Stays, stays-on}
+use Rattle.amqp_endpoint_laws.proofs.HoldingEnds.{Comes, Goes, Holding, IsEmpty, IsFresh, Stays, goes-still, held_link}
+use Rattle.amqp_endpoint_laws.proofs.HoldingEnds.{stays-on}
 use Rattle.amqp_endpoint_laws.proofs.HoldingInside.{all-same, calm-stays}
-use Rattle.amqp_endpoint_laws.proofs.HoldingTalk.{EachOf, born-goes, dead-stays, each-goes-on, ends-stays}
-use Rattle.amqp_endpoint_laws.proofs.HoldingTalk.{fails-stay, goes-on-stays, heard-goes, held_in, inside-goes}
+use Rattle.amqp_endpoint_laws.proofs.HoldingTalk.{EachOf, born-stays, dead-stays, each-goes-on, ends-stays}
+use Rattle.amqp_endpoint_laws.proofs.HoldingTalk.{fails-stay, goes-on-stays, heard-goes, held_in, live-changes}
 use Rattle.amqp_endpoint_laws.proofs.HoldingTalk.{inside-stays, places-same, sessions-same, stays-go}
 use Rattle.amqp_endpoint_laws.proofs.PassedKept.{IsOver, Wanes, by-frame-still, finished-first, left-first, over-at}
+use Rattle.amqp_endpoint_laws.proofs.Parted.{entered, holder}
 use Rattle.amqp_endpoint_laws.proofs.PassedPlaces.{IsGone, eq-same}
 
 each-stays-on : (old mid new : Sessions) → EachOf Stays old mid → EachOf Stays mid new → EachOf Stays old new
@@ -101,7 +110,8 @@ begin-taken : (h : BeginHeard) (old : Talk) (channel : IncomingChannel) (begin :
 begin-taken (begin_heard.Asked number) old channel begin frames new (a, none) =
     let (was, is) =
     (at number old.sessions (Asks number channel a.asked) new.sessions a.stepped).about (eq-same number) in
-    born-goes number (Asks number channel a.asked) old.sessions new.sessions (λ n e. e) a.stepped (ap live_of was)
+    stays-go old.sessions new.sessions
+    (dead-stays number (Asks number channel a.asked) old.sessions new.sessions (λ n e. e) a.stepped (ap live_of is))
 begin-taken (begin_heard.Begun number) old channel begin frames new b =
     let t = b.takes in
     let taken_so = t.taken.0 in
@@ -269,34 +279,53 @@ closed-at (Some (AtRest end)) number events old new links links_new frames c =
 closed-at (Some (Held session handle)) number events old new links links_new frames c =
     done-in (closes events) session handle old new frames (closing-stays events) c.done
 
+-- a link attaches
 attached : (old new : Talk) (links links_new : LinksBy) (limit session : ℕ) (link : End) (number : ℕ)
-    (events : List Event) (frames : List SessionFrame)
-    → LinkAttached old links limit session link number events frames new links_new
-    → EachOf Goes old.sessions new.sessions
-attached old new links links_new limit session link number events frames a =
+    (events : List Event) (frames : List SessionFrame) → IsEmpty link
+    → (a : LinkAttached old links limit session link number events frames new links_new)
+    → EachOf (Comes a.placed.link) old.sessions new.sessions
+attached old new links links_new limit session link number events frames empty a =
     let l = a.attaches in
     let i = l.attaches in
     let one = i.attached in
-    inside-goes session i.before i.after old.sessions new.sessions i.stepped
-    (attached-goes i.before.value i.after.value limit link a.placed l.frames one.input a.placed.exchange one.attached)
+    live-changes (Comes a.placed.link) (λ x. inr (goes-still x)) session i.before i.after old.sessions new.sessions
+    i.stepped
+    (attached-comes i.before.value i.after.value limit link a.placed l.frames empty one.input a.placed.exchange
+    one.attached)
 
 -- a session begins, and ends
+unheld : (o : Option Link) → number_of o ≡ None → held_link o ≡ None
+unheld None none = refl
+unheld (Some link) none = absurd (none-some link.number (sym none))
+
 begun : (old new : Talk) (number : ℕ) (frames : List SessionFrame) → BeginsHere gives old [] number new frames
     → EachOf Goes old.sessions new.sessions
 begun old new number frames b =
     let (was, is) =
     (at number old.sessions (Begins number b.channel b.session) new.sessions b.stepped).about (eq-same number) in
-    born-goes number (Begins number b.channel b.session) old.sessions new.sessions (λ n e. e) b.stepped (ap live_of was)
+    stays-go old.sessions new.sessions
+    (born-stays number (Begins number b.channel b.session) old.sessions new.sessions (λ n e. e) b.stepped
+    (λ h.
+    ap (λ (o : Option Stood). held_in (live_of o) h) is
+    ∙ unheld (link_at b.session.value.session h)
+    (begun-none b.session.value.session b.channel old.first_transfer_number old.incoming_window b.frame
+    b.begun.history h)))
 
 accepted : (old new : Talk) (channel : IncomingChannel) (number : ℕ) (frames : List SessionFrame)
     → AcceptsHere gives old [] channel number new frames → EachOf Goes old.sessions new.sessions
 accepted old new channel number frames a =
     let step = Accepts number a.incoming a.wanted a.outgoing a.session in
     let (was, is) = (at number old.sessions step a.mid a.stepped).about (eq-same number) in
-    each-goes-on old.sessions a.mid new.sessions
-    (born-goes number step old.sessions a.mid (λ n e. e) a.stepped (ap live_of was))
+    stays-go old.sessions new.sessions
+    (each-stays-on old.sessions a.mid new.sessions
+    (born-stays number step old.sessions a.mid (λ n e. e) a.stepped
+    (λ h.
+    ap (λ (o : Option Stood). held_in (live_of o) h) is
+    ∙ unheld (link_at a.session.value.session h)
+    (accepted-none a.session.value.session a.outgoing old.first_transfer_number old.incoming_window channel
+    a.wanted.value.begin a.wanted.value.flow a.frame a.accepted.history h)))
     (inside-stays number a.session (with_links a.session a.wanted.value.links) a.mid new.sessions a.taken_over
-    (all-same a.session.value.session a.session.value.session refl))
+    (all-same a.session.value.session a.session.value.session refl)))
 
 told-live : (stood : Stood) → peer_end_of (Some stood) ≡ Received → live_of (Some (told_place stood)) ≡ None
 told-live (Over peer_end complete) is = refl
@@ -316,41 +345,46 @@ told-alone old new same =
     stays-go old.talk.sessions new.talk.sessions
     (sessions-same old.talk.sessions new.talk.sessions (ap (λ (s : LinkedSessions). s.talk.sessions) same))
 
-call-goes : (it : Call) (answer : Said) (old new : LinkedSessions) (limit : ℕ) (frames : List SessionFrame)
+-- by any other call than one of these no link attaches
+abbrev AttachesNone : Call → Type 0
+AttachesNone (call.AttachSender n settings) = ⊥
+AttachesNone (call.AttachReceiver n settings) = ⊥
+AttachesNone it = Unit {0}
+
+call-goes : (it : Call) → AttachesNone it → (answer : Said) (old new : LinkedSessions) (limit : ℕ)
+    (frames : List SessionFrame)
     → Calls old limit it answer frames new → EachOf Goes old.talk.sessions new.talk.sessions
-call-goes call.Begin (session_begun n) old new limit frames c = begun old.talk new.talk n frames c.begins
-call-goes (call.AcceptBegin channel) (session_begun n) old new limit frames c =
+call-goes call.Begin none (session_begun n) old new limit frames c = begun old.talk new.talk n frames c.begins
+call-goes (call.AcceptBegin channel) none (session_begun n) old new limit frames c =
     accepted old.talk new.talk channel n frames c.accepts
-call-goes (call.End n) done old new limit frames c =
+call-goes (call.End n) none done old new limit frames c =
     stays-go old.talk.sessions new.talk.sessions (ends-stays n None c.session old.talk new.talk [] frames c.ends)
-call-goes (call.IsEnded n) (truth b) old new limit frames c = told-alone old new c.same
-call-goes (call.TryEnd n) (tried_end o) old new limit frames c =
+call-goes (call.IsEnded n) none (truth b) old new limit frames c = told-alone old new c.same
+call-goes (call.TryEnd n) none (tried_end o) old new limit frames c =
     stays-go old.talk.sessions new.talk.sessions
     (end-told old.talk.sessions new.talk.sessions n (answer_of o) c.tells)
-call-goes (call.AttachSender n settings) (attaching link events) old new limit frames c =
-    attached old.talk new.talk old.links new.links limit n _ link events frames c
-call-goes (call.AttachReceiver n settings) (attaching link events) old new limit frames c =
-    attached old.talk new.talk old.links new.links limit n _ link events frames c
-call-goes (call.Detach link) done old new limit frames c =
+call-goes (call.AttachSender n settings) none answer old new limit frames c = absurd none
+call-goes (call.AttachReceiver n settings) none answer old new limit frames c = absurd none
+call-goes (call.Detach link) none done old new limit frames c =
     done-at (detaches false) (link_place old.links link) old.talk new.talk frames (detaches-stay false) c.is_done
-call-goes (call.CloseLink link) (link_closed events) old new limit frames c =
+call-goes (call.CloseLink link) none (link_closed events) old new limit frames c =
     closed-at (link_place old.links link) link events old.talk new.talk old.links new.links frames c
-call-goes (call.Grant link n) (credit_is left) old new limit frames c =
+call-goes (call.Grant link n) none (credit_is left) old new limit frames c =
     done-at (gives_credit n left) (link_place old.links link) old.talk new.talk frames (gives-stays n left) c.is_done
-call-goes (call.Drain link) done old new limit frames c =
+call-goes (call.Drain link) none done old new limit frames c =
     done-at wants_drain (link_place old.links link) old.talk new.talk frames drains-stays c.is_done
-call-goes (call.Send link message) (message_sent tag outcome) old new limit frames c =
+call-goes (call.Send link message) none (message_sent tag outcome) old new limit frames c =
     done-at (sends limit (tag_of old.sent) message c.sends.settled) (link_place old.links link) old.talk new.talk frames
     (sends-stays limit (tag_of old.sent) message c.sends.settled) c.sends.sent
-call-goes (call.Dispose link message disposal) done old new limit frames c =
+call-goes (call.Dispose link message disposal) none done old new limit frames c =
     done-at (disposes_of_one limit message disposal) (link_place old.links link) old.talk new.talk frames
     (disposes-one limit message disposal) c.disposes
-call-goes (call.DisposeAll link messages disposal) done old new limit frames c =
+call-goes (call.DisposeAll link messages disposal) none done old new limit frames c =
     disposed-at limit (link_place old.links link) messages disposal old.talk new.talk frames c.disposes
-call-goes (call.Credit link) (credit_is left) old new limit frames c = told-alone old new c.same
-call-goes (call.HeldBack n) (count m) old new limit frames c = told-alone old new c.same
-call-goes (call.Waiting n) (waiting turn) old new limit frames c = told-alone old new c.same
-call-goes it answer old new limit frames c = absurd c
+call-goes (call.Credit link) none (credit_is left) old new limit frames c = told-alone old new c.same
+call-goes (call.HeldBack n) none (count m) old new limit frames c = told-alone old new c.same
+call-goes (call.Waiting n) none (waiting turn) old new limit frames c = told-alone old new c.same
+call-goes it none answer old new limit frames c = absurd c
 
 -- what the connection's own deeds do
 gone-dead : (o : Option Stood) → IsGone o → live_of o ≡ None
@@ -396,25 +430,75 @@ abbrev pub TakesNoTransfer : Deed → Type 0
 TakesNoTransfer (Takes limit f frames events) = IsNotTransfer f.body
 TakesNoTransfer deed = Unit {0}
 
+-- or a link enters that had no number before
+pub record Enters (old new : LinkedSessions) (was is : Holding) : Type 0 where
+  pub number : ℕ
+  pub none : slot_at old.links number ≡ None
+  pub there : slot_at new.links number ≢ Some None
+  pub vacant : was ≡ None
+  pub fresh : IsFresh number is
+
+abbrev pub GoesBy : LinkedSessions → LinkedSessions → Holding → Holding → Type 0
+GoesBy old new was is = Enters old new was is ⊎ Goes was is
+
+abbrev pub EachBy : LinkedSessions → LinkedSessions → Type 0
+EachBy old new = EachOf (GoesBy old new) old.talk.sessions new.talk.sessions
+
+go-by : (old new : LinkedSessions) → EachOf Goes old.talk.sessions new.talk.sessions → EachBy old new
+go-by old new each n h = inr (each n h)
+
+attached-by : (old new : LinkedSessions) (limit session : ℕ) (link : End) (number : ℕ) (events : List Event)
+    (frames : List SessionFrame) → IsEmpty link
+    → LinkAttached old.talk old.links limit session link number events frames new.talk new.links → EachBy old new
+attached-by old new limit session link number events frames empty a n h =
+    by (attached old.talk new.talk old.links new.links limit session link number events frames empty a n h)
+  where
+    by : Comes a.placed.link (held_in (live_at old.talk.sessions n) h) (held_in (live_at new.talk.sessions n) h)
+        → GoesBy old new (held_in (live_at old.talk.sessions n) h) (held_in (live_at new.talk.sessions n) h)
+    by (inr goes) = inr goes
+    by (inl (vacant, fresh)) =
+        let e =
+        entered a.placed.link _ session a.placed.handle (with_room old.links) new.links a.attaches.entered in
+        inl (record {
+          number = a.placed.link;
+          none = e.none;
+          there = λ closed. none-some _ (sym (ap holder closed) ∙ e.held);
+          vacant = vacant;
+          fresh = fresh;
+        })
+
+call-by : (it : Call) (answer : Said) (old new : LinkedSessions) (limit : ℕ) (frames : List SessionFrame)
+    → Calls old limit it answer frames new → EachBy old new
+call-by (call.AttachSender n settings) (attaching link events) old new limit frames c =
+    attached-by old new limit n (sender_by settings) link events frames tt c
+call-by (call.AttachReceiver n settings) (attaching link events) old new limit frames c =
+    attached-by old new limit n (receiver_by settings) link events frames refl c
+call-by (call.AttachSender n settings) answer old new limit frames c = absurd c
+call-by (call.AttachReceiver n settings) answer old new limit frames c = absurd c
+call-by it answer old new limit frames c = go-by old new (call-goes it tt answer old new limit frames c)
+
 pub deed-goes : (deed : Deed) → TakesNoTransfer deed → (old new : LinkedSessions) → IsDeed linked old deed new
-    → EachOf Goes old.talk.sessions new.talk.sessions
-deed-goes (Queues it) other old new same = told-alone old new same
+    → EachBy old new
+deed-goes (Queues it) other old new same =
+    go-by old new (told-alone old new same)
 deed-goes (Hears frame events) other old new (moves, told) =
-    places-stay old new (by-frame-still frame.body old new moves).0
+    go-by old new (places-stay old new (by-frame-still frame.body old new moves).0)
 deed-goes (Takes limit f frames events) other old new h =
-    frame-goes f.body other old new limit (record { 0 = f.channel }) frames events h.0
+    go-by old new (frame-goes f.body other old new limit (record { 0 = f.channel }) frames events h.0)
 deed-goes (Refuses limit f error own_close) other old new e =
-    stays-go old.talk.sessions new.talk.sessions (refused-stays old new limit f error own_close e)
-deed-goes (Does limit it answer frames) other old new c = call-goes it answer old new limit frames c.0
+    go-by old new (stays-go old.talk.sessions new.talk.sessions (refused-stays old new limit f error own_close e))
+deed-goes (Does limit it answer frames) other old new c = call-by it answer old new limit frames c.0
 deed-goes (Moves connection) other old new m =
-    places-stay old new (ap (λ (s : LinkedSessions). s.talk.sessions.places) m.1)
+    go-by old new (places-stay old new (ap (λ (s : LinkedSessions). s.talk.sessions.places) m.1))
 deed-goes Renews other old new is =
-    places-stay old new (ap (λ (s : LinkedSessions). s.talk.sessions.places) is)
+    go-by old new (places-stay old new (ap (λ (s : LinkedSessions). s.talk.sessions.places) is))
 deed-goes Closes other old new l =
-    stays-go old.talk.sessions new.talk.sessions
+    go-by old new
+    (stays-go old.talk.sessions new.talk.sessions
     (wanes-stays old.talk.sessions new.talk.sessions
-    (left-first _ old.talk.sessions new.talk.sessions old.links new.links l.0.each))
+    (left-first _ old.talk.sessions new.talk.sessions old.links new.links l.0.each)))
 deed-goes Finishes other old new f =
-    stays-go old.talk.sessions new.talk.sessions
+    go-by old new
+    (stays-go old.talk.sessions new.talk.sessions
     (wanes-stays old.talk.sessions new.talk.sessions
-    (finished-first _ old.talk.sessions new.talk.sessions old.links new.links f.0.each))
+    (finished-first _ old.talk.sessions new.talk.sessions old.links new.links f.0.each)))

@@ -1,6 +1,6 @@
 -- What links hold of their messages as something is done for a link in its session.
 use Rattle.std.proofs.Common.{◌≡◌, inl, inr, ℕ, Bool, true, false, List, [], ◌∷◌, Option, Some, None}
-use Rattle.std.proofs.Common.{refl, sym, ap, ◌∙◌}
+use Rattle.std.proofs.Common.{Ok, refl, subst, sym, ap, ◌∙◌}
 use Rattle.std.specs.Prelude.{length, replicate}
 use Rattle.amqp_session_types.specs.declared.error.Error.{Error}
 use Rattle.amqp_session_types.specs.declared.handles.InputHandle.{InputHandle}
@@ -16,6 +16,7 @@ use Rattle.amqp_session_core.specs.declared.batch.BehindFrame.{BehindFrame}
 use Rattle.amqp_session_core.specs.declared.batch.BehindFrame.TheVariants as behind
 use Rattle.amqp_session_core.specs.declared.dispositions.Touched.{Touched}
 use Rattle.amqp_link_attach.specs.declared.exchange.AttachExchange.{AttachExchange}
+use Rattle.amqp_link_ends.specs.Ends.{with_handle}
 use Rattle.amqp_link_ends.specs.declared.end.End.{End}
 use Rattle.amqp_link_ends.specs.declared.end.End.TheVariants.{Receiver, Sender}
 use Rattle.amqp_link_receiver.specs.Disposing.{disposed_of}
@@ -52,9 +53,10 @@ use Rattle.amqp_endpoint_outcomes.specs.All.{TellsIn, behind_told, open_count}
 use Rattle.amqp_endpoint_outcomes.specs.Echoing.{echoes_of}
 use Rattle.amqp_endpoint_outcomes.specs.Reached.{behind_one, behind_reached, end_behind, link_behind}
 use Rattle.amqp_endpoint_sending.specs.Sending.{sending}
-use Rattle.amqp_endpoint_laws.proofs.HoldingEnds.{Goes, Stays, detach-holds, held_end, held_link}
-use Rattle.amqp_endpoint_laws.proofs.HoldingInside.{Each, all-same, allocated-goes, batch-stays, behind-stays}
-use Rattle.amqp_endpoint_laws.proofs.HoldingInside.{changed-stays, each-goes, each-stays, freed-stays, sent-stays}
+use Rattle.amqp_endpoint_laws.proofs.HoldingEnds.{Comes, IsEmpty, Stays, detach-holds, empty-flowed, empty-fresh}
+use Rattle.amqp_endpoint_laws.proofs.HoldingEnds.{empty-handle, empty-sent, empty-takes, held_end, held_link}
+use Rattle.amqp_endpoint_laws.proofs.HoldingInside.{Each, all-same, allocated-comes, batch-stays, behind-stays}
+use Rattle.amqp_endpoint_laws.proofs.HoldingInside.{changed-stays, each-comes, each-stays, freed-stays, sent-stays}
 
 -- a session that stays
 same-stays : (old new : Linked) → new ≡ old → Each Stays old.session new.session
@@ -298,14 +300,27 @@ module _ (before after : Linked) (limit : ℕ) (link : End) (placed : Placed) (f
       behind-stays mid after.session placed.handle
       (behind.Flow (record flow { handle = record { 0 = placed.handle.0 } })) r.sent.left r.frame r.sent.stepped
 
-  pub attached-goes : (input : Option InputHandle) (exchange : Option AttachExchange)
-      → AttachedBy input exchange before [] limit link placed after frames → Each Goes before.session after.session
-  attached-goes None None (a, aborts) =
-      allocated-goes before.session after.session placed.handle.0 (with_number placed.link a.attaching) None a.allocates
-  attached-goes None (Some exchange) a = absurd a
-  attached-goes (Some input) None a = absurd a
-  attached-goes (Some input) (Some exchange) a =
-      each-goes before.session a.mid after.session
-      (allocated-goes before.session a.mid placed.handle.0 (with_number placed.link a.becomes) (Some input.0)
-      a.allocates)
+  pub attached-comes : IsEmpty link → (input : Option InputHandle) (exchange : Option AttachExchange)
+      → AttachedBy input exchange before [] limit link placed after frames
+      → Each (Comes placed.link) before.session after.session
+  attached-comes empty None None (a, aborts) =
+      allocated-comes placed.link before.session after.session placed.handle.0 (with_number placed.link a.attaching)
+      None
+      (empty-fresh placed.link a.attaching
+      (empty-sent (with_handle link placed.handle) a.attach.incomplete_unsettled a.attaching
+      (empty-handle link placed.handle empty) a.sends.sent))
+      a.allocates
+  attached-comes empty None (Some exchange) a = absurd a
+  attached-comes empty (Some input) None a = absurd a
+  attached-comes empty (Some input) (Some exchange) a =
+      let e = a.exchanges in
+      let taken : IsEmpty e.taken = empty-takes link a.asked.attach (Ok e.takes.told) e.taken empty e.takes.takes in
+      let sent : IsEmpty e.attached =
+      empty-sent (with_handle e.taken placed.handle) a.attach.incomplete_unsettled e.attached
+      (empty-handle e.taken placed.handle taken) e.sent in
+      each-comes placed.link before.session a.mid after.session
+      (allocated-comes placed.link before.session a.mid placed.handle.0 (with_number placed.link a.becomes)
+      (Some input.0)
+      (empty-fresh placed.link a.becomes
+      (subst IsEmpty (sym e.flows) (empty-flowed e.attached a.asked.flow sent))) a.allocates)
       (replies-stay a.reply a.mid _ a.replies)

@@ -1,9 +1,10 @@
--- What a receiving link holds of a message, whatever is done to the link but that a transfer comes to it.
+-- Where a receiving link stands, and what it holds of a message, whatever is done to it but that a transfer comes.
 use Rattle.std.proofs.Common.{◌≡◌, ◌⊎◌, inl, inr, ℕ, Bool, true, false, List, Option, Some, None, Result, Ok, Err}
-use Rattle.std.proofs.Common.{ap, refl, sym, ◌∙◌, if◌then◌else◌}
+use Rattle.std.proofs.Common.{ap, refl, subst, sym, ◌∙◌, if◌then◌else◌}
 use Rattle.std.proofs.lemmas.Option.{none-some, same_Some}
 use Rattle.std.specs.Prelude.{alloc_error, option_map}
 use Rattle.std.specs.declared.alloc.AllocError.{AllocError}
+use Rattle.amqp_session_types.specs.declared.handles.OutputHandle.{OutputHandle}
 use Rattle.amqp_session_types.specs.declared.modes.Role.{Role}
 use Rattle.amqp_session_types.specs.declared.modes.Role.TheVariants as role
 use Rattle.amqp_session_states.specs.declared.delivery_state.DeliveryState.{DeliveryState}
@@ -13,16 +14,16 @@ use Rattle.amqp_session_performatives.specs.declared.link_flow.LinkFlow.{LinkFlo
 use Rattle.amqp_session_core.specs.declared.relay.RelayError.{RelayError}
 use Rattle.amqp_session_core.specs.declared.relay.RelayError.TheVariants.{Memory, UnattachedHandle}
 use Rattle.amqp_link_types.specs.declared.attaching.ReceiverAttachError.{ReceiverAttachError}
-use Rattle.amqp_link_flow.specs.Flows.{receiver_flowed}
+use Rattle.amqp_link_flow.specs.Flows.{attached as flow_attached, receiver_flowed}
 use Rattle.amqp_link_flow.specs.declared.inner.LinkFlowStateInner.{LinkFlowStateInner}
 use Rattle.amqp_link_attach.specs.State.{after_incoming_attach, after_remote_detach, after_send_detach, is_attached}
 use Rattle.amqp_link_attach.specs.declared.state.LinkState.{LinkState}
 use Rattle.amqp_link_attach.specs.declared.state.LinkState.TheVariants as state
-use Rattle.amqp_link_base.specs.Moves.{moved_to, took_attach}
+use Rattle.amqp_link_base.specs.Moves.{moved_to, sent_attach, took_attach}
 use Rattle.amqp_link_base.specs.declared.base.IllegalState.{IllegalState}
 use Rattle.amqp_link_base.specs.declared.base.LinkBase.{LinkBase}
 use Rattle.amqp_link_base.specs.declared.detached.Detached.{Detached}
-use Rattle.amqp_link_ends.specs.Ends.{flowed, state_of}
+use Rattle.amqp_link_ends.specs.Ends.{flowed, state_of, with_handle}
 use Rattle.amqp_link_ends.specs.Gives.{attaches, detaches, disposes, flows, flows_at}
 use Rattle.amqp_link_ends.specs.Standing.{standing_of}
 use Rattle.amqp_link_ends.specs.declared.end.End.{End}
@@ -39,34 +40,73 @@ use Rattle.amqp_link_receiver.specs.Incoming.{disposed}
 use Rattle.amqp_link_receiver.specs.State.{ReceiverState}
 use Rattle.amqp_link_receiver.specs.declared.attaching.Attached.{Attached as AttachedTold}
 use Rattle.amqp_link_receiving.specs.Deliveries.{Delivery}
+use Rattle.amqp_link_sender.specs.Attaching as sending
 use Rattle.amqp_link_sender.specs.Ending as sender
 use Rattle.amqp_link_sender.specs.Sending.{Sending}
+use Rattle.amqp_endpoint_attached.specs.Answering.{flowed_by}
 use Rattle.amqp_endpoint_attached.specs.Detaching.{detach_sent}
+use Rattle.amqp_endpoint_attached.specs.Links.{attach_sent}
 use Rattle.amqp_endpoint_linking.specs.Linking.{Link}
 
--- the number of a receiving link that is attached, and the delivery of which transfers are still to come to it
-abbrev pub Holding : Type 0
-Holding = Option (ℕ × Option Delivery)
+-- a link is attached, or its own Attach was sent and the peer's hasn't come
+abbrev pub stands_so : LinkState → Option Bool
+stands_so state.Attached = Some true
+stands_so state.IncompleteAttachExchanged = Some true
+stands_so state.AttachSent = Some false
+stands_so state.IncompleteAttachSent = Some false
+stands_so s = None
 
-abbrev pub held_if : Bool → ℕ → Option Delivery → Holding
-held_if true number held = Some (number, held)
-held_if false number held = None
+pub attached-so : (s : LinkState) → is_attached s ≡ true → stands_so s ≡ Some true
+attached-so state.Attached is = refl
+attached-so state.IncompleteAttachExchanged is = refl
+attached-so s is = absurd cc
+
+pub so-attached : (s : LinkState) → stands_so s ≡ Some true → is_attached s ≡ true
+so-attached state.Attached is = refl
+so-attached state.IncompleteAttachExchanged is = refl
+so-attached s is = absurd cc
+
+-- the number of a receiving link that is attached or waits for the peer's Attach; and whether it is attached, and the
+-- delivery of which transfers are still to come to it
+abbrev pub Part : Type 0
+Part = Bool × Option Delivery
+
+abbrev pub Holding : Type 0
+Holding = Option (ℕ × Part)
+
+abbrev pub held_if : Option Bool → ℕ → Option Delivery → Holding
+held_if (Some attached) number held = Some (number, (attached, held))
+held_if None number held = None
 
 abbrev pub held_end : ℕ → End → Holding
 held_end number (Sender s) = None
-held_end number (Receiver r) = held_if (is_attached r.base.local_state) number r.end.held
+held_end number (Receiver r) = held_if (stands_so r.base.local_state) number r.end.held
 
 abbrev pub held_link : Option Link → Holding
 held_link None = None
 held_link (Some link) = held_end link.number link.link
 
--- it stays, or the link is attached no longer
+-- it stays, or the link neither is attached nor waits any longer
 abbrev pub Stays : Holding → Holding → Type 0
 Stays old new = (new ≡ old) ⊎ (new ≡ None)
 
--- or the link wasn't attached before
+-- a link that waited is attached
+pub record IsAttached (old new : Holding) : Type 0 where
+  pub number : ℕ
+  pub held : Option Delivery
+  pub was : old ≡ Some (number, (false, held))
+  pub is : new ≡ Some (number, (true, held))
+
 abbrev pub Goes : Holding → Holding → Type 0
-Goes old new = (old ≡ None) ⊎ Stays old new
+Goes old new = IsAttached old new ⊎ Stays old new
+
+-- a link that enters holds nothing
+abbrev pub IsFresh : ℕ → Holding → Type 0
+IsFresh number new = (new ≡ None) ⊎ ((attached : Bool) × (new ≡ Some (number, (attached, None))))
+
+-- it goes on so, or the link with this number enters
+abbrev pub Comes : ℕ → Holding → Holding → Type 0
+Comes number old new = ((old ≡ None) × IsFresh number new) ⊎ Goes old new
 
 pub stays-on : (a b c : Holding) → Stays a b → Stays b c → Stays a c
 stays-on a b c s (inr gone) = inr gone
@@ -74,8 +114,17 @@ stays-on a b c (inl same) (inl is) = inl (is ∙ same)
 stays-on a b c (inr gone) (inl is) = inr (is ∙ gone)
 
 pub goes-on : (a b c : Holding) → Goes a b → Stays b c → Goes a c
-goes-on a b c (inl none) s = inl none
+goes-on a b c (inl t) (inl is) = inl (record { number = t.number; held = t.held; was = t.was; is = is ∙ t.is })
+goes-on a b c (inl t) (inr gone) = inr (inr gone)
 goes-on a b c (inr first) s = inr (stays-on a b c first s)
+
+fresh-on : (number : ℕ) (b c : Holding) → IsFresh number b → Stays b c → IsFresh number c
+fresh-on number b c fresh (inl is) = subst (IsFresh number) (sym is) fresh
+fresh-on number b c fresh (inr gone) = inl gone
+
+pub comes-on : (number : ℕ) (a b c : Holding) → Comes number a b → Stays b c → Comes number a c
+comes-on number a b c (inl (none, fresh)) s = inl (none, fresh-on number b c fresh s)
+comes-on number a b c (inr first) s = inr (goes-on a b c first s)
 
 pub stays-still : (a : Holding) → Stays a a
 stays-still a = inl refl
@@ -83,42 +132,53 @@ stays-still a = inl refl
 pub goes-still : (a : Holding) → Goes a a
 goes-still a = inr (inl refl)
 
--- behind the own Detach no link is attached, and behind the peer's
-sent-apart : (old new : LinkState) (closed : Bool) → after_send_detach old closed ≡ Some new → is_attached new ≡ false
-sent-apart state.Attached new true is = ap is_attached (sym (same_Some state.CloseSent new is))
-sent-apart state.Attached new false is = ap is_attached (sym (same_Some state.DetachSent new is))
-sent-apart state.IncompleteAttachExchanged new true is = ap is_attached (sym (same_Some state.CloseSent new is))
-sent-apart state.IncompleteAttachExchanged new false is = ap is_attached (sym (same_Some state.DetachSent new is))
+-- behind the own Detach no link is attached or waits, nor behind the peer's
+sent-apart : (old new : LinkState) (closed : Bool) → after_send_detach old closed ≡ Some new → stands_so new ≡ None
+sent-apart state.Attached new true is = ap stands_so (sym (same_Some state.CloseSent new is))
+sent-apart state.Attached new false is = ap stands_so (sym (same_Some state.DetachSent new is))
+sent-apart state.IncompleteAttachExchanged new true is = ap stands_so (sym (same_Some state.CloseSent new is))
+sent-apart state.IncompleteAttachExchanged new false is = ap stands_so (sym (same_Some state.DetachSent new is))
 sent-apart old new closed is = absurd (none-some new is)
 
 taken-apart : (old new : LinkState) (closed : Bool) → after_remote_detach old closed ≡ Some new
-    → is_attached new ≡ false
+    → stands_so new ≡ None
 taken-apart state.Unattached new closed is = absurd (none-some new is)
 taken-apart state.Detached new closed is = absurd (none-some new is)
 taken-apart state.Closed new closed is = absurd (none-some new is)
-taken-apart state.CloseSent new closed is = ap is_attached (sym (same_Some state.Closed new is))
-taken-apart old new true is = ap is_attached (sym (same_Some state.Closed new is))
-taken-apart old new false is = ap is_attached (sym (same_Some state.Detached new is))
+taken-apart state.CloseSent new closed is = ap stands_so (sym (same_Some state.Closed new is))
+taken-apart old new true is = ap stands_so (sym (same_Some state.Closed new is))
+taken-apart old new false is = ap stands_so (sym (same_Some state.Detached new is))
 
--- an attached link takes no Attach
-attached-takes-none : (s : LinkState) (incomplete : Bool) → is_attached s ≡ true
-    → after_incoming_attach s incomplete ≡ None
-attached-takes-none state.Attached true is = refl
-attached-takes-none state.Attached false is = refl
-attached-takes-none state.IncompleteAttachExchanged true is = refl
-attached-takes-none state.IncompleteAttachExchanged false is = refl
-attached-takes-none s incomplete is = absurd cc
+-- by the peer's Attach a link that waited is attached, and another one is so no more than it waits
+abbrev Moves : LinkState → LinkState → Type 0
+Moves old new = ((stands_so old ≡ Some false) × (stands_so new ≡ Some true)) ⊎ (stands_so new ≡ None)
+
+attach-moves : (old new : LinkState) (incomplete : Bool) → after_incoming_attach old incomplete ≡ Some new
+    → Moves old new
+attach-moves state.AttachSent new false is = inl (refl, ap stands_so (sym (same_Some state.Attached new is)))
+attach-moves state.AttachSent new true is =
+    inl (refl, ap stands_so (sym (same_Some state.IncompleteAttachExchanged new is)))
+attach-moves state.IncompleteAttachSent new false is =
+    inl (refl, ap stands_so (sym (same_Some state.IncompleteAttachExchanged new is)))
+attach-moves state.IncompleteAttachSent new true is =
+    inl (refl, ap stands_so (sym (same_Some state.IncompleteAttachExchanged new is)))
+attach-moves state.Unattached new false is = inr (ap stands_so (sym (same_Some state.AttachReceived new is)))
+attach-moves state.Unattached new true is = inr (ap stands_so (sym (same_Some state.IncompleteAttachReceived new is)))
+attach-moves state.Detached new false is = inr (ap stands_so (sym (same_Some state.AttachReceived new is)))
+attach-moves state.Detached new true is = inr (ap stands_so (sym (same_Some state.IncompleteAttachReceived new is)))
+attach-moves old new false is = absurd (none-some new is)
+attach-moves old new true is = absurd (none-some new is)
 
 module _ (k : ℕ) where
   -- an attachment that ended holds nothing
-  ended-holds : (r : ReceiverState) (moves : LinkState → LinkBase) (o : Option LinkState) (after : ReceiverState)
-      → ((s : LinkState) → (moves s).local_state ≡ s) → ((s : LinkState) → o ≡ Some s → is_attached s ≡ false)
-      → option_map (λ (b : LinkBase). ended r b) (option_map moves o) ≡ Some after
+  ended-holds : (r : ReceiverState) (moved : LinkState → LinkBase) (o : Option LinkState) (after : ReceiverState)
+      → ((s : LinkState) → (moved s).local_state ≡ s) → ((s : LinkState) → o ≡ Some s → stands_so s ≡ None)
+      → option_map (λ (b : LinkBase). ended r b) (option_map moved o) ≡ Some after
       → held_end k (Receiver after) ≡ None
-  ended-holds r moves None after stands apart is = absurd (none-some after is)
-  ended-holds r moves (Some s) after stands apart is =
-      ap (λ (x : ReceiverState). held_end k (Receiver x)) (sym (same_Some (ended r (moves s)) after is))
-      ∙ ap (λ (b : Bool). held_if b k None) (ap is_attached (stands s) ∙ apart s refl)
+  ended-holds r moved None after stands apart is = absurd (none-some after is)
+  ended-holds r moved (Some s) after stands apart is =
+      ap (λ (x : ReceiverState). held_end k (Receiver x)) (sym (same_Some (ended r (moved s)) after is))
+      ∙ ap (λ (o : Option Bool). held_if o k None) (ap stands_so (stands s) ∙ apart s refl)
 
   sent-holds : (r after : ReceiverState) (closed : Bool) → receiver.detach_sent r closed ≡ Some after
       → held_end k (Receiver after) ≡ None
@@ -208,28 +268,118 @@ module _ (k : ℕ) where
   detaches-stay old detach told new d = absurd d
 
   -- its Attach
-  refused-attach : (moved : Option LinkBase) (error : Option ReceiverAttachError) (old : ReceiverState)
-      (attach : Attach) (result : Result AttachedTold AllocError) (new : ReceiverState) → moved ≡ None
-      → TakesAttach moved error old attach result new → new ≡ old
-  refused-attach None error old attach result new none t = t.1
-  refused-attach (Some moved) error old attach result new none t = absurd (none-some moved (sym none))
+  module _ (old new : ReceiverState) (attach : Attach) (result : Result AttachedTold AllocError) where
+    moved-goes : (s : LinkState) → Moves old.base.local_state s → new.base.local_state ≡ s
+        → new.end.held ≡ old.end.held → Goes (held_end k (Receiver old)) (held_end k (Receiver new))
+    moved-goes s (inl (was, is)) state held =
+        inl (record {
+          number = k;
+          held = old.end.held;
+          was = ap (λ (o : Option Bool). held_if o k old.end.held) was;
+          is = ap (λ (h : Option Delivery). held_if (stands_so new.base.local_state) k h) held
+              ∙ ap (λ (o : Option Bool). held_if o k old.end.held) (ap stands_so state ∙ is);
+        })
+    moved-goes s (inr apart) state held =
+        inr (inr (ap (λ (o : Option Bool). held_if o k new.end.held) (ap stands_so state ∙ apart)))
 
-  takes-attach : (old : ReceiverState) (attach : Attach) (result : Result AttachedTold AllocError) (new : ReceiverState)
-      (attached : Bool) → is_attached old.base.local_state ≡ attached → AttachTaken old attach result new
-      → Goes (held_end k (Receiver old)) (held_end k (Receiver new))
-  takes-attach old attach result new false is t = inl (ap (λ (b : Bool). held_if b k old.end.held) is)
-  takes-attach old attach result new true is t =
-      inr (inl (ap (λ (r : ReceiverState). held_end k (Receiver r))
-      (refused-attach (took_attach old.base attach) (attach_error old attach) old attach result new
-      (ap (option_map (λ (s : LinkState). moved_to old.base attach s))
-      (attached-takes-none old.base.local_state attach.incomplete_unsettled is)) t)))
+    stays-so : new ≡ old → Goes (held_end k (Receiver old)) (held_end k (Receiver new))
+    stays-so same = inr (inl (ap (λ (r : ReceiverState). held_end k (Receiver r)) same))
+
+    takes-attach : (o : Option LinkState) (error : Option ReceiverAttachError)
+        → after_incoming_attach old.base.local_state attach.incomplete_unsettled ≡ o
+        → TakesAttach (option_map (λ (s : LinkState). moved_to old.base attach s) o) error old attach result new
+        → Goes (held_end k (Receiver old)) (held_end k (Receiver new))
+    takes-attach None error is t = stays-so t.1
+    takes-attach (Some s) (Some e) is (inl t) = stays-so t.2
+    takes-attach (Some s) (Some e) is (inr t) =
+        moved-goes s (attach-moves old.base.local_state s attach.incomplete_unsettled is)
+        (ap (λ (r : ReceiverState). r.base.local_state) t.1) (ap (λ (r : ReceiverState). r.end.held) t.1)
+    takes-attach (Some s) None is (inl t) = stays-so t.1
+    takes-attach (Some s) None is (inr t) =
+        moved-goes s (attach-moves old.base.local_state s attach.incomplete_unsettled is)
+        (ap (λ (r : ReceiverState). r.base.local_state) t.1) (ap (λ (r : ReceiverState). r.end.held) t.1)
+
+    attach-taken : AttachTaken old attach result new → Goes (held_end k (Receiver old)) (held_end k (Receiver new))
+    attach-taken t =
+        takes-attach (after_incoming_attach old.base.local_state attach.incomplete_unsettled) (attach_error old attach)
+        refl t
 
   pub attaches-go : (old : End) (attach : Attach) (told : Result AttachTold RelayError) (new : End)
       → attaches old attach told new → Goes (held_end k old) (held_end k new)
-  attaches-go (Sender s) attach (Ok (told.Sender answer)) (Sender after) a = inl refl
-  attaches-go (Sender s) attach (Err Memory) (Sender after) a = inl refl
+  attaches-go (Sender s) attach (Ok (told.Sender answer)) (Sender after) a = inr (inl refl)
+  attaches-go (Sender s) attach (Err Memory) (Sender after) a = inr (inl refl)
   attaches-go (Receiver r) attach (Ok (told.Receiver answer)) (Receiver after) a =
-      takes-attach r attach (Ok answer) after (is_attached r.base.local_state) refl a
+      attach-taken r after attach (Ok answer) a
   attaches-go (Receiver r) attach (Err Memory) (Receiver after) a =
-      takes-attach r attach (Err alloc_error) after (is_attached r.base.local_state) refl a
+      attach-taken r after attach (Err alloc_error) a
   attaches-go old attach told new a = absurd a
+
+-- a link that holds nothing, as each does of which no Attach was sent
+abbrev pub IsEmpty : End → Type 0
+IsEmpty (Sender s) = Unit {0}
+IsEmpty (Receiver r) = r.end.held ≡ None
+
+fresh-if : (k : ℕ) (o : Option Bool) (held : Option Delivery) → held ≡ None → IsFresh k (held_if o k held)
+fresh-if k None held none = inl refl
+fresh-if k (Some attached) held none = inr (attached, ap (λ (h : Option Delivery). held_if (Some attached) k h) none)
+
+pub empty-fresh : (k : ℕ) (e : End) → IsEmpty e → IsFresh k (held_end k e)
+empty-fresh k (Sender s) empty = inl refl
+empty-fresh k (Receiver r) empty = fresh-if k (stands_so r.base.local_state) r.end.held empty
+
+pub empty-handle : (e : End) (handle : OutputHandle) → IsEmpty e → IsEmpty (with_handle e handle)
+empty-handle (Sender s) handle empty = tt
+empty-handle (Receiver r) handle empty = empty
+
+-- its own Attach is sent
+sent-sender : (o : Option Sending) (new : End) → option_map (λ (s : Sending). Sender s) o ≡ Some new → IsEmpty new
+sent-sender None new is = absurd (none-some new is)
+sent-sender (Some s) new is = subst IsEmpty (same_Some (Sender s) new is) tt
+
+sent-receiver : (r : ReceiverState) (flow : LinkFlowStateInner) (o : Option LinkBase) (new : End) → r.end.held ≡ None
+    → option_map (λ (r : ReceiverState). Receiver r)
+    (option_map (λ (b : LinkBase). record r { base = b; end = record r.end { flow = flow } }) o) ≡ Some new
+    → IsEmpty new
+sent-receiver r flow None new empty is = absurd (none-some new is)
+sent-receiver r flow (Some b) new empty is =
+    subst IsEmpty
+    (same_Some (Receiver (record r { base = b; end = record r.end { flow = flow } })) new is) empty
+
+pub empty-sent : (e : End) (incomplete : Bool) (new : End) → IsEmpty e → attach_sent e incomplete ≡ Some new
+    → IsEmpty new
+empty-sent (Sender s) incomplete new empty is = sent-sender (sending.attach_sent s incomplete) new is
+empty-sent (Receiver r) incomplete new empty is =
+    sent-receiver r (flow_attached r.end.flow r.end.flow.initial_delivery_count) (sent_attach r.base incomplete) new
+    empty is
+
+-- it takes the peer's
+taken-held : (moved : Option LinkBase) (error : Option ReceiverAttachError) (old : ReceiverState) (attach : Attach)
+    (result : Result AttachedTold AllocError) (new : ReceiverState)
+    → TakesAttach moved error old attach result new → new.end.held ≡ old.end.held
+taken-held None error old attach result new t = ap (λ (r : ReceiverState). r.end.held) t.1
+taken-held (Some b) (Some e) old attach result new (inl t) = ap (λ (r : ReceiverState). r.end.held) t.2
+taken-held (Some b) (Some e) old attach result new (inr t) = ap (λ (r : ReceiverState). r.end.held) t.1
+taken-held (Some b) None old attach result new (inl t) = ap (λ (r : ReceiverState). r.end.held) t.1
+taken-held (Some b) None old attach result new (inr t) = ap (λ (r : ReceiverState). r.end.held) t.1
+
+pub empty-takes : (e : End) (attach : Attach) (told : Result AttachTold RelayError) (new : End) → IsEmpty e
+    → attaches e attach told new → IsEmpty new
+empty-takes (Sender s) attach (Ok (told.Sender answer)) (Sender after) empty a = tt
+empty-takes (Sender s) attach (Err Memory) (Sender after) empty a = tt
+empty-takes (Receiver r) attach (Ok (told.Receiver answer)) (Receiver after) empty a =
+    taken-held (took_attach r.base attach) (attach_error r attach) r attach (Ok answer) after a ∙ empty
+empty-takes (Receiver r) attach (Err Memory) (Receiver after) empty a =
+    taken-held (took_attach r.base attach) (attach_error r attach) r attach (Err alloc_error) after a ∙ empty
+empty-takes e attach told new empty a = absurd a
+
+-- and what was kept of a Flow
+flow-empty : (attached : Bool) (r : ReceiverState) (flow : LinkFlowStateInner) → r.end.held ≡ None
+    → IsEmpty (Receiver (if attached then with_flow r flow else r))
+flow-empty true r flow empty = empty
+flow-empty false r flow empty = empty
+
+pub empty-flowed : (e : End) (flow : Option LinkFlow) → IsEmpty e → IsEmpty (flowed_by e flow)
+empty-flowed e None empty = empty
+empty-flowed (Sender s) (Some flow) empty = tt
+empty-flowed (Receiver r) (Some flow) empty =
+    flow-empty (is_attached r.base.local_state) r (receiver_flowed r.end.flow flow) empty

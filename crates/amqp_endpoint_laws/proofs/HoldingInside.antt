@@ -31,8 +31,9 @@ use Rattle.amqp_link_receiving.specs.declared.answer.Told.{Told}
 use Rattle.amqp_endpoint_attached.specs.Linked.{LinksIn, gives}
 use Rattle.amqp_endpoint_attached.proofs.There.{replaced}
 use Rattle.amqp_endpoint_linking.specs.Linking.{Link}
-use Rattle.amqp_endpoint_laws.proofs.HoldingEnds.{Goes, Holding, Stays, attaches-go, detaches-stay, disposes-stay}
-use Rattle.amqp_endpoint_laws.proofs.HoldingEnds.{flows-stay, goes-on, goes-still, held_end, held_link, stays-on}
+use Rattle.amqp_endpoint_laws.proofs.HoldingEnds.{Comes, Goes, Holding, IsFresh, Stays, attaches-go, comes-on}
+use Rattle.amqp_endpoint_laws.proofs.HoldingEnds.{detaches-stay, disposes-stay, flows-stay, goes-on, goes-still}
+use Rattle.amqp_endpoint_laws.proofs.HoldingEnds.{held_end, held_link, stays-on}
 use Rattle.amqp_endpoint_laws.proofs.HoldingEnds.{stays-still}
 
 -- under each own handle what is held goes from the old session to the new
@@ -50,6 +51,12 @@ each-goes old mid new first later h =
 pub all-same : (old new : LinksIn) → new.links ≡ old.links → Each Stays old new
 all-same old new same h = inl (ap (λ (ls : List (Option Link)). held_link (slice_index_or ls h None)) same)
 
+pub each-comes : (number : ℕ) (old mid new : LinksIn) → Each (Comes number) old mid → Each Stays mid new
+    → Each (Comes number) old new
+each-comes number old mid new first later h =
+    comes-on number (held_link (link_at old h)) (held_link (link_at mid h)) (held_link (link_at new h)) (first h)
+    (later h)
+
 pub stay-go : (old new : LinksIn) → Each Stays old new → Each Goes old new
 stay-go old new each h = inr (each h)
 
@@ -61,7 +68,7 @@ module _ (Rel : Holding → Holding → Type 0) (still : (a : Holding) → Rel a
       subst (λ (q : Option Link). Rel (held_link q) (held_link p)) (sym a)
       (subst (λ (q : Option Link). Rel (held_link x) (held_link q)) (sym b) r)
 
-  at-one : (old new : LinksIn) (handle : ℕ) (before after : Link) → link_at old handle ≡ Some before
+  pub at-one : (old new : LinksIn) (handle : ℕ) (before after : Link) → link_at old handle ≡ Some before
       → new.links ≡ slice_set old.links handle (Some after) → Rel (held_link (Some before)) (held_link (Some after))
       → Each Rel old new
   at-one old new handle before after had is keeps h = by (eqb_tells h handle)
@@ -128,21 +135,28 @@ freed-at old new h false is = inl (ap held_link is)
 pub freed-stays : (old new : LinksIn) (handle : ℕ) → Steps gives old (Deallocates handle) new → Each Stays old new
 freed-stays old new handle s h = freed-at old new h (h == handle) (s.0 h)
 
-given-goes : (old new : LinksIn) (handle : ℕ) (link : Link) → link_at old handle ≡ None
-    → ((h : ℕ) → link_at new h ≡ (if h == handle then Some link else link_at old h)) → Each Goes old new
-given-goes old new handle link vacant becomes h = by (eqb_tells h handle)
+given-comes : (number : ℕ) (old new : LinksIn) (handle : ℕ) (link : Link) → IsFresh number (held_link (Some link))
+    → link_at old handle ≡ None → ((h : ℕ) → link_at new h ≡ (if h == handle then Some link else link_at old h))
+    → Each (Comes number) old new
+given-comes number old new handle link fresh vacant becomes h = by (eqb_tells h handle)
   where
     by : (((h == handle) ≡ true) × (h ≡ handle)) ⊎ (((h == handle) ≡ false) × (h ≢ handle))
-        → Goes (held_link (link_at old h)) (held_link (link_at new h))
-    by (inl p) = inl (ap held_link (ap (λ (k : ℕ). link_at old k) p.1 ∙ vacant))
+        → Comes number (held_link (link_at old h)) (held_link (link_at new h))
+    by (inl p) =
+        inl (
+          ap held_link (ap (λ (k : ℕ). link_at old k) p.1 ∙ vacant),
+          subst (IsFresh number)
+              (sym (ap held_link (becomes h ∙ ap (λ (b : Bool). if b then Some link else link_at old h) p.0))) fresh,
+        )
     by (inr p) =
-        inr (inl (ap held_link (becomes h
-        ∙ ap (λ (b : Bool). if b then Some link else link_at old h) p.0)))
+        inr (inr (inl (ap held_link (becomes h
+        ∙ ap (λ (b : Bool). if b then Some link else link_at old h) p.0))))
 
-pub allocated-goes : (old new : LinksIn) (handle : ℕ) (link : Link) (input : Option ℕ)
-    → Steps gives old (Allocates handle link input) new → Each Goes old new
-allocated-goes old new handle link None s = given-goes old new handle link s.1 s.3
-allocated-goes old new handle link (Some input) s = given-goes old new handle link s.2 s.4
+pub allocated-comes : (number : ℕ) (old new : LinksIn) (handle : ℕ) (link : Link) (input : Option ℕ)
+    → IsFresh number (held_link (Some link)) → Steps gives old (Allocates handle link input) new
+    → Each (Comes number) old new
+allocated-comes number old new handle link None fresh s = given-comes number old new handle link fresh s.1 s.3
+allocated-comes number old new handle link (Some input) fresh s = given-comes number old new handle link fresh s.2 s.4
 
 -- a Flow of the peer is taken
 flow-at : (old new : LinksIn) (flow : Flow) (named : Option Handle)

@@ -96,7 +96,7 @@ module _ (Rel : Holding → Holding → Type 0) (still : (a : Holding) → Rel a
       (still (held_in o h))
 
   -- a session goes on
-  live-changes : (m : ℕ) (before after : Session) (old new : Sessions) → Steps old (ChangesLive m before after) new
+  pub live-changes : (m : ℕ) (before after : Session) (old new : Sessions) → Steps old (ChangesLive m before after) new
       → Each Rel before.value.session after.value.session → EachOf Rel old new
   live-changes m before after old new s each n h = by (n == m) refl
     where
@@ -161,31 +161,23 @@ module _ (Rel : Holding → Holding → Type 0) (still : (a : Holding) → Rel a
     hears-in (Some number) h frames t =
         hears-at (asked_at old.sessions number) (live_at old.sessions number) number h frames t
 
--- a session is over, or ending
-pub dead-stays : (m : ℕ) (step : SessionsStep) (old new : Sessions)
-    → ((n : ℕ) → (n == m) ≡ false → is_about n step ≡ false) → Steps old step new → live_at new m ≡ None
-    → EachOf Stays old new
-dead-stays m step old new apart s dead n h = by (n == m) refl
+-- a session begins without a link, or is over
+pub born-stays : (m : ℕ) (step : SessionsStep) (old new : Sessions)
+    → ((n : ℕ) → (n == m) ≡ false → is_about n step ≡ false) → Steps old step new
+    → ((h : ℕ) → held_in (live_at new m) h ≡ None) → EachOf Stays old new
+born-stays m step old new apart s none n h = by (n == m) refl
   where
     by : (b : Bool) → (n == m) ≡ b → Stays (held_in (live_at old n) h) (held_in (live_at new n) h)
-    by true e =
-        inr (ap (λ (o : Option Session). held_in o h)
-        (ap (λ (k : ℕ). live_at new k) (same_number n m e) ∙ dead))
+    by true e = inr (ap (λ (k : ℕ). held_in (live_at new k) h) (same_number n m e) ∙ none h)
     by false e =
         inl (ap (λ (o : Option Stood). held_in (live_of o) h) ((at n old step new s).other (apart n e)))
 
--- or one that hadn't begun begins, or is asked for
-pub born-goes : (m : ℕ) (step : SessionsStep) (old new : Sessions)
-    → ((n : ℕ) → (n == m) ≡ false → is_about n step ≡ false) → Steps old step new → live_at old m ≡ None
-    → EachOf Goes old new
-born-goes m step old new apart s dead n h = by (n == m) refl
-  where
-    by : (b : Bool) → (n == m) ≡ b → Goes (held_in (live_at old n) h) (held_in (live_at new n) h)
-    by true e =
-        inl (ap (λ (o : Option Session). held_in o h)
-        (ap (λ (k : ℕ). live_at old k) (same_number n m e) ∙ dead))
-    by false e =
-        inr (inl (ap (λ (o : Option Stood). held_in (live_of o) h) ((at n old step new s).other (apart n e))))
+-- or is asked for
+pub dead-stays : (m : ℕ) (step : SessionsStep) (old new : Sessions)
+    → ((n : ℕ) → (n == m) ≡ false → is_about n step ≡ false) → Steps old step new → live_at new m ≡ None
+    → EachOf Stays old new
+dead-stays m step old new apart s dead =
+    born-stays m step old new apart s (λ h. ap (λ (o : Option Session). held_in o h) dead)
 
 pub ends-stays : (number : ℕ) (error : Option Error) (session : Session) (old new : Talk)
     (out out_new : List SessionFrame) → EndsHere old out number error session new out_new

@@ -37,12 +37,16 @@ mod HoldingDeeds
 mod HandedOut
 mod HandedBy
 mod HandedOn
+mod LifePlace
+mod LifeDeeds
 mod HandedRuns
+mod LifeRuns
 mod QueuedSaid
 mod QueuedOrder
 mod QueuedKept
 mod QueuedSince
 mod QueuedAttached
+mod QueuedCalled
 mod SeenWalk
 mod Seen
 mod Judged

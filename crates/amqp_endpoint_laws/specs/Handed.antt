@@ -23,17 +23,17 @@ use Rattle.amqp_endpoint_linked.specs.declared.linked.LinkedSessions.{LinkedSess
 use Rattle.amqp_endpoint_linking.specs.Linking.{Session}
 use Rattle.amqp_endpoint_model.specs.declared.event.Event.{Event}
 use Rattle.amqp_endpoint_model.specs.declared.event.Event.TheVariants.{Message}
-use Rattle.amqp_endpoint_names.specs.State.{place_at}
 use Rattle.amqp_endpoint_names.specs.declared.place.LinkPlace.TheVariants.{Held}
 use Rattle.amqp_endpoint_sessions.specs.State.{live_at, reached}
 use Rattle.amqp_endpoint_talk.specs.Windows.{Came, Passing, Went}
+use Rattle.amqp_endpoint_laws.specs.Held.{number_at}
 use Rattle.amqp_endpoint_laws.specs.Passed.{is_it, passes_in}
 
--- a session holds the receiving link with this number under this own handle, where it is attached, and this is the
+-- in a session that goes on the receiving link with this number has this own handle, and is attached, and this is the
 -- delivery of which transfers are still to come to it, if there is one (part 2, 2.6.2, 2.6.3, 2.6.14)
 pub record IsReceiving (s : LinkedSessions) (link session : ℕ) (own : OutputHandle) (held : Option Incoming) : Type 0
   where
-    pub place : place_at s.links link ≡ Some (Held session own)
+    pub numbered : number_at s.talk.sessions session own.0 ≡ Some link
     pub end : ReceiverState
     pub there : end_held s.talk (Held session own) ≡ Some (Receiver end)
     pub attached : is_attached end.base.local_state ≡ true

@@ -5,6 +5,7 @@ pub mod Passed
 pub mod Held
 pub mod Agreeing
 pub mod Handed
+pub mod Life
 pub mod Queued
 pub mod Seen
 pub mod Judged

@@ -10,12 +10,17 @@ use Rattle.amqp_session_core.specs.State.{State}
 use Rattle.amqp_link_place.specs.Readings.{Piece, nothing, readings}
 use Rattle.amqp_link_place.specs.Said.{Said}
 use Rattle.amqp_link_split.specs.Saying.{pieces_of}
-use Rattle.amqp_endpoint_deeds.specs.Deeds.{Deed, Does}
-use Rattle.amqp_endpoint_model.specs.declared.call.Call.TheVariants.{Send}
-use Rattle.amqp_endpoint_model.specs.Said.{message_sent}
-use Rattle.amqp_endpoint_linking.specs.Linking.{Link}
+use Rattle.amqp_endpoint_deeds.specs.Deeds.{AreDone, Deed, Does, IsDeed}
+use Rattle.amqp_endpoint_model.specs.Said.{Said as Answer, attaching, message_sent}
+use Rattle.amqp_endpoint_model.specs.declared.call.Call.{Call}
+use Rattle.amqp_endpoint_model.specs.declared.call.Call.TheVariants.{AttachSender, Send}
+use Rattle.amqp_endpoint_model.specs.declared.event.Event.{Event}
+use Rattle.amqp_endpoint_linked.specs.Does.{linked}
+use Rattle.amqp_endpoint_linked.specs.declared.linked.LinkedSessions.{LinkedSessions}
+use Rattle.amqp_endpoint_linking.specs.Linking.{Link, Session}
+use Rattle.amqp_endpoint_settings.specs.declared.link.LinkSettings.{LinkSettings}
 use Rattle.amqp_endpoint_talk.specs.Windows.{Passing}
-use Rattle.amqp_endpoint_laws.specs.Passed.{sent_in}
+use Rattle.amqp_endpoint_laws.specs.Passed.{PassesIn, sent_in}
 
 -- the transfer of a frame, where it goes by this own handle
 abbrev pub piece_on : ℕ → SessionFrameBody → List Piece
@@ -57,19 +62,29 @@ pub record SayMessages (pieces : List Piece) (messages : List Message) : Type 0 
   pub whole : (readings nothing pieces).held ≡ None
   pub says : map message_of (readings nothing pieces).messages ≡ messages
 
--- the message that is sent by a link in a deed, where one is accepted. It goes settled where its outcome is told at
+-- the message that is sent by a link in a call, where it is accepted. It goes settled where its outcome is told at
 -- once
-abbrev pub message_in : ℕ → Deed → List Message
-message_in link (Does limit (Send number message) (message_sent tag outcome) frames) =
+abbrev pub message_done : ℕ → Call → Answer → List Message
+message_done link (Send number message) (message_sent tag outcome) =
     if number == link then record {
       tag = Some tag;
       format = Some message.message_format;
       settled = Some (is_some outcome);
       payload = message.payload;
     } ∷ [] else []
+message_done link call answer = []
+
+-- those that are sent by it in calls that are done, with their answers, in order
+abbrev pub messages_done : ℕ → List (Call × Answer) → List Message
+messages_done link [] = []
+messages_done link (did ∷ others) = message_done link did.0 did.1 ++ messages_done link others
+
+-- and in a deed
+abbrev pub message_in : ℕ → Deed → List Message
+message_in link (Does limit call answer frames) = message_done link call answer
 message_in link deed = []
 
--- those that are sent by it, in order
+-- and in one after the other
 abbrev pub messages_by : ℕ → List Deed → List Message
 messages_by link [] = []
 messages_by link (deed ∷ deeds) = message_in link deed ++ messages_by link deeds
@@ -82,3 +97,21 @@ pub record AttachesFirst (handle : OutputHandle) (name : List ℕ) (frames : Lis
   pub are : frames ≡ record { channel = channel; body = body.Attach attach } ∷ others
   pub handled : attach.handle.0 ≡ handle.0
   pub named : attach.name ≡ name
+
+-- among these deeds is the call by which the link attached, and what passed in its session since, by its handle, and
+-- what waits there, says these messages
+pub record SaysSince (sessions : LinkedSessions) (deeds : List Deed) (number link : ℕ) (its : LinkSettings)
+    (events : List Event) (handle : OutputHandle) (end : LinkedSessions) (session : Session) (messages : List Message)
+    : Type 0 where
+  pub before : List Deed
+  pub limit : ℕ
+  pub frames : List SessionFrame
+  pub since : List Deed
+  pub are : deeds ≡ before ++ Does limit (AttachSender number its) (attaching link events) frames ∷ since
+  pub old : LinkedSessions
+  pub new : LinkedSessions
+  pub came : AreDone linked sessions before old
+  pub attached : IsDeed linked old (Does limit (AttachSender number its) (attaching link events) frames) new
+  pub passings : List Passing
+  pub passes : PassesIn number new since end passings
+  pub says : SayMessages (queued handle passings session.value.session) messages

@@ -1,5 +1,5 @@
 //! The laws. A function here does nothing but name the laws that it rests on: its contract is the law.
-ghost use Rattle.std.specs.Prelude.{◌≡◌, ◌+◌, ◌∷◌, ◌++◌, [], ℕ, List, false, length, map, slice_get, Option, Some};
+ghost use Rattle.std.specs.Prelude.{◌≡◌, ◌+◌, ◌∷◌, ◌++◌, [], ℕ, List, false, length, map, slice_get, Option, Some, ◌⊎◌};
 ghost use Rattle.amqp_session_performatives.specs.declared.session_frame.SessionFrame.{SessionFrame};
 ghost use Rattle.amqp_session_types.specs.declared.channels.OutgoingChannel.{OutgoingChannel};
 ghost use Rattle.amqp_session_types.specs.declared.handles.OutputHandle.{OutputHandle};
@@ -21,9 +21,10 @@ ghost use Rattle.amqp_endpoint_model.specs.declared.settings.Settings.{Settings}
 ghost use Rattle.amqp_endpoint_linked.specs.Does.{linked};
 ghost use Rattle.amqp_endpoint_linked.specs.Sending.{tag_of};
 ghost use Rattle.amqp_endpoint_linked.specs.declared.linked.LinkedSessions.{LinkedSessions};
-ghost use Rattle.amqp_endpoint_deeds.specs.Deeds.{AreDone, Deed, Does, IsDeed, MayPass, NoneRenews, Renews, Throughout};
-ghost use Rattle.amqp_endpoint_deeds.specs.Deeds.{fed_since, pulled_since, told_by, up_behind};
-ghost use Rattle.amqp_endpoint_deeds.specs.Telling.{events_told};
+ghost use Rattle.amqp_endpoint_deeds.specs.Deeds.{AreDone, Deed, Does, IsDeed, IsDone, MayPass, NoneRenews, Renews};
+ghost use Rattle.amqp_endpoint_deeds.specs.Deeds.{Throughout, done_since, fed_since, pulled_since, told_by, told_in};
+ghost use Rattle.amqp_endpoint_deeds.specs.Deeds.{told_since, up_behind};
+ghost use Rattle.amqp_endpoint_deeds.specs.Telling.{calls_done, events_told};
 ghost use Rattle.amqp_endpoint_settings.specs.declared.link.LinkSettings.{LinkSettings};
 ghost use Rattle.amqp_endpoint_talk.specs.Windows.{KeepsWindow, Passing, begins_with};
 ghost use Rattle.amqp_endpoint_reading.specs.Reading.{nothing_read};
@@ -34,8 +35,10 @@ ghost use Rattle.amqp_endpoint_laws.specs.Held.{IsHeldThere, number_at};
 ghost use Rattle.amqp_endpoint_laws.specs.Judged.{Judged};
 ghost use Rattle.amqp_endpoint_laws.specs.Linking.{HaveCome};
 ghost use Rattle.amqp_endpoint_laws.specs.Passed.{HasCome, PassesIn};
-ghost use Rattle.amqp_endpoint_laws.specs.Queued.{AttachesFirst, SayMessages, messages_by, queued};
+ghost use Rattle.amqp_endpoint_laws.specs.Queued.{AttachesFirst, SayMessages, SaysSince, messages_by, messages_done};
+ghost use Rattle.amqp_endpoint_laws.specs.Queued.{queued};
 ghost use Rattle.amqp_endpoint_laws.specs.Seen.{passing_in, wired_by};
+ghost use Rattle.amqp_endpoint_laws.specs.Life.{Reach, StaysSomewhere};
 ghost use Rattle.amqp_endpoint_laws.specs.Telling.{numbers_told, numbers_under, tags_given};
 
 use amqp_endpoint_linking::laws::links_given_back_go_on;
@@ -199,14 +202,52 @@ pub fn what_is_handed_out_is_what_was_said()
     ensures on_a_handle { (start end : LinkedSessions) (since : List Deed) (link session : ℕ) (own : OutputHandle)
         (theirs : ℕ) (passings : List Passing) → PassesOn link session own theirs start since end passings →
         ReachIn link session own start since end (pieces_on theirs passings) }
+{
+    links_given_back_go_on();
+}
+
+/// An endpoint hands a message out by a link only in a deed before and behind which that is attached as a receiving
+/// link, in one session and under one own handle. So the deed that ends an attachment hands out none of its link, nor
+/// do those before and behind the attachment (part 2, 2.6.3, 2.6.4, 2.6.12).
+pub fn messages_come_while_attached()
+    ensures { (old new : LinkedSessions) (deed : Deed) (link : ℕ) → IsDeed linked old deed new →
+        (handed_by link (told_in deed) ≡ []) ⊎ StaysSomewhere old new link }
 {}
+
+/// All that an endpoint ever hands out by a link is what the transfers say that reach the link while it is attached, in
+/// order, from nothing on, where none of them says that it resumes a delivery. So what the link holds of a message as
+/// its attachment ends is never handed out (part 2, 2.6.12, 2.6.14). There are such transfers: a link is attached in
+/// one session alone, and under one own handle alone, whichever deeds its endpoint's run consists of. And each run
+/// consists of deeds that tell its events.
+pub fn all_that_is_handed_out()
+    ensures says { (sessions end : LinkedSessions) (settings : Settings) (deeds : List Deed) (link session : ℕ)
+        (own : OutputHandle) (pieces : List Piece) → IsNew linked settings sessions →
+        Reach link session own sessions deeds end pieces → NoneResumes pieces →
+        handed_by link (told_by deeds) ≡ map (handed_as own) (readings nothing pieces).messages }
+    ensures some { (sessions end : LinkedSessions) (settings : Settings) (deeds : List Deed) (link : ℕ) →
+        IsNew linked settings sessions → AreDone linked sessions deeds end →
+        (session : ℕ) × (own : OutputHandle) × (pieces : List Piece) ×
+        Reach link session own sessions deeds end pieces }
+    ensures by_calls { (sessions : LinkedSessions) (settings : Settings) (calls : List Call) (told : List Told)
+        (end : State LinkedSessions) (link : ℕ) → IsNew linked settings sessions →
+        Run linked (fresh settings sessions) calls told end →
+        (did : IsDone linked settings.max_frame_size sessions (pulled_since [] calls told) (fed_since [] calls told)
+        (told_since [] calls told) (done_since [] calls told) (events_told told) (calls_done calls told) end) ×
+        (session : ℕ) × (own : OutputHandle) × (pieces : List Piece) ×
+        Reach link session own sessions (did.before ++ did.since) end.sessions pieces ×
+        (NoneResumes pieces →
+        handed_by link (events_told told) ≡ map (handed_as own) (readings nothing pieces).messages) }
+{
+    links_given_back_go_on();
+}
 
 /// What a sending link is given to send is queued in order. Its Attach is the first frame of the call by which it
 /// attaches, and says its own handle and its name. The transfers with that handle among all that passes in its session
 /// from then on, and behind them those that wait there for the peer's window, say the messages that the link accepted
 /// since, one after the other, each with its tag, its format, whether it goes settled, and all of its bytes; and no
 /// message is left half said (part 2, 2.6.12, 2.6.14). So it is whatever else the endpoint does and hears, as long as
-/// the session holds the link and goes on.
+/// the session holds the link and goes on. In a run these are all messages that the link is given by a call that is
+/// done, where the link attaches by such a call.
 pub fn what_is_sent_is_queued_in_order()
     ensures says { (sessions old new end : LinkedSessions) (settings : Settings) (before since : List Deed)
         (number link limit : ℕ) (its : LinkSettings) (events : List Event) (frames : List SessionFrame)
@@ -223,6 +264,17 @@ pub fn what_is_sent_is_queued_in_order()
         IsDeed linked old (Does limit (AttachSender number its) (attaching link events) frames) new →
         PassesIn number new since end passings → place_at end.links link ≡ Some (Held number handle) →
         AttachesFirst handle its.name frames }
+    ensures by_calls { (sessions : LinkedSessions) (settings : Settings) (calls : List Call) (told : List Told)
+        (end : State LinkedSessions) (link n number : ℕ) (its : LinkSettings) (events : List Event)
+        (handle : OutputHandle) (session : Session) → IsNew linked settings sessions →
+        Run linked (fresh settings sessions) calls told end →
+        slice_get (calls_done calls told) n ≡ Some (AttachSender number its, attaching link events) →
+        place_at end.sessions.links link ≡ Some (Held number handle) →
+        live_at end.sessions.talk.sessions number ≡ Some session →
+        (did : IsDone linked settings.max_frame_size sessions (pulled_since [] calls told) (fed_since [] calls told)
+        (told_since [] calls told) (done_since [] calls told) (events_told told) (calls_done calls told) end) ×
+        SaysSince sessions (did.before ++ did.since) number link its events handle end.sessions session
+        (messages_done link (calls_done calls told)) }
 {
     links_given_back_go_on();
     no_two_links_share_a_handle();
