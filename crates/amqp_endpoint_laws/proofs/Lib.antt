@@ -44,3 +44,4 @@ mod QueuedKept
 mod QueuedSince
 mod QueuedAttached
 mod QueuedCalled
+mod LeadingAlone
