@@ -46,12 +46,13 @@ use Rattle.amqp_endpoint_laws.specs.Life.{StaysSomewhere}
 use Rattle.amqp_endpoint_laws.specs.Passed.{is_it}
 use Rattle.amqp_endpoint_laws.specs.Telling.{numbers_told}
 use Rattle.amqp_endpoint_laws.proofs.Counted.{answer-unnumbered}
-use Rattle.amqp_endpoint_laws.proofs.HandedOut.{HearsOne, IsTold, Receives, Says, StandsAlone, each-hears, goes-same}
+use Rattle.amqp_endpoint_laws.proofs.HandedOut.{HearsOne, IsTold, LeadsLessAt, Receives, Says, StandsAlone, each-hears}
+use Rattle.amqp_endpoint_laws.proofs.HandedOut.{each-leads, goes-same}
 use Rattle.amqp_endpoint_laws.proofs.HandedOut.{handed-both, hands-out, none-handed, none-resume, readings-both}
 use Rattle.amqp_endpoint_laws.proofs.HandedOut.{receives-holds, says-none, says-so}
 use Rattle.amqp_endpoint_laws.proofs.HoldingDeeds.{GoesBy, IsNotTransfer, TakesNoTransfer, deed-goes}
 use Rattle.amqp_endpoint_laws.proofs.HoldingEnds.{Holding, Stays}
-use Rattle.amqp_endpoint_laws.proofs.HoldingTalk.{EachOf, fails-stay, held_in}
+use Rattle.amqp_endpoint_laws.proofs.HoldingTalk.{AllRest, EachOf, fails-stay, held_in, leads_in}
 use Rattle.amqp_endpoint_laws.proofs.Numbered.{GivesNext, gives-next}
 use Rattle.amqp_endpoint_laws.proofs.PassedPlaces.{eq-same}
 use Rattle.amqp_endpoint_laws.proofs.Unnumbered.{Unnumbered}
@@ -152,7 +153,7 @@ module _ (old new : LinkedSessions) (channel : IncomingChannel) (it : Transfer) 
   -- or its session ends by its fault
   record ByFault : Type 0 where
     ended : IsEnded old.talk channel new.talk
-    stays : EachOf Stays old.talk.sessions new.talk.sessions
+    stays : AllRest old.talk.sessions new.talk.sessions
     untold : (link : ℕ) → handed_by link events ≡ []
 
   abbrev HeardBy : Type 0
@@ -218,7 +219,14 @@ module _ (old new : LinkedSessions) (channel : IncomingChannel) (it : Transfer) 
       each-hears old new b.mid channel it payload b.session b.took b.own events b.heard b.comes
   heard-moves (inr (inl b)) =
       λ m h. inr (inl (ap (λ (t : Talk). held_in (live_at t.sessions m) h) b.dropped.same))
-  heard-moves (inr (inr b)) = λ m h. inr (b.stays m h)
+  heard-moves (inr (inr b)) = λ m h. inr ((b.stays m).holds h)
+
+  heard-leads : HeardBy → (n : ℕ) → LeadsLessAt (live_at old.talk.sessions n) (live_at new.talk.sessions n)
+  heard-leads (inl b) n input h there =
+      each-leads old new b.mid channel it payload b.session b.took b.own events b.heard b.comes n input h there
+  heard-leads (inr (inl b)) n input h there =
+      sym (ap (λ (t : Talk). leads_in (live_at t.sessions n) input) b.dropped.same) ∙ there
+  heard-leads (inr (inr b)) n input h there = (b.stays n).leads input h there
 
   -- and what is handed out is so by a link that stays attached
   heard-hands : (link : ℕ) → HeardBy → (handed_by link events ≡ []) ⊎ StaysSomewhere old new link
@@ -272,7 +280,7 @@ module _ (old new : LinkedSessions) (channel : IncomingChannel) (it : Transfer) 
         (λ same.
         has-session (live_at new.talk.sessions n) own _ q.there
         (ap (λ (k : ℕ). live_at new.talk.sessions k) (sym same) ∙ e.dead)))
-        (b.untold link) (stayed b.stays)
+        (b.untold link) (stayed (λ m h. (b.stays m).holds h))
 
 -- no other frame hands a message out
 uncounted : (it : FrameBody) → IsNotTransfer it → (old new : Talk) (links links_new : Links)
@@ -344,6 +352,18 @@ frame-moves (body.Transfer transfer payload) limit channel frames events old new
     by (inr stays) = inr (inr (inr stays))
 frame-moves it limit channel frames events old new d n h =
     inr (deed-goes (Takes limit (record { channel = channel; body = it }) frames events) tt old new d n h)
+
+pub frame-leads : (transfer : Transfer) (payload : List ℕ) (limit channel : ℕ) (frames : List SessionFrame)
+    (events : List Event) (old new : LinkedSessions)
+    → IsDeed linked old
+    (Takes limit (record { channel = channel; body = body.Transfer transfer payload }) frames events) new
+    → EachOf HearsOne old.talk.sessions new.talk.sessions
+    × ((n : ℕ) → LeadsLessAt (live_at old.talk.sessions n) (live_at new.talk.sessions n))
+frame-leads transfer payload limit channel frames events old new d =
+    let heard = heard-so old new (record { 0 = channel }) transfer payload frames events d.0 in (
+      heard-moves old new (record { 0 = channel }) transfer payload frames events heard,
+      heard-leads old new (record { 0 = channel }) transfer payload frames events heard,
+    )
 
 pub deed-moves : (deed : Deed) (old new : LinkedSessions) → IsDeed linked old deed new
     → EachOf (MovesBy old new) old.talk.sessions new.talk.sessions

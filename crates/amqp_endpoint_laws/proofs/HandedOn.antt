@@ -1,5 +1,5 @@
 -- The transfers that reach a link are those that pass in its session on the handle of the peer's that leads to it.
-use Rattle.std.proofs.Common.{◌≡◌, ◌&&◌, ℕ, Bool, true, false, List, [], ◌∷◌, ◌++◌, ap, refl, sym, ◌∙◌}
+use Rattle.std.proofs.Common.{◌≡◌, ◌==◌, ◌&&◌, Option, ℕ, Bool, true, false, List, [], ◌∷◌, ◌++◌, ap, refl, sym, ◌∙◌}
 use Rattle.std.proofs.Common.{append_assoc, if◌then◌else◌}
 use Rattle.std.proofs.lemmas.List.{append-nil}
 use Rattle.amqp_session_types.specs.declared.handles.OutputHandle.{OutputHandle}
@@ -8,14 +8,23 @@ use Rattle.amqp_session_performatives.specs.declared.transfer.Transfer.{Transfer
 use Rattle.amqp_session_frames.specs.declared.frame.FrameBody.{FrameBody}
 use Rattle.amqp_session_frames.specs.declared.frame.FrameBody.TheVariants as body
 use Rattle.amqp_link_place.specs.Readings.{Piece}
-use Rattle.amqp_endpoint_deeds.specs.Deeds.{Closes, Deed, Does, Finishes, Hears, Moves, Queues, Refuses, Renews, Takes}
+use Rattle.amqp_link_receiving.specs.Deliveries.{Delivery}
+use Rattle.amqp_endpoint_deeds.specs.Deeds.{Closes, Deed, Does, Finishes, Hears, IsDeed, Moves, Queues, Refuses}
+use Rattle.amqp_endpoint_deeds.specs.Deeds.{Renews, Takes}
+use Rattle.amqp_endpoint_linked.specs.Does.{linked}
 use Rattle.amqp_endpoint_linked.specs.declared.linked.LinkedSessions.{LinkedSessions}
 use Rattle.amqp_endpoint_sessions.specs.State.{live_at, reached}
 use Rattle.amqp_endpoint_talk.specs.Windows.{Came, Passing, Went, went}
-use Rattle.amqp_endpoint_laws.specs.Handed.{LeadsOnly, PassesOn, ReachIn, leads_there, piece_of, piece_on, pieces_in}
+use Rattle.amqp_endpoint_laws.specs.Handed.{IsReceiving, PassesOn, ReachIn, leads_there, piece_of, piece_on}
+use Rattle.amqp_endpoint_laws.specs.Handed.{pieces_in}
 use Rattle.amqp_endpoint_laws.specs.Handed.{pieces_on}
 use Rattle.amqp_endpoint_laws.specs.Passed.{called_in, is_it, passes_in, session_taking}
 use Rattle.amqp_endpoint_laws.proofs.HoldingDeeds.{IsNotTransfer}
+
+-- of the peer's handles this one leads to the link, and no other
+abbrev pub LeadsOnly : LinkedSessions → ℕ → OutputHandle → ℕ → Type 0
+LeadsOnly s session own theirs =
+    (other : ℕ) → leads_there (live_at s.talk.sessions session) other own ≡ (other == theirs)
 
 module _ (session : ℕ) (own : OutputHandle) (theirs : ℕ) where
   pieces-both : (ps qs : List Passing) → pieces_on theirs (ps ++ qs) ≡ pieces_on theirs ps ++ pieces_on theirs qs
@@ -74,17 +83,23 @@ module _ (session : ℕ) (own : OutputHandle) (theirs : ℕ) where
     deed-on Closes = refl
     deed-on Finishes = refl
 
-  pub reach-on : (link : ℕ) (deeds : List Deed) (old new : LinkedSessions) (passings : List Passing)
-      → PassesOn link session own theirs old deeds new passings
-      → ReachIn link session own old deeds new (pieces_on theirs passings)
-  reach-on link [] old new passings (same, none) = (same, ap (λ (ps : List Passing). pieces_on theirs ps) none)
-  reach-on link (deed ∷ deeds) old new passings (mid, held, later, alone, d, q, rest, is) = (
-    mid,
-    held,
-    pieces_on theirs later,
-    d,
-    q,
-    reach-on link deeds mid new later rest,
-    ap (λ (ps : List Passing). pieces_on theirs ps) is ∙ pieces-both (passes_in session old deed) later
-        ∙ ap (λ (xs : List Piece). xs ++ pieces_on theirs later) (deed-on old alone deed),
-  )
+  -- one after the other, where what makes it the only one is kept
+  module _ (link : ℕ) (Kept : LinkedSessions → Type 0)
+      (only : (s : LinkedSessions) (held : Option Delivery) → Kept s → IsReceiving s link session own held
+      → leads_there (live_at s.talk.sessions session) theirs own ≡ true → LeadsOnly s session own theirs)
+      (keeps : (deed : Deed) (old new : LinkedSessions) → IsDeed linked old deed new → Kept old → Kept new) where
+    pub reach-on : (deeds : List Deed) (old new : LinkedSessions) (held : Option Delivery) (passings : List Passing)
+        → Kept old → IsReceiving old link session own held → PassesOn link session own theirs old deeds new passings
+        → ReachIn link session own old deeds new (pieces_on theirs passings)
+    reach-on [] old new held passings k r (same, none) =
+        (same, ap (λ (ps : List Passing). pieces_on theirs ps) none)
+    reach-on (deed ∷ deeds) old new held passings k r (mid, next, later, leads, d, q, rest, is) = (
+      mid,
+      next,
+      pieces_on theirs later,
+      d,
+      q,
+      reach-on deeds mid new next later (keeps deed old mid d k) q rest,
+      ap (λ (ps : List Passing). pieces_on theirs ps) is ∙ pieces-both (passes_in session old deed) later
+          ∙ ap (λ (xs : List Piece). xs ++ pieces_on theirs later) (deed-on old (only old held k r leads) deed),
+    )

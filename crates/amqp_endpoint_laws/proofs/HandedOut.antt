@@ -10,6 +10,7 @@ use Rattle.amqp_session_performatives.specs.declared.session_frame.SessionFrame.
 use Rattle.amqp_session_performatives.specs.declared.transfer.Transfer.{Transfer}
 use Rattle.amqp_session_frames.specs.declared.frame.FrameBody.TheVariants as body
 use Rattle.amqp_session_core.specs.State.{StepsAt, link_at, reached as link_reached}
+use Rattle.amqp_session_core.specs.Steps.{TakesTransfer as TakesTransferStep}
 use Rattle.amqp_session_core.specs.Told.{TransferAt}
 use Rattle.amqp_session_core.specs.declared.incoming.TransferTaken.{TransferTaken}
 use Rattle.amqp_session_core.specs.declared.relay.TransferAnswer.{TransferAnswer}
@@ -60,11 +61,11 @@ use Rattle.amqp_endpoint_laws.specs.Life.{StaysAttached, StaysSomewhere}
 use Rattle.amqp_endpoint_laws.specs.Passed.{is_it}
 use Rattle.amqp_endpoint_laws.proofs.HoldingEnds.{Goes, Holding, Part, Stays, attached-so, held_end, held_if, held_link}
 use Rattle.amqp_endpoint_laws.proofs.HoldingEnds.{stays-on}
-use Rattle.amqp_endpoint_laws.proofs.HoldingInside.{at-one}
+use Rattle.amqp_endpoint_laws.proofs.HoldingInside.{LeadsLess, at-one, less}
 use Rattle.amqp_endpoint_laws.proofs.HoldingDeeds.{talk-same}
 use Rattle.amqp_endpoint_laws.proofs.HoldingDone.{closes-none, closes-stays, remembers-stays}
-use Rattle.amqp_endpoint_laws.proofs.HoldingTalk.{EachOf, changed-live, goes-on-stays, held-of, held_in}
-use Rattle.amqp_endpoint_laws.proofs.HoldingTalk.{live-changes}
+use Rattle.amqp_endpoint_laws.proofs.HoldingTalk.{AllRest, EachAt, EachOf, changed-live, each-same, goes-on-stays}
+use Rattle.amqp_endpoint_laws.proofs.HoldingTalk.{held-of, held_in, leads_in, live-changes}
 use Rattle.amqp_endpoint_laws.proofs.PassedPlaces.{eq-same}
 use Rattle.amqp_endpoint_laws.proofs.Unnumbered.{Unnumbered}
 
@@ -141,6 +142,9 @@ goes-same a b link held later (inr (inl same)) first is =
     ap (λ (x : ℕ × Part). x.1.1)
     (same_Some (link, (true, later)) (link, (true, held)) (sym is ∙ same ∙ first))
 goes-same a b link held later (inr (inr gone)) first is = absurd (none-some _ (sym gone ∙ is))
+
+abbrev pub LeadsLessAt : Option Session → Option Session → Type 0
+LeadsLessAt old new = (input h : ℕ) → leads_in new input ≡ Some h → leads_in old input ≡ Some h
 
 -- only a receiving link that is attached takes a transfer. Where the own Detach was sent it is dropped
 pub record IsTaker (e : End) : Type 0 where
@@ -263,12 +267,21 @@ record AtLink (old new : LinksIn) (it : Transfer) (payload : List ℕ) (told : T
   answer : TransferAnswer Told
   is : told ≡ answer.told
   stepped : StepsAt (λ before after. gives.transfers before it payload (Ok answer) after) old.links handle new.links
+  leads : LeadsLess old new
 
 at-link : (old new : LinksIn) (it : Transfer) (payload : List ℕ) (o : Option ℕ) (took : TransferTaken Told)
     → TransferAt gives old it payload o (Ok took) new → AtLink old new it payload took.told
 at-link old new it payload None took t = absurd t
 at-link old new it payload (Some handle) took t =
-    record { handle = handle; reaches = t.stepped.0; answer = t.answer; is = t.told; stepped = t.stepped.1 }
+    record {
+      handle = handle;
+      reaches = t.stepped.0;
+      answer = t.answer;
+      is = t.told;
+      stepped = t.stepped.1;
+      leads =
+          less (TakesTransferStep handle it payload (Ok t.answer) took.flow) old new refl t.stepped;
+    }
 
 -- the other links stay
 other-links : (does : Link → Link → Type 0) (old new : LinksIn) (handle h : ℕ) → StepsAt does old.links handle new.links
@@ -285,14 +298,14 @@ StandsAlone s link session own =
 
 -- what comes of what the link tells leaves what is held, unless the link is closed by that
 remembers-stay : (settled : Bool) (handle : OutputHandle) (tag : List ℕ) (number : ℕ) (old : Talk) (session : ℕ)
-    (new : Talk) → RemembersUnless settled handle tag number old session new → EachOf Stays old.sessions new.sessions
+    (new : Talk) → RemembersUnless settled handle tag number old session new → AllRest old.sessions new.sessions
 remembers-stay true handle tag number old session new same = talk-same old new same
 remembers-stay false handle tag number old session new g =
     goes-on-stays _ old session new (λ a b r. remembers-stays handle tag number a b r) g
 
 comes-stay : (it_told : Told) (old mid new : Talk) (given session : ℕ) (it : Transfer) (frames : List SessionFrame)
     (events : List Event) (given_new : ℕ) → Comes it_told old given it session mid frames events new given_new
-    → EachOf Stays mid.sessions new.sessions
+    → AllRest mid.sessions new.sessions
 comes-stay (told.Message message) old mid new given session it frames events given_new c =
     remembers-stay message.settled c.handle message.delivery_tag given mid session new c.remembers
 comes-stay (told.Refused error) old mid new given session it frames events given_new (c, g) =
@@ -395,18 +408,26 @@ module _ (old new : LinkedSessions) (mid : Talk) (channel : IncomingChannel) (it
           inr (inl (ap (λ (k : ℕ). held_end k became.link) at.stepped.stepped.1
           ∙ ap (held_end at.stepped.before.number) same))
 
-  stays : EachOf Stays mid.sessions new.talk.sessions
+  stays : AllRest mid.sessions new.talk.sessions
   stays = comes-stay took.told old.talk mid new.talk old.given session it own_frames events new.given comes
 
   pub each-hears : EachOf HearsOne old.talk.sessions new.talk.sessions
   each-hears n h =
       hears-on (held_in (live_at old.talk.sessions n) h) (held_in (live_at mid.sessions n) h)
       (held_in (live_at new.talk.sessions n) h)
-      (live-changes HearsOne (λ x. inr (inl refl)) session before after old.talk.sessions mid.sessions
-      heard.takes.hears.stepped
+      (live-changes (EachAt HearsOne) (each-same HearsOne (λ x. inr (inl refl))) session before after
+      old.talk.sessions mid.sessions heard.takes.hears.stepped
       (at-one HearsOne (λ x. inr (inl refl)) before.value.session after.value.session at.handle at.stepped.before became
       at.stepped.had at.stepped.others one-hears) n h)
-      (stays n h)
+      ((stays n).holds h)
+
+  -- and no handle of the peer's leads to another link by it
+  pub each-leads : (n input h : ℕ) → leads_in (live_at new.talk.sessions n) input ≡ Some h
+      → leads_in (live_at old.talk.sessions n) input ≡ Some h
+  each-leads n input h there =
+      live-changes LeadsLessAt (λ o p same i k e. sym (ap (λ (x : Option Session). leads_in x i) same) ∙ e) session
+      before after old.talk.sessions mid.sessions heard.takes.hears.stepped at.leads n input h
+      ((stays n).leads input h there)
 
   -- a message that comes whole is handed out by a link that is attached before and behind
   module _ (message : Message) (t : IsTaker at.stepped.before.link)
@@ -540,7 +561,7 @@ module _ (old new : LinkedSessions) (mid : Talk) (channel : IncomingChannel) (it
         → later ≡ held
     held-on held is =
         goes-same (held_in (live_at mid.sessions n) own.0) (held_in (live_at new.talk.sessions n) own.0) link held later
-        (inr (stays n own.0)) is held-new
+        (inr ((stays n).holds own.0)) is held-new
 
     -- it reaches another
     module _ (alone : StandsAlone old link n own.0) (other : (session ≡ n) → at.handle ≡ own.0 → ⊥) where

@@ -2,6 +2,9 @@
 use Rattle.std.proofs.Common.{◌≡◌, ◌≢◌, ◌⊎◌, inl, inr, ℕ, Bool, false, List, [], ◌∷◌, Option, Some, None}
 use Rattle.std.proofs.Common.{Ok, Err, ap, refl, slice_get, sym, ◌∙◌}
 use Rattle.std.proofs.lemmas.Option.{none-some}
+use Rattle.std.specs.FinMap as map
+use Rattle.std.specs.FinMap.{get-empty}
+use Rattle.std.specs.Ordering.{nat_cmp}
 use Rattle.std.specs.Prelude.{Result, ⊤}
 use Rattle.amqp_session_types.specs.declared.channels.IncomingChannel.{IncomingChannel}
 use Rattle.amqp_session_types.specs.declared.handles.OutputHandle.{OutputHandle}
@@ -19,6 +22,7 @@ use Rattle.amqp_session_frames.specs.declared.frame.FrameBody.{FrameBody}
 use Rattle.amqp_session_frames.specs.declared.frame.FrameBody.TheVariants as body
 use Rattle.amqp_session_core.specs.State.{link_at}
 use Rattle.amqp_session_core.specs.Steps.{TakesBegin as SessionTakesBegin}
+use Rattle.amqp_session_core.specs.Tables.{RouteTable}
 use Rattle.amqp_link_base.specs.declared.detached.Detached.{Detached}
 use Rattle.amqp_link_ends.specs.declared.end.End.{End}
 use Rattle.amqp_link_sender.specs.declared.attaching.Attaching.{Attaching}
@@ -38,7 +42,7 @@ use Rattle.amqp_endpoint_link_calls.specs.Calling.{Does as DoesTo, DoneAt, DoneI
 use Rattle.amqp_endpoint_link_calls.specs.Closing.{ClosedAt, closes}
 use Rattle.amqp_endpoint_link_calls.specs.Places.{LinksBy, Where}
 use Rattle.amqp_endpoint_link_hearing.specs.Attaching as link_attaching
-use Rattle.amqp_endpoint_link_hearing.specs.Attaching.{LinkTakes}
+use Rattle.amqp_endpoint_link_hearing.specs.Attaching.{HearsAttach, LinkTakes}
 use Rattle.amqp_endpoint_link_hearing.specs.Detaching as detaching
 use Rattle.amqp_endpoint_link_hearing.specs.Disposing as disposing
 use Rattle.amqp_endpoint_link_hearing.specs.Disposing.{runs_of}
@@ -56,6 +60,7 @@ use Rattle.amqp_endpoint_linked.specs.Sending.{tag_of}
 use Rattle.amqp_endpoint_linked.specs.declared.linked.LinkedSessions.{LinkedSessions}
 use Rattle.amqp_endpoint_linking.specs.Hearing.{HearsBegin, TakesEnd as EndTaken}
 use Rattle.amqp_endpoint_linking.specs.Linking.{Link, Links, Session, Sessions, Stood, Talk}
+use Rattle.amqp_endpoint_links.proofs.Calls.{accepted-routes, begun-routes}
 use Rattle.amqp_endpoint_links.specs.declared.asking.AttachTaken.TheVariants as answer
 use Rattle.amqp_endpoint_links.specs.declared.asking.NamedLink.{NamedLink}
 use Rattle.amqp_endpoint_links.specs.declared.asking.NamedLink.TheVariants.{Waiting}
@@ -79,71 +84,68 @@ use Rattle.amqp_endpoint_sessions.specs.declared.place.Place.TheVariants.{Asked,
 use Rattle.amqp_endpoint_sessions.proofs.Owning.{at}
 use Rattle.amqp_endpoint_laws.specs.Held.{number_of}
 use Rattle.amqp_endpoint_laws.proofs.HeldCalled.{accepted-none, begun-none}
-use Rattle.amqp_endpoint_laws.proofs.HoldingDone.{StaysBy, attached-comes, closes-stays, closing-stays, detaches-stay}
+use Rattle.amqp_endpoint_laws.proofs.HoldingDone.{StaysBy, attached-comes, attached-first, closes-stays, closing-stays}
+use Rattle.amqp_endpoint_laws.proofs.HoldingDone.{detaches-stay}
 use Rattle.amqp_endpoint_laws.proofs.HoldingDone.{disposes-all, disposes-one, drains-stays, echoes-stay, gives-stays}
 use Rattle.amqp_endpoint_laws.proofs.HoldingDone.{leave-stay, parts-stay, sends-stays}
-use Rattle.amqp_endpoint_laws.proofs.HoldingEnds.{Comes, Goes, Holding, IsEmpty, IsFresh, Stays, goes-still, held_link}
-use Rattle.amqp_endpoint_laws.proofs.HoldingEnds.{stays-on}
+use Rattle.amqp_endpoint_laws.proofs.HoldingEnds.{Comes, Goes, Holding, IsEmpty, IsFresh, IsUnattached, goes-still}
+use Rattle.amqp_endpoint_laws.proofs.HoldingEnds.{held_link}
 use Rattle.amqp_endpoint_laws.proofs.HoldingInside.{all-same, calm-stays}
-use Rattle.amqp_endpoint_laws.proofs.HoldingTalk.{EachOf, born-stays, dead-stays, each-goes-on, ends-stays}
-use Rattle.amqp_endpoint_laws.proofs.HoldingTalk.{fails-stay, goes-on-stays, heard-goes, held_in, live-changes}
-use Rattle.amqp_endpoint_laws.proofs.HoldingTalk.{inside-stays, places-same, sessions-same, stays-go}
+use Rattle.amqp_endpoint_laws.proofs.HoldingTalk.{AllRest, AttachesAt, EachAt, EachOf, EntersAt, RestsAt, all-on}
+use Rattle.amqp_endpoint_laws.proofs.HoldingTalk.{attaches-go, attaches-on, born-stays, dead-stays, each-same}
+use Rattle.amqp_endpoint_laws.proofs.HoldingTalk.{ends-stays, fails-stay, first-at, goes-on-stays, heard-attaches}
+use Rattle.amqp_endpoint_laws.proofs.HoldingTalk.{heard-rests, held_in, inside-stays, leads_in, live-changes}
+use Rattle.amqp_endpoint_laws.proofs.HoldingTalk.{places-same, rest-go, rests-dead, rests-none, rests-same}
+use Rattle.amqp_endpoint_laws.proofs.HoldingTalk.{sessions-same}
 use Rattle.amqp_endpoint_laws.proofs.PassedKept.{IsOver, Wanes, by-frame-still, finished-first, left-first, over-at}
 use Rattle.amqp_endpoint_laws.proofs.Parted.{entered, holder}
 use Rattle.amqp_endpoint_laws.proofs.PassedPlaces.{IsGone, eq-same}
 
-each-stays-on : (old mid new : Sessions) → EachOf Stays old mid → EachOf Stays mid new → EachOf Stays old new
-each-stays-on old mid new first later n h =
-    stays-on (held_in (live_at old n) h) (held_in (live_at mid n) h) (held_in (live_at new n) h) (first n h) (later n h)
-
-pub talk-same : (old new : Talk) → new ≡ old → EachOf Stays old.sessions new.sessions
+pub talk-same : (old new : Talk) → new ≡ old → AllRest old.sessions new.sessions
 talk-same old new same = sessions-same old.sessions new.sessions (ap (λ (t : Talk). t.sessions) same)
 
 -- the peer's Begin
 led-stays : (old : Talk) (channel : IncomingChannel) (begin : Begin) (number : ℕ) (mid : Sessions)
-    → Leads gives old channel begin number mid → EachOf Stays old.sessions mid
+    → Leads gives old channel begin number mid → AllRest old.sessions mid
 led-stays old channel begin number mid l =
     places-same old.sessions mid (λ n. (at n old.sessions (TakesBegin number channel begin) mid l.stepped).other refl)
 
 begin-taken : (h : BeginHeard) (old : Talk) (channel : IncomingChannel) (begin : Begin) (frames : List SessionFrame)
-    (new : Talk) → BeginAnswered gives old [] channel begin (Ok h) new frames → EachOf Goes old.sessions new.sessions
+    (new : Talk) → BeginAnswered gives old [] channel begin (Ok h) new frames → AllRest old.sessions new.sessions
 begin-taken (begin_heard.Asked number) old channel begin frames new (a, none) =
     let (was, is) =
     (at number old.sessions (Asks number channel a.asked) new.sessions a.stepped).about (eq-same number) in
-    stays-go old.sessions new.sessions
-    (dead-stays number (Asks number channel a.asked) old.sessions new.sessions (λ n e. e) a.stepped (ap live_of is))
+    dead-stays number (Asks number channel a.asked) old.sessions new.sessions (λ n e. e) a.stepped (ap live_of is)
 begin-taken (begin_heard.Begun number) old channel begin frames new b =
     let t = b.takes in
     let taken_so = t.taken.0 in
-    stays-go old.sessions new.sessions
-    (each-stays-on old.sessions b.mid new.sessions (led-stays old channel begin number b.mid b.led)
+    all-on old.sessions b.mid new.sessions (led-stays old channel begin number b.mid b.led)
     (inside-stays number t.before t.after b.mid new.sessions t.stepped
     (calm-stays (SessionTakesBegin channel begin taken_so.base taken_so.left taken_so.frames)
-    t.before.value.session t.after.value.session taken_so.stepped tt)))
+    t.before.value.session t.after.value.session taken_so.stepped tt))
 begin-taken begin_heard.Dropped old channel begin frames new (d, none) =
-    stays-go old.sessions new.sessions (led-stays old channel begin d.number new.sessions d.led)
+    led-stays old channel begin d.number new.sessions d.led
 
 begin-goes : (old : Talk) (links : Links) (channel : IncomingChannel) (begin : Begin) (frames : List SessionFrame)
     (events : List Event) (new : Talk) (links_new : Links)
-    → HearsBegin old links channel begin frames events new links_new → EachOf Goes old.sessions new.sessions
+    → HearsBegin old links channel begin frames events new links_new → AllRest old.sessions new.sessions
 begin-goes old links channel begin frames events new links_new (inl t) =
     begin-taken t.heard old channel begin frames new t.answered
 begin-goes old links channel begin frames events new links_new (inr f) = by f.fault f.refused
   where
     by : (fault : SessionError)
         → BeginAnswered gives old [] channel begin (Err (begin_refused.Session f.number fault)) f.mid []
-        → EachOf Goes old.sessions new.sessions
+        → AllRest old.sessions new.sessions
     by IllegalState (b, none) =
-        stays-go old.sessions new.sessions
-        (each-stays-on old.sessions f.mid.sessions new.sessions
+        all-on old.sessions f.mid.sessions new.sessions
         (led-stays old channel begin f.number f.mid.sessions b.led)
-        (ends-stays f.number _ f.fails.session f.mid new [] frames f.fails.ends))
+        (ends-stays f.number _ f.fails.session f.mid new [] frames f.fails.ends)
     by e r = absurd r
 
 -- what comes of an Attach, a Flow, a Disposition and a Detach
 attach-taken : (outcome : Result Attaching LinkError) (old new : Talk) (session : ℕ) (handle : OutputHandle)
     (link : Link) (left : Option Left) (frames : List SessionFrame) (events : List Event)
-    → LinkTakes outcome old session handle link left frames events new → EachOf Stays old.sessions new.sessions
+    → LinkTakes outcome old session handle link left frames events new → AllRest old.sessions new.sessions
 attach-taken (Ok made) old new session handle link left frames events t = talk-same old new t.3
 attach-taken (Err error) old new session handle link left frames events t =
     goes-on-stays _ old session new (λ a b c. closes-stays _ handle frames a b c) t.1
@@ -151,7 +153,7 @@ attach-taken (Err error) old new session handle link left frames events t =
 attach-comes : (it : LinkHeard) (named : NamedLink) (old new : Talk) (attach : Attach) (left : Option Left)
     (frames : List SessionFrame) (events : List Event)
     → link_attaching.Becomes (attach_of it) named old attach left frames events new
-    → EachOf Stays old.sessions new.sessions
+    → AllRest old.sessions new.sessions
 attach-comes (heard.Asked session) named old new attach left frames events b = talk-same old new b.3
 attach-comes (heard.Live session (taken.Attach answer.Asked)) named old new attach left frames events b =
     talk-same old new b.3
@@ -161,21 +163,21 @@ attach-comes (heard.Live session (taken.Attach (answer.ByLink by_link))) (Waitin
 attach-comes it named old new attach left frames events b = talk-same old new b.3
 
 flow-comes : (o : Option ℕ) (frames : List SessionFrame) (old new : Talk) (links links_new : Links)
-    → LetsGo o frames old links new links_new → EachOf Stays old.sessions new.sessions
+    → LetsGo o frames old links new links_new → AllRest old.sessions new.sessions
 flow-comes None frames old new links links_new l = talk-same old new l.0
 flow-comes (Some session) frames old new links links_new g =
     goes-on-stays _ old session new (λ a b l. leave-stay frames a links b links_new l) g
 
 disposition-comes : (o : Option (ℕ × Vec (ℕ × ℕ))) (limit : ℕ) (old mid new : Talk) (it : Disposition)
     (frames : List SessionFrame) (events : List Event) → disposing.Follows o limit old it mid frames events new
-    → EachOf Stays mid.sessions new.sessions
+    → AllRest mid.sessions new.sessions
 disposition-comes (Some (session, runs)) limit old mid new it frames events d =
     goes-on-stays _ mid session new (λ a b t. echoes-stay d.deliveries _ runs.items frames events a b t) d.done
 disposition-comes None limit old mid new it frames events r = talk-same mid new r.stays
 
 detach-comes : (o : Option (ℕ × Detached)) (old mid new : Talk) (links links_new : Links) (it : Detach)
     (frames : List SessionFrame) (events : List Event)
-    → detaching.Becomes o old links it mid frames events new links_new → EachOf Stays mid.sessions new.sessions
+    → detaching.Becomes o old links it mid frames events new links_new → AllRest mid.sessions new.sessions
 detach-comes (Some (session, told)) old mid new links links_new it frames events b =
     goes-on-stays _ mid session new
     (λ a c t. parts-stay _ b.handle told.answer it.closed _ b.left frames a c t) b.parts
@@ -190,7 +192,7 @@ ended-dead (Over peer_end complete) = refl
 
 end-goes : (old : Talk) (links : Links) (channel : IncomingChannel) (end : EndFrame) (frames : List SessionFrame)
     (events : List Event) (new : Talk) (links_new : Links)
-    → EndTaken old links channel end frames events new links_new → EachOf Stays old.sessions new.sessions
+    → EndTaken old links channel end frames events new links_new → AllRest old.sessions new.sessions
 end-goes old links channel end frames events new links_new t =
     let a = t.answered in
     let number : ℕ = t.heard.number in
@@ -204,58 +206,74 @@ abbrev pub IsNotTransfer : FrameBody → Type 0
 IsNotTransfer (body.Transfer transfer payload) = ⊥
 IsNotTransfer it = Unit {0}
 
-frame-goes : (it : FrameBody) → IsNotTransfer it → (old new : LinkedSessions) (limit : ℕ) (channel : IncomingChannel)
+-- nor an Attach
+abbrev IsCalmFrame : FrameBody → Type 0
+IsCalmFrame (body.Transfer transfer payload) = ⊥
+IsCalmFrame (body.Attach attach) = ⊥
+IsCalmFrame it = Unit {0}
+
+frame-rests : (it : FrameBody) → IsCalmFrame it → (old new : LinkedSessions) (limit : ℕ) (channel : IncomingChannel)
     (frames : List SessionFrame) (events : List Event)
     → HearsFrame old.talk old.links old.given limit channel it frames events new.talk new.links new.given
-    → EachOf Goes old.talk.sessions new.talk.sessions
-frame-goes (body.Begin begin) other old new limit channel frames events (b, g) =
+    → AllRest old.talk.sessions new.talk.sessions
+frame-rests (body.Begin begin) other old new limit channel frames events (b, g) =
     begin-goes old.talk old.links channel begin frames events new.talk new.links b
-frame-goes (body.Attach attach) other old new limit channel frames events (a, g) =
-    elim a.hears [
-      | inl t ↦ each-goes-on old.talk.sessions t.mid.sessions new.talk.sessions
-          (heard-goes (said.Attach attach t.named) tt old.talk channel t.heard [] t.mid t.answered)
-          (attach-comes t.heard t.named t.mid new.talk attach a.left frames events t.becomes)
-      | inr f ↦ stays-go old.talk.sessions new.talk.sessions
-          (fails-stay (said.Attach attach f.named) old.talk new.talk f.fails.number f.fails.fault f.fails.session frames
-          channel f.fails.answered)
-    ]
-frame-goes (body.Flow flow) other old new limit channel frames events (inl t, g) =
-    each-goes-on old.talk.sessions t.mid.sessions new.talk.sessions
-    (heard-goes (said.Flow flow) tt old.talk channel t.heard frames t.mid t.answered)
+frame-rests (body.Attach attach) other old new limit channel frames events h = absurd other
+frame-rests (body.Flow flow) other old new limit channel frames events (inl t, g) =
+    all-on old.talk.sessions t.mid.sessions new.talk.sessions
+    (heard-rests (said.Flow flow) tt old.talk channel t.heard frames t.mid t.answered)
     (flow-comes (session_of t.heard) frames t.mid new.talk old.links new.links t.leave)
-frame-goes (body.Flow flow) other old new limit channel frames events (inr f, g) =
-    stays-go old.talk.sessions new.talk.sessions
-    (fails-stay (said.Flow flow) old.talk new.talk f.number f.fault f.session frames channel f.answered)
-frame-goes (body.Transfer transfer payload) other old new limit channel frames events h = absurd other
-frame-goes (body.Disposition disposition) other old new limit channel frames events (inl t, g) =
-    each-goes-on old.talk.sessions t.mid.sessions new.talk.sessions
-    (heard-goes (said.Disposition disposition) tt old.talk channel t.heard [] t.mid t.answered)
+frame-rests (body.Flow flow) other old new limit channel frames events (inr f, g) =
+    fails-stay (said.Flow flow) old.talk new.talk f.number f.fault f.session frames channel f.answered
+frame-rests (body.Transfer transfer payload) other old new limit channel frames events h = absurd other
+frame-rests (body.Disposition disposition) other old new limit channel frames events (inl t, g) =
+    all-on old.talk.sessions t.mid.sessions new.talk.sessions
+    (heard-rests (said.Disposition disposition) tt old.talk channel t.heard [] t.mid t.answered)
     (disposition-comes (runs_of t.heard) limit old.talk t.mid new.talk disposition frames events t.follows)
-frame-goes (body.Disposition disposition) other old new limit channel frames events (inr f, g) =
-    stays-go old.talk.sessions new.talk.sessions
-    (fails-stay (said.Disposition disposition) old.talk new.talk f.number f.fault f.session frames channel f.answered)
-frame-goes (body.Detach detach) other old new limit channel frames events (inl t, g) =
-    each-goes-on old.talk.sessions t.mid.sessions new.talk.sessions
-    (heard-goes (said.Detach detach) tt old.talk channel t.heard [] t.mid t.answered)
+frame-rests (body.Disposition disposition) other old new limit channel frames events (inr f, g) =
+    fails-stay (said.Disposition disposition) old.talk new.talk f.number f.fault f.session frames channel f.answered
+frame-rests (body.Detach detach) other old new limit channel frames events (inl t, g) =
+    all-on old.talk.sessions t.mid.sessions new.talk.sessions
+    (heard-rests (said.Detach detach) tt old.talk channel t.heard [] t.mid t.answered)
     (detach-comes (detach_of t.heard) old.talk t.mid new.talk old.links new.links detach frames events t.becomes)
-frame-goes (body.Detach detach) other old new limit channel frames events (inr f, g) =
-    stays-go old.talk.sessions new.talk.sessions
-    (fails-stay (said.Detach detach) old.talk new.talk f.number f.fault f.session frames channel f.answered)
-frame-goes (body.End end) other old new limit channel frames events (t, g) =
-    stays-go old.talk.sessions new.talk.sessions
-    (end-goes old.talk old.links channel end frames events new.talk new.links t)
-frame-goes it other old new limit channel frames events h = absurd h
+frame-rests (body.Detach detach) other old new limit channel frames events (inr f, g) =
+    fails-stay (said.Detach detach) old.talk new.talk f.number f.fault f.session frames channel f.answered
+frame-rests (body.End end) other old new limit channel frames events (t, g) =
+    end-goes old.talk old.links channel end frames events new.talk new.links t
+frame-rests it other old new limit channel frames events h = absurd h
+
+-- an Attach
+pub attach-goes : (attach : Attach) (old new : LinkedSessions) (limit : ℕ) (channel : IncomingChannel)
+    (frames : List SessionFrame) (events : List Event)
+    → HearsFrame old.talk old.links old.given limit channel (body.Attach attach) frames events new.talk new.links
+    new.given
+    → (n : ℕ) → AttachesAt attach (live_at old.talk.sessions n) (live_at new.talk.sessions n)
+attach-goes attach old new limit channel frames events (a, g) n = by a.hears
+  where
+    on : (mid : Option Session) → AttachesAt attach (live_at old.talk.sessions n) mid
+        → RestsAt mid (live_at new.talk.sessions n)
+        → AttachesAt attach (live_at old.talk.sessions n) (live_at new.talk.sessions n)
+    on mid first later = attaches-on attach (live_at old.talk.sessions n) mid (live_at new.talk.sessions n) first later
+
+    by : HearsAttach old.talk old.links channel attach a.left frames events new.talk new.links
+        → AttachesAt attach (live_at old.talk.sessions n) (live_at new.talk.sessions n)
+    by (inl t) =
+        on (live_at t.mid.sessions n)
+        (heard-attaches attach t.named old.talk old.links channel t.heard [] t.mid t.is_named t.answered n)
+        (attach-comes t.heard t.named t.mid new.talk attach a.left frames events t.becomes n)
+    by (inr f) =
+        inl (fails-stay (said.Attach attach f.named) old.talk new.talk f.fails.number f.fails.fault f.fails.session
+        frames channel f.fails.answered n)
 
 -- what a call does in the session that holds its link
 done-in : (does : DoesTo) (session : ℕ) (handle : OutputHandle) (old new : Talk) (frames : List SessionFrame)
-    → StaysBy does → DoneIn does session handle old [] new frames → EachOf Goes old.sessions new.sessions
+    → StaysBy does → DoneIn does session handle old [] new frames → AllRest old.sessions new.sessions
 done-in does session handle old new frames stays d =
-    stays-go old.sessions new.sessions
-    (inside-stays session d.before d.after old.sessions new.sessions d.stepped
-    (stays handle d.before.value d.after.value d.frames d.did))
+    inside-stays session d.before d.after old.sessions new.sessions d.stepped
+    (stays handle d.before.value d.after.value d.frames d.did)
 
 done-at : (does : DoesTo) (place : Where) (old new : Talk) (frames : List SessionFrame) → StaysBy does
-    → DoneAt does place old [] new frames → EachOf Goes old.sessions new.sessions
+    → DoneAt does place old [] new frames → AllRest old.sessions new.sessions
 done-at does None old new frames stays d = absurd d
 done-at does (Some (AtRest end)) old new frames stays d = absurd d
 done-at does (Some (Held session handle)) old new frames stays d =
@@ -263,19 +281,19 @@ done-at does (Some (Held session handle)) old new frames stays d =
 
 disposed-at : (limit : ℕ) (place : Where) (messages : List ℕ) (disposal : Disposal) (old new : Talk)
     (frames : List SessionFrame) → DisposedAt limit place messages disposal old [] new frames
-    → EachOf Goes old.sessions new.sessions
+    → AllRest old.sessions new.sessions
 disposed-at limit place [] disposal old new frames (same, none) =
-    stays-go old.sessions new.sessions (talk-same old new same)
+    talk-same old new same
 disposed-at limit place (message ∷ messages) disposal old new frames d =
     done-at (disposes_of_all limit (message ∷ messages) disposal) place old new frames
     (disposes-all limit (message ∷ messages) disposal) d
 
 closed-at : (place : Where) (number : ℕ) (events : List Event) (old new : Talk) (links links_new : LinksBy)
     (frames : List SessionFrame) → ClosedAt place old links number [] events new links_new frames
-    → EachOf Goes old.sessions new.sessions
+    → AllRest old.sessions new.sessions
 closed-at None number events old new links links_new frames c = absurd c
 closed-at (Some (AtRest end)) number events old new links links_new frames c =
-    stays-go old.sessions new.sessions (talk-same old new c.same)
+    talk-same old new c.same
 closed-at (Some (Held session handle)) number events old new links links_new frames c =
     done-in (closes events) session handle old new frames (closing-stays events) c.done
 
@@ -288,44 +306,71 @@ attached old new links links_new limit session link number events frames empty a
     let l = a.attaches in
     let i = l.attaches in
     let one = i.attached in
-    live-changes (Comes a.placed.link) (λ x. inr (goes-still x)) session i.before i.after old.sessions new.sessions
-    i.stepped
+    live-changes (EachAt (Comes a.placed.link)) (each-same (Comes a.placed.link) (λ x. inr (goes-still x))) session
+    i.before i.after old.sessions new.sessions i.stepped
     (attached-comes i.before.value i.after.value limit link a.placed l.frames empty one.input a.placed.exchange
     one.attached)
+
+pub attached-enters : (old new : Talk) (links links_new : LinksBy) (limit session : ℕ) (link : End) (number : ℕ)
+    (events : List Event) (frames : List SessionFrame) → IsUnattached link
+    → (a : LinkAttached old links limit session link number events frames new links_new)
+    → (n : ℕ) → EntersAt a.placed.handle.0 (live_at old.sessions n) (live_at new.sessions n)
+attached-enters old new links links_new limit session link number events frames fresh a =
+    let l = a.attaches in
+    let i = l.attaches in
+    let one = i.attached in
+    live-changes (EntersAt a.placed.handle.0) (λ o p same. inl (rests-same o p same)) session i.before i.after
+    old.sessions new.sessions i.stepped
+    (first-at a.placed.handle.0 i.before i.after
+    (attached-first i.before.value i.after.value limit link a.placed l.frames fresh one.input a.placed.exchange
+    one.attached))
 
 -- a session begins, and ends
 unheld : (o : Option Link) → number_of o ≡ None → held_link o ≡ None
 unheld None none = refl
 unheld (Some link) none = absurd (none-some link.number (sym none))
 
+unled : (o : Option Session) (session : Session) (input : ℕ) → o ≡ Some session
+    → session.value.session.routes ≡ map.empty → leads_in o input ≡ None
+unled o session input is none =
+    ap (λ (x : Option Session). leads_in x input) is
+    ∙ ap (λ (t : RouteTable). map.get t input) none ∙ get-empty nat_cmp input
+
 begun : (old new : Talk) (number : ℕ) (frames : List SessionFrame) → BeginsHere gives old [] number new frames
-    → EachOf Goes old.sessions new.sessions
+    → AllRest old.sessions new.sessions
 begun old new number frames b =
     let (was, is) =
     (at number old.sessions (Begins number b.channel b.session) new.sessions b.stepped).about (eq-same number) in
-    stays-go old.sessions new.sessions
-    (born-stays number (Begins number b.channel b.session) old.sessions new.sessions (λ n e. e) b.stepped
+    born-stays number (Begins number b.channel b.session) old.sessions new.sessions (λ n e. e) b.stepped
+    (rests-none (live_at old.sessions number) (live_at new.sessions number)
     (λ h.
     ap (λ (o : Option Stood). held_in (live_of o) h) is
     ∙ unheld (link_at b.session.value.session h)
     (begun-none b.session.value.session b.channel old.first_transfer_number old.incoming_window b.frame
-    b.begun.history h)))
+    b.begun.history h))
+    (λ input.
+    unled (live_at new.sessions number) b.session input (ap live_of is)
+    (begun-routes gives b.channel old.first_transfer_number old.incoming_window b.frame b.session.value b.begun)))
 
 accepted : (old new : Talk) (channel : IncomingChannel) (number : ℕ) (frames : List SessionFrame)
-    → AcceptsHere gives old [] channel number new frames → EachOf Goes old.sessions new.sessions
+    → AcceptsHere gives old [] channel number new frames → AllRest old.sessions new.sessions
 accepted old new channel number frames a =
     let step = Accepts number a.incoming a.wanted a.outgoing a.session in
     let (was, is) = (at number old.sessions step a.mid a.stepped).about (eq-same number) in
-    stays-go old.sessions new.sessions
-    (each-stays-on old.sessions a.mid new.sessions
+    all-on old.sessions a.mid new.sessions
     (born-stays number step old.sessions a.mid (λ n e. e) a.stepped
+    (rests-none (live_at old.sessions number) (live_at a.mid number)
     (λ h.
     ap (λ (o : Option Stood). held_in (live_of o) h) is
     ∙ unheld (link_at a.session.value.session h)
     (accepted-none a.session.value.session a.outgoing old.first_transfer_number old.incoming_window channel
-    a.wanted.value.begin a.wanted.value.flow a.frame a.accepted.history h)))
+    a.wanted.value.begin a.wanted.value.flow a.frame a.accepted.history h))
+    (λ input.
+    unled (live_at a.mid number) a.session input (ap live_of is)
+    (accepted-routes gives a.wanted.value a.outgoing channel old.first_transfer_number old.incoming_window a.frame
+    a.session.value a.accepted))))
     (inside-stays number a.session (with_links a.session a.wanted.value.links) a.mid new.sessions a.taken_over
-    (all-same a.session.value.session a.session.value.session refl)))
+    (all-same a.session.value.session a.session.value.session refl))
 
 told-live : (stood : Stood) → peer_end_of (Some stood) ≡ Received → live_of (Some (told_place stood)) ≡ None
 told-live (Over peer_end complete) is = refl
@@ -334,16 +379,15 @@ told-live (Live channel s) is = let clash : Missing ≡ Received = is in absurd 
 told-live (Ending channel) is = refl
 
 end-told : (old new : Sessions) (number : ℕ) (result : Result ⊤ TryEndError) → EndTold old number result new
-    → EachOf Stays old new
+    → AllRest old new
 end-told old new number (Ok ok) t =
     let (stood, was, came, is) = (at number old (TellsEnd number) new t).about (eq-same number) in
     dead-stays number (TellsEnd number) old new (λ n e. e) t (ap live_of is ∙ told-live stood came)
 end-told old new number (Err e) t = sessions-same old new t.1
 
-told-alone : (old new : LinkedSessions) → new ≡ old → EachOf Goes old.talk.sessions new.talk.sessions
+told-alone : (old new : LinkedSessions) → new ≡ old → AllRest old.talk.sessions new.talk.sessions
 told-alone old new same =
-    stays-go old.talk.sessions new.talk.sessions
-    (sessions-same old.talk.sessions new.talk.sessions (ap (λ (s : LinkedSessions). s.talk.sessions) same))
+    sessions-same old.talk.sessions new.talk.sessions (ap (λ (s : LinkedSessions). s.talk.sessions) same)
 
 -- by any other call than one of these no link attaches
 abbrev AttachesNone : Call → Type 0
@@ -351,40 +395,39 @@ AttachesNone (call.AttachSender n settings) = ⊥
 AttachesNone (call.AttachReceiver n settings) = ⊥
 AttachesNone it = Unit {0}
 
-call-goes : (it : Call) → AttachesNone it → (answer : Said) (old new : LinkedSessions) (limit : ℕ)
+call-rests : (it : Call) → AttachesNone it → (answer : Said) (old new : LinkedSessions) (limit : ℕ)
     (frames : List SessionFrame)
-    → Calls old limit it answer frames new → EachOf Goes old.talk.sessions new.talk.sessions
-call-goes call.Begin none (session_begun n) old new limit frames c = begun old.talk new.talk n frames c.begins
-call-goes (call.AcceptBegin channel) none (session_begun n) old new limit frames c =
+    → Calls old limit it answer frames new → AllRest old.talk.sessions new.talk.sessions
+call-rests call.Begin none (session_begun n) old new limit frames c = begun old.talk new.talk n frames c.begins
+call-rests (call.AcceptBegin channel) none (session_begun n) old new limit frames c =
     accepted old.talk new.talk channel n frames c.accepts
-call-goes (call.End n) none done old new limit frames c =
-    stays-go old.talk.sessions new.talk.sessions (ends-stays n None c.session old.talk new.talk [] frames c.ends)
-call-goes (call.IsEnded n) none (truth b) old new limit frames c = told-alone old new c.same
-call-goes (call.TryEnd n) none (tried_end o) old new limit frames c =
-    stays-go old.talk.sessions new.talk.sessions
-    (end-told old.talk.sessions new.talk.sessions n (answer_of o) c.tells)
-call-goes (call.AttachSender n settings) none answer old new limit frames c = absurd none
-call-goes (call.AttachReceiver n settings) none answer old new limit frames c = absurd none
-call-goes (call.Detach link) none done old new limit frames c =
+call-rests (call.End n) none done old new limit frames c =
+    ends-stays n None c.session old.talk new.talk [] frames c.ends
+call-rests (call.IsEnded n) none (truth b) old new limit frames c = told-alone old new c.same
+call-rests (call.TryEnd n) none (tried_end o) old new limit frames c =
+    end-told old.talk.sessions new.talk.sessions n (answer_of o) c.tells
+call-rests (call.AttachSender n settings) none answer old new limit frames c = absurd none
+call-rests (call.AttachReceiver n settings) none answer old new limit frames c = absurd none
+call-rests (call.Detach link) none done old new limit frames c =
     done-at (detaches false) (link_place old.links link) old.talk new.talk frames (detaches-stay false) c.is_done
-call-goes (call.CloseLink link) none (link_closed events) old new limit frames c =
+call-rests (call.CloseLink link) none (link_closed events) old new limit frames c =
     closed-at (link_place old.links link) link events old.talk new.talk old.links new.links frames c
-call-goes (call.Grant link n) none (credit_is left) old new limit frames c =
+call-rests (call.Grant link n) none (credit_is left) old new limit frames c =
     done-at (gives_credit n left) (link_place old.links link) old.talk new.talk frames (gives-stays n left) c.is_done
-call-goes (call.Drain link) none done old new limit frames c =
+call-rests (call.Drain link) none done old new limit frames c =
     done-at wants_drain (link_place old.links link) old.talk new.talk frames drains-stays c.is_done
-call-goes (call.Send link message) none (message_sent tag outcome) old new limit frames c =
+call-rests (call.Send link message) none (message_sent tag outcome) old new limit frames c =
     done-at (sends limit (tag_of old.sent) message c.sends.settled) (link_place old.links link) old.talk new.talk frames
     (sends-stays limit (tag_of old.sent) message c.sends.settled) c.sends.sent
-call-goes (call.Dispose link message disposal) none done old new limit frames c =
+call-rests (call.Dispose link message disposal) none done old new limit frames c =
     done-at (disposes_of_one limit message disposal) (link_place old.links link) old.talk new.talk frames
     (disposes-one limit message disposal) c.disposes
-call-goes (call.DisposeAll link messages disposal) none done old new limit frames c =
+call-rests (call.DisposeAll link messages disposal) none done old new limit frames c =
     disposed-at limit (link_place old.links link) messages disposal old.talk new.talk frames c.disposes
-call-goes (call.Credit link) none (credit_is left) old new limit frames c = told-alone old new c.same
-call-goes (call.HeldBack n) none (count m) old new limit frames c = told-alone old new c.same
-call-goes (call.Waiting n) none (waiting turn) old new limit frames c = told-alone old new c.same
-call-goes it none answer old new limit frames c = absurd c
+call-rests (call.Credit link) none (credit_is left) old new limit frames c = told-alone old new c.same
+call-rests (call.HeldBack n) none (count m) old new limit frames c = told-alone old new c.same
+call-rests (call.Waiting n) none (waiting turn) old new limit frames c = told-alone old new c.same
+call-rests it none answer old new limit frames c = absurd c
 
 -- what the connection's own deeds do
 gone-dead : (o : Option Stood) → IsGone o → live_of o ≡ None
@@ -394,25 +437,22 @@ gone-dead (Some (Asked channel a)) gone = absurd gone
 gone-dead (Some (Live channel s)) gone = absurd gone
 gone-dead None gone = absurd gone
 
-dead-holds : (o : Option Stood) (h : ℕ) → live_of o ≡ None → held_in (live_of o) h ≡ None
-dead-holds o h dead = ap (λ (x : Option Session). held_in x h) dead
-
-wanes-stays : (old new : Sessions) → ((n : ℕ) → Wanes old new n) → EachOf Stays old new
-wanes-stays old new wanes n h = by (wanes n)
+wanes-stays : (old new : Sessions) → ((n : ℕ) → Wanes old new n) → AllRest old new
+wanes-stays old new wanes n = by (wanes n)
   where
-    by : Wanes old new n → Stays (held_in (live_at old n) h) (held_in (live_at new n) h)
-    by (inl same) = inl (ap (λ (o : Option Stood). held_in (live_of o) h) same)
-    by (inr gone) = inr (dead-holds (place_at new n) h (gone-dead (place_at new n) gone))
+    by : Wanes old new n → RestsAt (live_at old n) (live_at new n)
+    by (inl same) = rests-same (live_at old n) (live_at new n) (ap live_of same)
+    by (inr gone) = rests-dead (live_at old n) (live_at new n) (gone-dead (place_at new n) gone)
 
-over-stays : (old new : Sessions) → ((n : ℕ) → IsOver new n) → EachOf Stays old new
-over-stays old new over n h = by (over n)
+over-stays : (old new : Sessions) → ((n : ℕ) → IsOver new n) → AllRest old new
+over-stays old new over n = by (over n)
   where
-    by : IsOver new n → Stays (held_in (live_at old n) h) (held_in (live_at new n) h)
-    by (inl gone) = inr (dead-holds (place_at new n) h (gone-dead (place_at new n) gone))
-    by (inr none) = inr (ap (λ (o : Option Stood). held_in (live_of o) h) none)
+    by : IsOver new n → RestsAt (live_at old n) (live_at new n)
+    by (inl gone) = rests-dead (live_at old n) (live_at new n) (gone-dead (place_at new n) gone)
+    by (inr none) = rests-dead (live_at old n) (live_at new n) (ap live_of none)
 
 refused-stays : (old new : LinkedSessions) (limit : ℕ) (f : Frame) (error : EndpointError) (own_close : Bool)
-    → EndsBy linked old limit f error own_close new → EachOf Stays old.talk.sessions new.talk.sessions
+    → EndsBy linked old limit f error own_close new → AllRest old.talk.sessions new.talk.sessions
 refused-stays old new limit f error own_close e =
     let told = e.closes.told in
     over-stays old.talk.sessions new.talk.sessions
@@ -420,10 +460,9 @@ refused-stays old new limit f error own_close e =
     e.closes.over.0.each)
 
 places-stay : (old new : LinkedSessions) → new.talk.sessions.places ≡ old.talk.sessions.places
-    → EachOf Goes old.talk.sessions new.talk.sessions
+    → AllRest old.talk.sessions new.talk.sessions
 places-stay old new same =
-    stays-go old.talk.sessions new.talk.sessions
-    (places-same old.talk.sessions new.talk.sessions (λ n. ap (λ (ps : List Stood). slice_get ps n) same))
+    places-same old.talk.sessions new.talk.sessions (λ n. ap (λ (ps : List Stood). slice_get ps n) same)
 
 -- whatever is done
 abbrev pub TakesNoTransfer : Deed → Type 0
@@ -475,30 +514,51 @@ call-by (call.AttachReceiver n settings) (attaching link events) old new limit f
     attached-by old new limit n (receiver_by settings) link events frames refl c
 call-by (call.AttachSender n settings) answer old new limit frames c = absurd c
 call-by (call.AttachReceiver n settings) answer old new limit frames c = absurd c
-call-by it answer old new limit frames c = go-by old new (call-goes it tt answer old new limit frames c)
+call-by it answer old new limit frames c =
+    go-by old new (rest-go old.talk.sessions new.talk.sessions (call-rests it tt answer old new limit frames c))
+
+-- a deed by which no transfer comes, and no link attaches
+abbrev pub IsCalmDeed : Deed → Type 0
+IsCalmDeed (Takes limit f frames events) = IsCalmFrame f.body
+IsCalmDeed (Does limit it answer frames) = AttachesNone it
+IsCalmDeed deed = Unit {0}
+
+pub deed-rests : (deed : Deed) → IsCalmDeed deed → (old new : LinkedSessions) → IsDeed linked old deed new
+    → AllRest old.talk.sessions new.talk.sessions
+deed-rests (Queues it) calm old new same = told-alone old new same
+deed-rests (Hears frame events) calm old new (moves, told) =
+    places-stay old new (by-frame-still frame.body old new moves).0
+deed-rests (Takes limit f frames events) calm old new h =
+    frame-rests f.body calm old new limit (record { 0 = f.channel }) frames events h.0
+deed-rests (Refuses limit f error own_close) calm old new e = refused-stays old new limit f error own_close e
+deed-rests (Does limit it answer frames) calm old new c = call-rests it calm answer old new limit frames c.0
+deed-rests (Moves connection) calm old new m =
+    places-stay old new (ap (λ (s : LinkedSessions). s.talk.sessions.places) m.1)
+deed-rests Renews calm old new is = places-stay old new (ap (λ (s : LinkedSessions). s.talk.sessions.places) is)
+deed-rests Closes calm old new l =
+    wanes-stays old.talk.sessions new.talk.sessions
+    (left-first _ old.talk.sessions new.talk.sessions old.links new.links l.0.each)
+deed-rests Finishes calm old new f =
+    wanes-stays old.talk.sessions new.talk.sessions
+    (finished-first _ old.talk.sessions new.talk.sessions old.links new.links f.0.each)
+
+frame-goes : (it : FrameBody) → IsNotTransfer it → (limit channel : ℕ) (frames : List SessionFrame)
+    (events : List Event) (old new : LinkedSessions)
+    → IsDeed linked old (Takes limit (record { channel = channel; body = it }) frames events) new → EachBy old new
+frame-goes (body.Transfer transfer payload) other limit channel frames events old new d = absurd other
+frame-goes (body.Attach attach) other limit channel frames events old new d =
+    go-by old new
+    (attaches-go attach old.talk.sessions new.talk.sessions
+    (attach-goes attach old new limit (record { 0 = channel }) frames events d.0))
+frame-goes it other limit channel frames events old new d =
+    go-by old new
+    (rest-go old.talk.sessions new.talk.sessions
+    (deed-rests (Takes limit (record { channel = channel; body = it }) frames events) tt old new d))
 
 pub deed-goes : (deed : Deed) → TakesNoTransfer deed → (old new : LinkedSessions) → IsDeed linked old deed new
     → EachBy old new
-deed-goes (Queues it) other old new same =
-    go-by old new (told-alone old new same)
-deed-goes (Hears frame events) other old new (moves, told) =
-    go-by old new (places-stay old new (by-frame-still frame.body old new moves).0)
-deed-goes (Takes limit f frames events) other old new h =
-    go-by old new (frame-goes f.body other old new limit (record { 0 = f.channel }) frames events h.0)
-deed-goes (Refuses limit f error own_close) other old new e =
-    go-by old new (stays-go old.talk.sessions new.talk.sessions (refused-stays old new limit f error own_close e))
+deed-goes (Takes limit f frames events) other old new d =
+    frame-goes f.body other limit f.channel frames events old new d
 deed-goes (Does limit it answer frames) other old new c = call-by it answer old new limit frames c.0
-deed-goes (Moves connection) other old new m =
-    go-by old new (places-stay old new (ap (λ (s : LinkedSessions). s.talk.sessions.places) m.1))
-deed-goes Renews other old new is =
-    go-by old new (places-stay old new (ap (λ (s : LinkedSessions). s.talk.sessions.places) is))
-deed-goes Closes other old new l =
-    go-by old new
-    (stays-go old.talk.sessions new.talk.sessions
-    (wanes-stays old.talk.sessions new.talk.sessions
-    (left-first _ old.talk.sessions new.talk.sessions old.links new.links l.0.each)))
-deed-goes Finishes other old new f =
-    go-by old new
-    (stays-go old.talk.sessions new.talk.sessions
-    (wanes-stays old.talk.sessions new.talk.sessions
-    (finished-first _ old.talk.sessions new.talk.sessions old.links new.links f.0.each)))
+deed-goes deed other old new d =
+    go-by old new (rest-go old.talk.sessions new.talk.sessions (deed-rests deed tt old new d))

@@ -53,46 +53,48 @@ use Rattle.amqp_endpoint_outcomes.specs.All.{TellsIn, behind_told, open_count}
 use Rattle.amqp_endpoint_outcomes.specs.Echoing.{echoes_of}
 use Rattle.amqp_endpoint_outcomes.specs.Reached.{behind_one, behind_reached, end_behind, link_behind}
 use Rattle.amqp_endpoint_sending.specs.Sending.{sending}
-use Rattle.amqp_endpoint_laws.proofs.HoldingEnds.{Comes, IsEmpty, Stays, detach-holds, empty-flowed, empty-fresh}
+use Rattle.amqp_endpoint_laws.proofs.HoldingEnds.{Comes, IsEmpty, IsUnattached, Stays, answer-waits, detach-holds}
+use Rattle.amqp_endpoint_laws.proofs.HoldingEnds.{empty-flowed, empty-fresh}
 use Rattle.amqp_endpoint_laws.proofs.HoldingEnds.{empty-handle, empty-sent, empty-takes, held_end, held_link}
-use Rattle.amqp_endpoint_laws.proofs.HoldingInside.{Each, all-same, allocated-comes, batch-stays, behind-stays}
-use Rattle.amqp_endpoint_laws.proofs.HoldingInside.{changed-stays, each-comes, each-stays, freed-stays, sent-stays}
+use Rattle.amqp_endpoint_laws.proofs.HoldingInside.{Each, LeadsFirst, Rests, all-same, allocated-comes, allocated-leads}
+use Rattle.amqp_endpoint_laws.proofs.HoldingInside.{batch-stays, behind-stays, first-rests}
+use Rattle.amqp_endpoint_laws.proofs.HoldingInside.{changed-stays, each-comes, freed-stays, rests-on, sent-stays}
 
 -- a session that stays
-same-stays : (old new : Linked) → new ≡ old → Each Stays old.session new.session
-same-stays old new same = all-same old.session new.session (ap (λ (s : Linked). s.session.links) same)
+same-stays : (old new : Linked) → new ≡ old → Rests old.session new.session
+same-stays old new same = all-same old.session new.session (ap (λ (s : Linked). s.session) same)
 
 -- a link is changed, and sends a frame
 changed-sends : (handle : OutputHandle) (before after : Linked) (stood stands : Link) (frame : BehindFrame)
     (frames : List SessionFrame) → Sends before handle stood stands frame frames after
     → Stays (held_end stood.number stood.link) (held_end stands.number stands.link)
-    → Each Stays before.session after.session
+    → Rests before.session after.session
 changed-sends handle before after stood stands frame frames s keeps =
-    each-stays before.session s.mid after.session
+    rests-on before.session s.mid after.session
     (changed-stays before.session s.mid handle.0 stood stands s.changed keeps)
     (behind-stays s.mid after.session handle frame s.left s.answer s.sent)
 
 says-stays : (handle : OutputHandle) (before after : Linked) (frame : BehindFrame) (frames : List SessionFrame)
-    → Says before handle frame frames after → Each Stays before.session after.session
+    → Says before handle frame frames after → Rests before.session after.session
 says-stays handle before after frame frames s =
     behind-stays before.session after.session handle frame s.left s.answer s.sent
 
 -- its Detach
 detach-stays : (handle : OutputHandle) (closed : Bool) (error : Option Error) (before after : Linked)
     (frames : List SessionFrame) → DetachGiven before handle closed error [] after frames
-    → Each Stays before.session after.session
+    → Rests before.session after.session
 detach-stays handle closed error before after frames d =
     changed-sends handle before after (record { number = d.number; link = d.before })
     (record { number = d.number; link = d.after }) (behind.Detach (own_detach handle closed error)) d.frames d.sent
     (inr (detach-holds d.number d.before d.after closed d.moved))
 
 closed-stays : (there : Bool) (why : Option Error) (handle : OutputHandle) (frames : List SessionFrame)
-    (old new : Linked) → ClosesIf there why old handle frames new → Each Stays old.session new.session
+    (old new : Linked) → ClosesIf there why old handle frames new → Rests old.session new.session
 closed-stays true why handle frames old new d = detach-stays handle true why old new frames d
 closed-stays false why handle frames old new c = same-stays old new c.0
 
 pub closes-stays : (why : Option Error) (handle : OutputHandle) (frames : List SessionFrame) (old new : Linked)
-    → Closes why handle frames old new → Each Stays old.session new.session
+    → Closes why handle frames old new → Rests old.session new.session
 closes-stays why handle frames old new c = closed-stays (is_there (end_at old handle)) why handle frames old new c
 
 -- one that is attached is so no longer
@@ -125,8 +127,8 @@ told-holds k count (Sender s) = refl
 told-holds k count (Receiver r) = refl
 
 tells-stays : (count : ℕ) (handle : OutputHandle) (link : Option Link) (old new : LinksIn)
-    → TellsIn count handle link old new → Each Stays old new
-tells-stays count handle None old new same = all-same old new (ap (λ (s : LinksIn). s.links) same)
+    → TellsIn count handle link old new → Rests old new
+tells-stays count handle None old new same = all-same old new same
 tells-stays count handle (Some link) old new s =
     changed-stays old new handle.0 link (record link { link = behind_told count link.link }) s
     (inl (told-holds link.number count link.link))
@@ -137,76 +139,76 @@ behind-holds k (Receiver r) = refl
 
 -- it leaves its session, or not
 out-stays : (handle : OutputHandle) (left : Option Link) (old new : Linked) → TakenOut old handle left new
-    → Each Stays old.session new.session
+    → Rests old.session new.session
 out-stays handle None old new (why, same) = same-stays old new same
 out-stays handle (Some link) old new (there, stepped, rest) =
     freed-stays old.session new.session handle.0 stepped
 
 answered-stays : (answers : Bool) (handle : OutputHandle) (closed : Bool) (error : Option Error)
     (frames : List SessionFrame) (old new : Linked) → AnswersIf answers old handle closed error frames new
-    → Each Stays old.session new.session
+    → Rests old.session new.session
 answered-stays true handle closed error frames old new r =
     says-stays handle old new (behind.Detach (own_detach handle closed error)) r.frames r.said
 answered-stays false handle closed error frames old new r = same-stays old new r.0
 
 pub parts-stay : (count : ℕ) (handle : OutputHandle) (answers closed : Bool) (error : Option Error)
     (left : Option Link) (frames : List SessionFrame) (old new : Linked)
-    → TellsAndParts count handle answers closed error left frames old new → Each Stays old.session new.session
+    → TellsAndParts count handle answers closed error left frames old new → Rests old.session new.session
 parts-stay count handle answers closed error left frames old new t =
     let p = t.parts in
-    each-stays old.session t.mid.session new.session
+    rests-on old.session t.mid.session new.session
     (tells-stays count handle (link_at old.session handle.0) old.session t.mid.session t.tells.tells)
-    (each-stays t.mid.session p.mid.session new.session
+    (rests-on t.mid.session p.mid.session new.session
     (answered-stays answers handle closed error frames t.mid p.mid p.answered)
     (out-stays handle left p.mid new p.out))
 
 -- links leave with frames
 leaves-once : (ended : Option (ℕ × Bool)) (handle : OutputHandle) (old : Linked) (links : Links) (new : Linked)
-    (links_new : Links) → LeavesOnce ended handle old links new links_new → Each Stays old.session new.session
+    (links_new : Links) → LeavesOnce ended handle old links new links_new → Rests old.session new.session
 leaves-once None handle old links new links_new (same, kept) = same-stays old new same
 leaves-once (Some (number, closed)) handle old links new links_new l = out-stays handle l.left old new l.out
 
 leaves-with : (frame : SessionFrameBody) (old : Linked) (links : Links) (new : Linked) (links_new : Links)
-    → LeavesWith frame old links new links_new → Each Stays old.session new.session
+    → LeavesWith frame old links new links_new → Rests old.session new.session
 leaves-with (said.Detach detach) old links new links_new l =
     leaves-once (ended_link (link_at old.session detach.handle.0)) (record { 0 = detach.handle.0 }) old links new
     links_new l
 leaves-with frame old links new links_new l = same-stays old new l.0
 
 pub leave-stay : (frames : List SessionFrame) (old : Linked) (links : Links) (new : Linked) (links_new : Links)
-    → LeaveWith frames old links new links_new → Each Stays old.session new.session
+    → LeaveWith frames old links new links_new → Rests old.session new.session
 leave-stay [] old links new links_new (same, kept) = same-stays old new same
 leave-stay (frame ∷ frames) old links new links_new (mid, links_mid, one, rest) =
-    each-stays old.session mid.session new.session (leaves-with frame.body old links mid links_mid one)
+    rests-on old.session mid.session new.session (leaves-with frame.body old links mid links_mid one)
     (leave-stay frames mid links_mid new links_new rest)
 
 -- Dispositions are sent
 pub each-sent : (old : LinksIn) (told : List Disposition) (new : LinksIn) → SendsEach gives old told new
-    → Each Stays old new
-each-sent old [] new same = all-same old new (ap (λ (s : LinksIn). s.links) same)
+    → Rests old new
+each-sent old [] new same = all-same old new same
 each-sent old (d ∷ rest) new (mid, one, others) =
-    each-stays old mid new (sent-stays old mid d one.settled one.stepped) (each-sent mid rest new others)
+    rests-on old mid new (sent-stays old mid d one.settled one.stepped) (each-sent mid rest new others)
 
 -- links tell what became of messages
 reached-one : (s : LinksIn) (handle : ℕ) (o : Option Link) → link_at s handle ≡ o
-    → Each Stays s (link_behind s handle o)
+    → Rests s (link_behind s handle o)
 reached-one s handle None there = all-same s s refl
 reached-one s handle (Some link) there =
     changed-stays s (link_behind s handle (Some link)) handle link (record link { link = end_behind link.link })
     (there, refl) (inl (behind-holds link.number link.link))
 
-reached-stays : (s : LinksIn) (deliveries : List Touched) → Each Stays s (behind_reached s deliveries)
+reached-stays : (s : LinksIn) (deliveries : List Touched) → Rests s (behind_reached s deliveries)
 reached-stays s [] = all-same s s refl
 reached-stays s (delivery ∷ rest) =
-    each-stays s (behind_one s delivery) (behind_reached (behind_one s delivery) rest)
+    rests-on s (behind_one s delivery) (behind_reached (behind_one s delivery) rest)
     (reached-one s delivery.handle.0 (link_at s delivery.handle.0) refl) (reached-stays (behind_one s delivery) rest)
 
 pub echoes-stay : (deliveries : List Touched) (state : Option DeliveryState) (runs : List (ℕ × ℕ))
     (frames : List SessionFrame) (events : List Event) (old new : Linked)
-    → TellsAndEchoes deliveries state runs frames events old new → Each Stays old.session new.session
+    → TellsAndEchoes deliveries state runs frames events old new → Rests old.session new.session
 echoes-stay deliveries state runs frames events old new t =
     let mid : LinksIn = behind_reached old.session deliveries in
-    each-stays old.session mid new.session (reached-stays old.session deliveries)
+    rests-on old.session mid new.session (reached-stays old.session deliveries)
     (each-sent mid (echoes_of state runs) new.session t.echoes.sends)
 
 -- a link remembers the number of a message
@@ -216,7 +218,7 @@ remembering-holds k (Receiver r) tag number = refl
 remembering-holds k (Sender s) tag number = refl
 
 pub remembers-stays : (handle : OutputHandle) (tag : List ℕ) (number : ℕ) (old new : Linked)
-    → Remembers handle tag number old new → Each Stays old.session new.session
+    → Remembers handle tag number old new → Rests old.session new.session
 remembers-stays handle tag number old new r =
     changed-stays old.session new.session handle.0 r.link
     (record r.link { link = remembering r.link.link tag number }) r.changed
@@ -226,7 +228,7 @@ remembers-stays handle tag number old new r =
 abbrev pub StaysBy : Does → Type 0
 StaysBy does =
     (handle : OutputHandle) (before after : Linked) (frames : List SessionFrame) → does handle before frames after
-    → Each Stays before.session after.session
+    → Rests before.session after.session
 
 pub detaches-stay : (closed : Bool) → StaysBy (detaches closed)
 detaches-stay closed handle before after frames d = detach-stays handle closed None before after frames d
@@ -243,7 +245,7 @@ drains-stays handle before after frames d =
 
 pub closing-stays : (events : List Event) → StaysBy (closes events)
 closing-stays events handle before after frames c =
-    each-stays before.session c.mid.session after.session
+    rests-on before.session c.mid.session after.session
     (detach-stays handle true None before c.mid frames c.detached)
     (tells-stays (open_count (end_at before handle)) handle (link_at c.mid.session handle.0) c.mid.session
     after.session c.tells.tells)
@@ -252,10 +254,10 @@ pub sends-stays : (limit : ℕ) (tag : List ℕ) (message : Sending) (settled : 
     → StaysBy (sends limit tag message settled)
 sends-stays limit tag message settled handle before after frames did =
     let s = did.sends in
-    each-stays before.session did.mid after.session
+    rests-on before.session did.mid after.session
     (changed-stays before.session did.mid handle.0 (sending did.number did.before)
     (sending did.number (with_room did.before)) did.prepares (inl refl))
-    (each-stays did.mid did.taken after.session
+    (rests-on did.mid did.taken after.session
     (batch-stays did.mid did.taken handle did.transfers s.left s.frames s.stepped)
     (changed-stays did.taken after.session handle.0 (sending did.number (with_room did.before))
     (sending did.number (sent (with_room did.before) (entry_unless settled tag message.message_format message.payload)))
@@ -274,7 +276,7 @@ pub disposes-all : (limit : ℕ) (messages : List ℕ) (disposal : Disposal)
 disposes-all limit messages disposal handle before after frames d =
     let l = d.disposes in
     let states : List DeliveryState = replicate (length l.named) disposal.state in
-    each-stays before.session d.mid after.session
+    rests-on before.session d.mid after.session
     (changed-stays before.session d.mid handle.0 (receiving l.number l.receiver)
     (receiving l.number (each_disposed l.receiver l.named states disposal.settled)) l.changed
     (inl (disposed-holds l.number l.receiver l.named states disposal.settled)))
@@ -284,7 +286,7 @@ pub disposes-one : (limit message : ℕ) (disposal : Disposal) → StaysBy (disp
 disposes-one limit message disposal handle before after frames d =
     let it = d.disposed in
     let l = it.disposes in
-    each-stays before.session it.mid after.session
+    rests-on before.session it.mid after.session
     (changed-stays before.session it.mid handle.0 (receiving l.number l.receiver)
     (receiving l.number
     (disposed_of l.receiver d.tag (settles l.receiver l.delivery disposal.settled) disposal.state)) l.changed
@@ -294,8 +296,8 @@ disposes-one limit message disposal handle before after frames d =
 -- a link attaches
 module _ (before after : Linked) (limit : ℕ) (link : End) (placed : Placed) (frames : List SessionFrame) where
   replies-stay : (reply : Option LinkFlow) (mid : LinksIn) (out : List SessionFrame)
-      → Replies gives placed.handle reply mid out after.session frames → Each Stays mid after.session
-  replies-stay None mid out r = all-same mid after.session (ap (λ (s : LinksIn). s.links) r.0)
+      → Replies gives placed.handle reply mid out after.session frames → Rests mid after.session
+  replies-stay None mid out r = all-same mid after.session r.0
   replies-stay (Some flow) mid out r =
       behind-stays mid after.session placed.handle
       (behind.Flow (record flow { handle = record { 0 = placed.handle.0 } })) r.sent.left r.frame r.sent.stepped
@@ -323,4 +325,24 @@ module _ (before after : Linked) (limit : ℕ) (link : End) (placed : Placed) (f
       (Some input.0)
       (empty-fresh placed.link a.becomes
       (subst IsEmpty (sym e.flows) (empty-flowed e.attached a.asked.flow sent))) a.allocates)
+      (replies-stay a.reply a.mid _ a.replies)
+
+  -- the peer's handles lead to it so
+  pub attached-first : IsUnattached link → (input : Option InputHandle) (exchange : Option AttachExchange)
+      → AttachedBy input exchange before [] limit link placed after frames
+      → LeadsFirst placed.handle.0 before.session after.session
+  attached-first fresh None None (a, aborts) =
+      allocated-leads before.session after.session placed.handle.0 (with_number placed.link a.attaching) None
+      a.allocates (λ k held is. refl)
+  attached-first fresh None (Some exchange) a = absurd a
+  attached-first fresh (Some input) None a = absurd a
+  attached-first fresh (Some input) (Some exchange) a =
+      let e = a.exchanges in
+      first-rests placed.handle.0 before.session a.mid after.session
+      (allocated-leads before.session a.mid placed.handle.0 (with_number placed.link a.becomes) (Some input.0)
+      a.allocates
+      (λ k held is.
+      absurd
+      (answer-waits placed.link link a.asked.attach e.takes.told e.taken e.attached a.becomes placed.handle
+      a.attach.incomplete_unsettled a.asked.flow fresh e.takes.takes e.sent e.flows k held is)))
       (replies-stay a.reply a.mid _ a.replies)

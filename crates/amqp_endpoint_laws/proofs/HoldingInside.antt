@@ -1,8 +1,11 @@
 -- What the links of a session hold of their messages, whatever is done in it but that transfers come.
 use Rattle.std.proofs.Common.{◌≡◌, ◌≢◌, ◌⊎◌, ◌==◌, inl, inr, ℕ, Bool, true, false, List, [], ◌∷◌, Option, Some, None}
-use Rattle.std.proofs.Common.{Result, Ok, Err, ap, refl, sym, subst, ◌∙◌, if◌then◌else◌}
+use Rattle.std.proofs.Common.{Result, Ok, Err, ap, cond, refl, sym, subst, ◌∙◌, if◌then◌else◌}
 use Rattle.std.proofs.lemmas.Bool.Decides.{eqb_tells}
 use Rattle.std.proofs.lemmas.List.{get_or-set_other}
+use Rattle.std.proofs.lemmas.Bool.{eq-eqb}
+use Rattle.std.proofs.lemmas.Option.{none-some, same_Some}
+use Rattle.std.specs.FinMap as map
 use Rattle.std.specs.Prelude.{slice_index_or, slice_set}
 use Rattle.amqp_session_types.specs.declared.handles.Handle.{Handle}
 use Rattle.amqp_session_types.specs.declared.handles.OutputHandle.{OutputHandle}
@@ -23,16 +26,22 @@ use Rattle.amqp_session_core.specs.Steps.{TakesBegin, TakesDetach, TakesDisposit
 use Rattle.amqp_session_core.specs.Steps.{with_table}
 use Rattle.amqp_session_core.specs.Frames.{Left}
 use Rattle.amqp_session_core.specs.Batch.{Transfers}
+use Rattle.amqp_session_core.specs.Tables.{RouteTable, unless_to}
 use Rattle.amqp_session_core.specs.declared.batch.BehindFrame.{BehindFrame}
 use Rattle.amqp_session_core.specs.declared.relay.RelayError.{RelayError}
 use Rattle.amqp_link_base.specs.declared.detached.Detached.{Detached}
 use Rattle.amqp_link_ends.specs.declared.relay.AttachTold.{AttachTold}
 use Rattle.amqp_link_receiving.specs.declared.answer.Told.{Told}
+use Rattle.amqp_link_receiving.specs.Deliveries.{Delivery}
+use Rattle.amqp_endpoint_asked.proofs.Tables.{get-put, get-take}
+use Rattle.amqp_endpoint_links.specs.History.{routed_in}
+use Rattle.amqp_endpoint_links.proofs.Routing.{Change, Frees, Puts, Same, Takes, change}
 use Rattle.amqp_endpoint_attached.specs.Linked.{LinksIn, gives}
 use Rattle.amqp_endpoint_attached.proofs.There.{replaced}
 use Rattle.amqp_endpoint_linking.specs.Linking.{Link}
-use Rattle.amqp_endpoint_laws.proofs.HoldingEnds.{Comes, Goes, Holding, IsFresh, Stays, attaches-go, comes-on}
-use Rattle.amqp_endpoint_laws.proofs.HoldingEnds.{detaches-stay, disposes-stay, flows-stay, goes-on, goes-still}
+use Rattle.amqp_endpoint_laws.proofs.HoldingEnds.{Comes, Goes, Holding, IsFresh, Stays, attached-waits, attaches-go}
+use Rattle.amqp_endpoint_laws.proofs.HoldingEnds.{comes-on}
+use Rattle.amqp_endpoint_laws.proofs.HoldingEnds.{detaches-stay, disposes-stay, flows-stay, goes-still}
 use Rattle.amqp_endpoint_laws.proofs.HoldingEnds.{held_end, held_link, stays-on}
 use Rattle.amqp_endpoint_laws.proofs.HoldingEnds.{stays-still}
 
@@ -40,25 +49,77 @@ use Rattle.amqp_endpoint_laws.proofs.HoldingEnds.{stays-still}
 abbrev pub Each : (Holding → Holding → Type 0) → LinksIn → LinksIn → Type 0
 Each Rel old new = (h : ℕ) → Rel (held_link (link_at old h)) (held_link (link_at new h))
 
-pub each-stays : (old mid new : LinksIn) → Each Stays old mid → Each Stays mid new → Each Stays old new
-each-stays old mid new first later h =
-    stays-on (held_link (link_at old h)) (held_link (link_at mid h)) (held_link (link_at new h)) (first h) (later h)
+-- no handle of the peer's leads to a link that it didn't lead to before
+abbrev pub LeadsLess : LinksIn → LinksIn → Type 0
+LeadsLess old new = (input h : ℕ) → map.get new.routes input ≡ Some h → map.get old.routes input ≡ Some h
 
-pub each-goes : (old mid new : LinksIn) → Each Goes old mid → Each Stays mid new → Each Goes old new
-each-goes old mid new first later h =
-    goes-on (held_link (link_at old h)) (held_link (link_at mid h)) (held_link (link_at new h)) (first h) (later h)
+same-leads : (old new : LinksIn) → new.routes ≡ old.routes → LeadsLess old new
+same-leads old new same input h there = sym (ap (λ (t : RouteTable). map.get t input) same) ∙ there
 
-pub all-same : (old new : LinksIn) → new.links ≡ old.links → Each Stays old new
-all-same old new same h = inl (ap (λ (ls : List (Option Link)). held_link (slice_index_or ls h None)) same)
+unless-leads : (handle h : ℕ) (o : Option ℕ) → unless_to handle o ≡ Some h → o ≡ Some h
+unless-leads handle h None is = absurd (none-some h is)
+unless-leads handle h (Some to) is = by (to == handle) refl
+  where
+    by : (b : Bool) → (to == handle) ≡ b → Some to ≡ Some h
+    by true e =
+        absurd (none-some h (sym (ap (λ (b : Bool). if b then None else Some to) e) ∙ is))
+    by false e = sym (ap (λ (b : Bool). if b then None else Some to) e) ∙ is
 
-pub each-comes : (number : ℕ) (old mid new : LinksIn) → Each (Comes number) old mid → Each Stays mid new
+pub less : (step : Step Link AttachTold Told Detached) (old new : LinksIn) → routed_in step ≡ None
+    → Steps gives old step new → LeadsLess old new
+less step old new none s input h there = by (change gives step old new s)
+  where
+    by : Change old new step → map.get old.routes input ≡ Some h
+    by (Same same live) = sym (same input) ∙ there
+    by (Puts key handle told put is live) = absurd (none-some key (sym none ∙ told))
+    by (Takes key taken live) = at (eqb_tells input key)
+      where
+        got : map.get new.routes input ≡ cond (input == key) None (map.get old.routes input)
+        got = ap (λ (t : RouteTable). map.get t input) taken ∙ get-take old.routes key input
+
+        at : (((input == key) ≡ true) × (input ≡ key)) ⊎ (((input == key) ≡ false) × (input ≢ key))
+            → map.get old.routes input ≡ Some h
+        at (inl p) =
+            absurd
+            (none-some h
+            (sym (got ∙ ap (λ (b : Bool). cond b None (map.get old.routes input)) p.0) ∙ there))
+        at (inr p) =
+            sym (got ∙ ap (λ (b : Bool). cond b None (map.get old.routes input)) p.0) ∙ there
+    by (Frees handle left freed) =
+        unless-leads handle h (map.get old.routes input) (sym (left input) ∙ there)
+
+-- what is held stays under each own handle, and the peer's handles lead to no other links
+pub record Rests (old new : LinksIn) : Type 0 where
+  pub holds : Each Stays old new
+  pub leads : LeadsLess old new
+
+pub rests-on : (old mid new : LinksIn) → Rests old mid → Rests mid new → Rests old new
+rests-on old mid new first later =
+    record {
+      holds = λ h.
+          stays-on (held_link (link_at old h)) (held_link (link_at mid h)) (held_link (link_at new h)) (first.holds h)
+          (later.holds h);
+      leads = λ input h there. first.leads input h (later.leads input h there);
+    }
+
+pub each-comes : (number : ℕ) (old mid new : LinksIn) → Each (Comes number) old mid → Rests mid new
     → Each (Comes number) old new
 each-comes number old mid new first later h =
     comes-on number (held_link (link_at old h)) (held_link (link_at mid h)) (held_link (link_at new h)) (first h)
-    (later h)
+    (later.holds h)
 
-pub stay-go : (old new : LinksIn) → Each Stays old new → Each Goes old new
-stay-go old new each h = inr (each h)
+links-same : (old new : LinksIn) → new.links ≡ old.links → Each Stays old new
+links-same old new same h = inl (ap (λ (ls : List (Option Link)). held_link (slice_index_or ls h None)) same)
+
+pub all-same : (old new : LinksIn) → new ≡ old → Rests old new
+all-same old new same =
+    record {
+      holds = links-same old new (ap (λ (s : LinksIn). s.links) same);
+      leads = same-leads old new (ap (λ (s : LinksIn). s.routes) same);
+    }
+
+pub rests-go : (old new : LinksIn) → Rests old new → Each Goes old new
+rests-go old new rests h = inr (rests.holds h)
 
 -- one link alone takes a step
 module _ (Rel : Holding → Holding → Type 0) (still : (a : Holding) → Rel a a) where
@@ -99,18 +160,29 @@ module _ (Rel : Holding → Holding → Type 0) (still : (a : Holding) → Rel a
 -- its owner changes a link
 pub changed-stays : (old new : LinksIn) (handle : ℕ) (before after : Link)
     → Steps gives old (Changes handle before after) new → Stays (held_link (Some before)) (held_link (Some after))
-    → Each Stays old new
+    → Rests old new
 changed-stays old new handle before after s keeps =
-    at-one Stays stays-still old new handle before after s.0 (ap (λ (x : LinksIn). x.links) s.1) keeps
+    record {
+      holds = at-one Stays stays-still old new handle before after s.0 (ap (λ (x : LinksIn). x.links) s.1) keeps;
+      leads = less (Changes handle before after) old new refl s;
+    }
 
 -- a frame of a link is sent, or its transfers, or Dispositions
 pub behind-stays : (old new : LinksIn) (handle : OutputHandle) (frame : BehindFrame) (left : Option BehindFrame)
-    (answer : Option SessionFrame) → Steps gives old (SendsBehind handle frame left answer) new → Each Stays old new
-behind-stays old new handle frame left answer s = all-same old new (ap (λ (x : LinksIn). x.links) s.2)
+    (answer : Option SessionFrame) → Steps gives old (SendsBehind handle frame left answer) new → Rests old new
+behind-stays old new handle frame left answer s =
+    record {
+      holds = links-same old new (ap (λ (x : LinksIn). x.links) s.2);
+      leads = less (SendsBehind handle frame left answer) old new refl s;
+    }
 
 pub batch-stays : (old new : LinksIn) (handle : OutputHandle) (batch : Transfers) (left : Left)
-    (frames : List SessionFrame) → Steps gives old (SendsTransfers handle batch left frames) new → Each Stays old new
-batch-stays old new handle batch left frames s = all-same old new (ap (λ (x : LinksIn). x.links) s.2)
+    (frames : List SessionFrame) → Steps gives old (SendsTransfers handle batch left frames) new → Rests old new
+batch-stays old new handle batch left frames s =
+    record {
+      holds = links-same old new (ap (λ (x : LinksIn). x.links) s.2);
+      leads = less (SendsTransfers handle batch left frames) old new refl s;
+    }
 
 table-same : (by : Role) (table : Table) (s : LinksIn) → (with_table by table s).links ≡ s.links
 table-same role.Sender table s = refl
@@ -123,8 +195,12 @@ sent-same true old d numbers new s =
     ap (λ (x : LinksIn). x.links) s.1 ∙ table-same (opposite d.role) _ old
 
 pub sent-stays : (old new : LinksIn) (d : Disposition) (numbers : List ℕ)
-    → Steps gives old (SendsDisposition d numbers) new → Each Stays old new
-sent-stays old new d numbers s = all-same old new (sent-same d.settled old d numbers new s)
+    → Steps gives old (SendsDisposition d numbers) new → Rests old new
+sent-stays old new d numbers s =
+    record {
+      holds = links-same old new (sent-same d.settled old d numbers new s);
+      leads = less (SendsDisposition d numbers) old new refl s;
+    }
 
 -- an own handle is taken back, or given
 freed-at : (old new : LinksIn) (h : ℕ) (freed : Bool) → link_at new h ≡ (if freed then None else link_at old h)
@@ -132,8 +208,12 @@ freed-at : (old new : LinksIn) (h : ℕ) (freed : Bool) → link_at new h ≡ (i
 freed-at old new h true is = inr (ap held_link is)
 freed-at old new h false is = inl (ap held_link is)
 
-pub freed-stays : (old new : LinksIn) (handle : ℕ) → Steps gives old (Deallocates handle) new → Each Stays old new
-freed-stays old new handle s h = freed-at old new h (h == handle) (s.0 h)
+pub freed-stays : (old new : LinksIn) (handle : ℕ) → Steps gives old (Deallocates handle) new → Rests old new
+freed-stays old new handle s =
+    record {
+      holds = λ h. freed-at old new h (h == handle) (s.0 h);
+      leads = less (Deallocates handle) old new refl s;
+    }
 
 given-comes : (number : ℕ) (old new : LinksIn) (handle : ℕ) (link : Link) → IsFresh number (held_link (Some link))
     → link_at old handle ≡ None → ((h : ℕ) → link_at new h ≡ (if h == handle then Some link else link_at old h))
@@ -162,7 +242,7 @@ allocated-comes number old new handle link (Some input) fresh s = given-comes nu
 flow-at : (old new : LinksIn) (flow : Flow) (named : Option Handle)
     (told : Option (ℕ × Result (Option LinkFlow) RelayError))
     → FlowAt gives old.links old.routes flow named told new.links → Each Stays old new
-flow-at old new flow None None same = all-same old new same
+flow-at old new flow None None same = links-same old new same
 flow-at old new flow None (Some told) f = absurd f
 flow-at old new flow (Some handle) None f = absurd f
 flow-at old new flow (Some handle) (Some (h, told)) f =
@@ -170,11 +250,15 @@ flow-at old new flow (Some handle) (Some (h, told)) f =
     (λ a b t. numbered-so Stays stays-still a b t.1
     (flows-stay a.number a.link (told_to_link flow handle) told b.link t.0))
 
+stays-each : (old mid new : LinksIn) → Each Stays old mid → Each Stays mid new → Each Stays old new
+stays-each old mid new first later h =
+    stays-on (held_link (link_at old h)) (held_link (link_at mid h)) (held_link (link_at new h)) (first h) (later h)
+
 -- a Disposition of the peer reaches deliveries
 module _ (s : LinksIn) (d : Disposition) where
   reach-at : (old new : List (Option Link)) (x : Reach) (there : Option Link)
       → ReachesAt gives.disposes d old there x new → Each Stays (record s { links = old }) (record s { links = new })
-  reach-at old new x None r = all-same (record s { links = old }) (record s { links = new }) r.2
+  reach-at old new x None r = links-same (record s { links = old }) (record s { links = new }) r.2
   reach-at old new x (Some link) r =
       at-step Stays stays-still _ (record s { links = old }) (record s { links = new }) x.handle r.1
       (λ a b t. numbered-so Stays stays-still a b t.1
@@ -183,11 +267,11 @@ module _ (s : LinksIn) (d : Disposition) where
   walk-stays : (table : Table) (numbers : List ℕ) (old : List (Option Link)) (walk : List Reach)
       (new : List (Option Link)) → Walks gives.disposes d table numbers old walk new
       → Each Stays (record s { links = old }) (record s { links = new })
-  walk-stays table [] old [] new w = all-same (record s { links = old }) (record s { links = new }) w
+  walk-stays table [] old [] new w = links-same (record s { links = old }) (record s { links = new }) w
   walk-stays table [] old (x ∷ walk) new w = absurd w
   walk-stays table (n ∷ ns) old [] new w = absurd w
   walk-stays table (n ∷ ns) old (x ∷ walk) new w =
-      each-stays (record s { links = old }) (record s { links = w.0 }) (record s { links = new })
+      stays-each (record s { links = old }) (record s { links = w.0 }) (record s { links = new })
       (reach-at old w.0 x (slice_index_or old x.handle None) w.3) (walk-stays table ns w.0 walk new w.4)
 
 -- a Detach, an Attach
@@ -212,19 +296,154 @@ IsCalm (TakesDetach handle detach told) = Unit {0}
 IsCalm (TakesBegin channel begin base left frames) = Unit {0}
 IsCalm step = ⊥
 
-pub calm-stays : (step : Step Link AttachTold Told Detached) (old new : LinksIn) → Steps gives old step new
+calm-holds : (step : Step Link AttachTold Told Detached) (old new : LinksIn) → Steps gives old step new
     → IsCalm step → Each Stays old new
-calm-stays (TakesFlow flow told reply base left frames) old new s calm = flow-at old new flow flow.handle told s.link
-calm-stays (SetsWindow flow base) old new s calm = all-same old new (ap (λ (x : LinksIn). x.links) s.2)
-calm-stays (TakesDisposition d walk echoes) old new s calm =
+calm-holds (TakesFlow flow told reply base left frames) old new s calm = flow-at old new flow flow.handle told s.link
+calm-holds (SetsWindow flow base) old new s calm = links-same old new (ap (λ (x : LinksIn). x.links) s.2)
+calm-holds (TakesDisposition d walk echoes) old new s calm =
     walk-stays old d _ s.numbers old.links walk new.links s.walked
-calm-stays (TakesDetach handle detach (Ok told)) old new s calm = detach-stays old new handle detach (Ok told) s.1
-calm-stays (TakesDetach handle detach (Err e)) old new s calm = detach-stays old new handle detach (Err e) s.1
-calm-stays (TakesBegin channel begin base left frames) old new s calm =
-    all-same old new (ap (λ (x : LinksIn). x.links) s.5)
-calm-stays step old new s calm = absurd calm
+calm-holds (TakesDetach handle detach (Ok told)) old new s calm = detach-stays old new handle detach (Ok told) s.1
+calm-holds (TakesDetach handle detach (Err e)) old new s calm = detach-stays old new handle detach (Err e) s.1
+calm-holds (TakesBegin channel begin base left frames) old new s calm =
+    links-same old new (ap (λ (x : LinksIn). x.links) s.5)
+calm-holds step old new s calm = absurd calm
+
+calm-routes : (step : Step Link AttachTold Told Detached) → IsCalm step → routed_in step ≡ None
+calm-routes (TakesFlow flow told reply base left frames) calm = refl
+calm-routes (SetsWindow flow base) calm = refl
+calm-routes (TakesDisposition d walk echoes) calm = refl
+calm-routes (TakesDetach handle detach told) calm = refl
+calm-routes (TakesBegin channel begin base left frames) calm = refl
+calm-routes step calm = absurd calm
+
+pub calm-stays : (step : Step Link AttachTold Told Detached) (old new : LinksIn) → Steps gives old step new
+    → IsCalm step → Rests old new
+calm-stays step old new s calm =
+    record { holds = calm-holds step old new s calm; leads = less step old new (calm-routes step calm) s }
 
 pub taken-goes : (old new : LinksIn) (handle : ℕ) (attach : Attach) (told : Result AttachTold RelayError)
     → Steps gives old (TakesAttach handle attach told) new → Each Goes old new
 taken-goes old new handle attach (Ok told) s = attach-goes old new handle attach (Ok told) s.1
 taken-goes old new handle attach (Err e) s = attach-goes old new handle attach (Err e) s.1
+
+-- and that handle of the peer's leads to it then, unless the link waits still
+pub record LeadsMore (attach : Attach) (handle : ℕ) (old new : LinksIn) : Type 0 where
+  pub holds : Each Goes old new
+  pub leads :
+      (input h : ℕ) → map.get new.routes input ≡ Some h
+      → (map.get old.routes input ≡ Some h) ⊎ ((input ≡ attach.handle.0) × (h ≡ handle))
+  pub waits :
+      (k : ℕ) (held : Option Delivery) → held_link (link_at new handle) ≡ Some (k, (false, held))
+      → LeadsLess old new
+
+put-leads : (old new : RouteTable) (key handle input h : ℕ) → new ≡ map.insert old key handle
+    → map.get new input ≡ Some h → (map.get old input ≡ Some h) ⊎ ((input ≡ key) × (h ≡ handle))
+put-leads old new key handle input h put there = by (eqb_tells input key)
+  where
+    got : map.get new input ≡ cond (input == key) (Some handle) (map.get old input)
+    got = ap (λ (t : RouteTable). map.get t input) put ∙ get-put old key input handle
+
+    by : (((input == key) ≡ true) × (input ≡ key)) ⊎ (((input == key) ≡ false) × (input ≢ key))
+        → (map.get old input ≡ Some h) ⊎ ((input ≡ key) × (h ≡ handle))
+    by (inl p) =
+        inr (
+          p.1,
+          same_Some h handle
+              (sym there ∙ got ∙ ap (λ (b : Bool). cond b (Some handle) (map.get old input)) p.0),
+        )
+    by (inr p) = inl (sym (got ∙ ap (λ (b : Bool). cond b (Some handle) (map.get old input)) p.0) ∙ there)
+
+taken-leads : (old new : LinksIn) (handle : ℕ) (attach : Attach) (told : Result AttachTold RelayError)
+    → Steps gives old (TakesAttach handle attach told) new → (input h : ℕ) → map.get new.routes input ≡ Some h
+    → (map.get old.routes input ≡ Some h) ⊎ ((input ≡ attach.handle.0) × (h ≡ handle))
+taken-leads old new handle attach (Ok told) s input h there =
+    put-leads old.routes new.routes attach.handle.0 handle input h (ap (λ (x : LinksIn). x.routes) s.2) there
+taken-leads old new handle attach (Err e) s input h there =
+    inl (less (TakesAttach handle attach (Err e)) old new refl s input h there)
+
+taken-waits : (old new : LinksIn) (handle : ℕ) (attach : Attach) (told : Result AttachTold RelayError)
+    → Steps gives old (TakesAttach handle attach told) new → (k : ℕ) (held : Option Delivery)
+    → held_link (link_at new handle) ≡ Some (k, (false, held)) → LeadsLess old new
+taken-waits old new handle attach (Ok told) s k held is =
+    absurd
+    (attached-waits s.1.after.number s.1.before.link attach told s.1.after.link s.1.stepped.0 k held
+    (sym (ap held_link
+    (ap (λ (ls : List (Option Link)). slice_index_or ls handle None) s.1.others
+    ∙ replaced old handle s.1.before s.1.after (sym s.1.had)))
+    ∙ is))
+taken-waits old new handle attach (Err e) s k held is = less (TakesAttach handle attach (Err e)) old new refl s
+
+pub attach-leads : (old new : LinksIn) (handle : ℕ) (attach : Attach) (told : Result AttachTold RelayError)
+    → Steps gives old (TakesAttach handle attach told) new → LeadsMore attach handle old new
+attach-leads old new handle attach told s =
+    record {
+      holds = taken-goes old new handle attach told s;
+      leads = taken-leads old new handle attach told s;
+      waits = taken-waits old new handle attach told s;
+    }
+
+-- a link enters, and one handle of the peer's leads to it, or none does, where it waits for the peer's Attach
+pub record LeadsFirst (handle : ℕ) (old new : LinksIn) : Type 0 where
+  pub vacant : link_at old handle ≡ None
+  pub others : (h : ℕ) → (h == handle) ≡ false → Stays (held_link (link_at old h)) (held_link (link_at new h))
+  pub input : Option ℕ
+  pub leads :
+      (other h : ℕ) → map.get new.routes other ≡ Some h
+      → (map.get old.routes other ≡ Some h) ⊎ ((input ≡ Some other) × (h ≡ handle))
+  pub waits :
+      (k : ℕ) (held : Option Delivery) → held_link (link_at new handle) ≡ Some (k, (false, held)) → input ≡ None
+
+given-others : (old new : LinksIn) (handle : ℕ) (link : Link)
+    → ((h : ℕ) → link_at new h ≡ (if h == handle then Some link else link_at old h)) → (h : ℕ)
+    → (h == handle) ≡ false → Stays (held_link (link_at old h)) (held_link (link_at new h))
+given-others old new handle link becomes h apart =
+    inl (ap held_link (becomes h ∙ ap (λ (b : Bool). if b then Some link else link_at old h) apart))
+
+-- it waits only where none leads to it
+pub allocated-leads : (old new : LinksIn) (handle : ℕ) (link : Link) (input : Option ℕ)
+    → Steps gives old (Allocates handle link input) new
+    → ((k : ℕ) (held : Option Delivery) → held_link (Some link) ≡ Some (k, (false, held)) → input ≡ None)
+    → LeadsFirst handle old new
+allocated-leads old new handle link None s waits =
+    record {
+      vacant = s.1;
+      others = given-others old new handle link s.3;
+      input = None;
+      leads = λ other h there. inl (less (Allocates handle link None) old new refl s other h there);
+      waits = λ k held is. refl;
+    }
+allocated-leads old new handle link (Some input) s waits =
+    record {
+      vacant = s.2;
+      others = given-others old new handle link s.4;
+      input = Some input;
+      leads = λ other h there.
+          elim (put-leads old.routes new.routes input handle other h (ap (λ (x : LinksIn). x.routes) s.5) there) [
+            | inl was ↦ inl was
+            | inr (same, is) ↦ inr (ap (λ (k : ℕ). Some k) (sym same), is)
+          ];
+      waits = λ k held is.
+          waits k held
+          (sym (ap held_link
+          (s.4 handle ∙ ap (λ (b : Bool). if b then Some link else link_at old handle) (eq-eqb handle handle refl)))
+          ∙ is);
+    }
+
+pub first-rests : (handle : ℕ) (old mid new : LinksIn) → LeadsFirst handle old mid → Rests mid new
+    → LeadsFirst handle old new
+first-rests handle old mid new first later =
+    record {
+      vacant = first.vacant;
+      others = λ h apart.
+          stays-on (held_link (link_at old h)) (held_link (link_at mid h)) (held_link (link_at new h))
+          (first.others h apart) (later.holds h);
+      input = first.input;
+      leads = λ other h there. first.leads other h (later.leads other h there);
+      waits = λ k held is. first.waits k held (by k held is (later.holds handle));
+    }
+  where
+    by : (k : ℕ) (held : Option Delivery) → held_link (link_at new handle) ≡ Some (k, (false, held))
+        → Stays (held_link (link_at mid handle)) (held_link (link_at new handle))
+        → held_link (link_at mid handle) ≡ Some (k, (false, held))
+    by k held is (inl same) = sym same ∙ is
+    by k held is (inr gone) = absurd (none-some _ (sym gone ∙ is))

@@ -47,6 +47,7 @@ mod QueuedKept
 mod QueuedSince
 mod QueuedAttached
 mod QueuedCalled
+mod LeadingAlone
 mod SeenWalk
 mod Seen
 mod Judged

@@ -113,19 +113,19 @@ goes-queued h (Ending channel) before after is q = absurd (none-some before is)
 goes-queued h (Over peer_end complete) before after is q = absurd (none-some before is)
 
 -- sessions that were new, and stand so behind some deeds
-record Reached (s : LinkedSessions) : Type 0 where
-  sessions : LinkedSessions
-  settings : Settings
-  deeds : List Deed
-  fresh : IsNew linked settings sessions
-  done : AreDone linked sessions deeds s
+pub record Reached (s : LinkedSessions) : Type 0 where
+  pub sessions : LinkedSessions
+  pub settings : Settings
+  pub deeds : List Deed
+  pub fresh : IsNew linked settings sessions
+  pub done : AreDone linked sessions deeds s
 
 done-on : (deeds : List Deed) (deed : Deed) (old mid new : LinkedSessions) → AreDone linked old deeds mid
     → IsDeed linked mid deed new → AreDone linked old (deeds ++ deed ∷ []) new
 done-on [] deed old mid new same d = (new, subst (λ (s : LinkedSessions). IsDeed linked s deed new) same d, refl)
 done-on (first ∷ deeds) deed old mid new (next, one, rest) d = (next, one, done-on deeds deed next mid new rest d)
 
-reached-on : (old new : LinkedSessions) (deed : Deed) → IsDeed linked old deed new → Reached old → Reached new
+pub reached-on : (old new : LinkedSessions) (deed : Deed) → IsDeed linked old deed new → Reached old → Reached new
 reached-on old new deed d r =
     record {
       sessions = r.sessions;

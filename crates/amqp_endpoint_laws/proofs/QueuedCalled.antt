@@ -100,7 +100,8 @@ among it answer (Does limit other reply frames ∷ deeds) zero is =
 among it answer (Does limit other reply frames ∷ deeds) (suc n) is =
     later it answer (Does limit other reply frames) deeds (among it answer deeds n is)
 among it answer (Queues q ∷ deeds) n is = later it answer (Queues q) deeds (among it answer deeds n is)
-among it answer (Hears frame events ∷ deeds) n is = later it answer (Hears frame events) deeds (among it answer deeds n is)
+among it answer (Hears frame events ∷ deeds) n is =
+    later it answer (Hears frame events) deeds (among it answer deeds n is)
 among it answer (Takes limit frame frames events ∷ deeds) n is =
     later it answer (Takes limit frame frames events) deeds (among it answer deeds n is)
 among it answer (Refuses limit frame error own_close ∷ deeds) n is =
@@ -149,8 +150,8 @@ module _ (back_on : BackGoesOn) (left_on : LeftGoesOn) (finished_on : FinishedGo
       elim (eqb_tells number link) [
         | inl same ↦
             absurd
-            (unsent-at (sends limit (tag_of old.sent) message (d.0).sends.settled) (link_place old.links number) old.talk
-            new.talk frames (ap (link_place old.links) same.1 ∙ ap (λ o. place_of (open_of o)) none) (d.0).sends.sent)
+            (unsent-at (sends limit (tag_of old.sent) message (d.0).sends.settled) (link_place old.links number)
+            old.talk new.talk frames (ap (link_place old.links) same.1 ∙ ap (λ o. place_of (open_of o)) none) (d.0).sends.sent)
         | inr apart ↦ if-none (number == link) _ apart.0
       ]
   unsent deed old new d none = refl

@@ -77,18 +77,14 @@ pieces_on theirs [] = []
 pieces_on theirs (Came it ∷ passings) = piece_on theirs it ++ pieces_on theirs passings
 pieces_on theirs (Went frame ∷ passings) = pieces_on theirs passings
 
--- of the peer's handles this one leads to the link, and no other
-abbrev pub LeadsOnly : LinkedSessions → ℕ → OutputHandle → ℕ → Type 0
-LeadsOnly s session own theirs =
-    (other : ℕ) → leads_there (live_at s.talk.sessions session) other own ≡ (other == theirs)
-
 -- deeds are done one after the other, by each of which the link stays attached as it is, and before each of which this
--- handle leads to it alone; and this passes in its session by them
+-- handle leads to it; and this passes in its session by them
 abbrev pub PassesOn : (link session : ℕ) → OutputHandle → ℕ → LinkedSessions → List Deed → LinkedSessions
     → List Passing → Type 0
 PassesOn link session own theirs old [] new passings = (new ≡ old) × (passings ≡ [])
 PassesOn link session own theirs old (deed ∷ deeds) new passings =
-    (mid : LinkedSessions) × (held : Option Incoming) × (later : List Passing) × LeadsOnly old session own theirs
+    (mid : LinkedSessions) × (held : Option Incoming) × (later : List Passing)
+    × (leads_there (live_at old.talk.sessions session) theirs own ≡ true)
     × IsDeed linked old deed mid × IsReceiving mid link session own held
     × PassesOn link session own theirs mid deeds new later × (passings ≡ passes_in session old deed ++ later)
 

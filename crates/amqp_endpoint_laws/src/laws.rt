@@ -1,10 +1,12 @@
 //! The laws. A function here does nothing but name the laws that it rests on: its contract is the law.
 ghost use Rattle.std.specs.Prelude.{◌≡◌, ◌+◌, ◌∷◌, ◌++◌, [], ℕ, List, false, length, map, slice_get, Option, Some, ◌⊎◌};
+ghost use Rattle.std.specs.Prelude.{true};
 ghost use Rattle.amqp_session_performatives.specs.declared.session_frame.SessionFrame.{SessionFrame};
 ghost use Rattle.amqp_session_types.specs.declared.channels.OutgoingChannel.{OutgoingChannel};
 ghost use Rattle.amqp_session_types.specs.declared.handles.OutputHandle.{OutputHandle};
 ghost use Rattle.amqp_link_place.specs.Readings.{Piece, nothing, readings};
 ghost use Rattle.amqp_link_place.specs.Said.{Said};
+ghost use Rattle.amqp_link_receiving.specs.Deliveries.{Delivery as Incoming};
 ghost use Rattle.amqp_link_receiving.specs.Readings.{held_said};
 ghost use Rattle.amqp_endpoint_names.specs.State.{AreApart, place_at};
 ghost use Rattle.amqp_endpoint_names.specs.declared.place.LinkPlace.TheVariants.{Held};
@@ -30,7 +32,7 @@ ghost use Rattle.amqp_endpoint_talk.specs.Windows.{KeepsWindow, Passing, begins_
 ghost use Rattle.amqp_endpoint_reading.specs.Reading.{nothing_read};
 ghost use Rattle.amqp_endpoint_laws.specs.Conversing.{SessionsGoOn};
 ghost use Rattle.amqp_endpoint_laws.specs.Handed.{IsReceiving, NoneResumes, PassesOn, ReachIn, handed_as};
-ghost use Rattle.amqp_endpoint_laws.specs.Handed.{handed_by, pieces_on};
+ghost use Rattle.amqp_endpoint_laws.specs.Handed.{handed_by, leads_there, pieces_on};
 ghost use Rattle.amqp_endpoint_laws.specs.Held.{IsHeldThere, number_at};
 ghost use Rattle.amqp_endpoint_laws.specs.Judged.{Judged};
 ghost use Rattle.amqp_endpoint_laws.specs.Linking.{HaveCome};
@@ -188,8 +190,8 @@ pub fn links_of_sessions_are_held()
 /// As long as a receiving link stays attached, the messages that its endpoint hands out by it are those that the
 /// transfers say which reach the link, in order, and what it holds of a message then is what these leave open (part 2,
 /// 2.6.14): so it is from whichever moment on, and whichever deeds the endpoint's run consists of, where none of the
-/// transfers says that it resumes a delivery. Where one handle of the peer's alone leads to the link, they are those
-/// that come in its session on that handle.
+/// transfers says that it resumes a delivery. They are those that come in its session on the handle of the peer's that
+/// leads to the link.
 pub fn what_is_handed_out_is_what_was_said()
     ensures as_said { (sessions start end : LinkedSessions) (settings : Settings) (before since : List Deed)
         (link session : ℕ) (own : OutputHandle) (held : Option Said) (pieces : List Piece) →
@@ -199,12 +201,30 @@ pub fn what_is_handed_out_is_what_was_said()
         let read = readings (record nothing { held = held }) pieces in
         (handed_by link (told_by since) ≡ map (handed_as own) read.messages)
         × IsReceiving end link session own (held_said read.held) }
-    ensures on_a_handle { (start end : LinkedSessions) (since : List Deed) (link session : ℕ) (own : OutputHandle)
-        (theirs : ℕ) (passings : List Passing) → PassesOn link session own theirs start since end passings →
+    ensures on_a_handle { (sessions start end : LinkedSessions) (settings : Settings) (before since : List Deed)
+        (link session : ℕ) (own : OutputHandle) (held : Option Incoming) (theirs : ℕ) (passings : List Passing) →
+        IsNew linked settings sessions → AreDone linked sessions before start →
+        IsReceiving start link session own held → PassesOn link session own theirs start since end passings →
         ReachIn link session own start since end (pieces_on theirs passings) }
 {
     links_given_back_go_on();
 }
+
+/// One handle of the peer's alone leads to a receiving link that is attached, whatever was done and whatever the peer
+/// says (part 2, 2.6.2, 2.6.3).
+pub fn one_handle_leads_to_an_attached_link()
+    ensures by_deeds { (sessions end : LinkedSessions) (settings : Settings) (deeds : List Deed) (link session : ℕ)
+        (own : OutputHandle) (held : Option Incoming) (m n : ℕ) → IsNew linked settings sessions →
+        AreDone linked sessions deeds end → IsReceiving end link session own held →
+        leads_there (live_at end.talk.sessions session) m own ≡ true →
+        leads_there (live_at end.talk.sessions session) n own ≡ true → m ≡ n }
+    ensures by_calls { (sessions : LinkedSessions) (settings : Settings) (calls : List Call) (told : List Told)
+        (end : State LinkedSessions) (link session : ℕ) (own : OutputHandle) (held : Option Incoming) (m n : ℕ) →
+        IsNew linked settings sessions → Run linked (fresh settings sessions) calls told end →
+        IsReceiving end.sessions link session own held →
+        leads_there (live_at end.sessions.talk.sessions session) m own ≡ true →
+        leads_there (live_at end.sessions.talk.sessions session) n own ≡ true → m ≡ n }
+{}
 
 /// An endpoint hands a message out by a link only in a deed before and behind which that is attached as a receiving
 /// link, in one session and under one own handle. So the deed that ends an attachment hands out none of its link, nor

@@ -1,5 +1,5 @@
-use Rattle.amqp_endpoint_laws.proofs.HandedOn.{reach-on}
 use Rattle.amqp_endpoint_laws.proofs.HandedRuns.{handed-so}
+use Rattle.amqp_endpoint_laws.proofs.LeadingAlone.{reach-alone}
 use Rattle.amqp_endpoint_laws.proofs.laws.what_is_handed_out_is_what_was_said.Goals as goal
 
 pub returns-clause-as_said : goal.returns-clause-as_said
@@ -10,5 +10,6 @@ returns-clause-as_said c = λ sessions start end settings before since link sess
     done r reach none
 
 pub returns-clause-on_a_handle : goal.returns-clause-on_a_handle
-returns-clause-on_a_handle c = λ start end since link session own theirs passings p.
-    reach-on session own theirs link since start end passings p
+returns-clause-on_a_handle c = λ sessions start end settings before since link session own held theirs passings new done
+    r p.
+    reach-alone sessions start end settings before since link session own held theirs passings new done r p
