@@ -23,7 +23,7 @@ use Rattle.amqp_endpoint_conversation.specs.Beginning.{AcceptsHere, BeginAnswere
 use Rattle.amqp_endpoint_conversation.specs.Ending.{EndAnswered, EndsHere, end_frame}
 use Rattle.amqp_endpoint_reading.specs.Agreeing.{Agrees, InTables, from, role_of}
 use Rattle.amqp_endpoint_reading.specs.Following.{AreFor, IsForReached, comes, goes}
-use Rattle.amqp_endpoint_reading.specs.Reading.{Reader, Speaks, begun_there, comes_for, reaches}
+use Rattle.amqp_endpoint_reading.specs.Reading.{Reader, Speaks, begun_there, comes_for}
 use Rattle.amqp_endpoint_reading.proofs.Agreeing.{reaches-it}
 
 module _ (base : ℕ) (r : Reader) where
