@@ -82,45 +82,6 @@ onward Renews = begins-anew refl
 onward Closes = goes-on tt refl
 onward Finishes = is-over (λ n s. refl) refl refl
 
--- behind its end nothing of sessions passes
-record Silent (deed : Deed) : Type 0 where
-  passes : (n : ℕ) (s : LinkedSessions) → passes_in n s deed ≡ []
-  wired : wired_in deed ≡ []
-  stays : up_behind false deed ≡ false
-
-silent : (deed : Deed) (deeds : List Deed) → MayPass false deed → NoneRenews (deed ∷ deeds)
-    → Silent deed × NoneRenews deeds
-silent (Queues it) deeds may none = (record { passes = λ n s. refl; wired = refl; stays = refl }, none)
-silent (Hears frame events) deeds may none = absurd cc
-silent (Takes limit frame frames events) deeds may none = absurd cc
-silent (Refuses limit frame error own_close) deeds may none = absurd cc
-silent (Does limit call answer frames) deeds may none =
-    let nothing : frames ≡ [] = may refl in (
-      record {
-        passes = λ n s. none-went _ frames nothing;
-        wired = ap (λ (fs : List SessionFrame). goes fs) nothing;
-        stays = refl;
-      },
-      none,
-    )
-silent (Moves connection) deeds may none = (record { passes = λ n s. refl; wired = refl; stays = refl }, none)
-silent Renews deeds may none = absurd none
-silent Closes deeds may none = (record { passes = λ n s. refl; wired = refl; stays = refl }, none)
-silent Finishes deeds may none = (record { passes = λ n s. refl; wired = refl; stays = refl }, none)
-
-none-behind : (deeds : List Deed) (n : ℕ) (old new : LinkedSessions) (passings : List Passing)
-    → Throughout up_behind MayPass false deeds → NoneRenews deeds → PassesIn n old deeds new passings
-    → (passings ≡ []) × (wired_by deeds ≡ [])
-none-behind [] n old new passings t none (same, is) = (is, refl)
-none-behind (deed ∷ deeds) n old new passings (may, t) none (mid, later, one, rest, is) =
-    let (s, others) = silent deed deeds may none in
-    let (ps_none, ws_none) =
-    none-behind deeds n mid new later (subst (λ (up : Bool). Throughout up_behind MayPass up deeds) s.stays t) others
-    rest in (
-      is ∙ ap (λ (ps : List Passing). ps ++ later) (s.passes n old) ∙ ps_none,
-      ap (λ (ws : List Wired). ws ++ wired_by deeds) s.wired ∙ ws_none,
-    )
-
 tail-none : (deed : Deed) (deeds : List Deed) → NoneRenews (deed ∷ deeds) → NoneRenews deeds
 tail-none (Queues it) deeds none = none
 tail-none (Hears frame events) deeds none = none
@@ -131,6 +92,42 @@ tail-none (Moves connection) deeds none = none
 tail-none Renews deeds none = absurd none
 tail-none Closes deeds none = none
 tail-none Finishes deeds none = none
+
+-- behind its end nothing of sessions passes
+record Silent (deed : Deed) : Type 0 where
+  passes : (n : ℕ) (s : LinkedSessions) → passes_in n s deed ≡ []
+  wired : wired_in deed ≡ []
+  stays : up_behind false deed ≡ false
+
+silent : (deed : Deed) (deeds : List Deed) → MayPass false deed → NoneRenews (deed ∷ deeds) → Silent deed
+silent (Queues it) deeds may none = record { passes = λ n s. refl; wired = refl; stays = refl }
+silent (Hears frame events) deeds may none = absurd cc
+silent (Takes limit frame frames events) deeds may none = absurd cc
+silent (Refuses limit frame error own_close) deeds may none = absurd cc
+silent (Does limit call answer frames) deeds may none =
+    let nothing : frames ≡ [] = may refl in
+    record {
+      passes = λ n s. none-went _ frames nothing;
+      wired = ap (λ (fs : List SessionFrame). goes fs) nothing;
+      stays = refl;
+    }
+silent (Moves connection) deeds may none = record { passes = λ n s. refl; wired = refl; stays = refl }
+silent Renews deeds may none = absurd none
+silent Closes deeds may none = record { passes = λ n s. refl; wired = refl; stays = refl }
+silent Finishes deeds may none = record { passes = λ n s. refl; wired = refl; stays = refl }
+
+none-behind : (deeds : List Deed) (n : ℕ) (old new : LinkedSessions) (passings : List Passing)
+    → Throughout up_behind MayPass false deeds → NoneRenews deeds → PassesIn n old deeds new passings
+    → (passings ≡ []) × (wired_by deeds ≡ [])
+none-behind [] n old new passings t none (same, is) = (is, refl)
+none-behind (deed ∷ deeds) n old new passings (may, t) none (mid, later, one, rest, is) =
+    let s : Silent deed = silent deed deeds may none in
+    let (ps_none, ws_none) =
+    none-behind deeds n mid new later (subst (λ (up : Bool). Throughout up_behind MayPass up deeds) s.stays t)
+    (tail-none deed deeds none) rest in (
+      is ∙ ap (λ (ps : List Passing). ps ++ later) (s.passes n old) ∙ ps_none,
+      ap (λ (ws : List Wired). ws ++ wired_by deeds) s.wired ∙ ws_none,
+    )
 
 channels-stay : (deeds : List Deed) (old new : LinkedSessions) → AreDone linked old deeds new → OnOwnChannels old
     → OnOwnChannels new

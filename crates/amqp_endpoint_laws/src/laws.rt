@@ -300,11 +300,10 @@ pub fn what_is_sent_is_queued_in_order()
     no_two_links_share_a_handle();
 }
 
-/// What passes in the sessions of a connection is what one reads who has its frames alone, and tells sessions apart by
-/// the channels on which these go and come and by what Begins and Ends say (part 2, 2.5.1, 2.5.2). The frames are those
-/// of the peer that are taken and those that sessions hand out, in order, from where the connection begins anew on; and
-/// a session is the one that was asked for on it behind so many others, at whichever end. Behind the end of the
-/// connection nothing passes.
+/// What passes in a session of a connection is what one reads who has the connection's frames alone, and tells sessions
+/// apart by the channels on which these come and go and by what Begins and Ends say (part 2, 2.5.1, 2.5.2). The frames
+/// are those of the peer that are taken and those that sessions hand out, in order, from where the connection begins
+/// anew on; and the session is the one that is asked for on it behind so many others, at whichever end.
 pub fn what_passes_is_read()
     ensures { (sessions start end : LinkedSessions) (settings : Settings) (before later : List Deed) (number : ℕ)
         (passings : List Passing) → IsNew linked settings sessions → AreDone linked sessions before start →
@@ -313,12 +312,12 @@ pub fn what_passes_is_read()
         passings ≡ passing_in number nothing_read (wired_by later) }
 {}
 
-/// Each transfer that passes on a connection lies in the window that the peer gave its session, as one finds who reads
-/// the connection's frames and tells sessions apart by channels (part 2, 2.5.1, 2.5.6). So it is with the deeds of one
-/// connection; and behind each run, unless the connection is broken off, with such deeds as queue what `pull` gave
-/// since the latest connect and what is queued still, and as take the frames that are read of the bytes fed since then.
-/// Each frame that the sessions hand out by these fits the limit that is in force: 512 bytes, and from the peer's Open
-/// on its max-frame-size (part 2, 2.4.1, 2.7.1).
+/// Who reads the frames of a connection, and tells sessions apart by channels alone, finds each transfer that goes in a
+/// session in the window that the peer gave it (part 2, 2.5.1, 2.5.6). So it is whatever is done on a connection; and
+/// behind each run, unless the connection is broken off, there are such deeds that queue what `pull` gave since the
+/// latest connect and what is queued still, and that take the frames which are read of the bytes fed since then. Each
+/// frame that sessions hand out by these fits the limit that is in force: 512 bytes, and from the peer's Open on its
+/// max-frame-size (part 2, 2.4.1, 2.7.1).
 pub fn transfers_are_read_in_their_windows()
     ensures by_deeds { (sessions start end : LinkedSessions) (settings : Settings) (before later : List Deed)
         (number : ℕ) → IsNew linked settings sessions → AreDone linked sessions before start →
