@@ -11,7 +11,7 @@ use Rattle.amqp_endpoint_model.specs.History.{Run}
 use Rattle.amqp_endpoint_model.specs.Relay.{IsNew}
 use Rattle.amqp_endpoint_model.specs.Said.{Told}
 use Rattle.amqp_endpoint_model.specs.State.{State, fresh, is_unconnected}
-use Rattle.amqp_endpoint_deeds.specs.Deeds.{AreDone, Closes, Deed, Does, Finishes, Hears, IsInOrder, MayPass}
+use Rattle.amqp_endpoint_deeds.specs.Deeds.{AreDone, Closes, Deed, Does, Finishes, Hears, IsDeed, IsInOrder, MayPass}
 use Rattle.amqp_endpoint_deeds.specs.Deeds.{Moves, NoneRenews, Queues, Refuses, Renews, Takes, Throughout, come_to}
 use Rattle.amqp_endpoint_deeds.specs.Deeds.{fed_since, opened_behind, pulled_since, up_behind}
 use Rattle.amqp_endpoint_deeds.proofs.Runs.{is-done}
@@ -27,7 +27,7 @@ use Rattle.amqp_endpoint_reading.proofs.Beginning.{all-speak, speaks-there}
 use Rattle.amqp_endpoint_reading.proofs.Following.{follows-keeps}
 use Rattle.amqp_endpoint_laws.specs.Judged.{Judged}
 use Rattle.amqp_endpoint_laws.specs.Passed.{PassesIn, passes_in}
-use Rattle.amqp_endpoint_laws.specs.Seen.{OnOwnChannels, passing_in, passing_of, wired_by, wired_in}
+use Rattle.amqp_endpoint_laws.specs.Seen.{AreOnes, OnOwnChannels, passing_in, passing_of, wired_by, wired_in}
 use Rattle.amqp_endpoint_laws.proofs.JudgedAnew.{anew-read, done-first, none-went}
 use Rattle.amqp_endpoint_laws.proofs.PassedKept.{some-passes}
 use Rattle.amqp_endpoint_laws.proofs.PassedWindows.{window-kept-from}
@@ -166,28 +166,80 @@ read-along base number (deed ∷ deeds) r old new passings own tables agrees spe
       | begins-anew renews ↦ absurd (subst (λ (d : Deed). NoneRenews (d ∷ deeds)) renews none)
     ]
 
+-- each frame that goes is a session's
+ones-both : (r : Reader) (frames more : List Wired) → AreOnes r frames → AreOnes (behind_all r frames) more
+    → AreOnes r (frames ++ more)
+ones-both r [] more are later = later
+ones-both r (it ∷ frames) more (one, are) later = (one, ones-both (behind r it) frames more are later)
+
+ones-along : (base : ℕ) (deeds : List Deed) (r : Reader) (old new : LinkedSessions) → OnOwnChannels old
+    → InTables old.talk.sessions → Agrees base r old.talk.sessions → Speaks r
+    → Throughout up_behind MayPass true deeds → NoneRenews deeds → AreDone linked old deeds new
+    → AreOnes r (wired_by deeds)
+ones-along base [] r old new own tables agrees speaks t none done = tt
+ones-along base (deed ∷ deeds) r old new own tables agrees speaks (may, t) none (mid, one, rest) =
+    let others : NoneRenews deeds = tail-none deed deeds none in
+    elim (onward deed) [
+      | goes-on on up ↦
+          let s : Seen old deed mid = deed-seen old mid deed on own tables one in
+          let (stands, agree) =
+          follows-keeps base r old.talk.sessions mid.talk.sessions (wired_in deed) s.follows tables agrees in
+          ones-both r (wired_in deed) (wired_by deeds) (s.ones base r agrees speaks)
+          (ones-along base deeds (behind_all r (wired_in deed)) mid new (channels-kept old mid deed own one) stands
+          agree (all-speak (wired_in deed) r speaks)
+          (subst (λ (b : Bool). Throughout up_behind MayPass b deeds) up t) others rest)
+      | is-over passes wired down ↦
+          let (passings, p) = some-passes deeds 0 mid new rest in
+          let (ps_none, ws_none) =
+          none-behind deeds 0 mid new passings
+          (subst (λ (b : Bool). Throughout up_behind MayPass b deeds) down t) others p in
+          subst (AreOnes r) (sym (ap (λ (ws : List Wired). ws ++ wired_by deeds) wired ∙ ws_none)) tt
+      | begins-anew renews ↦ absurd (subst (λ (d : Deed). NoneRenews (d ∷ deeds)) renews none)
+    ]
+
 module _ (sessions start : LinkedSessions) (settings : Settings) (before later : List Deed)
     (new : IsNew linked settings sessions) (done : AreDone linked sessions before start)
     (t : Throughout up_behind MayPass false (before ++ Renews ∷ later)) (none : NoneRenews later) where
-  pub passes-read : (end : LinkedSessions) (number : ℕ) (passings : List Passing)
-      → PassesIn (length start.talk.sessions.places + number) start (Renews ∷ later) end passings
-      → passings ≡ passing_in number nothing_read (wired_by later)
-  passes-read end number passings (mid, others, renewed, rest, is) =
+  -- where the connection begins anew nothing is read yet
+  record Anew (mid : LinkedSessions) : Type 0 where
+    own : OnOwnChannels mid
+    tables : InTables mid.talk.sessions
+    agrees : Agrees (length start.talk.sessions.places) nothing_read mid.talk.sessions
+    since : Throughout up_behind MayPass true later
+
+  anew-at : (mid : LinkedSessions) → IsDeed linked start Renews mid → Anew mid
+  anew-at mid renewed =
       let (up_to, (down, since)) = parts-of up_behind MayPass before (Renews ∷ later) false t in
       let (tables, agrees) = anew-read sessions start settings before new done up_to down in
       let own_first : OnOwnChannels sessions =
       λ n channel session e.
       absurd
       (none-some _ (sym (ap (λ (s : LinkedSessions). place_at s.talk.sessions n) new.is) ∙ e)) in
-      let own : OnOwnChannels mid =
-      channels-kept start mid Renews (channels-stay before sessions start done own_first) renewed in
+      record {
+        own = channels-kept start mid Renews (channels-stay before sessions start done own_first) renewed;
+        tables = subst (λ (s : LinkedSessions). InTables s.talk.sessions) (sym renewed) tables;
+        agrees =
+            subst
+            (λ (s : LinkedSessions). Agrees (length start.talk.sessions.places) nothing_read s.talk.sessions)
+            (sym renewed) agrees;
+        since = since;
+      }
+
+  pub passes-read : (end : LinkedSessions) (number : ℕ) (passings : List Passing)
+      → PassesIn (length start.talk.sessions.places + number) start (Renews ∷ later) end passings
+      → passings ≡ passing_in number nothing_read (wired_by later)
+  passes-read end number passings (mid, others, renewed, rest, is) =
+      let a : Anew mid = anew-at mid renewed in
       is
-      ∙ read-along (length start.talk.sessions.places) number later nothing_read mid end others own
-      (subst (λ (s : LinkedSessions). InTables s.talk.sessions) (sym renewed) tables)
-      (subst
-      (λ (s : LinkedSessions). Agrees (length start.talk.sessions.places) nothing_read s.talk.sessions)
-      (sym renewed) agrees)
-      (speaks-there []) since none rest
+      ∙ read-along (length start.talk.sessions.places) number later nothing_read mid end others a.own a.tables
+      a.agrees (speaks-there []) a.since none rest
+
+  pub ones-read : (end : LinkedSessions) → AreDone linked start (Renews ∷ later) end
+      → AreOnes nothing_read (wired_by later)
+  ones-read end (mid, renewed, rest) =
+      let a : Anew mid = anew-at mid renewed in
+      ones-along (length start.talk.sessions.places) later nothing_read mid end a.own a.tables a.agrees
+      (speaks-there []) a.since none rest
 
   pub windows-read : (end : LinkedSessions) (number : ℕ) → AreDone linked start (Renews ∷ later) end
       → KeepsWindow (begins_with settings.first_transfer_number) (passing_in number nothing_read (wired_by later))
@@ -228,5 +280,8 @@ run-judged sessions settings calls told end new run up =
           KeepsWindow (begins_with settings.first_transfer_number) (passing_in number nothing_read (wired_by ds)))
           (sym one.is)
           (windows-read sessions start settings i.before one.later new done t one.none end.sessions number since);
+      each =
+          subst (λ (ds : List Deed). AreOnes nothing_read (wired_by ds)) (sym one.is)
+          (ones-read sessions start settings i.before one.later new done t one.none end.sessions since);
       fit = subst (λ (ds : List Deed). Throughout opened_behind IsInOrder None ds) (sym one.is) (tt, later);
     }

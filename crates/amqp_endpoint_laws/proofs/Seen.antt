@@ -20,7 +20,7 @@ use Rattle.amqp_endpoint_reading.specs.Reading.{Reader, Speaks, Wired, behind_al
 use Rattle.amqp_endpoint_reading.proofs.Following.{by-none, by-one, followed-on}
 use Rattle.amqp_endpoint_talk.specs.Windows.{Came, Passing}
 use Rattle.amqp_endpoint_laws.specs.Passed.{called_in, is_it, passes_in, session_taking}
-use Rattle.amqp_endpoint_laws.specs.Seen.{OnOwnChannels, passing_in, wired_in}
+use Rattle.amqp_endpoint_laws.specs.Seen.{AreOnes, OnOwnChannels, passing_in, wired_in}
 use Rattle.amqp_endpoint_laws.proofs.PassedCalled.{called}
 use Rattle.amqp_endpoint_laws.proofs.PassedHeard.{frame-heard}
 use Rattle.amqp_endpoint_laws.proofs.PassedJudged.{goes-pass}
@@ -40,6 +40,7 @@ pub record Seen (old : LinkedSessions) (deed : Deed) (new : LinkedSessions) : Ty
   pub reads :
       (base number : ℕ) (r : Reader) → Agrees base r old.talk.sessions → Speaks r
       → passing_in number r (wired_in deed) ≡ passes_in (base + number) old deed
+  pub ones : (base : ℕ) (r : Reader) → Agrees base r old.talk.sessions → Speaks r → AreOnes r (wired_in deed)
 
 -- no frame of a session's passes, and the connection moves on by itself
 module _ (old new : LinkedSessions) (ws : List Wired) (none : (r : Reader) → behind_all r ws ≡ r) where
@@ -104,11 +105,16 @@ leave-seen (suc count) old new links links_new (mid, links_mid, first, one) =
 pub deed-seen : (old new : LinkedSessions) (deed : Deed) → GoesOn deed → OnOwnChannels old → InTables old.talk.sessions
     → IsDeed linked old deed new → Seen old deed new
 deed-seen old new (Queues it) on own stands same =
-    record { follows = stays-seen old new [] (λ r. refl) same; reads = λ base number r agrees speaks. refl }
+    record {
+      follows = stays-seen old new [] (λ r. refl) same;
+      reads = λ base number r agrees speaks. refl;
+      ones = λ base r agrees speaks. tt;
+    }
 deed-seen old new (Hears frame events) on own stands (moves, told) =
     record {
       follows = frame-moves frame.channel frame.body old new moves;
       reads = λ base number r agrees speaks. frame-unread frame.channel frame.body old new moves number r;
+      ones = λ base r agrees speaks. (tt, tt);
     }
 deed-seen old new (Takes limit frame frames events) on own stands h =
     let at : SeenAt (session_taking old frame.channel frame.body) (comes frame.channel frame.body ∷ goes frames)
@@ -122,6 +128,7 @@ deed-seen old new (Takes limit frame frames events) on own stands h =
           (λ (ps : List Passing).
           if is_it (session_taking old frame.channel frame.body) (base + number) then Came frame.body ∷ ps else [])
           (goes-pass frames);
+      ones = λ base r agrees speaks. at.ones base r stands own agrees speaks;
     }
 deed-seen old new (Refuses limit frame error own_close) on own stands d = absurd on
 deed-seen old new (Does limit it answer frames) on own stands c =
@@ -133,14 +140,20 @@ deed-seen old new (Does limit it answer frames) on own stands c =
           at.reads base number r stands own agrees speaks
           ∙ ap (λ (ps : List Passing). if is_it (called_in old it answer) (base + number) then ps else [])
           (goes-pass frames);
+      ones = λ base r agrees speaks. at.ones base r stands own agrees speaks;
     }
 deed-seen old new (Moves connection) on own stands (moves, is) =
-    record { follows = sent-moves old new connection moves is; reads = λ base number r agrees speaks. refl }
+    record {
+      follows = sent-moves old new connection moves is;
+      reads = λ base number r agrees speaks. refl;
+      ones = λ base r agrees speaks. tt;
+    }
 deed-seen old new Renews on own stands d = absurd on
 deed-seen old new Closes on own stands l =
     record {
       follows = leave-seen _ old.talk.sessions new.talk.sessions old.links new.links (l.0).each;
       reads = λ base number r agrees speaks. refl;
+      ones = λ base r agrees speaks. tt;
     }
 deed-seen old new Finishes on own stands d = absurd on
 

@@ -1,7 +1,7 @@
 -- What an endpoint's sessions do by a call, or by a frame of the peer's, is read off the frames that pass.
 use Rattle.std.proofs.Common.{◌≡◌, ◌≢◌, ◌==◌, ◌⊎◌, inl, inr, ℕ, ◌+◌, Bool, true, false, List, [], ◌∷◌, ◌++◌, Option}
 use Rattle.std.proofs.Common.{Some, None, Ok, ap, arith, refl, sym, subst, ◌∙◌}
-use Rattle.std.specs.Prelude.{if◌then◌else◌, map}
+use Rattle.std.specs.Prelude.{IsSome, if◌then◌else◌, map}
 use Rattle.std.specs.FinMap as tables
 use Rattle.std.specs.Global.{Box}
 use Rattle.std.proofs.lemmas.Bool.Decides.{eqb_tells}
@@ -30,14 +30,14 @@ use Rattle.amqp_endpoint_conversation.specs.Beginning.{BeginDropped, Leads}
 use Rattle.amqp_endpoint_linking.specs.Linking.{Link, Session, Sessions, Stood, Talk}
 use Rattle.amqp_endpoint_reading.specs.Agreeing.{Agrees, AskedOn, Gone, Has, InTables, Nowhere, from, role_of}
 use Rattle.amqp_endpoint_reading.specs.Following.{AreFor, AreOf, Follows, IsForReached, IsNoBegin, IsWithin, comes}
-use Rattle.amqp_endpoint_reading.specs.Reading.{Reader, Speaks, Wired, behind, is_of, read_on, whose}
+use Rattle.amqp_endpoint_reading.specs.Reading.{Comes, Goes, Reader, Speaks, Wired, behind, is_of, read_on, whose}
 use Rattle.amqp_endpoint_reading.proofs.Seeing.{OnOwn, Sees, sees-accepts, sees-asked, sees-asks, sees-barred}
 use Rattle.amqp_endpoint_reading.proofs.Seeing.{sees-begins, sees-begun, sees-comes, sees-ended, sees-ends, sees-free}
 use Rattle.amqp_endpoint_reading.proofs.Seeing.{sees-hears, sees-inside, sees-led, sees-none, sees-on, sees-told}
 use Rattle.amqp_endpoint_talk.specs.Inside.{AreOn, Batches, IsNoBeginOrEnd}
 use Rattle.amqp_endpoint_talk.specs.Windows.{Passing, body_said}
 use Rattle.amqp_endpoint_laws.specs.Passed.{begun_by, is_it}
-use Rattle.amqp_endpoint_laws.specs.Seen.{passing_in, passing_of}
+use Rattle.amqp_endpoint_laws.specs.Seen.{AreOnes, IsOnes, passing_in, passing_of}
 use Rattle.amqp_endpoint_laws.proofs.PassedJudged.{AllPassedBy, PassedBy, judging, led-by}
 use Rattle.amqp_endpoint_laws.proofs.PassedPlaces.{GoesBy, IsGone, Keeping, all-passed}
 use Rattle.amqp_endpoint_laws.proofs.PassedSteps.{goes-did}
@@ -207,6 +207,19 @@ read-for m ws old new sees base number r stands own agrees speaks =
     ap (map passing_of) (all-read base m number r ws (sees.are base r stands own agrees speaks))
     ∙ map-or-none passing_of ((base + number) == m) ws
 
+-- what is read as a session's is one's
+some-ones : (base m : ℕ) (o : Option ℕ) → from base o ≡ Some m → IsSome o
+some-ones base m None is = absurd (none-some m is)
+some-ones base m (Some number) is = refl
+
+one-ones : (base m : ℕ) (r : Reader) (it : Wired) → from base (whose r it) ≡ Some m → IsOnes r it
+one-ones base m r (Comes frame) is = tt
+one-ones base m r (Goes frame) is = some-ones base m (whose r (Goes frame)) is
+
+for-ones : (base m : ℕ) (r : Reader) (ws : List Wired) → AreFor base m r ws → AreOnes r ws
+for-ones base m r [] are = tt
+for-ones base m r (it ∷ ws) (one, are) = (one-ones base m r it one, for-ones base m (behind r it) ws are)
+
 -- what is done in the session with this number is read off these frames
 pub record SeenIn (m : ℕ) (ws : List Wired) (old new : Talk) : Type 0 where
   pub kept : PassedBy StaysOwn own-channels m ws old new
@@ -215,9 +228,17 @@ pub record SeenIn (m : ℕ) (ws : List Wired) (old new : Talk) : Type 0 where
 pub record SeenAt (o : Option ℕ) (ws : List Wired) (old new : Talk) : Type 0 where
   pub follows : InTables old.sessions → Follows ws old.sessions new.sessions
   pub reads : Reads o ws old
+  pub ones :
+      (base : ℕ) (r : Reader) → InTables old.sessions → OnOwn old.sessions → Agrees base r old.sessions → Speaks r
+      → AreOnes r ws
 
 seen-at : (m : ℕ) (ws : List Wired) (old new : Talk) → Sees m ws old.sessions new.sessions → SeenAt (Some m) ws old new
-seen-at m ws old new sees = record { follows = sees.follows; reads = read-for m ws old new sees }
+seen-at m ws old new sees =
+    record {
+      follows = sees.follows;
+      reads = read-for m ws old new sees;
+      ones = λ base r stands own agrees speaks. for-ones base m r ws (sees.are base r stands own agrees speaks);
+    }
 
 -- the session that has the channel which the peer's Begin names
 has-it : (number channel : ℕ) (o : Option Stood) → role_of o ≡ Has channel → with_channel number o ≡ Some number
@@ -254,6 +275,7 @@ seen-dropped channel begin old new d =
           passing_in number r ws ≡ (if is_it o (base + number) then map passing_of ws else []))
           (sym (led-it old channel begin d.number new.sessions d.led stands))
           (read-for d.number ws old new sees base number r stands own agrees speaks);
+      ones = λ base r stands own agrees speaks. (tt, tt);
     }
 
 pub seeing : Walk (λ accepted. Unit {0}) SeenIn SeenAt
@@ -273,6 +295,7 @@ seeing =
       silent = λ o m old new p. record {
         follows = p.sees.follows;
         reads = λ base number r stands own agrees speaks. same-or-same (is_it o (base + number)) [];
+        ones = λ base r stands own agrees speaks. tt;
       };
       free = λ m frames s talk live said on. record {
         kept = owning.free m frames s talk live said on;

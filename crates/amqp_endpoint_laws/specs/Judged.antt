@@ -5,14 +5,15 @@ use Rattle.amqp_endpoint_linked.specs.declared.linked.LinkedSessions.{LinkedSess
 use Rattle.amqp_endpoint_model.specs.State.{State}
 use Rattle.amqp_endpoint_reading.specs.Reading.{nothing_read}
 use Rattle.amqp_endpoint_talk.specs.Windows.{KeepsWindow, begins_with}
-use Rattle.amqp_endpoint_laws.specs.Seen.{passing_in, wired_by}
+use Rattle.amqp_endpoint_laws.specs.Seen.{AreOnes, passing_in, wired_by}
 
 -- what pull gave and what is queued still are what these deeds queue, and the frames that they take are what is read of
--- the bytes fed. Told by channels alone, each transfer among what passes so lies in the window that the peer gave its
--- session; and each frame that sessions hand out fits the limit in force, which is 512 bytes up to the peer's Open and
--- then its max-frame-size
+-- the bytes fed. Told by channels alone, each frame that sessions hand out is one's, and each transfer among what passes
+-- so lies in the window that the peer gave its session; and each of these frames fits the limit in force, which is 512
+-- bytes up to the peer's Open and then its max-frame-size
 pub record Judged (first limit : ℕ) (given : List (List ℕ)) (bytes : List ℕ) (s : State LinkedSessions) : Type 0 where
   pub deeds : List Deed
   pub passes : Passes limit deeds given bytes s
   pub keep : (number : ℕ) → KeepsWindow (begins_with first) (passing_in number nothing_read (wired_by deeds))
+  pub each : AreOnes nothing_read (wired_by deeds)
   pub fit : Throughout opened_behind IsInOrder None deeds

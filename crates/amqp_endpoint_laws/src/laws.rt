@@ -39,7 +39,7 @@ ghost use Rattle.amqp_endpoint_laws.specs.Linking.{HaveCome};
 ghost use Rattle.amqp_endpoint_laws.specs.Passed.{HasCome, PassesIn};
 ghost use Rattle.amqp_endpoint_laws.specs.Queued.{AttachesFirst, SayMessages, SaysSince, messages_by, messages_done};
 ghost use Rattle.amqp_endpoint_laws.specs.Queued.{queued};
-ghost use Rattle.amqp_endpoint_laws.specs.Seen.{passing_in, wired_by};
+ghost use Rattle.amqp_endpoint_laws.specs.Seen.{AreOnes, passing_in, wired_by};
 ghost use Rattle.amqp_endpoint_laws.specs.Life.{Reach, StaysSomewhere};
 ghost use Rattle.amqp_endpoint_laws.specs.Telling.{numbers_told, numbers_under, tags_given};
 
@@ -303,13 +303,19 @@ pub fn what_is_sent_is_queued_in_order()
 /// What passes in a session of a connection is what one reads who has the connection's frames alone, and tells sessions
 /// apart by the channels on which these come and go and by what Begins and Ends say (part 2, 2.5.1, 2.5.2). The frames
 /// are those of the peer that are taken and those that sessions hand out, in order, from where the connection begins
-/// anew on; and the session is the one that is asked for on it behind so many others, at whichever end.
+/// anew on; and the session is the one that is asked for on it behind so many others, at whichever end. Each frame that
+/// sessions hand out is so read as a session's.
 pub fn what_passes_is_read()
-    ensures { (sessions start end : LinkedSessions) (settings : Settings) (before later : List Deed) (number : ℕ)
+    ensures passes { (sessions start end : LinkedSessions) (settings : Settings) (before later : List Deed) (number : ℕ)
         (passings : List Passing) → IsNew linked settings sessions → AreDone linked sessions before start →
         Throughout up_behind MayPass false (before ++ Renews ∷ later) → NoneRenews later →
         PassesIn (length start.talk.sessions.places + number) start (Renews ∷ later) end passings →
         passings ≡ passing_in number nothing_read (wired_by later) }
+    ensures each { (sessions start end : LinkedSessions) (settings : Settings) (before later : List Deed) →
+        IsNew linked settings sessions → AreDone linked sessions before start →
+        AreDone linked start (Renews ∷ later) end →
+        Throughout up_behind MayPass false (before ++ Renews ∷ later) → NoneRenews later →
+        AreOnes nothing_read (wired_by later) }
 {}
 
 /// Who reads the frames of a connection, and tells sessions apart by channels alone, finds each transfer that goes in a
