@@ -88,7 +88,7 @@ use Rattle.amqp_endpoint_laws.proofs.HoldingDone.{StaysBy, attached-comes, attac
 use Rattle.amqp_endpoint_laws.proofs.HoldingDone.{detaches-stay}
 use Rattle.amqp_endpoint_laws.proofs.HoldingDone.{disposes-all, disposes-one, drains-stays, echoes-stay, gives-stays}
 use Rattle.amqp_endpoint_laws.proofs.HoldingDone.{leave-stay, parts-stay, sends-stays}
-use Rattle.amqp_endpoint_laws.proofs.HoldingEnds.{Comes, Goes, Holding, IsEmpty, IsFresh, IsUnattached, goes-still}
+use Rattle.amqp_endpoint_laws.proofs.HoldingEnds.{Comes, Goes, Holding, IsEmpty, IsFresh, goes-still}
 use Rattle.amqp_endpoint_laws.proofs.HoldingEnds.{held_link}
 use Rattle.amqp_endpoint_laws.proofs.HoldingInside.{all-same, calm-stays}
 use Rattle.amqp_endpoint_laws.proofs.HoldingTalk.{AllRest, AttachesAt, EachAt, EachOf, EntersAt, RestsAt, all-on}
@@ -97,6 +97,7 @@ use Rattle.amqp_endpoint_laws.proofs.HoldingTalk.{ends-stays, fails-stay, first-
 use Rattle.amqp_endpoint_laws.proofs.HoldingTalk.{heard-rests, held_in, inside-stays, leads_in, live-changes}
 use Rattle.amqp_endpoint_laws.proofs.HoldingTalk.{places-same, rest-go, rests-dead, rests-none, rests-same}
 use Rattle.amqp_endpoint_laws.proofs.HoldingTalk.{sessions-same}
+use Rattle.amqp_endpoint_laws.proofs.HoldingWaits.{IsUnattached}
 use Rattle.amqp_endpoint_laws.proofs.PassedKept.{IsOver, Wanes, by-frame-still, finished-first, left-first, over-at}
 use Rattle.amqp_endpoint_laws.proofs.Parted.{entered, holder}
 use Rattle.amqp_endpoint_laws.proofs.PassedPlaces.{IsGone, eq-same}

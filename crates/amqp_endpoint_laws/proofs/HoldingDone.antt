@@ -53,12 +53,13 @@ use Rattle.amqp_endpoint_outcomes.specs.All.{TellsIn, behind_told, open_count}
 use Rattle.amqp_endpoint_outcomes.specs.Echoing.{echoes_of}
 use Rattle.amqp_endpoint_outcomes.specs.Reached.{behind_one, behind_reached, end_behind, link_behind}
 use Rattle.amqp_endpoint_sending.specs.Sending.{sending}
-use Rattle.amqp_endpoint_laws.proofs.HoldingEnds.{Comes, IsEmpty, IsUnattached, Stays, answer-waits, detach-holds}
+use Rattle.amqp_endpoint_laws.proofs.HoldingEnds.{Comes, IsEmpty, Stays, detach-holds}
 use Rattle.amqp_endpoint_laws.proofs.HoldingEnds.{empty-flowed, empty-fresh}
 use Rattle.amqp_endpoint_laws.proofs.HoldingEnds.{empty-handle, empty-sent, empty-takes, held_end, held_link}
 use Rattle.amqp_endpoint_laws.proofs.HoldingInside.{Each, LeadsFirst, Rests, all-same, allocated-comes, allocated-leads}
 use Rattle.amqp_endpoint_laws.proofs.HoldingInside.{batch-stays, behind-stays, first-rests}
 use Rattle.amqp_endpoint_laws.proofs.HoldingInside.{changed-stays, each-comes, freed-stays, rests-on, sent-stays}
+use Rattle.amqp_endpoint_laws.proofs.HoldingWaits.{IsUnattached, answer-waits}
 
 -- a session that stays
 same-stays : (old new : Linked) → new ≡ old → Rests old.session new.session

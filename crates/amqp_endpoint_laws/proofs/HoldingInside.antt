@@ -39,10 +39,10 @@ use Rattle.amqp_endpoint_links.proofs.Routing.{Change, Frees, Puts, Same, Takes,
 use Rattle.amqp_endpoint_attached.specs.Linked.{LinksIn, gives}
 use Rattle.amqp_endpoint_attached.proofs.There.{replaced}
 use Rattle.amqp_endpoint_linking.specs.Linking.{Link}
-use Rattle.amqp_endpoint_laws.proofs.HoldingEnds.{Comes, Goes, Holding, IsFresh, Stays, attached-waits, attaches-go}
-use Rattle.amqp_endpoint_laws.proofs.HoldingEnds.{comes-on}
+use Rattle.amqp_endpoint_laws.proofs.HoldingEnds.{Comes, Goes, Holding, IsFresh, Stays, attaches-go, comes-on}
 use Rattle.amqp_endpoint_laws.proofs.HoldingEnds.{detaches-stay, disposes-stay, flows-stay, goes-still}
 use Rattle.amqp_endpoint_laws.proofs.HoldingEnds.{held_end, held_link, stays-on}
+use Rattle.amqp_endpoint_laws.proofs.HoldingWaits.{attached-waits}
 use Rattle.amqp_endpoint_laws.proofs.HoldingEnds.{stays-still}
 
 -- under each own handle what is held goes from the old session to the new

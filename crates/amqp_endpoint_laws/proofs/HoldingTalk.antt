@@ -1,6 +1,6 @@
 -- What links hold of their messages in all sessions of an endpoint, as one of these goes on, begins or ends.
 use Rattle.std.proofs.Common.{◌≡◌, ◌==◌, ◌⊎◌, inl, inr, ℕ, Bool, true, false, List, [], ◌∷◌, Option, Some, None}
-use Rattle.std.proofs.Common.{Result, Ok, Err, ap, if◌then◌else◌, refl, sym, subst, true≢false, ◌∙◌}
+use Rattle.std.proofs.Common.{Ok, Err, ap, if◌then◌else◌, refl, sym, subst, true≢false, ◌∙◌}
 use Rattle.std.proofs.lemmas.Option.{none-some, same_Some}
 use Rattle.std.specs.FinMap as map
 use Rattle.std.specs.Global.{Box}

@@ -1,5 +1,5 @@
 -- One handle of the peer's alone leads to a receiving link that is attached.
-use Rattle.std.proofs.Common.{◌≡◌, ◌⊎◌, ◌==◌, inl, inr, ℕ, Bool, true, false, List, [], ◌∷◌, Option, Some, None, IsSome}
+use Rattle.std.proofs.Common.{◌≡◌, ◌==◌, inl, inr, ℕ, Bool, true, false, List, [], ◌∷◌, Option, Some, None, IsSome}
 use Rattle.std.proofs.Common.{ap, if◌then◌else◌, refl, sym, subst, true≢false, ◌∙◌}
 use Rattle.std.proofs.lemmas.Bool.Decides.{eqb_tells}
 use Rattle.std.proofs.lemmas.Option.{none-some, same_Some}
@@ -10,9 +10,9 @@ use Rattle.amqp_session_performatives.specs.declared.attach.Attach.{Attach}
 use Rattle.amqp_session_performatives.specs.declared.session_frame.SessionFrame.{SessionFrame}
 use Rattle.amqp_session_frames.specs.declared.frame.FrameBody.{FrameBody}
 use Rattle.amqp_session_frames.specs.declared.frame.FrameBody.TheVariants as body
-use Rattle.amqp_session_core.specs.State.{link_at, live_in, reached as link_reached}
+use Rattle.amqp_session_core.specs.State.{link_at, live_in}
 use Rattle.amqp_link_receiving.specs.Deliveries.{Delivery}
-use Rattle.amqp_endpoint_attached.specs.Linked.{LinksIn, gives}
+use Rattle.amqp_endpoint_attached.specs.Linked.{gives}
 use Rattle.amqp_endpoint_attached.specs.Links.{receiver_by, sender_by}
 use Rattle.amqp_endpoint_deeds.specs.Deeds.{AreDone, Deed, Does, IsDeed, Takes}
 use Rattle.amqp_endpoint_linked.specs.Does.{linked}
@@ -37,7 +37,7 @@ use Rattle.amqp_endpoint_laws.proofs.HandedOut.{HearsOne, LeadsLessAt, receives-
 use Rattle.amqp_endpoint_laws.proofs.HoldingDeeds.{attach-goes, attached-enters, deed-rests}
 use Rattle.amqp_endpoint_laws.proofs.HoldingEnds.{Goes, Holding, Part, Stays}
 use Rattle.amqp_endpoint_laws.proofs.HoldingTalk.{AttachesAt, EachAt, EntersAt, LeadsFirstAt, LeadsMoreAt, RestsAt}
-use Rattle.amqp_endpoint_laws.proofs.HoldingTalk.{EachOf, held_in, leads_in}
+use Rattle.amqp_endpoint_laws.proofs.HoldingTalk.{held_in, leads_in}
 use Rattle.amqp_endpoint_laws.proofs.PassedKept.{some-passes}
 use Rattle.amqp_endpoint_laws.proofs.PassedPlaces.{eq-same}
 use Rattle.amqp_endpoint_laws.proofs.PassedSteps.{session-come}

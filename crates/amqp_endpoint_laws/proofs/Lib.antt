@@ -30,6 +30,7 @@ mod HeldCalled
 mod HeldHeard
 mod HeldKept
 mod HoldingEnds
+mod HoldingWaits
 mod HoldingInside
 mod HoldingDone
 mod HoldingTalk

@@ -1,13 +1,11 @@
 -- Over the whole life of a link what is handed out by it is what the transfers say that reach it.
-use Rattle.std.proofs.Common.{◌≡◌, ◌≢◌, ◌⊎◌, ◌==◌, inl, inr, ℕ, Bool, true, false, List, [], ◌∷◌, ◌++◌, Option, Some}
+use Rattle.std.proofs.Common.{◌≡◌, ◌≢◌, ◌⊎◌, inl, inr, ℕ, Bool, true, false, List, [], ◌∷◌, ◌++◌, Option, Some}
 use Rattle.std.proofs.Common.{None, ap, append_assoc, map, refl, sym, subst, true≢false, ◌∙◌}
 use Rattle.std.proofs.lemmas.Bool.Decides.{eqb_tells}
 use Rattle.std.proofs.lemmas.List.{append-nil}
 use Rattle.std.proofs.lemmas.Option.{none-some, same_Some}
 use Rattle.amqp_session_types.specs.declared.handles.OutputHandle.{OutputHandle}
-use Rattle.amqp_session_core.specs.State.{link_at}
 use Rattle.amqp_link_attach.specs.State.{is_attached}
-use Rattle.amqp_link_attach.specs.declared.state.LinkState.{LinkState}
 use Rattle.amqp_link_ends.specs.declared.end.End.{End}
 use Rattle.amqp_link_ends.specs.declared.end.End.TheVariants.{Receiver, Sender}
 use Rattle.amqp_link_place.specs.Readings.{Piece, Reading, nothing, readings}
@@ -19,16 +17,16 @@ use Rattle.amqp_endpoint_deeds.specs.Deeds.{AreDone, Deed, IsDeed, told_by, told
 use Rattle.amqp_endpoint_link_hearing.specs.Naming.{link_in}
 use Rattle.amqp_endpoint_linked.specs.Does.{linked}
 use Rattle.amqp_endpoint_linked.specs.declared.linked.LinkedSessions.{LinkedSessions}
-use Rattle.amqp_endpoint_linking.specs.Linking.{Link, Session}
+use Rattle.amqp_endpoint_linking.specs.Linking.{Link}
 use Rattle.amqp_endpoint_sessions.specs.State.{live_at}
-use Rattle.amqp_endpoint_laws.specs.Handed.{Handed, IsReceiving, NoneResumes, handed_as, handed_by, pieces_in}
+use Rattle.amqp_endpoint_laws.specs.Handed.{Handed, NoneResumes, handed_as, handed_by, pieces_in}
 use Rattle.amqp_endpoint_laws.specs.Life.{Reach, ReachBy, StaysAttached, StaysSomewhere}
 use Rattle.amqp_endpoint_laws.proofs.HandedBy.{deed-hands, deed-says}
 use Rattle.amqp_endpoint_laws.proofs.HandedOut.{Receives, Says, StandsAlone, as-receiving, handed-both, is-receiving}
 use Rattle.amqp_endpoint_laws.proofs.HandedOut.{none-resume, readings-both, receives-holds, receives-so}
 use Rattle.amqp_endpoint_laws.proofs.HoldingEnds.{Holding, Part, held_end, held_if, held_link, so-attached, stands_so}
 use Rattle.amqp_endpoint_laws.proofs.HoldingTalk.{held-of, held_in}
-use Rattle.amqp_endpoint_laws.proofs.LifePlace.{CameBy, Entered, IsIn, IsKnown, IsUnentered, Stayed, came-so}
+use Rattle.amqp_endpoint_laws.proofs.LifePlace.{CameBy, IsIn, IsUnentered, came-so}
 use Rattle.amqp_endpoint_laws.proofs.LifePlace.{known-first, stays-in, unentered-none}
 use Rattle.amqp_endpoint_laws.proofs.LinksKept.{BackGoesOn, FinishedGoesOn, LeftGoesOn}
 

@@ -5,7 +5,6 @@ use Rattle.std.proofs.lemmas.Bool.Decides.{eqb_tells}
 use Rattle.std.proofs.lemmas.Option.{none-some, same_Some}
 use Rattle.amqp_session_types.specs.declared.handles.OutputHandle.{OutputHandle}
 use Rattle.amqp_session_performatives.specs.declared.session_frame.SessionFrame.{SessionFrame}
-use Rattle.amqp_link_sender.specs.Sending.{Sending as SenderState}
 use Rattle.amqp_endpoint_deeds.specs.Deeds.{AreDone, Closes, Deed, Does, Finishes, Hears, IsDeed, IsDone, Moves, Queues}
 use Rattle.amqp_endpoint_deeds.specs.Deeds.{Refuses, Renews, Takes, done_by, done_since, fed_since, pulled_since}
 use Rattle.amqp_endpoint_deeds.specs.Deeds.{told_since}
@@ -151,7 +150,8 @@ module _ (back_on : BackGoesOn) (left_on : LeftGoesOn) (finished_on : FinishedGo
         | inl same ↦
             absurd
             (unsent-at (sends limit (tag_of old.sent) message (d.0).sends.settled) (link_place old.links number)
-            old.talk new.talk frames (ap (link_place old.links) same.1 ∙ ap (λ o. place_of (open_of o)) none) (d.0).sends.sent)
+            old.talk new.talk frames
+            (ap (link_place old.links) same.1 ∙ ap (λ o. place_of (open_of o)) none) (d.0).sends.sent)
         | inr apart ↦ if-none (number == link) _ apart.0
       ]
   unsent deed old new d none = refl

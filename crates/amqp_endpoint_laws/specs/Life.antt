@@ -27,8 +27,8 @@ ReachBy link session own old deed new pieces =
     (StaysAttached old new link session own × (pieces ≡ pieces_in session own old deed))
     ⊎ ((StaysSomewhere old new link → ⊥) × (pieces ≡ []))
 
--- and these by deeds that are done one after the other, where it is attached in this session alone, under this own
--- handle alone
+-- and these by deeds that are done one after the other, where it stays attached by any of them in this session alone,
+-- under this own handle alone
 abbrev pub Reach : (link session : ℕ) → OutputHandle → LinkedSessions → List Deed → LinkedSessions → List Piece
     → Type 0
 Reach link session own old [] new pieces = (new ≡ old) × (pieces ≡ [])

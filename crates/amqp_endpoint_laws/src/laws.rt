@@ -210,9 +210,9 @@ pub fn what_is_handed_out_is_what_was_said()
     links_given_back_go_on();
 }
 
-/// One handle of the peer's alone leads to a receiving link that is attached, whatever was done and whatever the peer
-/// says (part 2, 2.6.2, 2.6.3).
-pub fn one_handle_leads_to_an_attached_link()
+/// No two handles of the peer's lead to one receiving link that is attached, whichever deeds an endpoint's run consists
+/// of, and behind each run (part 2, 2.6.2, 2.6.3).
+pub fn no_two_handles_lead_to_an_attached_link()
     ensures by_deeds { (sessions end : LinkedSessions) (settings : Settings) (deeds : List Deed) (link session : ℕ)
         (own : OutputHandle) (held : Option Incoming) (m n : ℕ) → IsNew linked settings sessions →
         AreDone linked sessions deeds end → IsReceiving end link session own held →
@@ -226,9 +226,9 @@ pub fn one_handle_leads_to_an_attached_link()
         leads_there (live_at end.sessions.talk.sessions session) n own ≡ true → m ≡ n }
 {}
 
-/// An endpoint hands a message out by a link only in a deed before and behind which that is attached as a receiving
-/// link, in one session and under one own handle. So the deed that ends an attachment hands out none of its link, nor
-/// do those before and behind the attachment (part 2, 2.6.3, 2.6.4, 2.6.12).
+/// An endpoint hands a message out by a link only in a deed before and behind which the link is attached as a receiving
+/// one, in one session and under one own handle. So the deed that ends an attachment hands out none of its link, nor do
+/// those before and behind the attachment (part 2, 2.6.3, 2.6.4, 2.6.12).
 pub fn messages_come_while_attached()
     ensures { (old new : LinkedSessions) (deed : Deed) (link : ℕ) → IsDeed linked old deed new →
         (handed_by link (told_in deed) ≡ []) ⊎ StaysSomewhere old new link }
@@ -236,9 +236,9 @@ pub fn messages_come_while_attached()
 
 /// All that an endpoint ever hands out by a link is what the transfers say that reach the link while it is attached, in
 /// order, from nothing on, where none of them says that it resumes a delivery. So what the link holds of a message as
-/// its attachment ends is never handed out (part 2, 2.6.12, 2.6.14). There are such transfers: a link is attached in
-/// one session alone, and under one own handle alone, whichever deeds its endpoint's run consists of. And each run
-/// consists of deeds that tell its events.
+/// its attachment ends is never handed out (part 2, 2.6.12, 2.6.14). There are such transfers: by whichever deeds a link
+/// stays attached, it is so in one session alone, and under one own handle alone. And each run consists of deeds that
+/// tell its events.
 pub fn all_that_is_handed_out()
     ensures says { (sessions end : LinkedSessions) (settings : Settings) (deeds : List Deed) (link session : ℕ)
         (own : OutputHandle) (pieces : List Piece) → IsNew linked settings sessions →

@@ -2,7 +2,7 @@ use Rattle.std.proofs.Common.{◌++◌}
 use Rattle.amqp_endpoint_deeds.proofs.Runs.{is-done}
 use Rattle.amqp_endpoint_linked.specs.Does.{linked}
 use Rattle.amqp_endpoint_laws.proofs.LeadingAlone.{leads-alone}
-use Rattle.amqp_endpoint_laws.proofs.laws.one_handle_leads_to_an_attached_link.Goals as goal
+use Rattle.amqp_endpoint_laws.proofs.laws.no_two_handles_lead_to_an_attached_link.Goals as goal
 
 pub returns-clause-by_deeds : goal.returns-clause-by_deeds
 returns-clause-by_deeds c = λ sessions end settings deeds link session own held m n new done r first other.

@@ -1,0 +1,222 @@
+-- Which receiving links wait for the peer's Attach: none that took it.
+use Rattle.std.proofs.Common.{◌≡◌, ◌⊎◌, inl, inr, ℕ, Bool, true, false, Option, Some, None, Ok}
+use Rattle.std.proofs.Common.{ap, refl, subst, sym, true≢false, ◌∙◌, if◌then◌else◌}
+use Rattle.std.proofs.lemmas.Option.{none-some, same_Some}
+use Rattle.std.specs.Prelude.{option_map}
+use Rattle.amqp_session_types.specs.declared.handles.OutputHandle.{OutputHandle}
+use Rattle.amqp_session_performatives.specs.declared.attach.Attach.{Attach}
+use Rattle.amqp_session_performatives.specs.declared.link_flow.LinkFlow.{LinkFlow}
+use Rattle.amqp_link_types.specs.declared.attaching.ReceiverAttachError.{ReceiverAttachError}
+use Rattle.amqp_link_flow.specs.Flows.{attached as flow_attached, receiver_flowed, sender_flowed}
+use Rattle.amqp_link_flow.specs.declared.inner.LinkFlowStateInner.{LinkFlowStateInner}
+use Rattle.amqp_link_attach.specs.State.{after_incoming_attach, after_send_attach}
+use Rattle.amqp_link_attach.specs.State.{is_attached}
+use Rattle.amqp_link_attach.specs.declared.state.LinkState.{LinkState}
+use Rattle.amqp_link_attach.specs.declared.state.LinkState.TheVariants as state
+use Rattle.amqp_link_base.specs.Moves.{moved_to}
+use Rattle.amqp_link_base.specs.declared.base.LinkBase.{LinkBase}
+use Rattle.amqp_link_ends.specs.Ends.{state_of, with_handle}
+use Rattle.amqp_link_ends.specs.Gives.{attaches}
+use Rattle.amqp_link_ends.specs.declared.end.End.{End}
+use Rattle.amqp_link_ends.specs.declared.end.End.TheVariants.{Receiver, Sender}
+use Rattle.amqp_link_ends.specs.declared.relay.AttachTold.{AttachTold}
+use Rattle.amqp_link_ends.specs.declared.relay.AttachTold.TheVariants as told
+use Rattle.amqp_link_receiver.specs.Attaching.{TakesAttach, attach_error}
+use Rattle.amqp_link_receiver.specs.Flowing.{with_flow}
+use Rattle.amqp_link_receiver.specs.State.{ReceiverState}
+use Rattle.amqp_link_receiver.specs.declared.attaching.Attached.{Attached as AttachedTold}
+use Rattle.amqp_link_receiving.specs.Deliveries.{Delivery}
+use Rattle.amqp_link_sender.specs.Attaching as sending
+use Rattle.amqp_link_sender.specs.Sending.{Sending}
+use Rattle.amqp_endpoint_attached.specs.Answering.{flowed_by}
+use Rattle.amqp_endpoint_attached.specs.Links.{attach_sent}
+use Rattle.amqp_endpoint_laws.proofs.HoldingEnds.{Moves, Part, attach-moves, held_end, held_if, stands_so}
+
+-- a link that takes the peer's Attach waits for it no longer
+none-waits : (s : LinkState) (incomplete : Bool) → after_incoming_attach s incomplete ≡ None
+    → stands_so s ≡ Some false → ⊥
+none-waits state.AttachSent true is so = none-some _ (sym is)
+none-waits state.AttachSent false is so = none-some _ (sym is)
+none-waits state.IncompleteAttachSent true is so = none-some _ (sym is)
+none-waits state.IncompleteAttachSent false is so = none-some _ (sym is)
+none-waits state.Attached incomplete is so = true≢false (same_Some true false so)
+none-waits state.IncompleteAttachExchanged incomplete is so = true≢false (same_Some true false so)
+none-waits s incomplete is so = none-some _ so
+
+moved-waits : (old new : LinkState) → Moves old new → stands_so new ≡ Some false → ⊥
+moved-waits old new (inl (was, is)) so = true≢false (same_Some true false (sym is ∙ so))
+moved-waits old new (inr apart) so = none-some _ (sym apart ∙ so)
+
+taken-waits : (old new : ReceiverState) (attach : Attach) (answer : AttachedTold) (o : Option LinkState)
+    (error : Option ReceiverAttachError)
+    → after_incoming_attach old.base.local_state attach.incomplete_unsettled ≡ o
+    → TakesAttach (option_map (λ (s : LinkState). moved_to old.base attach s) o) error old attach (Ok answer) new
+    → stands_so new.base.local_state ≡ Some false → ⊥
+taken-waits old new attach answer None error is t so =
+    none-waits old.base.local_state attach.incomplete_unsettled is
+    (sym (ap (λ (r : ReceiverState). stands_so r.base.local_state) t.1) ∙ so)
+taken-waits old new attach answer (Some s) (Some e) is (inl t) so = let clash = t.1 in absurd cc
+taken-waits old new attach answer (Some s) (Some e) is (inr t) so =
+    moved-waits old.base.local_state s (attach-moves old.base.local_state s attach.incomplete_unsettled is)
+    (sym (ap (λ (r : ReceiverState). stands_so r.base.local_state) t.1) ∙ so)
+taken-waits old new attach answer (Some s) None is (inl t) so = let clash = t.0 in absurd cc
+taken-waits old new attach answer (Some s) None is (inr t) so =
+    moved-waits old.base.local_state s (attach-moves old.base.local_state s attach.incomplete_unsettled is)
+    (sym (ap (λ (r : ReceiverState). stands_so r.base.local_state) t.1) ∙ so)
+
+held-waits : (n : ℕ) (o : Option Bool) (h : Option Delivery) (k : ℕ) (held : Option Delivery)
+    → held_if o n h ≡ Some (k, (false, held)) → o ≡ Some false
+held-waits n None h k held is = absurd (none-some _ is)
+held-waits n (Some attached) h k held is =
+    ap (λ (x : ℕ × Part). Some x.1.0) (same_Some (n, (attached, h)) (k, (false, held)) is)
+
+pub attached-waits : (n : ℕ) (e : End) (attach : Attach) (told : AttachTold) (new : End)
+    → attaches e attach (Ok told) new → (k : ℕ) (held : Option Delivery)
+    → held_end n new ≡ Some (k, (false, held)) → ⊥
+attached-waits n (Sender s) attach (told.Sender answer) (Sender after) a k held is = none-some _ is
+attached-waits n (Receiver r) attach (told.Receiver answer) (Receiver after) a k held is =
+    taken-waits r after attach answer
+    (after_incoming_attach r.base.local_state attach.incomplete_unsettled) (attach_error r attach) refl a
+    (held-waits n (stands_so after.base.local_state) after.end.held k held is)
+attached-waits n e attach told new a k held is = absurd a
+
+-- a new link that answers the peer's Attach waits for none
+received : (s t : LinkState) (incomplete : Bool) → s ≡ state.Unattached → after_incoming_attach s incomplete ≡ Some t
+    → (t ≡ state.AttachReceived) ⊎ (t ≡ state.IncompleteAttachReceived)
+received state.Unattached t false new is = inl (sym (same_Some state.AttachReceived t is))
+received state.Unattached t true new is = inr (sym (same_Some state.IncompleteAttachReceived t is))
+received s t false new is = absurd cc
+received s t true new is = absurd cc
+
+answered-so : (s t : LinkState) (incomplete : Bool)
+    → (s ≡ state.AttachReceived) ⊎ (s ≡ state.IncompleteAttachReceived)
+    → after_send_attach s incomplete ≡ Some t → stands_so t ≡ Some true
+answered-so state.AttachReceived t false r is = ap stands_so (sym (same_Some state.Attached t is))
+answered-so state.AttachReceived t true r is =
+    ap stands_so (sym (same_Some state.IncompleteAttachExchanged t is))
+answered-so state.IncompleteAttachReceived t false r is =
+    ap stands_so (sym (same_Some state.IncompleteAttachExchanged t is))
+answered-so state.IncompleteAttachReceived t true r is =
+    ap stands_so (sym (same_Some state.IncompleteAttachExchanged t is))
+answered-so s t incomplete (inl is) e = absurd cc
+answered-so s t incomplete (inr is) e = absurd cc
+
+none-unattached : (s : LinkState) (incomplete : Bool) → s ≡ state.Unattached
+    → after_incoming_attach s incomplete ≡ None → ⊥
+none-unattached state.Unattached true fresh is = none-some _ (sym is)
+none-unattached state.Unattached false fresh is = none-some _ (sym is)
+none-unattached s incomplete fresh is = absurd cc
+
+received-so : (s t : LinkState) → t ≡ s → (s ≡ state.AttachReceived) ⊎ (s ≡ state.IncompleteAttachReceived)
+    → (t ≡ state.AttachReceived) ⊎ (t ≡ state.IncompleteAttachReceived)
+received-so s t same (inl is) = inl (same ∙ is)
+received-so s t same (inr is) = inr (same ∙ is)
+
+-- it is attached: it was new, it took the peer's Attach, and sent its own
+taken-received : (old new : ReceiverState) (attach : Attach) (answer : AttachedTold) (o : Option LinkState)
+    (error : Option ReceiverAttachError) → old.base.local_state ≡ state.Unattached
+    → after_incoming_attach old.base.local_state attach.incomplete_unsettled ≡ o
+    → TakesAttach (option_map (λ (s : LinkState). moved_to old.base attach s) o) error old attach (Ok answer) new
+    → (new.base.local_state ≡ state.AttachReceived) ⊎ (new.base.local_state ≡ state.IncompleteAttachReceived)
+taken-received old new attach answer None error fresh is t =
+    absurd (none-unattached old.base.local_state attach.incomplete_unsettled fresh is)
+taken-received old new attach answer (Some s) (Some e) fresh is (inl t) = let clash = t.1 in absurd cc
+taken-received old new attach answer (Some s) (Some e) fresh is (inr t) =
+    received-so s new.base.local_state (ap (λ (r : ReceiverState). r.base.local_state) t.1)
+    (received old.base.local_state s attach.incomplete_unsettled fresh is)
+taken-received old new attach answer (Some s) None fresh is (inl t) = let clash = t.0 in absurd cc
+taken-received old new attach answer (Some s) None fresh is (inr t) =
+    received-so s new.base.local_state (ap (λ (r : ReceiverState). r.base.local_state) t.1)
+    (received old.base.local_state s attach.incomplete_unsettled fresh is)
+
+sent-so : (r : ReceiverState) (flow : LinkFlowStateInner) (o : Option LinkState) (new : End)
+    → ((s : LinkState) → o ≡ Some s → stands_so s ≡ Some true)
+    → option_map (λ (r : ReceiverState). Receiver r)
+    (option_map (λ (b : LinkBase). record r { base = b; end = record r.end { flow = flow } })
+    (option_map (λ (s : LinkState). record r.base { local_state = s }) o)) ≡ Some new
+    → stands_so (state_of new) ≡ Some true
+sent-so r flow None new so is = absurd (none-some new is)
+sent-so r flow (Some s) new so is =
+    ap (λ (e : End). stands_so (state_of e))
+    (sym (same_Some
+    (Receiver (record r { base = record r.base { local_state = s }; end = record r.end { flow = flow } })) new is))
+    ∙ so s refl
+
+flow-state : (attached : Bool) (r : ReceiverState) (flow : LinkFlowStateInner)
+    → state_of (Receiver (if attached then with_flow r flow else r)) ≡ r.base.local_state
+flow-state true r flow = refl
+flow-state false r flow = refl
+
+sender-state : (attached : Bool) (s : Sending) (flow : LinkFlowStateInner)
+    → state_of (Sender (if attached then record s { flow = flow } else s)) ≡ s.base.local_state
+sender-state true s flow = refl
+sender-state false s flow = refl
+
+flowed-state : (e : End) (flow : Option LinkFlow) → state_of (flowed_by e flow) ≡ state_of e
+flowed-state e None = refl
+flowed-state (Sender s) (Some flow) =
+    sender-state (is_attached s.base.local_state) s (sender_flowed s.flow flow)
+flowed-state (Receiver r) (Some flow) =
+    flow-state (is_attached r.base.local_state) r (receiver_flowed r.end.flow flow)
+
+end-waits : (n : ℕ) (e : End) → stands_so (state_of e) ≡ Some true → (k : ℕ) (held : Option Delivery)
+    → held_end n e ≡ Some (k, (false, held)) → ⊥
+end-waits n (Sender s) so k held is = none-some _ is
+end-waits n (Receiver r) so k held is =
+    true≢false
+    (same_Some true false
+    (sym so ∙ held-waits n (stands_so r.base.local_state) r.end.held k held is))
+
+-- a sending link holds nothing
+abbrev IsSender : End → Type 0
+IsSender (Sender s) = Unit {0}
+IsSender (Receiver r) = ⊥
+
+sender-sent : (o : Option Sending) (new : End) → option_map (λ (s : Sending). Sender s) o ≡ Some new → IsSender new
+sender-sent None new is = absurd (none-some new is)
+sender-sent (Some s) new is = subst IsSender (same_Some (Sender s) new is) tt
+
+sender-flowed : (e : End) (flow : Option LinkFlow) → IsSender e → IsSender (flowed_by e flow)
+sender-flowed e None is = is
+sender-flowed (Sender s) (Some flow) is = tt
+sender-flowed (Receiver r) (Some flow) is = absurd is
+
+no-sender-waits : (n : ℕ) (e : End) → IsSender e → (k : ℕ) (held : Option Delivery)
+    → held_end n e ≡ Some (k, (false, held)) → ⊥
+no-sender-waits n (Sender s) so k held is = none-some _ is
+no-sender-waits n (Receiver r) so k held is = absurd so
+
+sender-waits : (n : ℕ) (attached new : End) (flow : Option LinkFlow) → IsSender attached
+    → new ≡ flowed_by attached flow → (k : ℕ) (held : Option Delivery) → held_end n new ≡ Some (k, (false, held)) → ⊥
+sender-waits n attached new flow so is k held waits =
+    no-sender-waits n new (subst IsSender (sym is) (sender-flowed attached flow so)) k held waits
+
+-- of one that is new
+abbrev pub IsUnattached : End → Type 0
+IsUnattached (Sender s) = Unit {0}
+IsUnattached (Receiver r) = r.base.local_state ≡ state.Unattached
+
+pub answer-waits : (n : ℕ) (e : End) (attach : Attach) (told : AttachTold) (taken attached new : End)
+    (handle : OutputHandle) (incomplete : Bool) (flow : Option LinkFlow) → IsUnattached e
+    → attaches e attach (Ok told) taken → attach_sent (with_handle taken handle) incomplete ≡ Some attached
+    → new ≡ flowed_by attached flow → (k : ℕ) (held : Option Delivery) → held_end n new ≡ Some (k, (false, held)) → ⊥
+answer-waits n (Receiver r) attach (told.Receiver answer) (Receiver after) attached new handle incomplete flow fresh a
+    sent is k held waits =
+    let taken =
+    taken-received r after attach answer (after_incoming_attach r.base.local_state attach.incomplete_unsettled)
+    (attach_error r attach) fresh refl a in
+    let so : stands_so (state_of attached) ≡ Some true =
+    sent-so (record after { base = record after.base { output_handle = Some handle } })
+    (flow_attached after.end.flow after.end.flow.initial_delivery_count)
+    (after_send_attach after.base.local_state incomplete) attached
+    (λ s e. answered-so after.base.local_state s incomplete taken e) sent in
+    end-waits n new (ap (λ (x : End). stands_so (state_of x)) is ∙ ap stands_so (flowed-state attached flow) ∙ so) k
+    held waits
+answer-waits n (Sender s) attach (told.Sender answer) (Sender after) attached new handle incomplete flow fresh a sent is
+    k held waits =
+    sender-waits n attached new flow
+    (sender-sent
+    (sending.attach_sent (record after { base = record after.base { output_handle = Some handle } }) incomplete)
+    attached sent)
+    is k held waits
+answer-waits n e attach told taken attached new handle incomplete flow fresh a sent is k held waits = absurd a
