@@ -104,13 +104,19 @@ impl Course {
         let Some(link) = self.links.get_mut(place) else {
             return Ok(());
         };
-        link.granted = if is_less {
-            more
-        } else {
-            link.granted.saturating_add(more).min(1000)
-        };
-        link.is_untold = true;
+        link.grant(is_less, more);
         let (side, number, credit) = (link.receiver(), link.at(link.receiver()), link.granted);
+        self.say_grant(side, number, credit)
+    }
+
+    fn say_grant(&mut self, side: Side, number: u64, credit: u32) -> Result<(), AllocError>
+        ensures line { OnOk result (written self.new ≡ written self.old
+            ++ step_of side (codes "grant " ++ (decimal number ++ (codes " " ++ decimal credit)))) }
+        ensures kept { OnOk result (self.new ≡ record self.old {
+          text = self.new.text;
+          steps = one_more self.old.steps;
+        }) }
+    {
         let call = format!(in self.alloc; "grant {number} {credit}")?;
         self.say(side, call)
     }
