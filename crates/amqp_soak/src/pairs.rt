@@ -1,5 +1,5 @@
 //! Sessions and links, each with its halves at both ends.
-ghost use Rattle.std.specs.Prelude.{◌≡◌, ◌≢◌, false, if◌then◌else◌};
+ghost use Rattle.std.specs.Prelude.{◌≡◌, ◌≢◌, ◌+◌, ◌-◌, ◌^◌, min, true, false, if◌then◌else◌};
 ghost use Rattle.amqp_soak.specs.Ends.{at_end, settled_by};
 
 use crate::side::Side;
@@ -89,6 +89,21 @@ impl LinkPair {
             self.credit = self.granted;
             self.is_untold = false;
         }
+    }
+
+    /// Its receiver gives credit: so much more than it gave, up to 1000, or this alone.
+    pub(crate) fn grant(&mut self, is_less: bool, more: u32)
+        ensures { self.new ≡ record self.old {
+          granted = if is_less then more else min (min (self.old.granted + more) (2 ^ 32 - 1)) 1000;
+          is_untold = true;
+        } }
+    {
+        self.granted = if is_less {
+            more
+        } else {
+            self.granted.saturating_add(more).min(1000)
+        };
+        self.is_untold = true;
     }
 
     /// Whether a message goes settled that is sent so.

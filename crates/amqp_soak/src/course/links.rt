@@ -1,5 +1,5 @@
 //! Links: they attach, are detached, closed and forgotten.
-ghost use Rattle.std.specs.Prelude.{◌≡◌, ◌↔◌, ◌++◌, false, All, codes, decimal, slice_get, slice_set};
+ghost use Rattle.std.specs.Prelude.{◌≡◌, ◌↔◌, ◌++◌, ℕ, false, All, Contains, codes, decimal, slice_get, slice_set};
 ghost use Rattle.std.specs.Prelude.{IsTrue, OnOk, Some, if◌then◌else◌};
 ghost use Rattle.amqp_soak.specs.Ends.{at_end, one_more};
 ghost use Rattle.amqp_soak.specs.Script.{written, Grows, LeavesFree, step_of};
@@ -114,13 +114,40 @@ impl Course {
     ) -> Result<(), AllocError>
         ensures { OnOk result (Grows (written self.old) (written self.new)) }
     {
-        let number = session.at(side);
-        let name = link.name;
         let second = self.dice.word(RECEIVER_MODES);
         if side != link.sender {
-            let call = format!(in self.alloc; "receiver {number} link{name} {second}")?;
-            return self.say(side, call);
+            return self.say_receiver(side, session.at(side), link.name, second);
         }
+        self.say_sender(side, session.at(side), link, second)
+    }
+
+    fn say_receiver(
+        &mut self,
+        side: Side,
+        number: u64,
+        name: u32,
+        second: &str,
+    ) -> Result<(), AllocError>
+        ensures { OnOk result (written self.new ≡ written self.old ++ step_of side (codes "receiver "
+            ++ (decimal number ++ (codes " link" ++ (decimal name ++ (codes " " ++ second.now)))))) }
+    {
+        let call = format!(in self.alloc; "receiver {number} link{name} {second}")?;
+        self.say(side, call)
+    }
+
+    fn say_sender(
+        &mut self,
+        side: Side,
+        number: u64,
+        link: &LinkPair,
+        second: &str,
+    ) -> Result<(), AllocError>
+        ensures { OnOk result ((count : ℕ) × Contains FIRST_COUNTS.now count
+            × (written self.new ≡ written self.old ++ step_of side (codes "sender " ++ (decimal number ++ (codes " link"
+            ++ (decimal link.now.name ++ (codes " " ++ (decimal count ++ (codes " " ++ (link.now.mode.now
+            ++ (codes " " ++ second.now))))))))))) }
+    {
+        let name = link.name;
         let count = self.dice.number(FIRST_COUNTS);
         let mode = link.mode;
         let call = format!(in self.alloc; "sender {number} link{name} {count} {mode} {second}")?;

@@ -8,7 +8,7 @@ use crate::course::Course;
 use crate::pairs::{LinkPair, Phase};
 use crate::side::Side;
 use crate::standing::Coming;
-use std::alloc::AllocError;
+use std::alloc::{AllocError, Global};
 
 /// The outcomes of a message.
 const OUTCOMES: &[&str] = &["accepted", "rejected", "released", "modified"];
@@ -104,13 +104,19 @@ impl Course {
         let Some(link) = self.links.get_mut(place) else {
             return Ok(());
         };
-        link.granted = if is_less {
-            more
-        } else {
-            link.granted.saturating_add(more).min(1000)
-        };
-        link.is_untold = true;
+        link.grant(is_less, more);
         let (side, number, credit) = (link.receiver(), link.at(link.receiver()), link.granted);
+        self.say_grant(side, number, credit)
+    }
+
+    fn say_grant(&mut self, side: Side, number: u64, credit: u32) -> Result<(), AllocError>
+        ensures line { OnOk result (written self.new ≡ written self.old
+            ++ step_of side (codes "grant " ++ (decimal number ++ (codes " " ++ decimal credit)))) }
+        ensures kept { OnOk result (self.new ≡ record self.old {
+          text = self.new.text;
+          steps = one_more self.old.steps;
+        }) }
+    {
         let call = format!(in self.alloc; "grant {number} {credit}")?;
         self.say(side, call)
     }
@@ -237,13 +243,9 @@ impl Course {
     fn open_message(&mut self, side: Side, link: u64) -> Result<Option<usize>, AllocError>
         ensures { self.new ≡ record self.old { dice = self.new.dice } }
     {
-        let mut open = Vec::new(self.alloc);
         let is_any = self.dice.one_in(20);
-        for (number, message) in self.standing(side).came.iter().enumerate() {
-            if is_any || (message.is_open && message.link == link) {
-                open.push(number)?;
-            }
-        }
+        let alloc = self.alloc;
+        let open = open_of(alloc, self.standing(side).came.as_slice(), is_any, link)?;
         Ok(self.dice.of(open.as_slice()))
     }
 
@@ -254,4 +256,20 @@ impl Course {
             message.is_open = false;
         }
     }
+}
+
+/// The numbers of the messages that came by a link and are open, or of all.
+fn open_of(
+    alloc: Global,
+    came: &[Coming],
+    is_any: bool,
+    link: u64,
+) -> Result<Vec<usize>, AllocError> {
+    let mut open = Vec::new(alloc);
+    for (number, message) in came.iter().enumerate() {
+        if is_any || (message.is_open && message.link == link) {
+            open.push(number)?;
+        }
+    }
+    Ok(open)
 }
