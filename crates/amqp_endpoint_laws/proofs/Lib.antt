@@ -42,5 +42,8 @@ mod QueuedOrder
 mod QueuedKept
 mod QueuedSince
 mod QueuedAttached
+mod Attachments
+mod AttachmentsCalled
+mod AttachmentsSent
 mod SeenWalk
 pub mod Seen

@@ -7,3 +7,4 @@ pub mod Agreeing
 pub mod Handed
 pub mod Queued
 pub mod Seen
+pub mod Attachments
