@@ -47,6 +47,9 @@ mod QueuedOrder
 mod QueuedKept
 mod QueuedSince
 mod QueuedAttached
+mod Attachments
+mod AttachmentsCalled
+mod AttachmentsSent
 mod QueuedCalled
 mod LeadingAlone
 mod SeenWalk

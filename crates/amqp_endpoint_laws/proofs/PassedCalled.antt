@@ -1,6 +1,6 @@
 -- What passes in a session by a call.
 use Rattle.std.proofs.Common.{◌≡◌, ℕ, Bool, false, List, [], ◌∷◌, Option, Some, None}
-use Rattle.std.proofs.Common.{ap, sym, subst}
+use Rattle.std.proofs.Common.{ap, sym, subst, ◌∙◌}
 use Rattle.amqp_session_performatives.specs.declared.session_frame.SessionFrame.{SessionFrame}
 use Rattle.amqp_link_ends.specs.declared.end.End.{End}
 use Rattle.amqp_endpoint_names.specs.State.{place_at as link_place}
@@ -13,6 +13,7 @@ use Rattle.amqp_endpoint_model.specs.declared.event.Event.{Event}
 use Rattle.amqp_endpoint_model.specs.Said.{Said, attaching, count, credit_is, done, link_closed, message_sent}
 use Rattle.amqp_endpoint_model.specs.Said.{session_begun, tried_end, truth, waiting}
 use Rattle.amqp_endpoint_linking.specs.Linking.{Talk}
+use Rattle.amqp_endpoint_attached.specs.Links.{attach_frame}
 use Rattle.amqp_endpoint_link_attaching.proofs.Inside.{attaches-inside}
 use Rattle.amqp_endpoint_link_calls.specs.Calling.{Does, DoneAt, DoneIn, detaches, gives_credit, wants_drain}
 use Rattle.amqp_endpoint_link_calls.specs.Closing.{ClosedAt, closes}
@@ -30,12 +31,18 @@ use Rattle.amqp_endpoint_reading.specs.Following.{goes}
 use Rattle.amqp_endpoint_reading.specs.Reading.{Wired}
 use Rattle.amqp_endpoint_talk.specs.Inside.{Batches}
 use Rattle.amqp_endpoint_laws.specs.Passed.{called_in, holder}
-use Rattle.amqp_endpoint_laws.proofs.PassedWalk.{Walk}
+use Rattle.amqp_endpoint_laws.proofs.PassedWalk.{AttachGoes, Walk}
 
 -- a call that sends a message
 abbrev pub IsSend : Call → Type 0
 IsSend (call.Send link message) = Unit {0}
 IsSend it = ⊥
+
+-- one by which a link attaches
+abbrev pub IsAttaching : Call → Type 0
+IsAttaching (call.AttachSender number settings) = Unit {0}
+IsAttaching (call.AttachReceiver number settings) = Unit {0}
+IsAttaching it = ⊥
 
 module _ {Allows : Batches → Type 0} (P : ℕ → List Wired → Talk → Talk → Type 0)
     (Q : Option ℕ → List Wired → Talk → Talk → Type 0) (w : Walk Allows P Q) where
@@ -93,16 +100,18 @@ module _ {Allows : Batches → Type 0} (P : ℕ → List Wired → Talk → Talk
       (done-in (closes events) session handle old new frames (closes-inside events) c.done)
 
   attached : (old new : Talk) (links links_new : LinksBy) (limit session : ℕ) (link : End) (number : ℕ)
-      (events : List Event) (frames : List SessionFrame)
+      (events : List Event) (frames : List SessionFrame) → AttachGoes P
       → LinkAttached old links limit session link number events frames new links_new
       → Q (Some session) (goes frames) old new
-  attached old new links links_new limit session link number events frames a =
+  attached old new links links_new limit session link number events frames first a =
       let l = a.attaches in
       let i = l.attaches in
+      let s = attaches-inside old new limit session link a.placed l.frames i in
       w.at session (goes frames) old new
-      (subst (λ (fs : List SessionFrame). P session (goes fs) old new) (sym l.queued)
-      (w.inside session [] l.frames i.before i.after old new w.quiet i.stepped i.rest
-      (attaches-inside old new limit session link a.placed l.frames i)))
+      (subst (λ (fs : List SessionFrame). P session (goes fs) old new) (sym (l.queued ∙ s.are))
+      (w.on session (goes (attach_frame i.before.value.session s.attach ∷ [])) (goes s.later) old old new
+      (first session s.attach i.before old (i.stepped).0)
+      (w.inside session [] s.later i.before i.after old new w.quiet i.stepped i.rest s.inside)))
 
   told-alone : (o : Option ℕ) (frames : List SessionFrame) (old new : LinkedSessions) → frames ≡ [] → new ≡ old
       → Q o (goes frames) old.talk new.talk
@@ -110,42 +119,44 @@ module _ {Allows : Batches → Type 0} (P : ℕ → List Wired → Talk → Talk
       stays o frames old.talk new.talk none (ap (λ (s : LinkedSessions). s.talk) same)
 
   pub called : (it : Call) (answer : Said) (old new : LinkedSessions) (limit : ℕ) (frames : List SessionFrame)
-      → (IsSend it → (accepted : Batches) → Allows accepted) → Calls old limit it answer frames new
+      → (IsSend it → (accepted : Batches) → Allows accepted) → (IsAttaching it → AttachGoes P)
+      → Calls old limit it answer frames new
       → Q (called_in old it answer) (goes frames) old.talk new.talk
-  called call.Begin (session_begun n) old new limit frames may c =
+  called call.Begin (session_begun n) old new limit frames may first c =
       w.at n (goes frames) old.talk new.talk (w.begins n frames old.talk new.talk c.begins)
-  called (call.AcceptBegin channel) (session_begun n) old new limit frames may c =
+  called (call.AcceptBegin channel) (session_begun n) old new limit frames may first c =
       w.at n (goes frames) old.talk new.talk (w.accepts channel n frames old.talk new.talk c.accepts)
-  called (call.End n) done old new limit frames may c =
+  called (call.End n) done old new limit frames may first c =
       w.at n (goes frames) old.talk new.talk
       (subst (λ (fs : List SessionFrame). P n (goes fs) old.talk new.talk) (sym (c.ends).queued)
       (w.ends n None c.session [] frames old.talk new.talk c.ends))
-  called (call.IsEnded n) (truth b) old new limit frames may c = told-alone _ frames old new c.silent c.same
-  called (call.TryEnd n) (tried_end o) old new limit frames may c =
+  called (call.IsEnded n) (truth b) old new limit frames may first c = told-alone _ frames old new c.silent c.same
+  called (call.TryEnd n) (tried_end o) old new limit frames may first c =
       subst (λ (fs : List SessionFrame). Q None (goes fs) old.talk new.talk) (sym c.silent)
       (w.silent None n old.talk new.talk
       (w.told n (answer_of o) old.talk new.talk c.tells (ap (λ (s : LinkedSessions). s.talk) c.rest)))
-  called (call.AttachSender n settings) (attaching link events) old new limit frames may c =
-      attached old.talk new.talk old.links new.links limit n _ link events frames c
-  called (call.AttachReceiver n settings) (attaching link events) old new limit frames may c =
-      attached old.talk new.talk old.links new.links limit n _ link events frames c
-  called (call.Detach link) done old new limit frames may c =
+  called (call.AttachSender n settings) (attaching link events) old new limit frames may first c =
+      attached old.talk new.talk old.links new.links limit n _ link events frames (first tt) c
+  called (call.AttachReceiver n settings) (attaching link events) old new limit frames may first c =
+      attached old.talk new.talk old.links new.links limit n _ link events frames (first tt) c
+  called (call.Detach link) done old new limit frames may first c =
       done-at (detaches false) (link_place old.links link) old.talk new.talk frames (detaches-inside false) c.is_done
-  called (call.CloseLink link) (link_closed events) old new limit frames may c =
+  called (call.CloseLink link) (link_closed events) old new limit frames may first c =
       closed-at (link_place old.links link) link events old.talk new.talk old.links new.links frames c
-  called (call.Grant link n) (credit_is left) old new limit frames may c =
+  called (call.Grant link n) (credit_is left) old new limit frames may first c =
       done-at (gives_credit n left) (link_place old.links link) old.talk new.talk frames (gives-inside n left) c.is_done
-  called (call.Drain link) done old new limit frames may c =
+  called (call.Drain link) done old new limit frames may first c =
       done-at wants_drain (link_place old.links link) old.talk new.talk frames drains-inside c.is_done
-  called (call.Send link message) (message_sent tag outcome) old new limit frames may c =
+  called (call.Send link message) (message_sent tag outcome) old new limit frames may first c =
       sent-at limit (tag_of old.sent) message c.sends.settled (link_place old.links link) old.talk new.talk frames
       (may tt) c.sends.sent
-  called (call.Dispose link message disposal) done old new limit frames may c =
+  called (call.Dispose link message disposal) done old new limit frames may first c =
       done-at (disposes_of_one limit message disposal) (link_place old.links link) old.talk new.talk frames
       (disposes-one-inside limit message disposal) c.disposes
-  called (call.DisposeAll link messages disposal) done old new limit frames may c =
+  called (call.DisposeAll link messages disposal) done old new limit frames may first c =
       disposed-at limit (link_place old.links link) messages disposal old.talk new.talk frames c.disposes
-  called (call.Credit link) (credit_is left) old new limit frames may c = told-alone _ frames old new c.silent c.same
-  called (call.HeldBack n) (count m) old new limit frames may c = told-alone _ frames old new c.silent c.same
-  called (call.Waiting n) (waiting turn) old new limit frames may c = told-alone _ frames old new c.silent c.same
-  called it answer old new limit frames may c = absurd c
+  called (call.Credit link) (credit_is left) old new limit frames may first c =
+      told-alone _ frames old new c.silent c.same
+  called (call.HeldBack n) (count m) old new limit frames may first c = told-alone _ frames old new c.silent c.same
+  called (call.Waiting n) (waiting turn) old new limit frames may first c = told-alone _ frames old new c.silent c.same
+  called it answer old new limit frames may first c = absurd c

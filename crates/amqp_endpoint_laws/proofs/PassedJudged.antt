@@ -14,6 +14,7 @@ use Rattle.amqp_session_frames.specs.declared.frame.FrameBody.{FrameBody}
 use Rattle.amqp_session_frames.specs.declared.frame.FrameBody.TheVariants as body
 use Rattle.amqp_session_connection.specs.Steps.{named_session}
 use Rattle.amqp_endpoint_attached.specs.Linked.{gives}
+use Rattle.amqp_endpoint_attached.specs.Links.{attach_frame}
 use Rattle.amqp_endpoint_links.specs.declared.hearing.LinkPerformative.{LinkPerformative}
 use Rattle.amqp_endpoint_sessions.specs.State.{asked_at, asked_in, asked_of, asked_on, ended_place, first_of, live_at}
 use Rattle.amqp_endpoint_sessions.specs.State.{live_of, peer_end_of, place_at, reached, routed, routed_in, told_place}
@@ -37,7 +38,7 @@ use Rattle.amqp_endpoint_laws.specs.Seen.{passing_of}
 use Rattle.amqp_endpoint_laws.proofs.PassedPlaces.{AllPassed, GoesBy, IsGone, Keeping, Passed, all-passed, asked-passed}
 use Rattle.amqp_endpoint_laws.proofs.PassedPlaces.{by-step, by-steps, eq-same, free-passed, going-passed, hears}
 use Rattle.amqp_endpoint_laws.proofs.PassedPlaces.{judged-at, live-passed, none-at-all, none-passed, opens, passed-on}
-use Rattle.amqp_endpoint_laws.proofs.PassedWalk.{IsRest, Walk}
+use Rattle.amqp_endpoint_laws.proofs.PassedWalk.{AttachGoes, IsRest, Walk}
 
 -- a session that a channel of the peer's reaches stands somewhere
 abbrev IsThere : Option Stood → Type 0
@@ -393,6 +394,12 @@ module _ {Allows : Batches → Type 0} (J : ℕ → Option Stood → List Passin
             ends-passed number error session (went (end_frame e.channel error ∷ [])) old new out out_new refl e;
         told = told-passed;
       }
+
+  -- an Attach goes
+  pub attach-judged : AttachGoes PassedBy
+  attach-judged m attach session talk live =
+      let frames : List SessionFrame = attach_frame session.value.session attach ∷ [] in
+      by-going m frames talk talk (free-passed J k m frames talk refl)
 
   -- so it is of what passes in the session to which frames belong
   module _ (o : Option ℕ) (frames : List SessionFrame) (old new : Talk) where

@@ -55,7 +55,8 @@ use Rattle.amqp_endpoint_laws.specs.Conversing.{SessionsStep}
 use Rattle.amqp_endpoint_laws.specs.Passed.{PassesIn, called_in, passes_in, session_taking}
 use Rattle.amqp_endpoint_laws.proofs.PassedCalled.{IsSend, called}
 use Rattle.amqp_endpoint_laws.proofs.PassedHeard.{frame-heard}
-use Rattle.amqp_endpoint_laws.proofs.PassedJudged.{AllPassedBy, PassedBy, coming-judged, going-judged, judging}
+use Rattle.amqp_endpoint_laws.proofs.PassedJudged.{AllPassedBy, PassedBy, attach-judged, coming-judged}
+use Rattle.amqp_endpoint_laws.proofs.PassedJudged.{going-judged, judging}
 use Rattle.amqp_endpoint_laws.proofs.PassedPlaces.{AllPassed, IsGone, Keeping, eq-same}
 use Rattle.amqp_endpoint_laws.proofs.SessionsGoing.{Go}
 use Rattle.amqp_endpoint_laws.proofs.SessionsHeard.{refused-goes}
@@ -352,7 +353,8 @@ module _ {Allows : Batches → Type 0} (J : ℕ → Option Stood → List Passin
       → AllPassed J k (called_in old it answer) (went frames) old.talk new.talk
   call-judges limit it answer frames old new may c =
       going-judged J k (called_in old it answer) frames old.talk new.talk
-      (called (PassedBy J k) (AllPassedBy J k) (judging J k) it answer old new limit frames may c.0)
+      (called (PassedBy J k) (AllPassedBy J k) (judging J k) it answer old new limit frames may
+      (λ attaches. attach-judged J k) c.0)
 
   pub deed-judges : (deed : Deed) (old new : LinkedSessions)
       → (IsSending deed → (accepted : Batches) → Allows accepted) → IsDeed linked old deed new → (n : ℕ)

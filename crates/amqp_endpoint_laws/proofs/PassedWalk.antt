@@ -7,6 +7,7 @@ use Rattle.amqp_session_types.specs.declared.error.Error.{Error}
 use Rattle.amqp_session_types.specs.declared.refusals.SessionError.{SessionError}
 use Rattle.amqp_session_types.specs.declared.refusals.SessionError.TheVariants.{Memory}
 use Rattle.amqp_session_types.specs.declared.refusals.TryEndError.{TryEndError}
+use Rattle.amqp_session_performatives.specs.declared.attach.Attach.{Attach}
 use Rattle.amqp_session_performatives.specs.declared.begin.Begin.{Begin}
 use Rattle.amqp_session_performatives.specs.declared.end.End.{End}
 use Rattle.amqp_session_performatives.specs.declared.session_frame.SessionFrame.{SessionFrame}
@@ -16,6 +17,7 @@ use Rattle.amqp_link_ends.specs.declared.relay.AttachTold.{AttachTold}
 use Rattle.amqp_link_receiving.specs.declared.answer.Told.{Told}
 use Rattle.amqp_endpoint_asked.specs.declared.session.AskedSession.{AskedSession}
 use Rattle.amqp_endpoint_attached.specs.Linked.{gives}
+use Rattle.amqp_endpoint_attached.specs.Links.{attach_frame}
 use Rattle.amqp_endpoint_links.specs.declared.hearing.LinkPerformative.{LinkPerformative}
 use Rattle.amqp_endpoint_links.specs.declared.hearing.PerformativeTaken.{PerformativeTaken}
 use Rattle.amqp_endpoint_sessions.specs.State.{asked_at, live_at, reached}
@@ -36,6 +38,12 @@ use Rattle.amqp_endpoint_laws.specs.Passed.{begun_by}
 abbrev pub IsRest : Talk → Talk → Type 0
 IsRest old new = new ≡ record old { sessions = new.sessions }
 
+-- an Attach goes in a session, and nothing changes
+abbrev pub AttachGoes : (ℕ → List Wired → Talk → Talk → Type 0) → Type 0
+AttachGoes P =
+    (m : ℕ) (attach : Attach) (session : Session) (talk : Talk) → live_at talk.sessions m ≡ Some session
+    → P m (goes (attach_frame session.value.session attach ∷ [])) talk talk
+
 -- P says of the session with a number, by which these frames pass, and Q of the session to which frames belong, if they
 -- belong to one, what is so of the sessions before and behind. It is so by each thing that is done
 pub record Walk (Allows : Batches → Type 0) (P : ℕ → List Wired → Talk → Talk → Type 0)
@@ -47,7 +55,7 @@ pub record Walk (Allows : Batches → Type 0) (P : ℕ → List Wired → Talk �
   -- they belong to it, or none passes
   pub at : (m : ℕ) (ws : List Wired) (old new : Talk) → P m ws old new → Q (Some m) ws old new
   pub silent : (o : Option ℕ) (m : ℕ) (old new : Talk) → P m [] old new → Q o [] old new
-  -- frames on a session's channel by which no link says anything pass, and nothing changes
+  -- frames on a session's channel by which no link attaches or says anything pass, and nothing changes
   pub free : (m : ℕ) (frames : List SessionFrame) (session : Session) (talk : Talk)
       → live_at talk.sessions m ≡ Some session → said_in frames ≡ []
       → AreOn session.value.session.fields.channel.0 frames → P m (goes frames) talk talk

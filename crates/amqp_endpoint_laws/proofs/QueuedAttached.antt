@@ -1,24 +1,22 @@
 -- A link attaches, and from then on what it is given to send is queued in order.
 use Rattle.std.proofs.Common.{◌≡◌, ◌≢◌, ℕ, List, [], ◌∷◌, ◌++◌, Option, Some, None, ap, refl, sym, subst, ◌∙◌}
-use Rattle.std.specs.Prelude.{map, option_to_list}
+use Rattle.std.specs.Prelude.{map}
 use Rattle.std.proofs.lemmas.Option.{none-some}
 use Rattle.amqp_session_types.specs.declared.handles.InputHandle.{InputHandle}
 use Rattle.amqp_session_types.specs.declared.handles.OutputHandle.{OutputHandle}
 use Rattle.amqp_session_performatives.specs.declared.attach.Attach.{Attach}
-use Rattle.amqp_session_performatives.specs.declared.link_flow.LinkFlow.{LinkFlow}
 use Rattle.amqp_session_performatives.specs.declared.session_frame.SessionFrame.{SessionFrame}
 use Rattle.amqp_session_core.specs.State.{link_at}
 use Rattle.amqp_link_attach.specs.declared.exchange.AttachExchange.{AttachExchange}
 use Rattle.amqp_link_ends.specs.declared.end.End.{End}
 use Rattle.amqp_link_place.specs.Readings.{Piece}
-use Rattle.amqp_endpoint_attached.specs.Answering.{Replies}
 use Rattle.amqp_endpoint_attached.specs.Linked.{Linked, gives}
 use Rattle.amqp_endpoint_attached.specs.Links.{attach_frame, sender_by}
 use Rattle.amqp_endpoint_deeds.specs.Deeds.{AreDone, Deed, Does, IsDeed}
 use Rattle.amqp_endpoint_link_attaching.specs.Attaching.{AttachedBy, with_room}
 use Rattle.amqp_endpoint_link_attaching.specs.Places.{name_of}
 use Rattle.amqp_endpoint_link_attaching.specs.declared.placed.Placed.{Placed}
-use Rattle.amqp_endpoint_link_attaching.proofs.Inside.{attaches-inside}
+use Rattle.amqp_endpoint_link_attaching.proofs.Inside.{AttachesInside, attaches-inside}
 use Rattle.amqp_endpoint_linked.specs.Attaching.{LinkAttached}
 use Rattle.amqp_endpoint_linked.specs.Does.{linked}
 use Rattle.amqp_endpoint_linked.specs.declared.linked.LinkedSessions.{LinkedSessions}
@@ -46,55 +44,13 @@ use Rattle.amqp_endpoint_laws.proofs.LinksKept.{BackGoesOn, FinishedGoesOn, Left
 use Rattle.amqp_endpoint_laws.proofs.LinksStay.{held-since}
 use Rattle.amqp_endpoint_laws.proofs.PassedKept.{some-passes}
 use Rattle.amqp_endpoint_laws.proofs.PassedPlaces.{by-steps, eq-same}
-use Rattle.amqp_endpoint_laws.proofs.PassedSteps.{goes-did, session-come}
+use Rattle.amqp_endpoint_laws.proofs.PassedSteps.{goes-did, sent-went, session-come}
 use Rattle.amqp_endpoint_laws.proofs.QueuedKept.{Queued, QueuedAt, more-queued, queued-here}
 use Rattle.amqp_endpoint_laws.proofs.QueuedOrder.{behind-none, since-new}
 use Rattle.amqp_endpoint_laws.proofs.QueuedSaid.{bare, map-both, says-bare, says-none}
 use Rattle.amqp_endpoint_laws.proofs.QueuedSince.{SaysAt, done-of, held-same, since}
 
 module _ (before after : Linked) (limit : ℕ) (its : LinkSettings) (placed : Placed) (frames : List SessionFrame) where
-  -- behind the Attach of a link that answers one of the peer's stands a Flow, or nothing
-  replied-first : (attach : Attach) (reply : Option LinkFlow) (mid : _)
-      → Replies gives placed.handle reply mid (attach_frame before.session attach ∷ []) after.session frames
-      → attach.handle.0 ≡ placed.handle.0 → attach.name ≡ its.name → AttachesFirst placed.handle its.name frames
-  replied-first attach None mid r handled named =
-      record {
-        channel = before.session.fields.channel.0;
-        attach = attach;
-        others = [];
-        are = r.1;
-        handled = handled;
-        named = named;
-      }
-  replied-first attach (Some flow) mid r handled named =
-      record {
-        channel = before.session.fields.channel.0;
-        attach = attach;
-        others = option_to_list r.frame;
-        are = r.handed;
-        handled = handled;
-        named = named;
-      }
-
-  -- its Attach has its handle and its name
-  attach-first : (input : Option InputHandle) (exchange : Option AttachExchange)
-      → AttachedBy input exchange before [] limit (sender_by its) placed after frames
-      → AttachesFirst placed.handle its.name frames
-  attach-first None None (a, aborts) =
-      record {
-        channel = before.session.fields.channel.0;
-        attach = a.attach;
-        others = [];
-        are = a.handed;
-        handled = ap (λ (x : Attach). x.handle.0) a.sends.announces.is;
-        named = ap (λ (x : Attach). x.name) a.sends.announces.is;
-      }
-  attach-first None (Some exchange) a = absurd a
-  attach-first (Some input) None a = absurd a
-  attach-first (Some input) (Some exchange) a =
-      replied-first a.attach a.reply a.mid a.replies (ap (λ (x : Attach). x.handle.0) a.exchanges.announces.is)
-      (ap (λ (x : Attach). x.name) a.exchanges.announces.is)
-
   -- no link had its handle
   handle-free : (input : Option InputHandle) (exchange : Option AttachExchange)
       → AttachedBy input exchange before [] limit (sender_by its) placed after frames
@@ -142,9 +98,27 @@ HandlesApart =
     → IsNew linked settings sessions → AreDone linked sessions deeds s → link_place s.links a ≡ Some (Held n h)
     → link_place s.links b ≡ Some (Held n h) → a ≡ b
 
-reached-apart : HandlesApart → (s : LinkedSessions) → Reached s → (a b n : ℕ) (h : OutputHandle)
+pub reached-apart : HandlesApart → (s : LinkedSessions) → Reached s → (a b n : ℕ) (h : OutputHandle)
     → link_place s.links a ≡ Some (Held n h) → link_place s.links b ≡ Some (Held n h) → a ≡ b
 reached-apart apart s r a b n h = apart r.sessions s r.settings r.deeds a b n h r.fresh r.done
+
+-- it was in no table before, and is held there under its handle
+module _ (old new : LinkedSessions) (limit number : ℕ) (it : End) (link : ℕ) (events : List Event)
+    (frames : List SessionFrame)
+    (a : LinkAttached old.talk old.links limit number it link events frames new.talk new.links) where
+  pub link-entered : (slot_at old.links link ≡ None)
+      × (slot_at new.links link ≡ Some (Some (record { name = name_of it; place = Held number a.placed.handle })))
+  link-entered =
+      let (none, some) =
+      (link_at_step a.placed.link (with_room old.links) (Enters a.placed.link (name_of it) number a.placed.handle)
+      new.links a.attaches.entered).about
+      (eq-same a.placed.link) in
+      (ap (λ (k : ℕ). slot_at old.links k) a.numbered ∙ none, ap (λ (k : ℕ). slot_at new.links k) a.numbered ∙ some)
+
+-- where nothing is queued nothing passed
+front-none : (ps qs : List Piece) → map bare ps ++ qs ≡ [] → ps ≡ []
+front-none [] qs none = refl
+front-none (p ∷ ps) qs none = absurd cc
 
 module _ (handles_apart : HandlesApart) (back_on : BackGoesOn) (left_on : LeftGoesOn) (finished_on : FinishedGoesOn)
   where
@@ -156,40 +130,47 @@ module _ (handles_apart : HandlesApart) (back_on : BackGoesOn) (left_on : LeftGo
         (passes : PassesIn number new since_then end passings)
         (held : link_place end.links link ≡ Some (Held number handle))
       where
-        a : LinkAttached old.talk old.links limit number (sender_by its) link events frames new.talk new.links
+        abbrev a : LinkAttached old.talk old.links limit number (sender_by its) link events frames new.talk new.links
         a = d.0
 
         entered : slot_at new.links link
             ≡ Some (Some (record { name = name_of (sender_by its); place = Held number a.placed.handle }))
-        entered =
-            ap (λ (k : ℕ). slot_at new.links k) a.numbered
-            ∙ ((link_at_step a.placed.link (with_room old.links)
-            (Enters a.placed.link (name_of (sender_by its)) number a.placed.handle) new.links a.attaches.entered).about
-            (eq-same a.placed.link)).1
+        entered = (link-entered old new limit number (sender_by its) link events frames a).1
 
-        is-entered : slot_at new.links link ≢ None
+        pub is-entered : slot_at new.links link ≢ None
         is-entered is = none-some _ (sym is ∙ entered)
 
-        same-handle : a.placed.handle ≡ handle
+        pub same-handle : a.placed.handle ≡ handle
         same-handle =
             (held-same number number a.placed.handle handle (link_place new.links link)
             (ap (λ (o : Option (Option (Named End))). place_of (open_of o)) entered)
             (held-since link number handle back_on left_on finished_on since_then new end
             (done-of number since_then new end passings passes) is-entered held)).1
 
+        attach-inside :
+            AttachesInside a.attaches.attaches.before.value a.attaches.attaches.after.value limit (sender_by its)
+            a.placed a.attaches.frames
+        attach-inside =
+            attaches-inside old.talk new.talk limit number (sender_by its) a.placed a.attaches.frames
+            a.attaches.attaches
+
         pub attaches-first : AttachesFirst handle its.name frames
         attaches-first =
-            let i = a.attaches.attaches in
-            subst (λ (k : OutputHandle). AttachesFirst k its.name frames) same-handle
-            (subst (λ (fs : List SessionFrame). AttachesFirst a.placed.handle its.name fs) (sym a.attaches.queued)
-            (attach-first i.before.value i.after.value limit its a.placed a.attaches.frames i.attached.input
-            a.placed.exchange i.attached.attached))
+            record {
+              channel = a.attaches.attaches.before.value.session.fields.channel.0;
+              attach = attach-inside.attach;
+              others = attach-inside.later;
+              are = a.attaches.queued ∙ attach-inside.are;
+              handled =
+                  ap (λ (x : Attach). x.handle.0) attach-inside.announces.is
+                  ∙ ap (λ (h : OutputHandle). h.0) same-handle;
+              named = ap (λ (x : Attach). x.name) attach-inside.announces.is;
+            }
 
-        -- nothing of its handle waits as it attaches
-        says-first : SaysAt handle.0 [] (place_at new.talk.sessions number) []
-        says-first =
+        -- nothing of its handle goes behind its Attach, and nothing waits
+        attach-queued : Queued handle.0 [] a.attaches.attaches.after.value.session (went attach-inside.later)
+        attach-queued =
             let i = a.attaches.attaches in
-            let fs : List SessionFrame = a.attaches.frames in
             let (stood, was, lives, becomes) =
             (at number old.talk.sessions (ChangesLive number i.before i.after) new.talk.sessions i.stepped).about
             (eq-same number) in
@@ -201,21 +182,35 @@ module _ (handles_apart : HandlesApart) (back_on : BackGoesOn) (left_on : LeftGo
             come.history in
             let free : link_at i.before.value.session handle.0 ≡ None =
             subst (λ (k : OutputHandle). link_at i.before.value.session k.0 ≡ None) same-handle
-            (handle-free i.before.value i.after.value limit its a.placed fs i.attached.input a.placed.exchange
-            i.attached.attached) in
-            let first : Queued handle.0 [] i.before.value.session [] =
-            record { apart = apart; order = ap (λ (qs : List Piece). map bare qs) (none handle.0 free) } in
-            let behind : Queued handle.0 [] i.after.value.session (went fs) =
-            more-queued handle.0 [] [] i.before.value.session i.after.value.session [] (went fs)
-            (goes-did [] i.before.value.session i.after.value.session (went fs)
-            (by-steps fs (attaches-inside old.talk new.talk limit number (sender_by its) a.placed fs i) refl))
-            first in
+            (handle-free i.before.value i.after.value limit its a.placed a.attaches.frames i.attached.input
+            a.placed.exchange i.attached.attached) in
+            more-queued handle.0 [] [] i.before.value.session i.after.value.session [] (went attach-inside.later)
+            (goes-did [] i.before.value.session i.after.value.session (went attach-inside.later)
+            (by-steps attach-inside.later attach-inside.inside refl))
+            (record { apart = apart; order = ap (λ (qs : List Piece). map bare qs) (none handle.0 free) })
+
+        pub nothing-sent : pieces_on handle.0 frames ≡ []
+        nothing-sent =
+            ap (λ (fs : List SessionFrame). pieces_on handle.0 fs)
+            (a.attaches.queued ∙ attach-inside.are
+            ∙ ap
+            (λ (fs : List SessionFrame).
+            attach_frame a.attaches.attaches.before.value.session attach-inside.attach ∷ fs)
+            (sym (sent-went attach-inside.later)))
+            ∙ front-none (pieces_on handle.0 (sent_in (went attach-inside.later))) _ attach-queued.order
+
+        says-first : SaysAt handle.0 [] (place_at new.talk.sessions number) []
+        says-first =
+            let i = a.attaches.attaches in
+            let (stood, was, lives, becomes) =
+            (at number old.talk.sessions (ChangesLive number i.before i.after) new.talk.sessions i.stepped).about
+            (eq-same number) in
             let now : Queued handle.0 [] i.after.value.session [] =
             record {
-              apart = behind.apart;
+              apart = attach-queued.apart;
               order =
-                  behind-none (map bare (pieces_on handle.0 (sent_in (went fs))))
-                  (map bare (pieces_waiting handle.0 i.after.value.session)) behind.order;
+                  behind-none (map bare (pieces_on handle.0 (sent_in (went attach-inside.later))))
+                  (map bare (pieces_waiting handle.0 i.after.value.session)) attach-queued.order;
             } in
             record {
               accepted = [];
@@ -225,15 +220,17 @@ module _ (handles_apart : HandlesApart) (back_on : BackGoesOn) (left_on : LeftGo
               says = says-none;
             }
 
+        pub reached-new : Reached new
+        reached-new =
+            reached-on old new (Does limit (call.AttachSender number its) (attaching link events) frames) d
+            (record { sessions = sessions; settings = settings; deeds = before; fresh = fresh; done = done })
+
         pub says-all : (session : Session) → live_at end.talk.sessions number ≡ Some session
             → SayMessages (queued handle passings session.value.session) (messages_by link since_then)
         says-all session live =
-            let reached : Reached new =
-            reached-on old new (Does limit (call.AttachSender number its) (attaching link events) frames) d
-            (record { sessions = sessions; settings = settings; deeds = before; fresh = fresh; done = done }) in
             let all =
             since Reached reached-on (reached-apart handles_apart) back_on left_on finished_on link number handle
-            since_then new end passings reached passes is-entered held [] [] says-first in
+            since_then new end passings reached-new passes is-entered held [] [] says-first in
             let q =
             queued-here handle.0 all.accepted (place_at end.talk.sessions number) passings session live all.queued in
             says-bare (queued handle passings session.value.session) all.accepted (messages_by link since_then)

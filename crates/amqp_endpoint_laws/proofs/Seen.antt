@@ -25,7 +25,8 @@ use Rattle.amqp_endpoint_laws.proofs.PassedCalled.{called}
 use Rattle.amqp_endpoint_laws.proofs.PassedHeard.{frame-heard}
 use Rattle.amqp_endpoint_laws.proofs.PassedJudged.{goes-pass}
 use Rattle.amqp_endpoint_laws.proofs.PassedKept.{deed-judges}
-use Rattle.amqp_endpoint_laws.proofs.SeenWalk.{IsOwn, SeenAt, SeenIn, StaysOwn, is-own, own-channels, seeing}
+use Rattle.amqp_endpoint_laws.proofs.SeenWalk.{IsOwn, SeenAt, SeenIn, StaysOwn, attach-seen, is-own, own-channels}
+use Rattle.amqp_endpoint_laws.proofs.SeenWalk.{seeing}
 
 -- a deed by which the connection goes on
 abbrev pub GoesOn : Deed → Type 0
@@ -133,7 +134,7 @@ deed-seen old new (Takes limit frame frames events) on own stands h =
 deed-seen old new (Refuses limit frame error own_close) on own stands d = absurd on
 deed-seen old new (Does limit it answer frames) on own stands c =
     let at : SeenAt (called_in old it answer) (goes frames) old.talk new.talk =
-    called SeenIn SeenAt seeing it answer old new limit frames (λ sends accepted. tt) c.0 in
+    called SeenIn SeenAt seeing it answer old new limit frames (λ sends accepted. tt) (λ attaches. attach-seen) c.0 in
     record {
       follows = at.follows stands;
       reads = λ base number r agrees speaks.

@@ -18,6 +18,7 @@ use Rattle.amqp_session_core.specs.State.{State as SessionState}
 use Rattle.amqp_endpoint_asked.specs.declared.session.AskedSession.{AskedSession}
 use Rattle.amqp_endpoint_asked.specs.declared.session.SessionFlow.{SessionFlow}
 use Rattle.amqp_endpoint_attached.specs.Linked.{gives}
+use Rattle.amqp_endpoint_attached.specs.Links.{attach_frame}
 use Rattle.amqp_endpoint_fitting.proofs.Handing.{history-channel}
 use Rattle.amqp_endpoint_links.specs.Beginning.{accepted_with}
 use Rattle.amqp_endpoint_links.specs.Hearing.{HearsAsked}
@@ -34,14 +35,14 @@ use Rattle.amqp_endpoint_reading.specs.Reading.{Comes, Goes, Reader, Speaks, Wir
 use Rattle.amqp_endpoint_reading.proofs.Seeing.{OnOwn, Sees, sees-accepts, sees-asked, sees-asks, sees-barred}
 use Rattle.amqp_endpoint_reading.proofs.Seeing.{sees-begins, sees-begun, sees-comes, sees-ended, sees-ends, sees-free}
 use Rattle.amqp_endpoint_reading.proofs.Seeing.{sees-hears, sees-inside, sees-led, sees-none, sees-on, sees-told}
-use Rattle.amqp_endpoint_talk.specs.Inside.{AreOn, Batches, IsNoBeginOrEnd}
+use Rattle.amqp_endpoint_talk.specs.Inside.{AreOn, Batches, IsPlain}
 use Rattle.amqp_endpoint_talk.specs.Windows.{Passing, body_said}
 use Rattle.amqp_endpoint_laws.specs.Passed.{begun_by, is_it}
 use Rattle.amqp_endpoint_laws.specs.Seen.{AreOnes, IsOnes, passing_in, passing_of}
-use Rattle.amqp_endpoint_laws.proofs.PassedJudged.{AllPassedBy, PassedBy, judging, led-by}
+use Rattle.amqp_endpoint_laws.proofs.PassedJudged.{AllPassedBy, PassedBy, attach-judged, judging, led-by}
 use Rattle.amqp_endpoint_laws.proofs.PassedPlaces.{GoesBy, IsGone, Keeping, all-passed}
 use Rattle.amqp_endpoint_laws.proofs.PassedSteps.{goes-did}
-use Rattle.amqp_endpoint_laws.proofs.PassedWalk.{Walk}
+use Rattle.amqp_endpoint_laws.proofs.PassedWalk.{AttachGoes, Walk}
 
 -- a session that goes on is on the channel on which it hands its frames out
 abbrev pub IsOwn : Option Stood → Type 0
@@ -126,9 +127,9 @@ own-on m ws old new p own n channel s e =
     (is-own (place_at old.sessions n) (own n)))
 
 -- frames of a session's on its channel
-plain-on : (it : SessionFrameBody) → IsNoBeginOrEnd it → IsNoBegin it
+plain-on : (it : SessionFrameBody) → IsPlain it → IsNoBegin it
 plain-on (session.Begin begin) plain = plain
-plain-on (session.Attach attach) plain = tt
+plain-on (session.Attach attach) plain = absurd plain
 plain-on (session.Flow flow) plain = tt
 plain-on (session.Transfer transfer payload) plain = tt
 plain-on (session.Disposition disposition) plain = tt
@@ -276,6 +277,13 @@ seen-dropped channel begin old new d =
           (sym (led-it old channel begin d.number new.sessions d.led stands))
           (read-for d.number ws old new sees base number r stands own agrees speaks);
       ones = λ base r stands own agrees speaks. (tt, tt);
+    }
+
+pub attach-seen : AttachGoes SeenIn
+attach-seen m attach s talk live =
+    record {
+      kept = attach-judged StaysOwn own-channels m attach s talk live;
+      sees = sees-free m (attach_frame s.value.session attach ∷ []) s (refl, tt, tt) talk.sessions live;
     }
 
 pub seeing : Walk (λ accepted. Unit {0}) SeenIn SeenAt

@@ -8,4 +8,5 @@ pub mod Handed
 pub mod Life
 pub mod Queued
 pub mod Seen
+pub mod Attachments
 pub mod Judged

@@ -30,15 +30,16 @@ ghost use Rattle.amqp_endpoint_deeds.specs.Telling.{calls_done, events_told};
 ghost use Rattle.amqp_endpoint_settings.specs.declared.link.LinkSettings.{LinkSettings};
 ghost use Rattle.amqp_endpoint_talk.specs.Windows.{KeepsWindow, Passing, begins_with};
 ghost use Rattle.amqp_endpoint_reading.specs.Reading.{nothing_read};
+ghost use Rattle.amqp_endpoint_laws.specs.Attachments.{attached_in, attachment, handed_in, names_in, uses};
 ghost use Rattle.amqp_endpoint_laws.specs.Conversing.{SessionsGoOn};
 ghost use Rattle.amqp_endpoint_laws.specs.Handed.{IsReceiving, NoneResumes, PassesOn, ReachIn, handed_as};
 ghost use Rattle.amqp_endpoint_laws.specs.Handed.{handed_by, leads_there, pieces_on};
 ghost use Rattle.amqp_endpoint_laws.specs.Held.{IsHeldThere, number_at};
 ghost use Rattle.amqp_endpoint_laws.specs.Judged.{Judged};
 ghost use Rattle.amqp_endpoint_laws.specs.Linking.{HaveCome};
-ghost use Rattle.amqp_endpoint_laws.specs.Passed.{HasCome, PassesIn};
+ghost use Rattle.amqp_endpoint_laws.specs.Passed.{HasCome, PassesIn, sent_in};
 ghost use Rattle.amqp_endpoint_laws.specs.Queued.{AttachesFirst, SayMessages, SaysSince, messages_by, messages_done};
-ghost use Rattle.amqp_endpoint_laws.specs.Queued.{queued};
+ghost use Rattle.amqp_endpoint_laws.specs.Queued.{pieces_waiting, queued};
 ghost use Rattle.amqp_endpoint_laws.specs.Seen.{AreOnes, passing_in, wired_by};
 ghost use Rattle.amqp_endpoint_laws.specs.Life.{Reach, StaysSomewhere};
 ghost use Rattle.amqp_endpoint_laws.specs.Telling.{numbers_told, numbers_under, tags_given};
@@ -295,6 +296,38 @@ pub fn what_is_sent_is_queued_in_order()
         (told_since [] calls told) (done_since [] calls told) (events_told told) (calls_done calls told) end) ×
         SaysSince sessions (did.before ++ did.since) number link its events handle end.sessions session
         (messages_done link (calls_done calls told)) }
+{
+    links_given_back_go_on();
+    no_two_links_share_a_handle();
+}
+
+/// Each link that attaches says so once: by each call that has a link attach one Attach is handed out, which is the
+/// first frame of the call and says the link's name; and no Attach is handed out by anything else that an endpoint does
+/// or hears (part 2, 2.6.3).
+pub fn attaches_are_calls()
+    ensures named { (old new : LinkedSessions) (deed : Deed) → IsDeed linked old deed new →
+        names_in (handed_in deed) ≡ attached_in deed }
+    ensures goes_first { (old new : LinkedSessions) (deed : Deed) (name : List ℕ) → IsDeed linked old deed new →
+        attached_in deed ≡ name ∷ [] → (handle : OutputHandle) × AttachesFirst handle name (handed_in deed) }
+{}
+
+/// What a sending link is given to send is read off the frames of its session, by the link's name and a count: how
+/// often this name was attached with in the session before the link attached. The transfers of the attachment with this
+/// name and this count, among all frames that were handed out in the session since it was new, and behind them those
+/// that wait there, say the messages that the link accepted since it attached, in order, each whole (part 2, 2.6.2,
+/// 2.6.3, 2.6.12, 2.6.14). So it is whatever else the endpoint does and hears, as long as the session holds the link
+/// and goes on.
+pub fn what_an_attachment_sends_is_what_it_accepted()
+    ensures { (sessions old new end : LinkedSessions) (settings : Settings) (before since : List Deed)
+        (number link limit : ℕ) (its : LinkSettings) (events : List Event) (frames : List SessionFrame)
+        (first passings : List Passing) (handle : OutputHandle) (session : Session) → IsNew linked settings sessions →
+        PassesIn number sessions before old first →
+        IsDeed linked old (Does limit (AttachSender number its) (attaching link events) frames) new →
+        PassesIn number new since end passings → place_at end.links link ≡ Some (Held number handle) →
+        live_at end.talk.sessions number ≡ Some session →
+        let read = attachment its.name (uses its.name (sent_in first))
+        (sent_in first ++ frames ++ sent_in passings) in
+        SayMessages (read ++ pieces_waiting handle.0 session.value.session) (messages_by link since) }
 {
     links_given_back_go_on();
     no_two_links_share_a_handle();

@@ -20,7 +20,7 @@ use Rattle.amqp_session_core.specs.declared.batch.BehindFrame.TheVariants as beh
 use Rattle.amqp_session_core.specs.declared.fields.SessionFields.{SessionFields}
 use Rattle.amqp_endpoint_fitting.specs.Handed.{handed, handed_of}
 use Rattle.amqp_endpoint_fitting.proofs.Handing.{history-channel, step-channel}
-use Rattle.amqp_endpoint_talk.specs.Inside.{AcceptsInside, AreOn, Batches, DoneInside, IsNoBeginOrEnd, SetNoWindow}
+use Rattle.amqp_endpoint_talk.specs.Inside.{AcceptsInside, AreOn, Batches, DoneInside, IsPlain, SetNoWindow}
 use Rattle.amqp_endpoint_talk.specs.Inside.{SetsNoWindow, accepted_in, accepted_of, is_of_link, is_transfer, said_in}
 use Rattle.amqp_endpoint_talk.specs.Inside.{transfers_in}
 
@@ -81,7 +81,7 @@ both-on channel [] later are more = more
 both-on channel (frame ∷ first) later (on, plain, are) more = (on, plain, both-on channel first later are more)
 
 pub all-on : {X : Type 0} (channel : ℕ) (said : X → SessionFrame)
-    → ((x : X) → ((said x).channel ≡ channel) × IsNoBeginOrEnd (said x).body) → (xs : List X)
+    → ((x : X) → ((said x).channel ≡ channel) × IsPlain (said x).body) → (xs : List X)
     → AreOn channel (map said xs)
 all-on channel said on [] = tt
 all-on channel said on (x ∷ xs) = ((on x).0, (on x).1, all-on channel said on xs)
@@ -101,7 +101,7 @@ module _ (f : SessionFields) where
   left-on [] = tt
   left-on (s ∷ left) = (refl, tt, both-on _ _ (frames_left f left) (all-behind-on _ s.behind) (left-on left))
 
-  at-once-on : (number : ℕ) (left : Option BehindFrame)
+  pub at-once-on : (number : ℕ) (left : Option BehindFrame)
       → AreOn (f.channel).0 (option_to_list (at_once f number left))
   at-once-on number None = tt
   at-once-on number (Some it) = behind-on number [] it tt

@@ -2,8 +2,8 @@
 use Rattle.std.specs.Prelude.{◌≡◌, ℕ, List, [], ◌∷◌, ◌++◌, Bool, true, false, if◌then◌else◌, is_some}
 use Rattle.amqp_session_performatives.specs.declared.session_frame.SessionFrame.{SessionFrame}
 use Rattle.amqp_session_performatives.specs.declared.session_frame.SessionFrameBody.{SessionFrameBody}
-use Rattle.amqp_session_performatives.specs.declared.session_frame.SessionFrameBody.TheVariants.{Begin, Detach, End}
-use Rattle.amqp_session_performatives.specs.declared.session_frame.SessionFrameBody.TheVariants.{Flow, Transfer}
+use Rattle.amqp_session_performatives.specs.declared.session_frame.SessionFrameBody.TheVariants.{Attach, Begin, Detach}
+use Rattle.amqp_session_performatives.specs.declared.session_frame.SessionFrameBody.TheVariants.{End, Flow, Transfer}
 use Rattle.amqp_session_core.specs.Batch.{Transfers}
 use Rattle.amqp_session_core.specs.History.{History}
 use Rattle.amqp_session_core.specs.Relay.{Relations}
@@ -33,15 +33,17 @@ abbrev pub said_in : List SessionFrame → List SessionFrame
 said_in [] = []
 said_in (frame ∷ frames) = if is_of_link frame.body then frame ∷ said_in frames else said_in frames
 
-abbrev pub IsNoBeginOrEnd : SessionFrameBody → Type 0
-IsNoBeginOrEnd (Begin begin) = ⊥
-IsNoBeginOrEnd (End end) = ⊥
-IsNoBeginOrEnd body = Unit {0}
+-- by which no session begins or ends, and no link attaches
+abbrev pub IsPlain : SessionFrameBody → Type 0
+IsPlain (Begin begin) = ⊥
+IsPlain (Attach attach) = ⊥
+IsPlain (End end) = ⊥
+IsPlain body = Unit {0}
 
--- frames on this channel, neither a Begin nor an End among them
+-- frames on this channel, no Begin, no Attach and no End among them
 abbrev pub AreOn : ℕ → List SessionFrame → Type 0
 AreOn channel [] = Unit {0}
-AreOn channel (frame ∷ frames) = (frame.channel ≡ channel) × IsNoBeginOrEnd frame.body × AreOn channel frames
+AreOn channel (frame ∷ frames) = (frame.channel ≡ channel) × IsPlain frame.body × AreOn channel frames
 
 module _ {R A T D : Type 0} where
   -- a step by which the peer's window stays as it is

@@ -1,0 +1,216 @@
+-- What an attachment of a sending link has behind it in its session, and what waits, says what the link accepted.
+use Rattle.std.proofs.Common.{◌≡◌, ◌≢◌, ◌==◌, inl, inr, ℕ, Bool, true, false, List, [], ◌∷◌, ◌++◌, Some, None, ap}
+use Rattle.std.proofs.Common.{Option, append_assoc, refl, sym, subst, ◌∙◌}
+use Rattle.std.specs.Prelude.{if◌then◌else◌}
+use Rattle.std.proofs.lemmas.Bool.Decides.{eqb_tells}
+use Rattle.amqp_session_types.specs.declared.handles.OutputHandle.{OutputHandle}
+use Rattle.amqp_session_performatives.specs.declared.attach.Attach.{Attach}
+use Rattle.amqp_session_performatives.specs.declared.session_frame.SessionFrame.{SessionFrame}
+use Rattle.amqp_session_frames.specs.declared.frame.FrameBody.{FrameBody}
+use Rattle.amqp_link_ends.specs.declared.end.End.{End}
+use Rattle.amqp_link_place.specs.Readings.{Piece}
+use Rattle.amqp_endpoint_attached.specs.Links.{own_attach, receiver_by, sender_by}
+use Rattle.amqp_endpoint_deeds.specs.Deeds.{AreDone, Deed, Does, IsDeed, Takes}
+use Rattle.amqp_endpoint_linked.specs.Attaching.{LinkAttached}
+use Rattle.amqp_endpoint_linked.specs.Does.{linked}
+use Rattle.amqp_endpoint_linked.specs.declared.linked.LinkedSessions.{LinkedSessions}
+use Rattle.amqp_endpoint_linking.specs.Linking.{Session}
+use Rattle.amqp_endpoint_model.specs.Relay.{IsNew}
+use Rattle.amqp_endpoint_model.specs.Said.{Said, attaching}
+use Rattle.amqp_endpoint_model.specs.declared.call.Call.{Call}
+use Rattle.amqp_endpoint_model.specs.declared.call.Call.TheVariants as call
+use Rattle.amqp_endpoint_model.specs.declared.event.Event.{Event}
+use Rattle.amqp_endpoint_model.specs.declared.settings.Settings.{Settings}
+use Rattle.amqp_endpoint_names.specs.Own.{slot_at}
+use Rattle.amqp_endpoint_names.specs.State.{open_of, place_at as link_place, place_of}
+use Rattle.amqp_endpoint_names.specs.declared.place.LinkPlace.TheVariants.{Held}
+use Rattle.amqp_endpoint_names.specs.declared.place.Named.{Named}
+use Rattle.amqp_endpoint_sessions.specs.State.{live_at}
+use Rattle.amqp_endpoint_sessions.proofs.Owning.{same_number}
+use Rattle.amqp_endpoint_settings.specs.declared.link.LinkSettings.{LinkSettings}
+use Rattle.amqp_endpoint_talk.specs.Windows.{Came, Passing, went}
+use Rattle.amqp_endpoint_laws.specs.Attachments.{attaches_in, attachment, uses}
+use Rattle.amqp_endpoint_laws.specs.Passed.{PassesIn, called_in, is_it, passes_in, sent_in, session_taking}
+use Rattle.amqp_endpoint_laws.specs.Queued.{SayMessages, messages_by, pieces_on, pieces_waiting}
+use Rattle.amqp_endpoint_laws.proofs.Attachments.{NoneTakes, attaches-both, attachment-read, none-both}
+use Rattle.amqp_endpoint_laws.proofs.AttachmentsCalled.{attaches-once, call-none, take-none}
+use Rattle.amqp_endpoint_laws.proofs.LinksKept.{BackGoesOn, FinishedGoesOn, LeftGoesOn}
+use Rattle.amqp_endpoint_laws.proofs.LinksStay.{entered-before, held-since}
+use Rattle.amqp_endpoint_laws.proofs.PassedSteps.{sent-append, sent-went}
+use Rattle.amqp_endpoint_laws.proofs.QueuedAttached.{HandlesApart, Reached, is-entered, link-entered, nothing-sent}
+use Rattle.amqp_endpoint_laws.proofs.QueuedAttached.{reached-apart, reached-new, reached-on, same-handle, says-all}
+use Rattle.amqp_endpoint_laws.proofs.QueuedOrder.{pieces-both}
+use Rattle.amqp_endpoint_laws.proofs.QueuedSince.{done-of}
+
+module _ (handles_apart : HandlesApart) (back_on : BackGoesOn) (left_on : LeftGoesOn) (finished_on : FinishedGoesOn)
+  where
+    module _ (link number : ℕ) (handle : OutputHandle) where
+      abbrev IsHere : LinkedSessions → Type 0
+      IsHere s = link_place s.links link ≡ Some (Held number handle)
+
+      -- none of these takes its handle
+      abbrev NoneIn : List SessionFrame → Type 0
+      NoneIn frames = NoneTakes handle.0 (attaches_in frames)
+
+      none-of : (frames : List SessionFrame) → attaches_in frames ≡ [] → NoneIn frames
+      none-of frames none = subst (λ (xs : List Attach). NoneTakes handle.0 xs) (sym none) tt
+
+      -- another link that attaches in its session, while it is held there
+      module _ (old new : LinkedSessions) (limit : ℕ) (it : End) (other : ℕ) (events : List Event)
+          (frames : List SessionFrame)
+          (a : LinkAttached old.talk old.links limit number it other events frames new.talk new.links)
+          (own : (own_attach it a.placed.handle).handle.0 ≡ a.placed.handle.0) (reached : Reached new)
+          (entered : slot_at old.links link ≢ None) (held : IsHere new) where
+        other-handle : a.placed.handle.0 ≡ handle.0 → ⊥
+        other-handle same =
+            let (none, some) = link-entered old new limit number it other events frames a in
+            let there : link_place new.links other ≡ Some (Held number handle) =
+            ap (λ (o : Option (Option (Named End))). place_of (open_of o)) some
+            ∙ ap (λ (h : ℕ). Some (Held number (record { 0 = h }))) same in
+            entered
+            (ap (λ (k : ℕ). slot_at old.links k)
+            (sym (reached-apart handles_apart new reached other link number handle there held))
+            ∙ none)
+
+        other-takes : NoneIn frames
+        other-takes =
+            let once = attaches-once old new limit number it other events frames a in
+            let apart : (once.attach.handle.0 == handle.0) ≡ false =
+            elim (eqb_tells once.attach.handle.0 handle.0) [
+              | inl same ↦ absurd (other-handle (sym (once.handled ∙ own) ∙ same.1))
+              | inr differ ↦ differ.0
+            ] in
+            subst (λ (xs : List Attach). NoneTakes handle.0 xs)
+            (sym
+            (ap attaches_in once.are ∙ ap (λ (xs : List Attach). once.attach ∷ xs) once.none))
+            (apart, tt)
+
+      -- what passes in a session is this, or nothing
+      came-none : (b : Bool) (it : FrameBody) (frames : List SessionFrame) → attaches_in frames ≡ []
+          → NoneIn (sent_in (if b then Came it ∷ went frames else []))
+      came-none true it frames none =
+          subst (λ (fs : List SessionFrame). NoneIn fs) (sym (sent-went frames)) (none-of frames none)
+      came-none false it frames none = tt
+
+      went-none : (b : Bool) (frames : List SessionFrame) → (b ≡ true → NoneIn frames)
+          → NoneIn (sent_in (if b then went frames else []))
+      went-none true frames none = subst (λ (fs : List SessionFrame). NoneIn fs) (sym (sent-went frames)) (none refl)
+      went-none false frames none = tt
+
+      module _ (old new : LinkedSessions) (reached : Reached new) (entered : slot_at old.links link ≢ None)
+          (held : IsHere new) where
+        attached-none : (limit n : ℕ) (it : End) (other : ℕ) (events : List Event) (frames : List SessionFrame)
+            (a : LinkAttached old.talk old.links limit n it other events frames new.talk new.links)
+            → (own_attach it a.placed.handle).handle.0 ≡ a.placed.handle.0
+            → NoneIn (sent_in (if number == n then went frames else []))
+        attached-none limit n it other events frames a own =
+            went-none (number == n) frames
+            (λ e. by (sym (same_number number n e)) a own)
+          where
+            by : {n : ℕ} → n ≡ number
+                → (a : LinkAttached old.talk old.links limit n it other events frames new.talk new.links)
+                → (own_attach it a.placed.handle).handle.0 ≡ a.placed.handle.0 → NoneIn frames
+            by {n} same a own =
+                let P : ℕ → Type 0 = λ (m : ℕ).
+                (b : LinkAttached old.talk old.links limit m it other events frames new.talk new.links)
+                → (own_attach it b.placed.handle).handle.0 ≡ b.placed.handle.0 → NoneIn frames in
+                subst P (sym same)
+                (λ b o. other-takes old new limit it other events frames b o reached entered held) a own
+
+        call-takes : (it : Call) (answer : Said) (limit : ℕ) (frames : List SessionFrame)
+            → IsDeed linked old (Does limit it answer frames) new
+            → NoneIn (sent_in (if is_it (called_in old it answer) number then went frames else []))
+        call-takes (call.AttachSender n its) (attaching other events) limit frames d =
+            attached-none limit n (sender_by its) other events frames d.0 refl
+        call-takes (call.AttachReceiver n its) (attaching other events) limit frames d =
+            attached-none limit n (receiver_by its) other events frames d.0 refl
+        call-takes (call.AttachSender n its) answer limit frames d = absurd d.0
+        call-takes (call.AttachReceiver n its) answer limit frames d = absurd d.0
+        call-takes it answer limit frames d =
+            went-none (is_it (called_in old it answer) number) frames
+            (λ e. none-of frames (call-none it answer old new limit frames (λ attaches. attaches) d))
+
+        deed-takes : (deed : Deed) → IsDeed linked old deed new → NoneIn (sent_in (passes_in number old deed))
+        deed-takes (Takes limit frame frames events) d =
+            came-none (is_it (session_taking old frame.channel frame.body) number) frame.body frames
+            (take-none limit frame frames events old new d)
+        deed-takes (Does limit it answer frames) d = call-takes it answer limit frames d
+        deed-takes deed d = tt
+
+      none-since : (deeds : List Deed) (old new : LinkedSessions) (later : List Passing) → Reached old
+          → PassesIn number old deeds new later → slot_at old.links link ≢ None → IsHere new → NoneIn (sent_in later)
+      none-since [] old new later reached (same, none) entered held =
+          subst (λ (ps : List Passing). NoneIn (sent_in ps)) (sym none) tt
+      none-since (deed ∷ deeds) old new later reached (mid, rest, one, others, is) entered held =
+          let reached-mid : Reached mid = reached-on old mid deed one reached in
+          let entered-mid : slot_at mid.links link ≢ None =
+          entered-before link number handle back_on left_on finished_on deed old mid one entered in
+          let held-mid : IsHere mid =
+          held-since link number handle back_on left_on finished_on deeds mid new
+          (done-of number deeds mid new rest others) entered-mid held in
+          subst (λ (ps : List Passing). NoneIn (sent_in ps)) (sym is)
+          (subst (λ (fs : List SessionFrame). NoneIn fs) (sym (sent-append (passes_in number old deed) rest))
+          (subst (λ (xs : List Attach). NoneTakes handle.0 xs)
+          (sym (attaches-both (sent_in (passes_in number old deed)) (sent_in rest)))
+          (none-both handle.0 (attaches_in (sent_in (passes_in number old deed))) (attaches_in (sent_in rest))
+          (deed-takes old mid reached-mid entered held-mid deed one)
+          (none-since deeds mid new rest reached-mid others entered-mid held))))
+
+    module _ (sessions old new end : LinkedSessions) (settings : Settings) (before since_then : List Deed)
+        (number link limit : ℕ) (its : LinkSettings) (events : List Event) (frames : List SessionFrame)
+        (first passings : List Passing) (handle : OutputHandle) (session : Session)
+        (fresh : IsNew linked settings sessions) (passed : PassesIn number sessions before old first)
+        (d : IsDeed linked old (Does limit (call.AttachSender number its) (attaching link events) frames) new)
+        (passes : PassesIn number new since_then end passings)
+        (held : link_place end.links link ≡ Some (Held number handle))
+        (live : live_at end.talk.sessions number ≡ Some session)
+      where
+        done : AreDone linked sessions before old
+        done = done-of number before sessions old first passed
+
+        -- it is read as what goes with its handle
+        attachment-is : attachment its.name (uses its.name (sent_in first))
+            (sent_in first ++ frames ++ sent_in passings)
+            ≡ pieces_on handle.0 (sent_in passings)
+        attachment-is =
+            let once = attaches-once old new limit number (sender_by its) link events frames d.0 in
+            let own : once.attach.handle.0 ≡ handle.0 =
+            once.handled
+            ∙ ap (λ (h : OutputHandle). h.0)
+            (same-handle handles_apart back_on left_on finished_on sessions old new end settings before since_then
+            number link limit its events frames passings handle fresh done d passes held) in
+            let silent : pieces_on handle.0 once.later ≡ [] =
+            ap (λ (fs : List SessionFrame). pieces_on handle.0 fs) (sym once.are)
+            ∙ nothing-sent handles_apart back_on left_on finished_on sessions old new end settings before since_then
+            number link limit its events frames passings handle fresh done d passes held in
+            let later : List SessionFrame = once.later ++ sent_in passings in
+            let none : NoneTakes handle.0 (attaches_in later) =
+            subst (λ (xs : List Attach). NoneTakes handle.0 xs)
+            (sym
+            (attaches-both once.later (sent_in passings)
+            ∙ ap (λ (xs : List Attach). xs ++ attaches_in (sent_in passings)) once.none))
+            (none-since link number handle since_then new end passings
+            (reached-new handles_apart back_on left_on finished_on sessions old new end settings before since_then
+            number link limit its events frames passings handle fresh done d passes held)
+            passes
+            (is-entered handles_apart back_on left_on finished_on sessions old new end settings before since_then number
+            link limit its events frames passings handle fresh done d passes held)
+            held) in
+            ap (λ (fs : List SessionFrame). attachment its.name (uses its.name (sent_in first)) fs)
+            (ap (λ (fs : List SessionFrame). sent_in first ++ fs ++ sent_in passings) once.are
+            ∙ append_assoc (sent_in first) _ (sent_in passings))
+            ∙ attachment-read its.name once.channel handle.0 once.attach (sent_in first) later once.named own none
+            ∙ pieces-both handle.0 once.later (sent_in passings)
+            ∙ ap (λ (ps : List Piece). ps ++ pieces_on handle.0 (sent_in passings)) silent
+
+        pub attachment-says : SayMessages
+            (attachment its.name (uses its.name (sent_in first)) (sent_in first ++ frames ++ sent_in passings)
+            ++ pieces_waiting handle.0 session.value.session)
+            (messages_by link since_then)
+        attachment-says =
+            subst
+            (λ (ps : List Piece).
+            SayMessages (ps ++ pieces_waiting handle.0 session.value.session) (messages_by link since_then))
+            (sym attachment-is)
+            (says-all handles_apart back_on left_on finished_on sessions old new end settings before since_then number
+            link limit its events frames passings handle fresh done d passes held session live)
