@@ -45,7 +45,7 @@ use Rattle.amqp_endpoint_reading.specs.Reading.{Comes, Goes, Wired}
 use Rattle.amqp_endpoint_sessions.specs.declared.place.Place.TheVariants.{Asked, Live, Ending, Over}
 use Rattle.amqp_endpoint_talk.specs.Inside.{AreOn, IsPlain}
 use Rattle.amqp_endpoint_talk.proofs.Inside.{at-once-on, both-on, left-on}
-use Rattle.amqp_endpoint_laws.specs.Attachments.{attach_in, attached_in, attaches_in, handed_in, named_by, names_in}
+use Rattle.amqp_endpoint_laws.specs.Attachments.{attach_in, attached_in, attaches_in, gone_in, named_by, names_in}
 use Rattle.amqp_endpoint_laws.specs.Queued.{AttachesFirst}
 use Rattle.amqp_endpoint_laws.proofs.PassedCalled.{IsAttaching, called}
 use Rattle.amqp_endpoint_laws.proofs.PassedHeard.{frame-heard}
@@ -247,7 +247,7 @@ call-names it answer old new limit frames d =
     none-named frames (call-none it answer old new limit frames (λ attaches. attaches) d)
 
 pub deed-names : (old new : LinkedSessions) (deed : Deed) → IsDeed linked old deed new
-    → names_in (handed_in deed) ≡ attached_in deed
+    → names_in (gone_in deed) ≡ attached_in deed
 deed-names old new (Takes limit frame frames events) d =
     none-named frames (take-none limit frame frames events old new d)
 deed-names old new (Does limit it answer frames) d = call-names it answer old new limit frames d
@@ -291,6 +291,6 @@ call-first (call.AttachReceiver n its) answer old new limit frames name d is = a
 call-first it answer old new limit frames name d is = absurd cc
 
 pub deed-first : (old new : LinkedSessions) (deed : Deed) (name : List ℕ) → IsDeed linked old deed new
-    → attached_in deed ≡ name ∷ [] → (handle : OutputHandle) × AttachesFirst handle name (handed_in deed)
+    → attached_in deed ≡ name ∷ [] → (handle : OutputHandle) × AttachesFirst handle name (gone_in deed)
 deed-first old new (Does limit it answer frames) name d is = call-first it answer old new limit frames name d is
 deed-first old new deed name d is = absurd cc

@@ -11,9 +11,11 @@ use Rattle.amqp_endpoint_model.specs.History.{Run}
 use Rattle.amqp_endpoint_model.specs.Relay.{IsNew}
 use Rattle.amqp_endpoint_model.specs.Said.{Told}
 use Rattle.amqp_endpoint_model.specs.State.{State, fresh, is_unconnected}
-use Rattle.amqp_endpoint_deeds.specs.Deeds.{AreDone, Closes, Deed, Does, Finishes, Hears, IsDeed, IsInOrder, MayPass}
-use Rattle.amqp_endpoint_deeds.specs.Deeds.{Moves, NoneRenews, Queues, Refuses, Renews, Takes, Throughout, come_to}
-use Rattle.amqp_endpoint_deeds.specs.Deeds.{fed_since, opened_behind, pulled_since, up_behind}
+use Rattle.amqp_endpoint_deeds.specs.Deeds.{AreDone, Closes, Deed, Does, Finishes, Hears, IsDeed, IsDone, IsInOrder}
+use Rattle.amqp_endpoint_deeds.specs.Deeds.{MayPass, Moves, NoneRenews, Queues, Refuses, Renews, Takes, Throughout}
+use Rattle.amqp_endpoint_deeds.specs.Deeds.{come_to, done_since, fed_since, opened_behind, pulled_since, told_since}
+use Rattle.amqp_endpoint_deeds.specs.Deeds.{up_behind}
+use Rattle.amqp_endpoint_deeds.specs.Telling.{calls_done, events_told}
 use Rattle.amqp_endpoint_deeds.proofs.Runs.{is-done}
 use Rattle.amqp_endpoint_linked.specs.Does.{linked}
 use Rattle.amqp_endpoint_linked.specs.declared.linked.LinkedSessions.{LinkedSessions}
@@ -258,8 +260,9 @@ module _ (sessions start : LinkedSessions) (settings : Settings) (before later :
 pub run-judged : (sessions : LinkedSessions) (settings : Settings) (calls : List Call) (told : List Told)
     (end : State LinkedSessions) → IsNew linked settings sessions
     → Run linked (fresh settings sessions) calls told end → is_unconnected end.phase ≡ false
-    → Judged settings.first_transfer_number settings.max_frame_size (pulled_since [] calls told)
-    (fed_since [] calls told) end
+    → (did : IsDone linked settings.max_frame_size sessions (pulled_since [] calls told) (fed_since [] calls told)
+    (told_since [] calls told) (done_since [] calls told) (events_told told) (calls_done calls told) end)
+    × Judged settings.first_transfer_number did.since
 run-judged sessions settings calls told end new run up =
     let i = is-done linked sessions settings calls told end run in
     let one = i.of_one up in
@@ -270,18 +273,18 @@ run-judged sessions settings calls told end new run up =
     subst (λ (ds : List Deed). Throughout up_behind MayPass false (i.before ++ ds)) one.is i.up_in_order in
     let (order, (any, later)) =
     parts-of opened_behind IsInOrder i.before (Renews ∷ one.later) None
-    (subst (λ (ds : List Deed). Throughout opened_behind IsInOrder None (i.before ++ ds)) one.is i.in_order) in
-    record {
-      deeds = i.since;
-      passes = i.passes up;
-      keep = λ number.
-          subst
-          (λ (ds : List Deed).
-          KeepsWindow (begins_with settings.first_transfer_number) (passing_in number nothing_read (wired_by ds)))
-          (sym one.is)
-          (windows-read sessions start settings i.before one.later new done t one.none end.sessions number since);
-      each =
-          subst (λ (ds : List Deed). AreOnes nothing_read (wired_by ds)) (sym one.is)
-          (ones-read sessions start settings i.before one.later new done t one.none end.sessions since);
-      fit = subst (λ (ds : List Deed). Throughout opened_behind IsInOrder None ds) (sym one.is) (tt, later);
-    }
+    (subst (λ (ds : List Deed). Throughout opened_behind IsInOrder None (i.before ++ ds)) one.is i.in_order) in (
+      i,
+      record {
+        keep = λ number.
+            subst
+            (λ (ds : List Deed).
+            KeepsWindow (begins_with settings.first_transfer_number) (passing_in number nothing_read (wired_by ds)))
+            (sym one.is)
+            (windows-read sessions start settings i.before one.later new done t one.none end.sessions number since);
+        each =
+            subst (λ (ds : List Deed). AreOnes nothing_read (wired_by ds)) (sym one.is)
+            (ones-read sessions start settings i.before one.later new done t one.none end.sessions since);
+        fit = subst (λ (ds : List Deed). Throughout opened_behind IsInOrder None ds) (sym one.is) (tt, later);
+      },
+    )

@@ -26,10 +26,10 @@ abbrev pub names_in : List SessionFrame → List (List ℕ)
 names_in frames = map (λ (attach : Attach). attach.name) (attaches_in frames)
 
 -- the frames of sessions that are handed out in a deed
-abbrev pub handed_in : Deed → List SessionFrame
-handed_in (Takes limit frame frames events) = frames
-handed_in (Does limit call answer frames) = frames
-handed_in deed = []
+abbrev pub gone_in : Deed → List SessionFrame
+gone_in (Takes limit frame frames events) = frames
+gone_in (Does limit call answer frames) = frames
+gone_in deed = []
 
 -- the name of the link that a call has attach
 abbrev pub named_by : Call → List (List ℕ)
@@ -74,14 +74,14 @@ stand_behind name stand (body.Attach attach) = attached_behind name stand attach
 stand_behind name stand said = stand
 
 -- a transfer of it
-abbrev pub piece_of : Stand → SessionFrameBody → List Piece
-piece_of (Follows handle) said = piece_on handle said
-piece_of stand said = []
+abbrev pub piece_at : Stand → SessionFrameBody → List Piece
+piece_at (Follows handle) said = piece_on handle said
+piece_at stand said = []
 
 abbrev pub pieces_from : List ℕ → Stand → List SessionFrame → List Piece
 pieces_from name stand [] = []
 pieces_from name stand (frame ∷ frames) =
-    piece_of stand frame.body ++ pieces_from name (stand_behind name stand frame.body) frames
+    piece_at stand frame.body ++ pieces_from name (stand_behind name stand frame.body) frames
 
 -- the transfers of the attachment with this name before which so many others with it come: those with the handle of its
 -- Attach, from there up to the next Attach with that handle

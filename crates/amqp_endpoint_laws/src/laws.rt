@@ -30,7 +30,7 @@ ghost use Rattle.amqp_endpoint_deeds.specs.Telling.{calls_done, events_told};
 ghost use Rattle.amqp_endpoint_settings.specs.declared.link.LinkSettings.{LinkSettings};
 ghost use Rattle.amqp_endpoint_talk.specs.Windows.{KeepsWindow, Passing, begins_with};
 ghost use Rattle.amqp_endpoint_reading.specs.Reading.{nothing_read};
-ghost use Rattle.amqp_endpoint_laws.specs.Attachments.{attached_in, attachment, handed_in, names_in, uses};
+ghost use Rattle.amqp_endpoint_laws.specs.Attachments.{attached_in, attachment, gone_in, names_in, uses};
 ghost use Rattle.amqp_endpoint_laws.specs.Conversing.{SessionsGoOn};
 ghost use Rattle.amqp_endpoint_laws.specs.Handed.{IsReceiving, NoneResumes, PassesOn, ReachIn, handed_as};
 ghost use Rattle.amqp_endpoint_laws.specs.Handed.{handed_by, leads_there, pieces_on};
@@ -306,9 +306,9 @@ pub fn what_is_sent_is_queued_in_order()
 /// or hears (part 2, 2.6.3).
 pub fn attaches_are_calls()
     ensures named { (old new : LinkedSessions) (deed : Deed) → IsDeed linked old deed new →
-        names_in (handed_in deed) ≡ attached_in deed }
+        names_in (gone_in deed) ≡ attached_in deed }
     ensures goes_first { (old new : LinkedSessions) (deed : Deed) (name : List ℕ) → IsDeed linked old deed new →
-        attached_in deed ≡ name ∷ [] → (handle : OutputHandle) × AttachesFirst handle name (handed_in deed) }
+        attached_in deed ≡ name ∷ [] → (handle : OutputHandle) × AttachesFirst handle name (gone_in deed) }
 {}
 
 /// What a sending link is given to send is read off the frames of its session, by the link's name and a count: how
@@ -353,10 +353,11 @@ pub fn what_passes_is_read()
 
 /// Who reads the frames of a connection, and tells sessions apart by channels alone, finds each transfer that goes in a
 /// session in the window that the peer gave it (part 2, 2.5.1, 2.5.6). So it is whatever is done on a connection; and
-/// behind each run, unless the connection is broken off, there are such deeds that queue what `pull` gave since the
-/// latest connect and what is queued still, and that take the frames which are read of the bytes fed since then. Each
-/// frame that sessions hand out by these fits the limit that is in force: 512 bytes, and from the peer's Open on its
-/// max-frame-size (part 2, 2.4.1, 2.7.1).
+/// so it is, unless the connection is broken off, with the deeds of a run since the latest connect: those by which its
+/// sessions came to stand as they do, its calls are done and its events told, which queue what `pull` gave since then
+/// and what is queued still, and take the frames that are read of the bytes fed since then. Each frame that sessions
+/// hand out by these fits the limit that is in force: 512 bytes, and from the peer's Open on its max-frame-size (part
+/// 2, 2.4.1, 2.7.1).
 pub fn transfers_are_read_in_their_windows()
     ensures by_deeds { (sessions start end : LinkedSessions) (settings : Settings) (before later : List Deed)
         (number : ℕ) → IsNew linked settings sessions → AreDone linked sessions before start →
@@ -366,6 +367,7 @@ pub fn transfers_are_read_in_their_windows()
     ensures by_calls { (sessions : LinkedSessions) (settings : Settings) (calls : List Call) (told : List Told)
         (end : State LinkedSessions) → IsNew linked settings sessions →
         Run linked (fresh settings sessions) calls told end → is_unconnected end.phase ≡ false →
-        Judged settings.first_transfer_number settings.max_frame_size (pulled_since [] calls told)
-        (fed_since [] calls told) end }
+        (did : IsDone linked settings.max_frame_size sessions (pulled_since [] calls told) (fed_since [] calls told)
+        (told_since [] calls told) (done_since [] calls told) (events_told told) (calls_done calls told) end) ×
+        Judged settings.first_transfer_number did.since }
 {}
