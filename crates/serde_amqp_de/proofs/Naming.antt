@@ -1,18 +1,24 @@
 -- What is wrong with bytes that are refused, by the error's name.
-use Rattle.std.proofs.Common.{◌≡◌, ◌≢◌, ℕ, ◌<◌, List, [], ◌∷◌, ◌++◌, length, Bool, false, Option, Some, None, IsSome, Result, sym, ◌∙◌, ap, subst, refl, arith, inl, inr}
-use Rattle.std.specs.Prelude.{IsErrAnd}
+use Rattle.std.proofs.Common.{◌≡◌, ◌≢◌, ℕ, ◌<◌, List, [], ◌∷◌, ◌++◌, length, Bool, true, false, Option, Some, None}
+use Rattle.std.proofs.Common.{IsSome, Result, sym, ◌∙◌, ap, subst, refl, arith, inl, inr}
+use Rattle.std.specs.Prelude.{IsErrAnd, is_some, Ok, Err}
 use Rattle.std.proofs.lemmas.Result.{err_from_is_err_and}
 use Rattle.std.specs.Str.{is_utf8}
 use Rattle.serde_amqp_item.specs.declared.codes.EncodingCodes.{EncodingCodes}
+use Rattle.serde_amqp_item.specs.declared.codes.EncodingCodes.TheVariants.{Null, List0}
 use Rattle.serde_amqp_item.specs.declared.error.Error.{Error}
 use Rattle.serde_amqp_item.specs.declared.error.Error.TheVariants.{Message, Io, InvalidFormatCode, InvalidValue, InvalidUtf8Encoding, SequenceLengthMismatch, InvalidLength, Memory}
 use Rattle.serde_amqp_item.specs.Item.{Scalar}
 use Rattle.serde_amqp_item.specs.Wire.{Leads, Width, field_width, IsElementCode, Row, fixed, variable, array_of, row_at, code_of}
-use Rattle.serde_amqp_item.specs.Kind.{Kind, kind_at, array_kind}
+use Rattle.serde_amqp_item.specs.Kind.{Kind, kind_at, null_kind, list_kind, array_kind}
 use Rattle.serde_amqp_read.specs.Reads.{Refusal, faultless}
-use Rattle.serde_amqp_de.specs.Reads.{At, Moves, Head, ReadSized, ReadCount}
-use Rattle.serde_amqp_de.specs.Names.{Led, WrongConstructor, Counted, NotUtf8, TooFew, NoValue, NoUtf8, WrongLength, WrongElement, Cause, Names, TextCause, NamesText, ElementCause, NamesElement, Named}
+use Rattle.serde_amqp_de.specs.Reads.{At, Moves, Head, Foresees, ReadSized, ReadCount}
+use Rattle.serde_amqp_de.specs.Names.{Led, WrongConstructor, Counted, NotUtf8, TooFew, NoValue, NoUtf8, WrongLength}
+use Rattle.serde_amqp_de.specs.Names.{WrongElement, Cause, Names, TextCause, NamesText, ElementCause, NamesElement}
+use Rattle.serde_amqp_de.specs.Names.{Named, Says, NamesCount, LedByOther, NamesOption, LedByAny, NamesKept}
+use Rattle.serde_amqp_read.proofs.Refusals.{refusal_of}
 use Rattle.serde_amqp_de.proofs.Heads.{refusal_weaker}
+use Rattle.serde_amqp_de.proofs.Scalars.{not_null}
 
 -- what the exit of a `?` names
 pub named_carried : {X : Type 0} (faulty : Error → Bool) (r : Result X Error) (e : Error) (P : Type 0) (Q : Error → Type 0) → IsErrAnd r (λ f. f ≡ e) → (P → Q e) → Refusal faulty e P → Named faulty r Q
@@ -122,6 +128,91 @@ counted_of w mid last total count So r so = record { total = total; count = coun
 pub names_length : (faulty : Error → Bool) (t : Kind) (k : Option ℕ) (old mid : At) (code : EncodingCodes) (e : Error) → e ≡ InvalidLength → Head k old mid code → kind_at code ≡ t → WrongLength (row_at (Some code)) mid.rest → Refusal faulty e (Names t k old.rest e)
 names_length faulty t k old mid code e is h type bad =
     subst (λ (d : Error). Refusal faulty d (Names t k old.rest d)) (sym is) (inr (led t k old mid code WrongLength h type bad))
+
+-- how many items the head of a list or a map says
+pub said : (t : Kind) (k : Option ℕ) (old mid last : At) (code : EncodingCodes) (w : Width) (total count : ℕ)
+    → Head k old mid code → kind_at code ≡ t → ReadCount w mid last total count
+    → (Counted w mid.rest (λ s n behind. n ≡ count) → Says count (row_at (Some code)) mid.rest)
+    → Led t k old.rest (Says count)
+said t k old mid last code w total count h type r so = led t k old mid code (Says count) h type
+    (so (counted_of w mid last total count _ r refl))
+
+-- the list with no bytes
+pub said_none : (k : Option ℕ) (old mid : At) → Head k old mid List0 → Led list_kind k old.rest (Says 0)
+said_none k old mid h = led list_kind k old mid List0 (Says 0) h refl refl
+
+-- another number of items than was wanted
+pub names_count : (other : Error) (n m : ℕ) (t : Kind) (k : Option ℕ) (bytes : List ℕ) → m ≢ n
+    → Led t k bytes (Says m) → NamesCount other n t k bytes other
+names_count other n m t k bytes d l = inr (refl, (m, d, l))
+
+-- what an error that is passed on names
+pub named_passed : {X : Type 0} (faulty : Error → Bool) (r : Result X Error) (e : Error) (t : Kind) (k : Option ℕ)
+    (bytes : List ℕ) → r ≡ Err e → Named faulty r (Names t k bytes) → Refusal faulty e (Names t k bytes e)
+named_passed faulty r e t k bytes same h = rw same at h
+
+-- likewise where another number of items has a name of its own
+pub names_any_count : {X : Type 0} (faulty : Error → Bool) (r : Result X Error) (other : Error) (n : ℕ) (t : Kind)
+    (k : Option ℕ) (bytes : List ℕ) → Named faulty r (Names t k bytes) → Named faulty r (NamesCount other n t k bytes)
+names_any_count faulty (Ok x) other n t k bytes h = tt
+names_any_count faulty (Err e) other n t k bytes h = refusal_weaker faulty e (Names t k bytes e)
+    (NamesCount other n t k bytes e) (λ a. inl a) h
+
+-- null, or a value of a type that says itself what its errors name
+pub names_option : {X : Type 0} (faulty : Error → Bool) (r : Result X Error) (k : Option ℕ) (bytes : List ℕ)
+    (e : Error) → IsErrAnd r (λ f. f ≡ e) → Refusal faulty e (Names null_kind k bytes e)
+    → Named faulty r (NamesOption k bytes)
+names_option faulty r k bytes e is h = named_carried faulty r e (Names null_kind k bytes e) (NamesOption k bytes) is
+    (λ n. inl n) h
+
+pub names_foreseen : {X : Type 0} (faulty : Error → Bool) (r : Result X Error) (k : Option ℕ) (old : At)
+    (code : EncodingCodes) (e : Error) → IsErrAnd r (λ f. f ≡ e) → Foresees k old code → code ≢ Null
+    → Named faulty r (NamesOption k old.rest)
+names_foreseen faulty r k old code e is f n =
+    let h = f.head in
+    let led : LedByOther k old.rest = (
+      h.byte,
+      f.mid.rest,
+      code,
+      leads_on k h.front f.mid.rest old.rest h.byte h.leads
+          h.moves.split,
+      h.means,
+      not_null code n,
+    ) in
+    named_carried faulty r e (LedByOther k old.rest) (NamesOption k old.rest) is (λ l. inr l)
+    (refusal_of faulty e (LedByOther k old.rest) led)
+
+-- a value of any type: in an array it has no constructor of its own
+pub names_in_array : (faulty : Error → Bool) (k : Option ℕ) (bytes : List ℕ) (e : Error) → e ≡ InvalidFormatCode
+    → is_some k ≡ true → Refusal faulty e (NamesKept k bytes e)
+names_in_array faulty None bytes e is n = absurd cc
+names_in_array faulty (Some c) bytes e is n = refusal_of faulty e (e ≡ InvalidFormatCode) is
+
+pub names_kept : {X : Type 0} (faulty : Error → Bool) (r : Result X Error) (k : Option ℕ) (bytes : List ℕ) (e : Error)
+    → is_some k ≡ false → IsErrAnd r (λ f. f ≡ e) → Refusal faulty e (Names null_kind k bytes e)
+    → Named faulty r (NamesKept k bytes)
+names_kept faulty r None bytes e n is h = named_carried faulty r e (Names null_kind None bytes e)
+    (NamesKept None bytes) is (λ a. inl a) h
+names_kept faulty r (Some c) bytes e n is h = absurd cc
+
+pub names_behind : {X : Type 0} (faulty : Error → Bool) (r : Result X Error) (k : Option ℕ) (old : At)
+    (code : EncodingCodes) (e : Error) → is_some k ≡ false → IsErrAnd r (λ f. f ≡ e) → Foresees k old code
+    → Named faulty r (NamesKept k old.rest)
+names_behind faulty r None old code e n is f =
+    let h = f.head in
+    let led : LedByAny None old.rest = (
+      h.byte,
+      f.mid.rest,
+      code,
+      leads_on None h.front f.mid.rest old.rest h.byte
+          h.leads h.moves.split,
+      h.means,
+    ) in
+    named_carried faulty r e (LedByAny None old.rest) (NamesKept None old.rest) is (λ l. inr l)
+    (refusal_of faulty e (LedByAny None old.rest) led)
+names_behind faulty r (Some c) old code e n is f = absurd cc
+
+pub ruleset kept_names = (names_in_array, names_kept, names_behind)
 
 -- the constructor of an array's elements
 pub names_element : (faulty : Error → Bool) (count : ℕ) (old new : At) (c : ℕ) (e : Error) → e ≡ InvalidFormatCode → Moves old new (c ∷ []) → (IsElementCode count c → ⊥) → Refusal faulty e (NamesElement count old.rest e)

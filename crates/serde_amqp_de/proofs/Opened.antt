@@ -19,6 +19,7 @@ use Rattle.serde_amqp_de.specs.Open.{Shape, a_list, an_array, a_map, a_described
 use Rattle.serde_amqp_de.proofs.Heads.{moves_then, stays, head_form, behind_head, refusal_weaker}
 use Rattle.serde_amqp_de.proofs.Lists.{unkept}
 use Rattle.serde_amqp_de.proofs.Maps.{twice_half, in_turn as turned}
+use Rattle.serde_amqp_de.proofs.Naming.{named_passed, names_any_count}
 use Rattle.serde_amqp_de.proofs.Pairs.{raw_or_not, refuses_key, refuses_value}
 use Rattle.serde_amqp_item.proofs.Scalars.{equal}
 
@@ -188,7 +189,7 @@ pub ruleset opening = (took_next)
 pub passed_on : {X : Type 0} (faulty : Error → Bool) (r : Result X Error) (e : Error) (P : Type 0) → r ≡ Err e → Unless faulty r P → Refusal faulty e P
 passed_on faulty r e P same h = rw same at h
 
-pub ruleset bounding = (passed_on)
+pub ruleset bounding = (passed_on, named_passed)
 
 -- what the end of the whole says
 pub ended : {R : Type 0} (rest : R → List ℕ) (shape : Shape) (r : Result (Unit {0}) Error) (c : Content R) (d : Deserializer R)
@@ -319,4 +320,4 @@ pub passed_variant : {X : Type 0} (faulty : Error → Bool) (r : Result X Error)
 passed_variant faulty (Ok x) k old h = tt
 passed_variant faulty (Err e) k old h = refusal_weaker faulty e _ _ (no_variant k old) h
 
-pub ruleset others = (passed_tuple, passed_variant)
+pub ruleset others = (passed_tuple, passed_variant, names_any_count)

@@ -7,8 +7,8 @@ use Rattle.serde_amqp_item.specs.declared.error.Error.{Error}
 use Rattle.serde_amqp_item.specs.declared.error.Error.TheVariants.{InvalidFormatCode, InvalidValue, InvalidUtf8Encoding}
 use Rattle.serde_amqp_item.specs.declared.error.Error.TheVariants.{InvalidLength}
 use Rattle.serde_amqp_item.specs.Wire.{Leads, Width, one_byte, field, field_width, room, IsSized, IsElementCode, Row}
-use Rattle.serde_amqp_item.specs.Wire.{fixed, variable, list_of, map_of, array_of, row_at, code_of}
-use Rattle.serde_amqp_item.specs.Kind.{Kind, kind_at}
+use Rattle.serde_amqp_item.specs.Wire.{fixed, variable, empty_list, list_of, map_of, array_of, row_at, code_of}
+use Rattle.serde_amqp_item.specs.Kind.{Kind, kind_at, null_kind}
 use Rattle.serde_amqp_read.specs.Reads.{Refusal}
 use Rattle.serde_amqp_de.specs.Reads.{NoSized}
 
@@ -106,6 +106,41 @@ Cause e t k bytes = ⊥
 -- a value of this type was wanted: the bytes end before it does, or the error names what is wrong with them
 abbrev pub Names : Kind → Option ℕ → List ℕ → Error → Type 0
 Names t k bytes e = Ends t k bytes ⊎ Cause e t k bytes
+
+-- a list or a map of so many items, by its head; a map's are its keys and values
+abbrev pub Says : ℕ → Row → List ℕ → Type 0
+Says n empty_list bytes = n ≡ 0
+Says n (list_of w) bytes = Counted w bytes (λ total count behind. count ≡ n)
+Says n (map_of w) bytes = Counted w bytes (λ total count behind. count ≡ n)
+Says n r bytes = ⊥
+
+-- the head of a list or a map leads the bytes, and says another number of items
+abbrev pub SaysOther : ℕ → Kind → Option ℕ → List ℕ → Type 0
+SaysOther n t k bytes = (m : ℕ) × (m ≢ n) × Led t k bytes (Says m)
+
+-- likewise of a list or a map of so many items, any other number of which is told as this error
+abbrev pub NamesCount : Error → ℕ → Kind → Option ℕ → List ℕ → Error → Type 0
+NamesCount other n t k bytes e = Names t k bytes e ⊎ ((e ≡ other) × SaysOther n t k bytes)
+
+-- a known constructor leads the bytes that isn't that of null
+abbrev pub LedByOther : Option ℕ → List ℕ → Type 0
+LedByOther k bytes =
+    (byte : ℕ) × (behind : List ℕ) × (code : EncodingCodes) × Leads k bytes byte behind × (code_of byte ≡ Some code)
+    × (kind_at code ≢ null_kind)
+
+-- likewise of null or a value of a type that says itself what its errors name
+abbrev pub NamesOption : Option ℕ → List ℕ → Error → Type 0
+NamesOption k bytes e = Names null_kind k bytes e ⊎ LedByOther k bytes
+
+-- a known constructor leads the bytes
+abbrev pub LedByAny : Option ℕ → List ℕ → Type 0
+LedByAny k bytes =
+    (byte : ℕ) × (behind : List ℕ) × (code : EncodingCodes) × Leads k bytes byte behind × (code_of byte ≡ Some code)
+
+-- likewise of a value of any type, which has a constructor of its own; nothing is said of what stands behind that
+abbrev pub NamesKept : Option ℕ → List ℕ → Error → Type 0
+NamesKept (Some c) bytes e = e ≡ InvalidFormatCode
+NamesKept None bytes e = Names null_kind None bytes e ⊎ LedByAny None bytes
 
 -- likewise of a text behind its constructor
 abbrev pub TextCause : Error → Width → List ℕ → Type 0

@@ -2,8 +2,11 @@
 ghost use Rattle.std.specs.Prelude.{◌≡◌, ◌≢◌, ◌⊎◌, ◌%◌, ◌∷◌, [], ℕ, List, IfOk, IfErr, OnOk, OnErr, MatchOption};
 ghost use Rattle.std.specs.Prelude.{Option, Some, None};
 ghost use Rattle.std.specs.Borrow.{RestsIfErr, sem};
+ghost use Rattle.serde_amqp_item.specs.declared.error.Error.TheVariants.{SequenceLengthMismatch, InvalidLength};
 ghost use Rattle.serde_amqp_item.specs.Item.{Item, items_of, pairs_of, scalar, uint, list, array, map, described};
+ghost use Rattle.serde_amqp_item.specs.Kind.{list_kind, array_kind, map_kind, described_kind};
 ghost use Rattle.serde_amqp_read.specs.Reads.{Unless};
+ghost use Rattle.serde_amqp_de.specs.Names.{Names, NamesCount, Named};
 ghost use Rattle.serde_amqp_de.specs.Reads.{At, Reads, Refuses, HasFailed, at_of};
 ghost use Rattle.serde_amqp_de.specs.Takes.{uint_taken, list_taken, array_taken, described_taken};
 ghost use Rattle.serde_amqp_de.specs.Maps.{map_taken, RefusesPairs};
@@ -38,6 +41,8 @@ impl<R: Read> Deserializer<R> {
             (at_of R.rest self.old) [] a.content) }
         ensures refused { Unless R.faulty result
             (Refuses list_taken self.old.element (at_of R.rest self.old)) }
+        ensures named { Named R.faulty result
+            (Names list_kind self.old.element (R.rest self.old.reader)) }
     {
         let outer = self.element;
         let head = self.list_head();
@@ -68,6 +73,9 @@ impl<R: Read> Deserializer<R> {
         ensures left { IfOk result (λ a. a.content.left ≡ len) }
         ensures refused { Unless R.faulty result
             (Refuses (counted_taken len) self.old.element (at_of R.rest self.old)) }
+        ensures named { Named R.faulty result
+            (NamesCount SequenceLengthMismatch len list_kind self.old.element
+            (R.rest self.old.reader)) }
     {
         let outer = self.element;
         let head = self.list_head();
@@ -148,6 +156,8 @@ impl<R: Read> Deserializer<R> {
             self.old.element (at_of R.rest self.old) [] a.content) }
         ensures refused { Unless R.faulty result
             (Refuses array_taken self.old.element (at_of R.rest self.old)) }
+        ensures named { Named R.faulty result
+            (Names array_kind self.old.element (R.rest self.old.reader)) }
     {
         let outer = self.element;
         let head = self.array_head();
@@ -224,6 +234,8 @@ impl<R: Read> Deserializer<R> {
         ensures even { IfOk result (λ a. a.content.left % 2 ≡ 0) }
         ensures refused { Unless R.faulty result
             (Refuses map_taken self.old.element (at_of R.rest self.old)) }
+        ensures named { Named R.faulty result
+            (Names map_kind self.old.element (R.rest self.old.reader)) }
     {
         let outer = self.element;
         let head = self.map_head();
@@ -363,6 +375,8 @@ impl<R: Read> Deserializer<R> {
         ensures left { IfOk result (λ a. a.content.left ≡ 2) }
         ensures refused { Unless R.faulty result
             (Refuses variant_taken self.old.element (at_of R.rest self.old)) }
+        ensures named { Named R.faulty result
+            (NamesCount InvalidLength 2 map_kind self.old.element (R.rest self.old.reader)) }
     {
         let outer = self.element;
         let head = self.map_head();
@@ -472,6 +486,8 @@ impl<R: Read> Deserializer<R> {
         ensures left { IfOk result (λ a. a.content.left ≡ 2) }
         ensures refused { Unless R.faulty result
             (Refuses described_taken self.old.element (at_of R.rest self.old)) }
+        ensures named { Named R.faulty result
+            (Names described_kind self.old.element (R.rest self.old.reader)) }
     {
         let outer = self.element;
         match self.described() {

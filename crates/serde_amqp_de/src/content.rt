@@ -2,8 +2,10 @@
 ghost use Rattle.std.specs.Prelude.{◌≡◌, ◌≢◌, ◌⊎◌, ◌+◌, ◌∷◌, [], ℕ, List, Bool, true, false, Result, Ok, IfOk, IfErr};
 ghost use Rattle.std.specs.Prelude.{OnOk, OnErr, MatchOption, Option, Some, None};
 ghost use Rattle.serde_amqp_item.specs.Item.{Item};
+ghost use Rattle.serde_amqp_item.specs.Kind.{Kind};
 ghost use Rattle.serde_amqp_read.specs.Reads.{Unless};
 ghost use Rattle.serde_amqp_de.specs.Reads.{At, Refuses, HasFailed, at_of};
+ghost use Rattle.serde_amqp_de.specs.Names.{Names, Named};
 ghost use Rattle.serde_amqp_de.specs.Open.{AtEnd, TookNext, NamesEnd};
 
 use crate::deserialize::Deserialize;
@@ -94,6 +96,8 @@ impl<R: Read> Deserializer<R> {
             Unless R.faulty head (Refuses take k old) →
             Unless R.faulty result (Refuses take k old) }
         ensures failed { OnErr result (HasFailed R.rest self.new) }
+        ensures named { (t : Kind) (k : Option ℕ) (bytes : List ℕ) →
+            Named R.faulty head (Names t k bytes) → Named R.faulty result (Names t k bytes) }
     {
         match head {
             Ok((count, size)) => {

@@ -6,6 +6,7 @@ ghost use Rattle.serde_amqp_item.specs.Wire.{Wire};
 ghost use Rattle.serde_amqp_item.specs.Record.{option_item};
 ghost use Rattle.serde_amqp_read.specs.Reads.{Unless, faultless};
 ghost use Rattle.serde_amqp_de.specs.Reads.{Took, Refuses, at_of, HasFailed};
+ghost use Rattle.serde_amqp_de.specs.Names.{NamesOption, Named};
 ghost use Rattle.serde_amqp_de.specs.Takes.{null_taken, boolean_taken, ushort_taken, uint_taken, ulong_taken};
 ghost use Rattle.serde_amqp_de.specs.Takes.{string_taken, option_taken, reads_as_null};
 ghost use Rattle.serde_amqp_de.specs.Decides.{Decided};
@@ -221,7 +222,9 @@ impl<T: Deserialize> Deserialize for Option<T> {
 impl<R: Read> Deserializer<R> {
     /// Reads null as none, and any other item as a value (part 1, section 1.4).
     ///
-    /// Errors: as for the value's `read`. After an error the reader has failed.
+    /// Errors: `Io` where the input ends; `InvalidFormatCode` where no constructor comes next; those of the
+    /// value's `read` behind a constructor that isn't that of null. After an error the reader has failed.
+    #[tactic(auto, using(crate::proofs::Values::optional))]
     pub fn deserialize_option<T: Deserialize>(&mut self, alloc: Global) -> Result<Option<T>, Error>
         ensures ok { IfOk result (λ o. Took (option_taken T.take) self.old.element
             (at_of R.rest self.old) (at_of R.rest self.new) (option_item T.item o)) }
@@ -229,8 +232,16 @@ impl<R: Read> Deserializer<R> {
         ensures refused { Unless R.faulty result
             (Refuses (option_taken T.take) self.old.element (at_of R.rest self.old)) }
         ensures failed { OnErr result (HasFailed R.rest self.new) }
+        ensures named { Named R.faulty result
+            (NamesOption self.old.element (R.rest self.old.reader)) }
     {
-        <Option<T> as Deserialize>::deserialize(alloc, self)
+        match self.peek()? {
+            EncodingCodes::Null => {
+                self.deserialize_unit()?;
+                Ok(None)
+            }
+            _ => Ok(Some(T::deserialize(alloc, self)?)),
+        }
     }
 }
 

@@ -12,11 +12,12 @@ ghost use Rattle.serde_amqp_item.specs.Kind.{string_kind, symbol_kind, list_kind
 ghost use Rattle.serde_amqp_read.specs.Reads.{Unless, faultless};
 ghost use Rattle.serde_amqp_de.specs.Reads.{At, Moves, Head, Foresees, NoHead, ReadSized, NoSized, ReadText, NoText};
 ghost use Rattle.serde_amqp_de.specs.Reads.{ReadCount, NoElementCode, Reads, Refuses, at_of, Opens, HasFailed};
-ghost use Rattle.serde_amqp_de.specs.Names.{Names, NamesText, NamesElement, Named};
+ghost use Rattle.serde_amqp_de.specs.Names.{Names, NamesText, NamesElement, Named, Led, Says};
 ghost use Rattle.serde_amqp_de.specs.Takes.{null_taken, boolean_taken, ushort_taken, uint_taken, ulong_taken};
 ghost use Rattle.serde_amqp_de.specs.Takes.{string_taken, symbol_taken, list_taken, array_taken, described_taken};
 
 use crate::constructor::constructor_of;
+use crate::short::Kept;
 use serde_amqp_item::{EncodingCodes, Error, MAX_ARRAY_COUNT, code_of};
 use serde_amqp_read::Read;
 use std::alloc::Global;
@@ -140,10 +141,10 @@ impl<R: Read> Deserializer<R> {
     }
 
     /// Reads so many bytes.
-    fn bytes(&mut self, alloc: Global, count: usize) -> Result<Vec<u8>, Error>
+    fn bytes<B: Kept>(&mut self, alloc: Global, count: usize) -> Result<B, Error>
         ensures ok { IfOk result (λ v. Moves (at_of R.rest self.old) (at_of R.rest self.new)
-            v.items) }
-        ensures len { IfOk result (λ v. length v.items ≡ count) }
+            (B.items v)) }
+        ensures len { IfOk result (λ v. length (B.items v) ≡ count) }
         ensures element { OnOk result (self.new.element ≡ self.old.element) }
         ensures end { Unless R.faulty result (length (R.rest self.old.reader) < count) }
         ensures failed { OnErr result (HasFailed R.rest self.new) }
@@ -151,7 +152,7 @@ impl<R: Read> Deserializer<R> {
         let Some(pos) = self.pos.checked_add(count) else {
             return Err(self.refuse(Error::Memory));
         };
-        let bytes = match self.reader.read_bytes(alloc, count) {
+        let bytes = match B::take(&mut self.reader, alloc, count) {
             Ok(bytes) => bytes,
             Err(e) => return Err(self.refuse(e)),
         };
@@ -328,9 +329,9 @@ impl<R: Read> Deserializer<R> {
 
     /// Reads a size of one byte, and so many bytes.
     #[tactic(auto, using(crate::proofs::Sized::sizing))]
-    pub(crate) fn sized8(&mut self, alloc: Global) -> Result<Vec<u8>, Error>
+    pub(crate) fn sized8<B: Kept>(&mut self, alloc: Global) -> Result<B, Error>
         ensures ok { IfOk result (λ v. ReadSized one_byte (at_of R.rest self.old)
-            (at_of R.rest self.new) v.items) }
+            (at_of R.rest self.new) (B.items v)) }
         ensures element { OnOk result (self.new.element ≡ self.old.element) }
         ensures refused { Unless R.faulty result (NoSized one_byte (R.rest self.old.reader)) }
         ensures failed { OnErr result (HasFailed R.rest self.new) }
@@ -341,9 +342,9 @@ impl<R: Read> Deserializer<R> {
 
     /// Reads a size of four bytes, and so many bytes.
     #[tactic(auto, using(crate::proofs::Sized::sizing))]
-    pub(crate) fn sized32(&mut self, alloc: Global) -> Result<Vec<u8>, Error>
+    pub(crate) fn sized32<B: Kept>(&mut self, alloc: Global) -> Result<B, Error>
         ensures ok { IfOk result (λ v. ReadSized four_bytes (at_of R.rest self.old)
-            (at_of R.rest self.new) v.items) }
+            (at_of R.rest self.new) (B.items v)) }
         ensures element { OnOk result (self.new.element ≡ self.old.element) }
         ensures refused { Unless R.faulty result (NoSized four_bytes (R.rest self.old.reader)) }
         ensures failed { OnErr result (HasFailed R.rest self.new) }
@@ -497,6 +498,8 @@ impl<R: Read> Deserializer<R> {
         ensures failed { OnErr result (HasFailed R.rest self.new) }
         ensures named { Named R.faulty result
             (Names list_kind self.old.element (R.rest self.old.reader)) }
+        ensures said { IfOk result (λ h. Led list_kind self.old.element (R.rest self.old.reader)
+            (Says h.0)) }
     {
         match self.code()? {
             EncodingCodes::List0 => Ok((0, 0)),

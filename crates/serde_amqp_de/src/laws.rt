@@ -1,4 +1,4 @@
-// Laws of reading. The functions do nothing: their contracts are the laws.
+//! Laws of reading. The functions do nothing: their contracts are the laws.
 ghost use Rattle.std.specs.Prelude.{◌≡◌, ℕ, List, ◌++◌, Option, Some, None};
 ghost use Rattle.serde_amqp_item.specs.Item.{Item};
 ghost use Rattle.serde_amqp_item.specs.Wire.{Wire, IsCapped, IsStrict};

@@ -1,4 +1,4 @@
-// Reading values from wire forms of AMQP's type system (part 1).
+//! Reading values from wire forms of AMQP's type system (part 1).
 #![tactic(auto)]
 
 mod access;
@@ -14,6 +14,7 @@ mod primitives;
 mod raw;
 mod record;
 mod sequence;
+mod short;
 mod sorted;
 mod tuple;
 
@@ -27,4 +28,5 @@ pub use map::read_map;
 pub use record::{ReadFields, read_descriptor, read_record};
 pub use sequence::{read_array, read_list, read_multiple};
 pub use serde_amqp_read::{InMemory, IoReader, Read, SliceReader};
+pub use short::ShortBytes;
 pub use sorted::SortedKey;

@@ -4,7 +4,7 @@ ghost use Rattle.serde_amqp_item.specs.Item.{Item};
 ghost use Rattle.serde_amqp_item.specs.Kind.{map_kind};
 ghost use Rattle.serde_amqp_read.specs.Reads.{Unless};
 ghost use Rattle.serde_amqp_de.specs.Reads.{At, Opens, Took, Refuses, HasFailed, at_of};
-ghost use Rattle.serde_amqp_de.specs.Names.{Names, Named};
+ghost use Rattle.serde_amqp_de.specs.Names.{Names, Named, Led, Says};
 ghost use Rattle.serde_amqp_de.specs.Maps.{map_in, map_taken, pairs_taken, pair_items, map_item, TookPairs};
 ghost use Rattle.serde_amqp_de.specs.Maps.{RefusesPairs, TookSizedPairs, RefusesSizedPairs};
 
@@ -32,6 +32,8 @@ impl<R: Read> Deserializer<R> {
         ensures failed { OnErr result (HasFailed R.rest self.new) }
         ensures named { Named R.faulty result
             (Names map_kind self.old.element (R.rest self.old.reader)) }
+        ensures said { IfOk result (λ h. Led map_kind self.old.element (R.rest self.old.reader)
+            (Says h.0)) }
     {
         match self.code()? {
             EncodingCodes::Map8 => {

@@ -13,6 +13,7 @@ ghost use Rattle.serde_amqp_de.specs.Takes.{double_taken, decimal32_taken, decim
 ghost use Rattle.serde_amqp_de.specs.Takes.{char_taken, timestamp_taken, uuid_taken, binary_taken};
 
 use crate::deserializer::Deserializer;
+use crate::short::ShortBytes;
 use serde_amqp_item::{Double, EncodingCodes, Error, Float};
 use serde_amqp_read::Read;
 use std::alloc::Global;
@@ -299,12 +300,12 @@ impl<R: Read> Deserializer<R> {
         }
     }
 
-    /// Reads a binary: its bytes (part 1, section 1.6.19).
+    /// Reads a binary: its bytes (part 1, section 1.6.19), which lie in the value itself where they are 32 at most.
     ///
     /// Errors: `Io` where the input ends; `InvalidFormatCode` for any other type; `Memory`. After an error
     /// the reader has failed.
     #[tactic(auto, using(crate::proofs::Heads::refusing, crate::proofs::Sized::binaries))]
-    pub fn deserialize_byte_buf(&mut self, alloc: Global) -> Result<Vec<u8>, Error>
+    pub fn deserialize_byte_buf(&mut self, alloc: Global) -> Result<ShortBytes, Error>
         ensures ok { IfOk result (λ v. Reads self.old.element (at_of R.rest self.old)
             (at_of R.rest self.new) (scalar (binary v.items))) }
         ensures element { OnOk result (self.new.element ≡ self.old.element) }

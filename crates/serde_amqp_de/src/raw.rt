@@ -4,6 +4,7 @@ ghost use Rattle.serde_amqp_item.specs.Item.{raw};
 ghost use Rattle.serde_amqp_read.specs.Reads.{Unless, StrictBytes};
 ghost use Rattle.serde_amqp_de.specs.Reads.{Reads, Refuses, HasFailed, at_of};
 ghost use Rattle.serde_amqp_de.specs.Kept.{raw_taken};
+ghost use Rattle.serde_amqp_de.specs.Names.{NamesKept, Named};
 
 use crate::deserializer::Deserializer;
 use serde_amqp_item::Error;
@@ -26,10 +27,13 @@ impl<R: Read> Deserializer<R> {
         ensures refused { Unless R.faulty result
             (Refuses raw_taken self.old.element (at_of R.rest self.old)) }
         ensures failed { OnErr result (HasFailed R.rest self.new) }
+        ensures named { Named R.faulty result
+            (NamesKept self.old.element (R.rest self.old.reader)) }
     {
         if self.element.is_some() {
             return Err(self.refuse(Error::InvalidFormatCode));
         }
+        self.peek()?;
         let bytes = self.reader.forward_read_byte_buf(alloc)?;
         let Some(pos) = self.pos.checked_add(bytes.len()) else {
             return Err(self.refuse(Error::Memory));
@@ -48,6 +52,8 @@ impl<R: Read> Deserializer<R> {
         ensures refused { Unless R.faulty result
             (Refuses raw_taken self.old.element (at_of R.rest self.old)) }
         ensures failed { OnErr result (HasFailed R.rest self.new) }
+        ensures named { Named R.faulty result
+            (NamesKept self.old.element (R.rest self.old.reader)) }
     {
         let _bytes = self.deserialize_raw(alloc)?;
         Ok(())

@@ -1,4 +1,4 @@
-// Sources of bytes: slices, and readers that are in memory.
+//! Sources of bytes: slices, and readers that are in memory.
 #![tactic(auto)]
 
 mod fetching;

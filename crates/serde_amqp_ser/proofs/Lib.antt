@@ -10,3 +10,4 @@ pub mod Listed
 pub mod Placing
 pub mod Texts
 pub mod Ends
+pub mod Roomy

@@ -1,9 +1,9 @@
 -- A list or a map that is being written, item by item.
-use Rattle.std.specs.Prelude.{◌≡◌, ℕ, List, [], ◌∷◌, Some}
+use Rattle.std.specs.Prelude.{◌≡◌, ℕ, List, [], ◌∷◌, length, Some}
 use Rattle.std.specs.Prelude.{map as each}
-use Rattle.serde_amqp_item.specs.Item.{Item, map, items_of, pairs_of}
+use Rattle.serde_amqp_item.specs.Item.{Item, Items, map, items_of, pairs_of}
 use Rattle.serde_amqp_item.specs.Canon.{alone}
-use Rattle.serde_amqp_ser.specs.Written.{Written, inside}
+use Rattle.serde_amqp_ser.specs.Written.{Written, extended, inside}
 use Rattle.serde_amqp_ser.specs.Puts.{State, listed, place_of}
 use Rattle.serde_amqp_ser.specs.declared.opened.Opened.{Opened}
 
@@ -11,6 +11,14 @@ use Rattle.serde_amqp_ser.specs.declared.opened.Opened.{Opened}
 pub record IsOpen (begins : ℕ → ℕ) (before : Written) (xs : List Item) (now : State) : Type 0 where
   pub items : listed (inside begins before) (items_of xs) ≡ Some now.written
   pub outside : now.place ≡ alone
+
+-- these items stand, as a list's, behind room for a head of three bytes, and that behind what a sink held
+pub record IsRoomy (begins : ℕ → ℕ) (before : Written) (start content : ℕ) (xs : Items) (now : Written) : Type 0 where
+  pub room : List ℕ
+  pub long : length room ≡ 3
+  pub begun : before.size ≡ start
+  pub inner : (extended before room).size ≡ content
+  pub items : listed (inside begins (extended before room)) xs ≡ Some now
 
 -- a list or a map began at this state
 pub record IsMark (s : State) (o : Opened) : Type 0 where

@@ -1,9 +1,10 @@
 //! Values that hold others: lists and arrays.
 ghost use Rattle.std.specs.Prelude.{◌≡◌, ◌≤◌, ◌<◌, ◌∷◌, [], ℕ, ◌+◌, List, ◌++◌, length, map, Some, None, OnOk, OnErr};
 ghost use Rattle.serde_amqp_item.specs.Item.{Item, Items, list, array, items_of, item_count};
-ghost use Rattle.serde_amqp_item.specs.Canon.{settled, elements};
+ghost use Rattle.serde_amqp_item.specs.Canon.{alone, settled, elements};
 ghost use Rattle.std.specs.Int.{w32, to_be_bytes};
 ghost use Rattle.serde_amqp_ser.specs.Written.{Written, extended, inside, Keeps};
+ghost use Rattle.serde_amqp_ser.specs.Open.{IsRoomy};
 ghost use Rattle.serde_amqp_ser.specs.Puts.{State, behind, serialized, counted_placed, listed, OnlyWhere, WantsMemory};
 ghost use Rattle.serde_amqp_ser.specs.Puts.{place_of, state_of};
 
@@ -124,6 +125,53 @@ impl<W: Sink> Serializer<W> {
             }
         }
         self.close_counted(start, count, 0xc0, 0xd0)
+    }
+
+    /// Ends a list outside of arrays, by the number of its items: at `start` there is room for a head of three
+    /// bytes, behind which its content begins. After an error the content may stand there.
+    #[tactic(auto, using(crate::proofs::Grown::growing))]
+    pub(crate) fn close_roomy_list(
+        &mut self,
+        start: u128,
+        content: u128,
+        count: u32,
+    ) -> Result<(), Error>
+        requires { place_of self.old.element ≡ alone }
+        ensures ok { OnOk result ((v : W) (xs : Items) → IsRoomy W.begins (W.written v) start
+            content xs (W.written self.old.writer) → item_count xs ≡ count → serialized
+            (record { written = W.written v; place = alone }) (list xs)
+            ≡ Some (state_of W.written self.new)) }
+        ensures kept { (v : W) (xs : Items) → IsRoomy W.begins (W.written v) start content xs
+            (W.written self.old.writer) → Keeps (W.written v) (W.written self.new.writer) }
+        ensures refused { (v : W) (xs : Items) → IsRoomy W.begins (W.written v) start content xs
+            (W.written self.old.writer) → item_count xs ≡ count → OnlyWhere result
+            (serialized (record { written = W.written v; place = alone }) (list xs)) }
+        ensures memory { WantsMemory W.takes_memory result }
+    {
+        let Some(len) = self.writer.content_len(content) else {
+            return Err(Error::InvalidLength);
+        };
+        if len == 0 {
+            self.writer.back_to(start);
+            self.writer.put(&[0x45])?;
+            return Ok(());
+        }
+        if len < 255 {
+            let Ok(count) = u8::try_from(count) else {
+                return Err(Error::InvalidLength);
+            };
+            self.writer.join(content);
+            self.writer.overwrite(start, &[0xc0, len as u8 + 1, count]);
+            return Ok(());
+        }
+        let Some(size) = len.checked_add(4) else {
+            return Err(Error::InvalidLength);
+        };
+        let [s0, s1, s2, s3] = size.to_be_bytes();
+        let [c0, c1, c2, c3] = count.to_be_bytes();
+        self.writer.close(content, &[s2, s3, c0, c1, c2, c3])?;
+        self.writer.overwrite(start, &[0xd0, s0, s1]);
+        Ok(())
     }
 
     /// Ends an array that began there, by the number of its elements.

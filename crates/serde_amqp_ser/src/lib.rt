@@ -1,6 +1,6 @@
-// Writing values in AMQP's canonical encoding: whole values with `to_vec` and `append_to_vec`, and with a
-// `Serializer` value by value, field by field or item by item. A value that is refused leaves all as it was
-// before that value, an element its compound as it was before that element.
+//! Writing values in AMQP's canonical encoding: whole values with `to_vec` and `append_to_vec`, and with a
+//! `Serializer` value by value, field by field or item by item. A value that is refused leaves all as it was
+//! before that value, an element its compound as it was before that element.
 #![tactic(auto)]
 
 mod compound;

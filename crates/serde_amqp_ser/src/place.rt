@@ -1,3 +1,4 @@
+//! Where a value is written.
 /// Where a value is written: in an array only the first element has a constructor before it
 /// (part 1, 1.2.4).
 #[derive(Debug, Clone, Copy, PartialEq, Eq)]

@@ -69,9 +69,33 @@ impl<H: Serialize, T: Fields> Fields for (H, T) {
     }
 }
 
-/// Writes a composite value. After an error the beginning of it may stand there.
+/// Writes a composite value without fields. After an error the beginning of it may stand there.
 #[tactic(auto, using(crate::proofs::Grown::growing))]
-fn put_record<W: Sink, F: Fields>(s: &mut Serializer<W>, code: u64, fields: &F) -> Result<(), Error>
+fn put_empty_record<W: Sink>(s: &mut Serializer<W>, code: u64) -> Result<(), Error>
+    ensures ok { OnOk result (serialized (state_of W.written s.old) (record_item code [])
+        ≡ Some (state_of W.written s.new)) }
+    ensures kept { Keeps (W.written s.old.writer) (W.written s.new.writer) }
+    ensures refused { OnlyWhere result (serialized (state_of W.written s.old)
+        (record_item code [])) }
+    ensures memory { WantsMemory W.takes_memory result }
+{
+    if let IsArrayElement::False = s.element {
+        s.writer.put(&[0x00])?;
+        s.serialize_u64(code)?;
+        s.writer.put(&[0x45])?;
+        return Ok(());
+    }
+    Err(Error::InvalidValue)
+}
+
+/// Writes a composite value with a field that isn't null: three bytes leave room for the head of its list.
+/// After an error the beginning of it may stand there.
+#[tactic(auto, using(crate::proofs::Grown::growing))]
+fn put_filled_record<W: Sink, F: Fields>(
+    s: &mut Serializer<W>,
+    code: u64,
+    fields: &F,
+) -> Result<(), Error>
     ensures ok { OnOk result (serialized (state_of W.written s.old)
         (record_item code (F.items fields.now)) ≡ Some (state_of W.written s.new)) }
     ensures kept { Keeps (W.written s.old.writer) (W.written s.new.writer) }
@@ -82,14 +106,32 @@ fn put_record<W: Sink, F: Fields>(s: &mut Serializer<W>, code: u64, fields: &F) 
     if let IsArrayElement::False = s.element {
         s.writer.put(&[0x00])?;
         s.serialize_u64(code)?;
-        let start = s.writer.open();
+        let start = s.writer.here();
+        s.writer.put(&[0xc0, 0, 0])?;
+        let content = s.writer.open();
         let count = fields.put(s)?;
         if count == u32::MAX {
             return Err(Error::InvalidLength);
         }
-        return s.close_list(start, count as usize);
+        return s.close_roomy_list(start, content, count);
     }
     Err(Error::InvalidValue)
+}
+
+/// Writes a composite value. After an error the beginning of it may stand there.
+#[tactic(auto, using(crate::proofs::Grown::growing))]
+fn put_record<W: Sink, F: Fields>(s: &mut Serializer<W>, code: u64, fields: &F) -> Result<(), Error>
+    ensures ok { OnOk result (serialized (state_of W.written s.old)
+        (record_item code (F.items fields.now)) ≡ Some (state_of W.written s.new)) }
+    ensures kept { Keeps (W.written s.old.writer) (W.written s.new.writer) }
+    ensures refused { OnlyWhere result (serialized (state_of W.written s.old)
+        (record_item code (F.items fields.now))) }
+    ensures memory { WantsMemory W.takes_memory result }
+{
+    if fields.is_null() {
+        return put_empty_record(s, code);
+    }
+    put_filled_record(s, code, fields)
 }
 
 /// Writes a composite value with this descriptor: a described list of its fields without the nulls at

@@ -62,6 +62,20 @@ pub trait Sink {
             → (e ≡ Error.InvalidLength) × ((written self.old).size < capped (begins start))) }
         ensures memory { IfErr result (λ e. e ≡ Error.Memory → takes_memory ≡ true) };
 
+    /// Ends the content that began there, with nothing in front of it.
+    #[inline(always)]
+    fn join(&mut self, start: u128)
+        ensures { (w : Written) (content : List ℕ) →
+            written self.old ≡ extended (inside begins w) content → w.size ≡ start →
+            written self.new ≡ extended w content };
+
+    /// Puts these bytes in the place of as many that stand there.
+    #[inline(always)]
+    fn overwrite(&mut self, start: u128, bytes: &[u8])
+        ensures { (w : Written) (room more : List ℕ) →
+            written self.old ≡ extended w (room ++ more) → w.size ≡ start →
+            length room ≡ length bytes.now → written self.new ≡ extended w (bytes.now ++ more) };
+
     /// No bytes change nothing.
     ghost whole: { (s : Self) → extended (written s) [] ≡ written s };
 }
@@ -178,6 +192,16 @@ impl Sink for Counter {
         self.add_start(start);
         Ok(())
     }
+
+    #[inline(always)]
+    #[tactic(auto, unfolding(crate::specs::Written::extended, crate::specs::Written::inside))]
+    fn join(&mut self, start: u128) {
+        self.add_start(start);
+    }
+
+    #[inline(always)]
+    #[tactic(auto, unfolding(crate::specs::Written::extended))]
+    fn overwrite(&mut self, _start: u128, _bytes: &[u8]) {}
 }
 
 impl Sink for Vec<u8> {
@@ -241,5 +265,23 @@ impl Sink for Vec<u8> {
         self.copy_within(start..len, content);
         self[start..content].copy_from_slice(head);
         Ok(())
+    }
+
+    #[inline(always)]
+    #[tactic(auto, unfolding(crate::specs::Written::extended, crate::specs::Written::inside))]
+    fn join(&mut self, _start: u128) {}
+
+    #[inline(always)]
+    #[tactic(auto, unfolding(crate::specs::Written::extended))]
+    fn overwrite(&mut self, start: u128, bytes: &[u8]) {
+        let Ok(start) = usize::try_from(start) else {
+            return;
+        };
+        let Some(end) = start.checked_add(bytes.len()) else {
+            return;
+        };
+        if end <= self.len() {
+            self[start..end].copy_from_slice(bytes);
+        }
     }
 }

@@ -3,7 +3,7 @@ ghost use Rattle.std.specs.Cmp.{partial_equiv_from_equiv};
 ghost use Rattle.std.specs.Cmp.Lexicographic.{slice_cmp, nat_list_cmp_total, texts_ties, texts_po, same_text};
 ghost use Rattle.std.specs.Hash as fed;
 ghost use Rattle.std.specs.Ordering.{nat_cmp};
-ghost use Rattle.std.specs.Prelude.{◌≡◌, ◌==◌, length, IfOk, Some, refl};
+ghost use Rattle.std.specs.Prelude.{◌≡◌, ◌==◌, ◌≤◌, length, IfOk, IsOk, Some, refl};
 ghost use Rattle.std.specs.Str.{bytes_eq};
 ghost use Rattle.std.proofs.Common.{ap, sym};
 ghost use Rattle.std.proofs.lemmas.Cmp.{nat_list_eq_equiv};
@@ -12,7 +12,7 @@ ghost use Rattle.serde_amqp_de.specs.Takes.{binary_taken};
 ghost use Rattle.serde_amqp_de.specs.Deciding.{binary_decided};
 ghost use Rattle.serde_amqp_types.specs.Faithful.{binary_faithful};
 
-use serde_amqp_de::{Deserialize, Deserializer, Faithful, NeverNull, Read, RoundTrip};
+use serde_amqp_de::{Deserialize, Deserializer, Faithful, NeverNull, Read, RoundTrip, ShortBytes};
 use serde_amqp_item::Error;
 use serde_amqp_ser::{Serialize, Serializer, Sink};
 use std::alloc::{AllocError, Global};
@@ -21,10 +21,16 @@ use std::fmt;
 use std::hash::{Hash, Hasher};
 use std::marker::Model;
 
-/// Bytes (part 1, 1.6.19). A clause sees the list of them.
-#[derive(Drop)]
+/// Bytes (part 1, 1.6.19). Up to 32 of them, as a delivery's tag has at most, lie in the value itself. A clause
+/// sees the list of them.
 pub struct ByteBuf {
-    bytes: Vec<u8>,
+    bytes: ShortBytes,
+}
+
+impl Drop for ByteBuf {
+    fn drop(self) {
+        let ByteBuf { bytes: _ } = self;
+    }
 }
 
 impl Model for ByteBuf {
@@ -43,24 +49,18 @@ impl ByteBuf {
         ensures { result ≡ [] }
     {
         ByteBuf {
-            bytes: Vec::new(alloc),
+            bytes: ShortBytes::new(alloc),
         }
     }
 
-    /// A copy of these bytes. It is refused where there is no memory for it.
+    /// A copy of these bytes. It is refused where there are more than 32 and there is no memory for them.
     pub fn from_slice(alloc: Global, bytes: &[u8]) -> Result<Self, AllocError>
-        ensures { IfOk result (λ b. b ≡ bytes.now) }
+        ensures ok { IfOk result (λ b. b ≡ bytes.now) }
+        ensures short { length bytes.now ≤ 32 → IsOk result }
     {
         Ok(ByteBuf {
-            bytes: Vec::from_slice(alloc, bytes)?,
+            bytes: ShortBytes::from_slice(alloc, bytes)?,
         })
-    }
-
-    /// The bytes as a `Vec`.
-    pub fn into_inner(self) -> Vec<u8>
-        ensures { result.items ≡ self }
-    {
-        self.bytes
     }
 
     /// The bytes.
@@ -84,9 +84,10 @@ impl ByteBuf {
         self.bytes.is_empty()
     }
 
-    /// A second copy of the bytes. It is refused where there is no memory for it.
+    /// A second copy of the bytes. It is refused where there are more than 32 and there is no memory for them.
     pub fn try_clone(&self, alloc: Global) -> Result<Self, AllocError>
-        ensures { IfOk result (λ b. b ≡ self.now) }
+        ensures ok { IfOk result (λ b. b ≡ self.now) }
+        ensures short { length self.now ≤ 32 → IsOk result }
     {
         ByteBuf::from_slice(alloc, self.as_slice())
     }
@@ -97,7 +98,7 @@ impl Clone for ByteBuf {
 
     fn clone(&self) -> Result<Self, AllocError> {
         Ok(ByteBuf {
-            bytes: self.bytes.clone()?,
+            bytes: ShortBytes::from_slice(*self.bytes.allocator(), self.as_slice())?,
         })
     }
 }
@@ -106,15 +107,9 @@ impl From<Vec<u8>> for ByteBuf {
     ghost from_gives = { λ v b. b ≡ v.items };
 
     fn from(bytes: Vec<u8>) -> Self {
-        ByteBuf { bytes }
-    }
-}
-
-impl From<ByteBuf> for Vec<u8> {
-    ghost from_gives = { λ b v. v.items ≡ b };
-
-    fn from(bytes: ByteBuf) -> Self {
-        bytes.into_inner()
+        ByteBuf {
+            bytes: ShortBytes::from_vec(bytes),
+        }
     }
 }
 
@@ -198,7 +193,9 @@ impl Deserialize for ByteBuf {
 
     #[tactic(auto, using(serde_amqp_de::proofs::Values::taking))]
     fn read<R: Read>(alloc: Global, de: &mut Deserializer<R>) -> Result<ByteBuf, Error> {
-        Ok(ByteBuf::from(de.deserialize_byte_buf(alloc)?))
+        Ok(ByteBuf {
+            bytes: de.deserialize_byte_buf(alloc)?,
+        })
     }
 
     ghost decided = { binary_decided };

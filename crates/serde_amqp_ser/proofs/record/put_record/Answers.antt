@@ -1,70 +1,11 @@
-use Rattle.std.proofs.Common.{arith, ap, sym, ◌∙◌, refl, ◌≡◌, ◌≤◌, ◌+◌, ◌^◌, Some, None, subst}
-use Rattle.std.proofs.lemmas.Result.{on_ok_weaker}
-use Rattle.serde_amqp_item.specs.Item.{scalar, ulong, list, items_of, item_count}
-use Rattle.serde_amqp_item.specs.Canon.{Place, alone}
-use Rattle.serde_amqp_item.specs.Record.{trimmed}
-use Rattle.serde_amqp_ser.specs.Written.{inside}
-use Rattle.serde_amqp_ser.specs.Puts.{State, state_of, place_of, serialized}
-use Rattle.serde_amqp_ser.proofs.Grown.{keeps_then, keeps_once, keeps_inside}
-use Rattle.serde_amqp_ser.proofs.Listed.{alone_stays, only_where, item_count-items_of}
-use Rattle.serde_amqp_ser.proofs.Fronts.{described_written, state_is, value_stuck, listed_from, list_long}
+use Rattle.std.proofs.Common.{sym, ◌∙◌}
+use Rattle.serde_amqp_ser.proofs.Roomy.{empty_ok, empty_refused}
 use Rattle.serde_amqp_ser.proofs.record.put_record.Goals as goal
 
-pub returns-in_err-serialize_u64-clause-kept : goal.returns-in_err-serialize_u64-clause-kept
-returns-in_err-serialize_u64-clause-kept g c =
-    keeps_then _ _ _ (keeps_once _ _ _ c.in_ok-put.ensures.ok) c.in_err-serialize_u64.ensures.kept
+pub returns-then-is_null-clause-ok : goal.returns-then-is_null-clause-ok
+returns-then-is_null-clause-ok g c = empty_ok c.put_empty_record.result _ _ c.args.code
+    (g.F.Fields.items c.args.fields.now) (sym c.is_null.ensures ∙ c.if-is_null.true) c.put_empty_record.ensures.ok
 
-pub returns-in_err-count-clause-kept : goal.returns-in_err-count-clause-kept
-returns-in_err-count-clause-kept g c =
-    let before = keeps_then _ _ _ (keeps_once _ _ _ c.in_ok-put.ensures.ok) c.in_ok-serialize_u64.ensures.kept in
-    keeps_then _ _ _ (keeps_then _ _ _ before (keeps_inside g.W.Sink.begins _ _ _ c.open-start.ensures.inside)) c.in_err-count.ensures.kept
-
-pub returns-then-count-clause-kept : goal.returns-then-count-clause-kept
-returns-then-count-clause-kept g c =
-    let before = keeps_then _ _ _ (keeps_once _ _ _ c.in_ok-put.ensures.ok) c.in_ok-serialize_u64.ensures.kept in
-    keeps_then _ _ _ (keeps_then _ _ _ before (keeps_inside g.W.Sink.begins _ _ _ c.open-start.ensures.inside)) c.in_ok-count.ensures.kept
-
-pub returns-then-count-clause-refused : goal.returns-then-count-clause-refused
-returns-then-count-clause-refused g c = λ n.
-    let p0 : place_of c.args.s.now.element ≡ alone = ap place_of c.in-False.is in
-    let xs = items_of (trimmed (g.F.Fields.items c.args.fields.now)) in
-    let many : 2 ^ 32 ≤ item_count xs + 1 = omega (arith, item_count-items_of (trimmed (g.F.Fields.items c.args.fields.now)), c.in_ok-count.ensures.count, c.if-count.true) in
-    let s2 : State = record { written = g.W.Sink.written c.serialize_u64.new.self.writer; place = alone } in
-    value_stuck (state_of g.W.Sink.written c.args.s.now) s2 (scalar (ulong c.args.code)) (list xs) p0 refl (list_long s2.written _ _ alone xs c.in_ok-count.ensures.ok many)
-
-pub returns-in-False-clause-ok : goal.returns-in-False-clause-ok
-returns-in-False-clause-ok g c =
-    let p0 : place_of c.args.s.now.element ≡ alone = ap place_of c.in-False.is in
-    let xs = items_of (trimmed (g.F.Fields.items c.args.fields.now)) in
-    let s2 : State = record { written = g.W.Sink.written c.serialize_u64.new.self.writer; place = alone } in
-    let count : item_count xs ≡ c.in_ok-count.count = omega (arith, item_count-items_of (trimmed (g.F.Fields.items c.args.fields.now)), c.in_ok-count.ensures.count, c.if-count.false) in
-    let whole = listed_from (inside g.W.Sink.begins s2.written) _ _ xs c.open-start.ensures.inside c.in_ok-count.ensures.ok in
-    let s1 : State = record { written = g.W.Sink.written c.put.new.self; place = place_of c.args.s.now.element } in
-    let code = scalar (ulong c.args.code) in
-    let stays = alone_stays code s1 (state_of g.W.Sink.written c.serialize_u64.new.self) p0 c.in_ok-serialize_u64.ensures.ok in
-    let head : serialized s1 code ≡ Some s2 = c.in_ok-serialize_u64.ensures.ok ∙ ap (λ (t : State). Some t) (sym (state_is (state_of g.W.Sink.written c.serialize_u64.new.self) s2.written refl stays)) in
-    on_ok_weaker c.close_list.result
-    (λ f. described_written (state_of g.W.Sink.written c.args.s.now) s1 s2 (state_of g.W.Sink.written c.close_list.new.self) code (list xs) p0 c.in_ok-put.ensures.ok p0 head refl
-    (subst (λ (q : Place). serialized (record { written = s2.written; place = q }) (list xs) ≡ Some (state_of g.W.Sink.written c.close_list.new.self)) c.in_ok-count.ensures.place
-    (f s2.written xs whole (sym c.open-start.ensures.start) count)))
-    c.close_list.ensures.ok
-
-pub returns-in-False-clause-kept : goal.returns-in-False-clause-kept
-returns-in-False-clause-kept g c =
-    let xs = items_of (trimmed (g.F.Fields.items c.args.fields.now)) in
-    let s2 : State = record { written = g.W.Sink.written c.serialize_u64.new.self.writer; place = alone } in
-    let whole = listed_from (inside g.W.Sink.begins s2.written) _ _ xs c.open-start.ensures.inside c.in_ok-count.ensures.ok in
-    let before = keeps_then _ _ _ (keeps_once _ _ _ c.in_ok-put.ensures.ok) c.in_ok-serialize_u64.ensures.kept in
-    keeps_then _ _ _ before (c.close_list.ensures.kept s2.written xs whole (sym c.open-start.ensures.start))
-
-pub returns-in-False-clause-refused : goal.returns-in-False-clause-refused
-returns-in-False-clause-refused g c =
-    let p0 : place_of c.args.s.now.element ≡ alone = ap place_of c.in-False.is in
-    let xs = items_of (trimmed (g.F.Fields.items c.args.fields.now)) in
-    let s2 : State = record { written = g.W.Sink.written c.serialize_u64.new.self.writer; place = alone } in
-    let count : item_count xs ≡ c.in_ok-count.count = omega (arith, item_count-items_of (trimmed (g.F.Fields.items c.args.fields.now)), c.in_ok-count.ensures.count, c.if-count.false) in
-    let whole = listed_from (inside g.W.Sink.begins s2.written) _ _ xs c.open-start.ensures.inside c.in_ok-count.ensures.ok in
-    only_where {X = Unit {0}} c.close_list.result _ _
-    (λ e. value_stuck (state_of g.W.Sink.written c.args.s.now) s2 (scalar (ulong c.args.code)) (list xs) p0 refl
-    (subst (λ (q : Place). serialized (record { written = s2.written; place = q }) (list xs) ≡ None) c.in_ok-count.ensures.place e))
-    (c.close_list.ensures.refused s2.written xs whole (sym c.open-start.ensures.start) count)
+pub returns-then-is_null-clause-refused : goal.returns-then-is_null-clause-refused
+returns-then-is_null-clause-refused g c = empty_refused c.put_empty_record.result _ c.args.code
+    (g.F.Fields.items c.args.fields.now) (sym c.is_null.ensures ∙ c.if-is_null.true) c.put_empty_record.ensures.refused

@@ -16,5 +16,6 @@ returns-in-Ok g c =
         begun = none_read g.R.Read.rest a_described_value None k old mid 2 None _ (begun_described k old mid c.in-Ok.ensures.ok) refl refl refl refl c.in-Ok.ensures.element;
         left = refl;
         refused = tt;
+        named = tt;
       },
     )

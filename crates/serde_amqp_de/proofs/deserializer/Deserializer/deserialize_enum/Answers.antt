@@ -1,7 +1,10 @@
 use Rattle.std.proofs.Common.{None, refl}
+use Rattle.serde_amqp_item.specs.Kind.{map_kind}
+use Rattle.serde_amqp_item.specs.declared.error.Error.TheVariants.{InvalidLength}
 use Rattle.serde_amqp_de.specs.Reads.{at_of}
 use Rattle.serde_amqp_de.specs.Open.{a_map}
 use Rattle.serde_amqp_de.proofs.Opened.{begun_map, opened, other_pairs}
+use Rattle.serde_amqp_de.proofs.Naming.{names_count}
 use Rattle.serde_amqp_de.proofs.deserializer.Deserializer.deserialize_enum.Goals as goal
 
 pub returns : goal.returns
@@ -16,6 +19,7 @@ returns g c =
             (λ n size e. begun_map k old (at_of g.R.Read.rest c.map_head-head.new.self) n size (rw e at c.map_head-head.ensures.ok) (rw e at c.map_head-head.ensures.even)) c.in_ok-left.ensures.ok c.in_ok-left.ensures.same refl refl refl refl refl;
         left = c.if-left-ne2.false;
         refused = tt;
+        named = tt;
       },
     )
 
@@ -29,5 +33,6 @@ returns-then-left-ne2 g c =
         begun = tt;
         left = tt;
         refused = other_pairs c.args.self.now.element (at_of g.R.Read.rest c.args.self.now) (at_of g.R.Read.rest c.map_head-head.new.self) c.in_ok-left.left e.0 (rw e.1 at c.map_head-head.ensures.ok) c.if-left-ne2.true (rw e.1 at c.map_head-head.ensures.even);
+        named = names_count InvalidLength 2 _ map_kind _ _ c.if-left-ne2.true (rw e.1 at c.map_head-head.ensures.said);
       },
     )

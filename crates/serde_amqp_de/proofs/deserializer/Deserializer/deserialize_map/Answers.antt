@@ -16,5 +16,6 @@ returns g c =
             (λ n size e. begun_map k old (at_of g.R.Read.rest c.map_head-head.new.self) n size (rw e at c.map_head-head.ensures.ok) (rw e at c.map_head-head.ensures.even)) c.in_ok-left.ensures.ok c.in_ok-left.ensures.same refl refl refl refl refl;
         even = rw c.in_ok-left.ensures.ok.1 at c.map_head-head.ensures.even;
         refused = tt;
+        named = tt;
       },
     )

@@ -15,5 +15,6 @@ returns g c =
         begun = opened g.R.Read.rest a_list None k old c.list_head-head.result c.in_ok-left.left c.in_ok-left.end c.list_head-head.new.self c.bounded.new.self _
             (λ n size e. begun_list k old (at_of g.R.Read.rest c.list_head-head.new.self) n size (rw e at c.list_head-head.ensures.ok)) c.in_ok-left.ensures.ok c.in_ok-left.ensures.same refl refl refl refl refl;
         refused = tt;
+        named = tt;
       },
     )

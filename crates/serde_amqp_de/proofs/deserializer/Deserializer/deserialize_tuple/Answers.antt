@@ -1,7 +1,10 @@
 use Rattle.std.proofs.Common.{None, refl}
+use Rattle.serde_amqp_item.specs.Kind.{list_kind}
+use Rattle.serde_amqp_item.specs.declared.error.Error.TheVariants.{SequenceLengthMismatch}
 use Rattle.serde_amqp_de.specs.Reads.{at_of}
 use Rattle.serde_amqp_de.specs.Open.{a_list}
 use Rattle.serde_amqp_de.proofs.Opened.{begun_list, opened, other_length}
+use Rattle.serde_amqp_de.proofs.Naming.{names_count}
 use Rattle.serde_amqp_de.proofs.deserializer.Deserializer.deserialize_tuple.Goals as goal
 
 pub returns : goal.returns
@@ -16,6 +19,7 @@ returns g c =
             (λ n size e. begun_list k old (at_of g.R.Read.rest c.list_head-head.new.self) n size (rw e at c.list_head-head.ensures.ok)) c.in_ok-left.ensures.ok c.in_ok-left.ensures.same refl refl refl refl refl;
         left = c.if-left-len.false;
         refused = tt;
+        named = tt;
       },
     )
 
@@ -29,5 +33,7 @@ returns-then-left-len g c =
         begun = tt;
         left = tt;
         refused = other_length c.args.len c.args.self.now.element (at_of g.R.Read.rest c.args.self.now) (at_of g.R.Read.rest c.list_head-head.new.self) c.in_ok-left.left e.0 (rw e.1 at c.list_head-head.ensures.ok) c.if-left-len.true;
+        named = names_count SequenceLengthMismatch c.args.len _ list_kind _ _ c.if-left-len.true
+            (rw e.1 at c.list_head-head.ensures.said);
       },
     )

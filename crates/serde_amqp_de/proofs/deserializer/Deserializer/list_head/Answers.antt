@@ -4,7 +4,7 @@ use Rattle.serde_amqp_item.specs.Kind.{list_kind}
 use Rattle.serde_amqp_de.specs.Reads.{at_of}
 use Rattle.serde_amqp_de.proofs.Heads.{carried, no_head_refuses, refusal_as}
 use Rattle.serde_amqp_de.proofs.Lists.{not_list, list0, list8, list32, small_list8, small_list32, long_list32, short_list8, short_list32, wrong_list}
-use Rattle.serde_amqp_de.proofs.Naming.{counted_of, names_few, names_length, names_on, names_wrong}
+use Rattle.serde_amqp_de.proofs.Naming.{counted_of, names_few, names_length, names_on, names_wrong, said, said_none}
 use Rattle.serde_amqp_de.proofs.deserializer.Deserializer.list_head.Goals as goal
 
 pub returns-then-size-lt1-clause-refused : goal.returns-then-size-lt1-clause-refused
@@ -64,3 +64,15 @@ returns-then-count-gt-MAX_ARRAY_COUNT-clause-named g c = names_length g.R.Read.f
 
 pub returns-in_default-clause-named : goal.returns-in_default-clause-named
 returns-in_default-clause-named g c = names_wrong g.R.Read.faulty list_kind _ _ _ _ _ c.refuse-in_default.ensures.same c.in_ok-code.ensures.ok (not_list _ c.in_default.not-List0 c.in_default.not-List8 c.in_default.not-List32)
+
+pub returns-in-List0-clause-said : goal.returns-in-List0-clause-said
+returns-in-List0-clause-said g c = said_none _ _ _ (rw c.in-List0.is at c.in_ok-code.ensures.ok)
+
+pub returns-else-size-lt1-clause-said : goal.returns-else-size-lt1-clause-said
+returns-else-size-lt1-clause-said g c = said list_kind _ _ _ _ List8 _ _ _
+    (rw c.in-List8.is at c.in_ok-code.ensures.ok) refl c.in_ok-size-in-List8.ensures.ok (λ s. s)
+
+pub returns-else-count-gt-MAX_ARRAY_COUNT-clause-said :
+    goal.returns-else-count-gt-MAX_ARRAY_COUNT-clause-said
+returns-else-count-gt-MAX_ARRAY_COUNT-clause-said g c = said list_kind _ _ _ _ List32 _ _ _
+    (rw c.in-List32.is at c.in_ok-code.ensures.ok) refl c.in_ok-size-in-List32.ensures.ok (λ s. s)

@@ -4,7 +4,7 @@ use Rattle.serde_amqp_item.specs.Kind.{map_kind}
 use Rattle.serde_amqp_de.specs.Reads.{at_of}
 use Rattle.serde_amqp_de.proofs.Heads.{carried, no_head_refuses, refusal_as}
 use Rattle.serde_amqp_de.proofs.Maps.{not_map, map8, map32, small_map8, small_map32, long_map32, odd_map8, odd_map32, short_map8, short_map32, wrong_map}
-use Rattle.serde_amqp_de.proofs.Naming.{counted_of, names_few, names_length, names_on, names_wrong}
+use Rattle.serde_amqp_de.proofs.Naming.{counted_of, names_few, names_length, names_on, names_wrong, said}
 use Rattle.serde_amqp_de.proofs.deserializer.Deserializer.map_head.Goals as goal
 
 pub returns-then-size-lt1-clause-refused : goal.returns-then-size-lt1-clause-refused
@@ -75,3 +75,11 @@ returns-then-count-ne0-2-clause-named g c = names_length g.R.Read.faulty map_kin
 
 pub returns-in_default-clause-named : goal.returns-in_default-clause-named
 returns-in_default-clause-named g c = names_wrong g.R.Read.faulty map_kind _ _ _ _ _ c.refuse-in_default.ensures.same c.in_ok-code.ensures.ok (not_map _ c.in_default.not-Map8 c.in_default.not-Map32)
+
+pub returns-else-count-ne0-clause-said : goal.returns-else-count-ne0-clause-said
+returns-else-count-ne0-clause-said g c = said map_kind _ _ _ _ Map8 _ _ _ (rw c.in-Map8.is at c.in_ok-code.ensures.ok)
+    refl c.in_ok-size-in-Map8.ensures.ok (λ s. s)
+
+pub returns-else-count-ne0-2-clause-said : goal.returns-else-count-ne0-2-clause-said
+returns-else-count-ne0-2-clause-said g c = said map_kind _ _ _ _ Map32 _ _ _
+    (rw c.in-Map32.is at c.in_ok-code.ensures.ok) refl c.in_ok-size-in-Map32.ensures.ok (λ s. s)
