@@ -13,7 +13,9 @@ use Rattle.amqp_session_unsettled.proofs.Tables.{get-put-other, get-take-none}
 use Rattle.amqp_session_outgoing.specs.Frames.{is_first, first_count, firsts_of}
 use Rattle.amqp_session_outgoing.specs.Queues.{Queues, firsts_in}
 use Rattle.amqp_session_outgoing.specs.State.{State, Leaves, Sends, with_batch, with_window, registered}
-use Rattle.amqp_session_outgoing.specs.History.{Step, Steps, History, TakesWindow, SetsWindow, Accepts, Refuses, Follows, Reserves, Settles, SettlesRange, Forgets, Fails, IsFree, HasFreeNumbers}
+use Rattle.amqp_session_outgoing.specs.History.{Act, Step, History, TakesWindow, SetsWindow, Accepts, Refuses}
+use Rattle.amqp_session_outgoing.specs.History.{Follows, Reserves, Settles, SettlesRange, Forgets, Fails, IsFree}
+use Rattle.amqp_session_outgoing.specs.History.{HasFreeNumbers}
 use Rattle.amqp_session_outgoing.specs.Told.{GivesFree, LeavesIn, opened}
 use Rattle.amqp_session_outgoing.specs.declared.frames.Part.{Part}
 use Rattle.amqp_session_outgoing.specs.declared.frames.Part.TheVariants.{Untagged, Settled, Unsettled, Continuation}
@@ -124,7 +126,7 @@ module _ {T F : Type 0} where
   same-free : (old new : State T F) → new ≡ old → WaitsFree old → WaitsFree new
   same-free old new e f = subst (λ (s : State T F). WaitsFree s) (sym e) f
 
-  step-free : (step : Step T F) (old new : State T F) → Steps old step new → WaitsFree old → WaitsFree new
+  step-free : (step : Act T F) (old new : State T F) → Step old step new → WaitsFree old → WaitsFree new
   step-free (TakesWindow base width left) old new x f = leaves-free left (with_window old base width) new x.0 (record { small = f.small; free = f.free })
   step-free (SetsWindow base width) old new x f = same-free (with_window old base width) new x (record { small = f.small; free = f.free })
   step-free (Accepts handle [] left) old new x f = same-free old new x.1 f
@@ -149,7 +151,8 @@ module _ {T F : Type 0} where
       (λ n e. x.0 n ∙ ap (λ (o : Option Delivery). unless_of handle.0 o) e) f
   step-free Fails old new x f = same-free old new x f
 
-  pub history-free : (steps : List (Step T F)) (start end : State T F) → History start steps end → WaitsFree start → WaitsFree end
+  pub history-free : (steps : List (Act T F)) (start end : State T F) → History start steps end → WaitsFree start
+      → WaitsFree end
   history-free [] start end run f = same-free start end run f
   history-free (step ∷ steps) start end run f = history-free steps run.0 end run.2 (step-free step start run.0 run.1 f)
 
@@ -158,7 +161,8 @@ module _ {T F : Type 0} where
   nothing-leaves (x ∷ earlier) later s e = absurd cc
 
   -- a session in a call, before any transfer leaves
-  opened-free : (step : Step T F) (old new : State T F) (sent : Sent T F) (here : State T F) → Steps old step new → LeavesIn old step sent here → WaitsFree old → WaitsFree (opened old step)
+  opened-free : (step : Act T F) (old new : State T F) (sent : Sent T F) (here : State T F) → Step old step new
+      → LeavesIn old step sent here → WaitsFree old → WaitsFree (opened old step)
   opened-free (TakesWindow base width left) old new sent here x l f = record { small = f.small; free = f.free }
   opened-free (SetsWindow base width) old new sent here x l f = record { small = f.small; free = f.free }
   opened-free (Accepts handle [] left) old new sent here x l f = nothing-leaves l.earlier l.later sent (sym x.0 ∙ l.among)
@@ -171,7 +175,8 @@ module _ {T F : Type 0} where
   opened-free (Forgets handle) old new sent here x l f = f
   opened-free Fails old new sent here x l f = f
 
-  pub gives-free : (step : Step T F) (old new : State T F) (sent : Sent T F) (here : State T F) → Steps old step new → LeavesIn old step sent here → WaitsFree old → GivesFree here sent.delivery
+  pub gives-free : (step : Act T F) (old new : State T F) (sent : Sent T F) (here : State T F) → Step old step new
+      → LeavesIn old step sent here → WaitsFree old → GivesFree here sent.delivery
   gives-free step old new sent here x l f =
       let there : WaitsFree here = leaves-free l.earlier (opened old step) here l.run (opened-free step old new sent here x l f) in
       (sends-free here l.next sent there l.sends).0

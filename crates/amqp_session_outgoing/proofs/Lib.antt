@@ -2,6 +2,7 @@ pub mod Noding
 pub mod Turning
 pub mod Passing
 pub mod Joining
+pub mod Standing
 pub mod Numbering
 pub mod Order
 pub mod Counting

@@ -5,7 +5,8 @@ use Rattle.std.proofs.Math.Nat.{mod-add-mod}
 use Rattle.amqp_session_unsettled.specs.Range.{ahead}
 use Rattle.amqp_session_outgoing.specs.Frames.{is_first}
 use Rattle.amqp_session_outgoing.specs.State.{State, Leaves, Sends, with_batch, with_window}
-use Rattle.amqp_session_outgoing.specs.History.{Step, Steps, History, TakesWindow, SetsWindow, Accepts, Refuses, Follows, Reserves, Settles, SettlesRange, Forgets, Fails}
+use Rattle.amqp_session_outgoing.specs.History.{Act, Step, History, TakesWindow, SetsWindow, Accepts, Refuses}
+use Rattle.amqp_session_outgoing.specs.History.{Follows, Reserves, Settles, SettlesRange, Forgets, Fails}
 use Rattle.amqp_session_outgoing.specs.Told.{left_in, transfers_out, base_in, width_in, EachInWindow, InLatestWindow, IsNumber, behind_number, IsNumbered}
 use Rattle.amqp_session_outgoing.specs.declared.frames.Sent.{Sent}
 
@@ -38,7 +39,7 @@ module _ {T F : Type 0} where
       }
 
   -- the window behind a step
-  pub record Windowed (old : State T F) (step : Step T F) (new : State T F) : Type 0 where
+  pub record Windowed (old : State T F) (step : Act T F) (new : State T F) : Type 0 where
     pub base : new.window_base ≡ base_in old.window_base step
     pub width : new.window_width ≡ width_in old.window_width step
     pub each : EachInWindow (base_in old.window_base step) (width_in old.window_width step) (left_in step)
@@ -46,7 +47,7 @@ module _ {T F : Type 0} where
   opened : (old mid new : State T F) (left : List (Sent T F)) → Leaves mid left new → KeepsWindow mid left new
   opened old mid new left run = leaves-window left mid new run
 
-  pub step-window : (step : Step T F) (old new : State T F) → Steps old step new → Windowed old step new
+  pub step-window : (step : Act T F) (old new : State T F) → Step old step new → Windowed old step new
   step-window (TakesWindow base width left) old new x =
       let k : KeepsWindow (with_window old base width) left new = leaves-window left (with_window old base width) new x.0 in
       record { base = k.base; width = k.width; each = k.each }
@@ -67,7 +68,8 @@ module _ {T F : Type 0} where
   step-window (Forgets handle) old new x = record { base = ap (λ (s : State T F). s.window_base) x.1; width = ap (λ (s : State T F). s.window_width) x.1; each = tt }
   step-window Fails old new x = record { base = ap (λ (s : State T F). s.window_base) x; width = ap (λ (s : State T F). s.window_width) x; each = tt }
 
-  pub history-window : (steps : List (Step T F)) (start end : State T F) → History start steps end → InLatestWindow start.window_base start.window_width steps
+  pub history-window : (steps : List (Act T F)) (start end : State T F) → History start steps end
+      → InLatestWindow start.window_base start.window_width steps
   history-window [] start end run = tt
   history-window (step ∷ steps) start end run =
       let w : Windowed start step run.0 = step-window step start run.0 run.1 in
@@ -101,7 +103,8 @@ module _ {T F : Type 0} where
         leaves-numbered left run.0 new (n + 1) (behind_number d s.delivery) more (sends-stands old run.0 s n d at run.1) run.2 rest,
       )
 
-  step-numbered : (step : Step T F) (old new : State T F) (n d : ℕ) (more : List (Sent T F)) → StandsAt old n d → Steps old step new
+  step-numbered : (step : Act T F) (old new : State T F) (n d : ℕ) (more : List (Sent T F)) → StandsAt old n d
+      → Step old step new
       → ((m e : ℕ) → StandsAt new m e → IsNumbered m e more) → IsNumbered n d (left_in step ++ more)
   step-numbered (TakesWindow base width left) old new n d more at x rest = leaves-numbered left (with_window old base width) new n d more (record { next = at.next; delivery = at.delivery }) x.0 rest
   step-numbered (SetsWindow base width) old new n d more at x rest =
@@ -120,7 +123,8 @@ module _ {T F : Type 0} where
       rest n d (same-at old new n d (ap (λ (s : State T F). s.next_outgoing_id) x.1) (ap (λ (s : State T F). s.next_delivery_number) x.1) at)
   step-numbered Fails old new n d more at x rest = rest n d (subst (λ (s : State T F). StandsAt s n d) (sym x) at)
 
-  pub history-numbered : (steps : List (Step T F)) (start end : State T F) (n d : ℕ) → StandsAt start n d → History start steps end → IsNumbered n d (transfers_out steps)
+  pub history-numbered : (steps : List (Act T F)) (start end : State T F) (n d : ℕ) → StandsAt start n d
+      → History start steps end → IsNumbered n d (transfers_out steps)
   history-numbered [] start end n d at run = tt
   history-numbered (step ∷ steps) start end n d at run =
       step-numbered step start run.0 n d (transfers_out steps) at run.1 (λ m e at'. history-numbered steps run.0 end m e at' run.2)

@@ -7,7 +7,8 @@ use Rattle.std.proofs.lemmas.Grind.{common_steps}
 use Rattle.amqp_session_outgoing.specs.Frames.{LinkFrame, Transferred, Other, others, frames_of, frames_sent, is_first}
 use Rattle.amqp_session_outgoing.specs.Queues.{Queues, TakesTurn, TakesTurnOf, rejoined, joined, followed, trailed, units_of, waiting_of}
 use Rattle.amqp_session_outgoing.specs.State.{State, Leaves, Sends, with_window, with_batch}
-use Rattle.amqp_session_outgoing.specs.History.{Step, Steps, History, TakesWindow, SetsWindow, Accepts, Refuses, Follows, Reserves, Settles, SettlesRange, Forgets, Fails}
+use Rattle.amqp_session_outgoing.specs.History.{Act, Step, History, TakesWindow, SetsWindow, Accepts, Refuses}
+use Rattle.amqp_session_outgoing.specs.History.{Follows, Reserves, Settles, SettlesRange, Forgets, Fails}
 use Rattle.amqp_session_outgoing.specs.Told.{frames_by, out_in, out_of, accepted_in, accepted_of}
 use Rattle.amqp_session_outgoing.specs.declared.frames.Outbound.{Outbound}
 use Rattle.amqp_session_outgoing.specs.declared.frames.Sent.{Sent}
@@ -223,14 +224,15 @@ module _ {T F : Type 0} where
       ]
 
   -- a step keeps the order
-  pub record InOrder (h : ℕ) (old : State T F) (step : Step T F) (new : State T F) : Type 0 where
+  pub record InOrder (h : ℕ) (old : State T F) (step : Act T F) (new : State T F) : Type 0 where
     pub distinct : Distinct new.queues
     pub order : out_in h step ++ waiting_of h new.queues ≡ waiting_of h old.queues ++ accepted_in h step
 
   stays : (h : ℕ) (old new : State T F) → Distinct old.queues → new.queues ≡ old.queues → Distinct new.queues × (waiting_of h new.queues ≡ waiting_of h old.queues ++ [])
   stays h old new d e = (subst (λ (qs : Queues T F). Distinct qs) (sym e) d, ap (λ (qs : Queues T F). waiting_of h qs) e ∙ sym (append-nil (waiting_of h old.queues)))
 
-  still : (h : ℕ) (old new : State T F) (step : Step T F) → Distinct old.queues → new.queues ≡ old.queues → out_in h step ≡ [] → accepted_in h step ≡ [] → InOrder h old step new
+  still : (h : ℕ) (old new : State T F) (step : Act T F) → Distinct old.queues → new.queues ≡ old.queues
+      → out_in h step ≡ [] → accepted_in h step ≡ [] → InOrder h old step new
   still h old new step d e a b =
       record {
         distinct = (stays h old new d e).0;
@@ -243,7 +245,8 @@ module _ {T F : Type 0} where
   frames_nil true = refl
   frames_nil false = refl
 
-  step-order : (h : ℕ) (step : Step T F) (old new : State T F) → Distinct old.queues → Steps old step new → InOrder h old step new
+  step-order : (h : ℕ) (step : Act T F) (old new : State T F) → Distinct old.queues → Step old step new
+      → InOrder h old step new
   step-order h (TakesWindow base width left) old new d x = record {
     distinct = leaves-distinct left (with_window old base width) new d x.0;
     order = leaves-frames h left (with_window old base width) new d x.0 ∙ sym (append-nil (waiting_of h old.queues));
@@ -294,7 +297,8 @@ module _ {T F : Type 0} where
       append_assoc left out waits ∙ ap (λ (xs : List (LinkFrame T F)). left ++ xs) p ∙ sym (append_assoc left mid accepted)
       ∙ ap (λ (xs : List (LinkFrame T F)). xs ++ accepted) q ∙ append_assoc was more accepted
 
-  pub history-order : (h : ℕ) (steps : List (Step T F)) (start end : State T F) → Distinct start.queues → History start steps end
+  pub history-order : (h : ℕ) (steps : List (Act T F)) (start end : State T F) → Distinct start.queues
+      → History start steps end
       → out_of h steps ++ waiting_of h end.queues ≡ waiting_of h start.queues ++ accepted_of h steps
   history-order h [] start end d run = ap (λ (s : State T F). waiting_of h s.queues) run ∙ sym (append-nil (waiting_of h start.queues))
   history-order h (step ∷ steps) start end d run =
@@ -303,7 +307,8 @@ module _ {T F : Type 0} where
       (history-order h steps run.0 end o.distinct run.2) o.order
 
   -- histories keep links apart
-  pub history-distinct : (steps : List (Step T F)) (start end : State T F) → Distinct start.queues → History start steps end → Distinct end.queues
+  pub history-distinct : (steps : List (Act T F)) (start end : State T F) → Distinct start.queues
+      → History start steps end → Distinct end.queues
   history-distinct [] start end d run = subst (λ (s : State T F). Distinct s.queues) (sym run) d
   history-distinct (step ∷ steps) start end d run = history-distinct steps run.0 end (step-order 0 step start run.0 d run.1).distinct run.2
 
@@ -316,7 +321,8 @@ module _ {T F : Type 0} where
   left-empty (x ∷ xs) ys e = absurd cc
 
   -- a link of which nothing waits and nothing is accepted sends nothing
-  pub silent : (h : ℕ) (steps : List (Step T F)) (start end : State T F) → Distinct start.queues → History start steps end
+  pub silent : (h : ℕ) (steps : List (Act T F)) (start end : State T F) → Distinct start.queues
+      → History start steps end
       → units_of h start.queues ≡ [] → accepted_of h steps ≡ [] → (out_of h steps ≡ []) × (units_of h end.queues ≡ [])
   silent h steps start end d run none nothing =
       let all : out_of h steps ++ waiting_of h end.queues ≡ [] =

@@ -4,7 +4,8 @@ use Rattle.std.proofs.Math.Nat.{mod-add-mod}
 use Rattle.amqp_session_unsettled.specs.Range.{ahead}
 use Rattle.amqp_session_outgoing.specs.Queues.{Queues, held_in}
 use Rattle.amqp_session_outgoing.specs.State.{State, Leaves, IsHeld, with_batch, with_window}
-use Rattle.amqp_session_outgoing.specs.History.{Step, Steps, History, TakesWindow, SetsWindow, Accepts, Refuses, Follows, Reserves, Settles, SettlesRange, Forgets, Fails}
+use Rattle.amqp_session_outgoing.specs.History.{Act, Step, History, TakesWindow, SetsWindow, Accepts, Refuses}
+use Rattle.amqp_session_outgoing.specs.History.{Follows, Reserves, Settles, SettlesRange, Forgets, Fails}
 use Rattle.amqp_session_outgoing.specs.Told.{left_in, transfers_out, base_in, width_in, latest_base, latest_width, lags_in, lags_after}
 use Rattle.amqp_session_outgoing.specs.declared.frames.Sent.{Sent}
 use Rattle.amqp_session_outgoing.proofs.Joining.{held-followed}
@@ -21,7 +22,8 @@ module _ {T F : Type 0} where
   same-next : (old new : State T F) (n : ℕ) → new.next_outgoing_id ≡ old.next_outgoing_id → old.next_outgoing_id ≡ n % 2 ^ 32 → new.next_outgoing_id ≡ (n + 0) % 2 ^ 32
   same-next old new n e at = let z : n ≡ n + 0 = omega arith in e ∙ at ∙ ap (λ (k : ℕ). k % 2 ^ 32) z
 
-  step-next : (step : Step T F) (old new : State T F) (n : ℕ) → Steps old step new → old.next_outgoing_id ≡ n % 2 ^ 32 → new.next_outgoing_id ≡ (n + length (left_in step)) % 2 ^ 32
+  step-next : (step : Act T F) (old new : State T F) (n : ℕ) → Step old step new → old.next_outgoing_id ≡ n % 2 ^ 32
+      → new.next_outgoing_id ≡ (n + length (left_in step)) % 2 ^ 32
   step-next (TakesWindow base width left) old new n x at = leaves-next left (with_window old base width) new n x.0 at
   step-next (SetsWindow base width) old new n x at = same-next old new n (ap (λ (s : State T F). s.next_outgoing_id) x) at
   step-next (Accepts handle [] left) old new n x at =
@@ -47,7 +49,8 @@ module _ {T F : Type 0} where
   abbrev pub HeldUnless : Bool → State T F → Type 0
   HeldUnless lags s = lags ≡ false → IsHeld s
 
-  step-held : (step : Step T F) (old new : State T F) (lags : Bool) → Steps old step new → HeldUnless lags old → HeldUnless (lags_in lags step) new
+  step-held : (step : Act T F) (old new : State T F) (lags : Bool) → Step old step new → HeldUnless lags old
+      → HeldUnless (lags_in lags step) new
   step-held (TakesWindow base width left) old new lags x held = λ caught. x.1
   step-held (SetsWindow base width) old new lags x held = λ caught. absurd (true≢false caught)
   step-held (Accepts handle [] left) old new lags x held = λ caught. subst (λ (s : State T F). IsHeld s) (sym x.1) (held caught)
@@ -73,7 +76,8 @@ module _ {T F : Type 0} where
     pub base : s.window_base ≡ b
     pub width : s.window_width ≡ w
 
-  pub outside : (steps : List (Step T F)) (start end : State T F) (n b w : ℕ) (lags : Bool) → At start n b w → HeldUnless lags start
+  pub outside : (steps : List (Act T F)) (start end : State T F) (n b w : ℕ) (lags : Bool) → At start n b w
+      → HeldUnless lags start
       → History start steps end → lags_after lags steps ≡ false → 0 < held_in end.queues → latest_width w steps ≤ ahead ((n + length (transfers_out steps)) % 2 ^ 32) (latest_base b steps)
   outside [] start end n b w lags at held run caught some =
       let z : n ≡ n + 0 = omega arith in

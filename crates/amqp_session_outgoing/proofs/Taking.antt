@@ -4,7 +4,8 @@ use Rattle.std.specs.Prelude.{◌==◌, if◌then◌else◌}
 use Rattle.std.proofs.lemmas.Grind.{common_steps}
 use Rattle.amqp_session_outgoing.specs.Queues.{Queues, TakesTurn, TakesTurnOf, rejoined, joined, followed, trailed, units_of}
 use Rattle.amqp_session_outgoing.specs.State.{State, Leaves, with_batch, with_window}
-use Rattle.amqp_session_outgoing.specs.History.{Step, Steps, History, TakesWindow, SetsWindow, Accepts, Refuses, Follows, Reserves, Settles, SettlesRange, Forgets, Fails}
+use Rattle.amqp_session_outgoing.specs.History.{Act, Step, History, TakesWindow, SetsWindow, Accepts, Refuses}
+use Rattle.amqp_session_outgoing.specs.History.{Follows, Reserves, Settles, SettlesRange, Forgets, Fails}
 use Rattle.amqp_session_outgoing.specs.Turns.{Event, In, Behind, Out, outs, events_in, events_of, accepted_count, turns_of, Waits, WaitsThroughout, Successive}
 use Rattle.amqp_session_outgoing.specs.declared.frames.Outbound.{Outbound}
 use Rattle.amqp_session_outgoing.specs.declared.frames.Sent.{Sent}
@@ -181,7 +182,8 @@ module _ {T F : Type 0} where
   leaves-moves [] old mid events new run m = subst (λ (s : State T F). Moves s.queues events new) run m
   leaves-moves (s ∷ left) old mid events new run m = ((run.0).queues, (run.1.taken, run.1.turn), leaves-moves left run.0 mid events new run.2 m)
 
-  step-moves : (step : Step T F) (old mid : State T F) (events : List (Event T F)) (new : Queues T F) → Steps old step mid → Moves mid.queues events new → Moves old.queues (events_in step ++ events) new
+  step-moves : (step : Act T F) (old mid : State T F) (events : List (Event T F)) (new : Queues T F)
+      → Step old step mid → Moves mid.queues events new → Moves old.queues (events_in step ++ events) new
   step-moves (TakesWindow base width left) old mid events new x m = leaves-moves left (with_window old base width) mid events new x.0 m
   step-moves (SetsWindow base width) old mid events new x m = subst (λ (qs : Queues T F). Moves qs events new) (ap (λ (s : State T F). s.queues) x) m
   step-moves (Accepts handle [] left) old mid events new x m = subst (λ (s : State T F). Moves s.queues events new) x.1 m
@@ -195,7 +197,8 @@ module _ {T F : Type 0} where
   step-moves (Forgets handle) old mid events new x m = subst (λ (qs : Queues T F). Moves qs events new) (ap (λ (s : State T F). s.queues) x.1) m
   step-moves Fails old mid events new x m = subst (λ (s : State T F). Moves s.queues events new) x m
 
-  pub history-moves : (steps : List (Step T F)) (start end : State T F) → History start steps end → Moves start.queues (events_of steps) end.queues
+  pub history-moves : (steps : List (Act T F)) (start end : State T F) → History start steps end
+      → Moves start.queues (events_of steps) end.queues
   history-moves [] start end run = ap (λ (s : State T F). s.queues) run
   history-moves (step ∷ steps) start end run = step-moves step start run.0 (events_of steps) end.queues run.1 (history-moves steps run.0 end run.2)
 

@@ -2,6 +2,7 @@
 use Rattle.std.specs.Prelude.{◌≡◌, ◌≢◌, ℕ, ◌+◌, ◌^◌, ◌<◌, ◌≤◌, List, [], ◌∷◌, length, Option, Some, None, Vec}
 use Rattle.std.specs.Prelude.{vec_capacity, map, All, slice_index_or, slice_set}
 use Rattle.std.specs.VecDeque.{deque_len, deque_capacity}
+use Rattle.amqp_session_outgoing.specs.Positions.{position_of, spots_in, handles_in, AreNoted}
 use Rattle.amqp_session_outgoing.specs.Queues.{Queues, Lists, held_in, firsts_in, frames_in}
 use Rattle.amqp_session_outgoing.specs.State.{State}
 use Rattle.amqp_session_outgoing.specs.declared.frames.Outbound.{Outbound}
@@ -58,7 +59,8 @@ module _ {T F : Type 0} where
   lists_of s = record { queues = queues_of s.queues.items; room = s.room }
 
   -- the counts are those of what waits, and each link in the turn has something waiting. All nodes together are fewer
-  -- than a list takes. Each transfer for which room was promised finds a node, and its link a place in the turn
+  -- than a list takes. Each transfer for which room was promised finds a node, and its link a place in the turn, and
+  -- where it stands is noted
   pub record IsSoundTurn (s : turns.Inside T F) : Type 0 where
     pub counted : s.held ≡ held_in (queues_of s.queues.items)
     pub waits : EachWaits s.queues.items
@@ -67,6 +69,8 @@ module _ {T F : Type 0} where
     pub place : deque_len s.queues + s.room ≤ deque_capacity s.queues
     pub framed : s.frames ≡ frames_in (queues_of s.queues.items)
     pub short : EachShort (queues_of s.queues.items)
+    pub noted : AreNoted (position_of s.positions) (handles_in (queues_of s.queues.items))
+    pub spots : s.room ≤ spots_in s.positions
 
   abbrev pub state_of : outgoing.Inside T F → State T F
   state_of s =

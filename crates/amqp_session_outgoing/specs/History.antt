@@ -22,27 +22,27 @@ abbrev pub HasFreeNumbers : {T F : Type 0} → State T F → List (Outbound T F)
 HasFreeNumbers s batch = (i : ℕ) → i < firsts_of batch → IsFree s (firsts_in s.queues + i)
 
 -- a call, what it was given and answered, and what left in it
-pub data Step (T F : Type 0) : Type 0 where
+pub data Act (T F : Type 0) : Type 0 where
   -- the peer's window is taken: its first number, and how many
-  TakesWindow : (base width : ℕ) (left : List (Sent T F)) → Step T F
+  TakesWindow : (base width : ℕ) (left : List (Sent T F)) → Act T F
   -- the peer's window is set: its first number, and how many. Nothing leaves
-  SetsWindow : (base width : ℕ) → Step T F
+  SetsWindow : (base width : ℕ) → Act T F
   -- a batch of a link is accepted
-  Accepts : (handle : OutputHandle) (batch : List (Outbound T F)) (left : List (Sent T F)) → Step T F
+  Accepts : (handle : OutputHandle) (batch : List (Outbound T F)) (left : List (Sent T F)) → Act T F
   -- a batch is refused
-  Refuses : (batch : List (Outbound T F)) (error : TransferError) → Step T F
+  Refuses : (batch : List (Outbound T F)) (error : TransferError) → Act T F
   -- another frame of a link is accepted, which leaves at once or waits
-  Follows : (handle : OutputHandle) (frame : F) (left : Option F) → Step T F
+  Follows : (handle : OutputHandle) (frame : F) (left : Option F) → Act T F
   -- room is made for so many transfers
-  Reserves : (count : ℕ) → Step T F
+  Reserves : (count : ℕ) → Act T F
   -- a delivery is settled
-  Settles : (number : ℕ) → Step T F
+  Settles : (number : ℕ) → Act T F
   -- the deliveries that a disposition names are settled
-  SettlesRange : (range : DeliveryRange) → Step T F
+  SettlesRange : (range : DeliveryRange) → Act T F
   -- a handle is given back
-  Forgets : (handle : OutputHandle) → Step T F
+  Forgets : (handle : OutputHandle) → Act T F
   -- there was no memory
-  Fails : Step T F
+  Fails : Act T F
 
 module _ {T F : Type 0} where
   -- why a batch is refused: a delivery without a tag, then a number that is in use, then want of memory outside of the
@@ -59,31 +59,31 @@ module _ {T F : Type 0} where
       HaveTags (u ∷ us) × HasFreeNumbers old (u ∷ us) × Leaves (with_batch old handle.0 (u ∷ us)) left new × IsHeld new
 
   -- the states around a call
-  abbrev pub Steps : State T F → Step T F → State T F → Type 0
-  Steps old (TakesWindow base width left) new = Leaves (with_window old base width) left new × IsHeld new
-  Steps old (SetsWindow base width) new = new ≡ with_window old base width
-  Steps old (Accepts handle batch left) new = AcceptsBatch old handle batch left new
-  Steps old (Refuses batch error) new = RefusesBatch old batch error × (new ≡ old)
-  Steps old (Follows handle frame left) new =
+  abbrev pub Step : State T F → Act T F → State T F → Type 0
+  Step old (TakesWindow base width left) new = Leaves (with_window old base width) left new × IsHeld new
+  Step old (SetsWindow base width) new = new ≡ with_window old base width
+  Step old (Accepts handle batch left) new = AcceptsBatch old handle batch left new
+  Step old (Refuses batch error) new = RefusesBatch old batch error × (new ≡ old)
+  Step old (Follows handle frame left) new =
       FollowsIn handle.0 frame left old.queues new.queues × (new ≡ record old { queues = new.queues })
-  Steps old (Reserves count) new = new ≡ record old { room = max old.room count }
-  Steps old (Settles number) new = new ≡ record old { unsettled = map.remove old.unsettled number }
-  Steps old (SettlesRange range) new = new ≡ record old { unsettled = outside range old.unsettled }
-  Steps old (Forgets handle) new =
+  Step old (Reserves count) new = new ≡ record old { room = max old.room count }
+  Step old (Settles number) new = new ≡ record old { unsettled = map.remove old.unsettled number }
+  Step old (SettlesRange range) new = new ≡ record old { unsettled = outside range old.unsettled }
+  Step old (Forgets handle) new =
       ((number : ℕ) → map.get new.unsettled number ≡ unless_of handle.0 (map.get old.unsettled number))
       × (new ≡ record old { unsettled = new.unsettled })
-  Steps old Fails new = new ≡ old
+  Step old Fails new = new ≡ old
 
-  abbrev pub History : State T F → List (Step T F) → State T F → Type 0
+  abbrev pub History : State T F → List (Act T F) → State T F → Type 0
   History start [] end = end ≡ start
-  History start (step ∷ steps) end = (mid : State T F) × Steps start step mid × History mid steps end
+  History start (step ∷ steps) end = (mid : State T F) × Step start step mid × History mid steps end
 
   -- a step in which these transfers were handed out
-  pub record Takes (step : List (Sent T F) → Step T F) (old : State T F) (out : List (Sent T F)) (new : State T F)
+  pub record Takes (step : List (Sent T F) → Act T F) (old : State T F) (out : List (Sent T F)) (new : State T F)
       (out_new : List (Sent T F)) : Type 0 where
     pub left : List (Sent T F)
     pub added : out_new ≡ out ++ left
-    pub stepped : Steps old (step left) new
+    pub stepped : Step old (step left) new
 
   -- a session as it begins, with the number of its first transfer. It has no window until the peer's Begin came
   abbrev pub fresh : ℕ → State T F

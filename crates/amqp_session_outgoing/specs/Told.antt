@@ -5,7 +5,7 @@ use Rattle.std.specs.FinMap as map
 use Rattle.amqp_session_unsettled.specs.Range.{ahead}
 use Rattle.amqp_session_outgoing.specs.Frames.{LinkFrame, Other, frames_of, frames_sent}
 use Rattle.amqp_session_outgoing.specs.State.{State, Leaves, Sends, with_window, with_batch}
-use Rattle.amqp_session_outgoing.specs.History.{Step, TakesWindow, SetsWindow, Accepts, Refuses, Follows, Reserves}
+use Rattle.amqp_session_outgoing.specs.History.{Act, TakesWindow, SetsWindow, Accepts, Refuses, Follows, Reserves}
 use Rattle.amqp_session_outgoing.specs.History.{Settles, SettlesRange, Forgets, Fails}
 use Rattle.amqp_session_outgoing.specs.declared.frames.Sent.{Sent}
 
@@ -20,7 +20,7 @@ behind_number number (Some given) = number + 1
 
 module _ {T F : Type 0} where
   -- the transfers that left in a call
-  abbrev pub left_in : Step T F → List (Sent T F)
+  abbrev pub left_in : Act T F → List (Sent T F)
   left_in (TakesWindow base width left) = left
   left_in (SetsWindow base width) = []
   left_in (Accepts handle batch left) = left
@@ -33,7 +33,7 @@ module _ {T F : Type 0} where
   left_in Fails = []
 
   -- the transfers that left, in order
-  abbrev pub transfers_out : List (Step T F) → List (Sent T F)
+  abbrev pub transfers_out : List (Act T F) → List (Sent T F)
   transfers_out [] = []
   transfers_out (step ∷ steps) = left_in step ++ transfers_out steps
 
@@ -48,7 +48,7 @@ module _ {T F : Type 0} where
   alone link handle (Some frame) = if handle == link then Other frame ∷ [] else []
 
   -- the frames of a link that left in a call
-  abbrev pub out_in : ℕ → Step T F → List (LinkFrame T F)
+  abbrev pub out_in : ℕ → Act T F → List (LinkFrame T F)
   out_in link (TakesWindow base width left) = frames_by link left
   out_in link (SetsWindow base width) = []
   out_in link (Accepts handle batch left) = frames_by link left
@@ -61,12 +61,12 @@ module _ {T F : Type 0} where
   out_in link Fails = []
 
   -- all frames of a link that left, in order
-  abbrev pub out_of : ℕ → List (Step T F) → List (LinkFrame T F)
+  abbrev pub out_of : ℕ → List (Act T F) → List (LinkFrame T F)
   out_of link [] = []
   out_of link (step ∷ steps) = out_in link step ++ out_of link steps
 
   -- the frames of a link that were accepted in a call
-  abbrev pub accepted_in : ℕ → Step T F → List (LinkFrame T F)
+  abbrev pub accepted_in : ℕ → Act T F → List (LinkFrame T F)
   accepted_in link (TakesWindow base width left) = []
   accepted_in link (SetsWindow base width) = []
   accepted_in link (Accepts handle batch left) = if handle.0 == link then frames_of batch else []
@@ -79,12 +79,12 @@ module _ {T F : Type 0} where
   accepted_in link Fails = []
 
   -- all frames of a link that were accepted, in order
-  abbrev pub accepted_of : ℕ → List (Step T F) → List (LinkFrame T F)
+  abbrev pub accepted_of : ℕ → List (Act T F) → List (LinkFrame T F)
   accepted_of link [] = []
   accepted_of link (step ∷ steps) = accepted_in link step ++ accepted_of link steps
 
   -- the window of a call: a new one, or the one before
-  abbrev pub base_in : ℕ → Step T F → ℕ
+  abbrev pub base_in : ℕ → Act T F → ℕ
   base_in base (TakesWindow new_base new_width left) = new_base
   base_in base (SetsWindow new_base new_width) = new_base
   base_in base (Accepts handle batch left) = base
@@ -96,7 +96,7 @@ module _ {T F : Type 0} where
   base_in base (Forgets handle) = base
   base_in base Fails = base
 
-  abbrev pub width_in : ℕ → Step T F → ℕ
+  abbrev pub width_in : ℕ → Act T F → ℕ
   width_in width (TakesWindow new_base new_width left) = new_width
   width_in width (SetsWindow new_base new_width) = new_width
   width_in width (Accepts handle batch left) = width
@@ -109,16 +109,16 @@ module _ {T F : Type 0} where
   width_in width Fails = width
 
   -- the latest window
-  abbrev pub latest_base : ℕ → List (Step T F) → ℕ
+  abbrev pub latest_base : ℕ → List (Act T F) → ℕ
   latest_base base [] = base
   latest_base base (step ∷ steps) = latest_base (base_in base step) steps
 
-  abbrev pub latest_width : ℕ → List (Step T F) → ℕ
+  abbrev pub latest_width : ℕ → List (Act T F) → ℕ
   latest_width width [] = width
   latest_width width (step ∷ steps) = latest_width (width_in width step) steps
 
   -- whether a window was set, and no call has let leave what lies in it yet
-  abbrev pub lags_in : Bool → Step T F → Bool
+  abbrev pub lags_in : Bool → Act T F → Bool
   lags_in lags (TakesWindow base width left) = false
   lags_in lags (SetsWindow base width) = true
   lags_in lags (Accepts handle [] left) = lags
@@ -131,12 +131,12 @@ module _ {T F : Type 0} where
   lags_in lags (Forgets handle) = lags
   lags_in lags Fails = lags
 
-  abbrev pub lags_after : Bool → List (Step T F) → Bool
+  abbrev pub lags_after : Bool → List (Act T F) → Bool
   lags_after lags [] = lags
   lags_after lags (step ∷ steps) = lags_after (lags_in lags step) steps
 
   -- what lies in the latest window has left
-  abbrev pub HasCaughtUp : List (Step T F) → Type 0
+  abbrev pub HasCaughtUp : List (Act T F) → Type 0
   HasCaughtUp steps = lags_after false steps ≡ false
 
   -- each lies in a window
@@ -145,7 +145,7 @@ module _ {T F : Type 0} where
   EachInWindow base width (s ∷ left) = (ahead s.number base < width) × EachInWindow base width left
 
   -- each that left lay in the latest window
-  abbrev pub InLatestWindow : ℕ → ℕ → List (Step T F) → Type 0
+  abbrev pub InLatestWindow : ℕ → ℕ → List (Act T F) → Type 0
   InLatestWindow base width [] = Unit {0}
   InLatestWindow base width (step ∷ steps) =
       EachInWindow (base_in base step) (width_in width step) (left_in step)
@@ -164,7 +164,7 @@ module _ {T F : Type 0} where
   GivesFree s (Some number) = map.get s.unsettled number ≡ None
 
   -- the session in a call, before any transfer leaves
-  abbrev pub opened : State T F → Step T F → State T F
+  abbrev pub opened : State T F → Act T F → State T F
   opened s (TakesWindow base width left) = with_window s base width
   opened s (SetsWindow base width) = with_window s base width
   opened s (Accepts handle batch left) = with_batch s handle.0 batch
@@ -177,7 +177,7 @@ module _ {T F : Type 0} where
   opened s Fails = s
 
   -- a transfer leaves in a call, behind others that left in it before, and this is the session right before it leaves
-  pub record LeavesIn (old : State T F) (step : Step T F) (sent : Sent T F) (here : State T F) : Type 0 where
+  pub record LeavesIn (old : State T F) (step : Act T F) (sent : Sent T F) (here : State T F) : Type 0 where
     pub earlier : List (Sent T F)
     pub later : List (Sent T F)
     pub among : left_in step ≡ earlier ++ sent ∷ later

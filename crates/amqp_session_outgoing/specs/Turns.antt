@@ -1,6 +1,6 @@
 -- What happens in a session, one thing after another, and how links take turns.
 use Rattle.std.specs.Prelude.{◌≡◌, ℕ, ◌+◌, ◌<◌, ◌==◌, List, [], ◌∷◌, ◌++◌, length, Some, None, if◌then◌else◌}
-use Rattle.amqp_session_outgoing.specs.History.{Step, TakesWindow, SetsWindow, Accepts, Refuses, Follows, Reserves}
+use Rattle.amqp_session_outgoing.specs.History.{Act, TakesWindow, SetsWindow, Accepts, Refuses, Follows, Reserves}
 use Rattle.amqp_session_outgoing.specs.History.{Settles, SettlesRange, Forgets, Fails}
 use Rattle.amqp_session_outgoing.specs.declared.frames.Outbound.{Outbound}
 use Rattle.amqp_session_outgoing.specs.declared.frames.Sent.{Sent}
@@ -16,7 +16,7 @@ module _ {T F : Type 0} where
   outs [] = []
   outs (s ∷ left) = Out s ∷ outs left
 
-  abbrev pub events_in : Step T F → List (Event T F)
+  abbrev pub events_in : Act T F → List (Event T F)
   events_in (TakesWindow base width left) = outs left
   events_in (SetsWindow base width) = []
   events_in (Accepts handle [] left) = []
@@ -30,7 +30,7 @@ module _ {T F : Type 0} where
   events_in (Forgets handle) = []
   events_in Fails = []
 
-  abbrev pub events_of : List (Step T F) → List (Event T F)
+  abbrev pub events_of : List (Act T F) → List (Event T F)
   events_of [] = []
   events_of (step ∷ steps) = events_in step ++ events_of steps
 

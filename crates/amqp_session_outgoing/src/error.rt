@@ -1,3 +1,4 @@
+//! Why transfers are refused.
 use std::alloc::AllocError;
 use thiserror::Error;
 

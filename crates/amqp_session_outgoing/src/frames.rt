@@ -1,3 +1,4 @@
+//! Transfers as a link hands them over, and as they leave.
 ghost use Rattle.std.specs.Prelude.{◌≡◌, ◌+◌, ◌%◌, ◌^◌, IfSome, IfNone};
 ghost use Rattle.amqp_session_outgoing.specs.Frames.{is_first, first_count, HasTag};
 

@@ -2,7 +2,7 @@
 //! waits for the window, link by link (part 2, 2.5.6 and 2.6.12).
 //!
 //! Links that wait stand in a turn: where the window allows a transfer, the first of them sends one and then stands
-//! last. What a call does says `Steps` in specs/History.antt.
+//! last. What a call does says `Step` in specs/History.antt.
 #![tactic(auto)]
 
 mod behind;
@@ -12,6 +12,7 @@ pub mod laws;
 mod nodes;
 mod outgoing;
 mod place;
+mod positions;
 mod turns;
 
 pub use behind::Behind;

@@ -1,3 +1,4 @@
+//! Rows of values in nodes that are used again.
 ghost use Rattle.std.specs.Prelude.{◌≡◌, ◌+◌, ◌-◌, ◌<◌, ◌≤◌, ◌^◌, ◌↔◌, ◌==◌, [], ◌∷◌, ◌++◌, length, take, drop, max};
 ghost use Rattle.std.specs.Prelude.{IsOk, OnOk, OnErr, IfSome, IsSome, slice_index_or};
 ghost use Rattle.amqp_session_outgoing.specs.Nodes.{values_of, HoldValues, AreFree};

@@ -1,3 +1,4 @@
+//! The sending side of a session.
 ghost use Rattle.std.specs.Prelude.{◌≡◌, ◌≢◌, ℕ, ◌+◌, ◌-◌, ◌<◌, ◌≤◌, ◌%◌, ◌^◌, ◌⊎◌, ◌↔◌, [], ◌++◌, length};
 ghost use Rattle.std.specs.Prelude.{if◌then◌else◌, IsTrue, IsOk, IfOk, IfErr, OnOk, OnErr, Err, option_copied, vec_len};
 ghost use Rattle.std.specs.Prelude.{vec_capacity};
@@ -8,7 +9,7 @@ ghost use Rattle.std.specs.FinMap as map;
 ghost use Rattle.amqp_session_outgoing.specs.State.{State, InWindow, Sends, Leaving, IsHeld, base_of, registered};
 ghost use Rattle.amqp_session_outgoing.specs.State.{window_left, with_alone, with_batch, with_window};
 ghost use Rattle.amqp_session_unsettled.specs.Range.{ahead};
-ghost use Rattle.amqp_session_outgoing.specs.History.{Steps, Takes, TakesWindow, Accepts, Refuses, Follows, Reserves};
+ghost use Rattle.amqp_session_outgoing.specs.History.{Step, Takes, TakesWindow, Accepts, Refuses, Follows, Reserves};
 ghost use Rattle.amqp_session_outgoing.specs.History.{Settles, SettlesRange, Forgets, Fails, HasFreeNumbers, IsFree};
 ghost use Rattle.amqp_session_outgoing.specs.History.{RefusesBatch, fresh};
 
@@ -167,7 +168,7 @@ impl<T: Drop, F: Drop> Outgoing<T, F> {
             + held_in self.old.queues) }
         ensures capacity { vec_capacity out.old ≤ vec_capacity out.new }
         ensures kept_room { self.new.room ≡ self.old.room }
-        ensures err { OnErr result (Steps self.old Fails self.new
+        ensures err { OnErr result (Step self.old Fails self.new
             × (out.new.items ≡ out.old.items)) }
         ensures room { vec_len out.old + held_in self.old.queues ≤ vec_capacity out.old →
             IsOk result }
@@ -196,7 +197,7 @@ impl<T: Drop, F: Drop> Outgoing<T, F> {
             + held_in self.old.queues) }
         ensures capacity { vec_capacity out.old ≤ vec_capacity out.new }
         ensures kept_room { self.new.room ≡ self.old.room }
-        ensures err { OnErr result (Steps self.old Fails self.new
+        ensures err { OnErr result (Step self.old Fails self.new
             × (out.new.items ≡ out.old.items)) }
         ensures room { vec_len out.old + held_in self.old.queues ≤ vec_capacity out.old →
             IsOk result }
@@ -268,7 +269,7 @@ impl<T: Drop, F: Drop> Outgoing<T, F> {
             + held_in self.old.queues + length batch.old.items) }
         ensures capacity { vec_capacity out.old ≤ vec_capacity out.new }
         ensures used_room { OnOk result (self.new.room ≡ self.old.room - length batch.old.items) }
-        ensures err { OnErr result (Steps self.old Fails self.new) }
+        ensures err { OnErr result (Step self.old Fails self.new) }
         ensures out { OnErr result (out.new.items ≡ out.old.items) }
         ensures emptied { OnOk result (batch.new.items ≡ []) }
         ensures batch { OnErr result (batch.new.items ≡ batch.old.items) }
@@ -310,7 +311,7 @@ impl<T: Drop, F: Drop> Outgoing<T, F> {
         ensures capacity { vec_capacity out.old ≤ vec_capacity out.new }
         ensures used_room { OnOk result (self.new.room ≡ self.old.room - length batch.old.items) }
         ensures err { IfErr result (λ error.
-            Steps self.old (Refuses batch.old.items error) self.new) }
+            Step self.old (Refuses batch.old.items error) self.new) }
         ensures out { OnErr result (out.new.items ≡ out.old.items) }
         ensures emptied { OnOk result (batch.new.items ≡ []) }
         ensures batch { OnErr result (batch.new.items ≡ batch.old.items) }
@@ -331,8 +332,8 @@ impl<T: Drop, F: Drop> Outgoing<T, F> {
         handle: OutputHandle,
         frame: F,
     ) -> Result<Option<F>, AllocError>
-        ensures ok { IfOk result (λ left. Steps self.old (Follows handle frame left) self.new) }
-        ensures err { OnErr result (Steps self.old Fails self.new) }
+        ensures ok { IfOk result (λ left. Step self.old (Follows handle frame left) self.new) }
+        ensures err { OnErr result (Step self.old Fails self.new) }
         ensures at_once { units_of handle.0 self.old.queues ≡ [] → IsOk result }
     {
         let mut place = Place::none();
@@ -385,7 +386,7 @@ impl<T: Drop, F: Drop> Outgoing<T, F> {
         frame: F,
     ) -> Option<F>
         requires { room_behind handle.0 1 self.old.queues ≤ place.old }
-        ensures step { Steps self.old (Follows handle frame result) self.new }
+        ensures step { Step self.old (Follows handle frame result) self.new }
         ensures at_once { units_of handle.0 self.old.queues ≡ [] → place.new ≡ place.old }
     {
         self.turns.follow(handle, place, frame).unwrap()
@@ -399,7 +400,7 @@ impl<T: Drop, F: Drop> Outgoing<T, F> {
         frame: F,
     ) -> Option<F>
         requires { room_behind handle.0 1 self.old.queues ≤ place }
-        ensures { Steps self.old (Follows handle frame result) self.new }
+        ensures { Step self.old (Follows handle frame result) self.new }
     {
         let mut place = place;
         self.on_outgoing_frame_at(handle, &mut place, frame)
@@ -413,10 +414,10 @@ impl<T: Drop, F: Drop> Outgoing<T, F> {
         out: &mut Vec<Sent<T, F>>,
         count: usize,
     ) -> Result<(), AllocError>
-        ensures ok { OnOk result (Steps self.old (Reserves count) self.new) }
+        ensures ok { OnOk result (Step self.old (Reserves count) self.new) }
         ensures room { OnOk result (vec_len out.new + held_in self.new.queues + self.new.room ≤
             vec_capacity out.new) }
-        ensures err { OnErr result (Steps self.old Fails self.new) }
+        ensures err { OnErr result (Step self.old Fails self.new) }
         ensures out { out.new.items ≡ out.old.items }
         ensures capacity { vec_capacity out.old ≤ vec_capacity out.new }
     {
@@ -427,7 +428,7 @@ impl<T: Drop, F: Drop> Outgoing<T, F> {
 
     /// Settles a delivery that left, if one of this number is unsettled (part 2, 2.6.12).
     pub fn settle(&mut self, number: u32)
-        ensures { Steps self.old (Settles number) self.new }
+        ensures { Step self.old (Settles number) self.new }
     {
         self.unsettled.settle(number);
     }
@@ -435,14 +436,14 @@ impl<T: Drop, F: Drop> Outgoing<T, F> {
     /// Settles the deliveries that left and that a disposition names (part 2, 2.6.12 and 2.7.6). It takes no memory, and
     /// time by the range or by the deliveries that there are, whichever are fewer.
     pub fn settle_range(&mut self, range: DeliveryRange)
-        ensures { Steps self.old (SettlesRange range) self.new }
+        ensures { Step self.old (SettlesRange range) self.new }
     {
         self.unsettled.settle_range(range);
     }
 
     /// Forgets the unsettled deliveries of a link, whose handle is given back (part 2, 2.6.2).
     pub fn forget_link(&mut self, handle: OutputHandle)
-        ensures { Steps self.old (Forgets handle) self.new }
+        ensures { Step self.old (Forgets handle) self.new }
     {
         self.unsettled.forget(handle);
     }

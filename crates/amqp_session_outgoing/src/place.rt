@@ -1,3 +1,4 @@
+//! Room for frames behind the transfers that a link has waiting.
 ghost use Rattle.std.specs.Prelude.{◌≡◌, ◌+◌, ◌<◌, ◌≤◌, [], length, IsOk, OnOk, OnErr, vec_len, vec_capacity};
 ghost use Rattle.amqp_session_outgoing.specs.Fields.{capacity_of, HoldsNone};
 

@@ -1,15 +1,18 @@
+//! The links that wait, in turn.
 ghost use Rattle.std.specs.Prelude.{◌≡◌, ◌≢◌, ℕ, ◌+◌, ◌-◌, ◌^◌, ◌<◌, ◌≤◌, ◌↔◌, [], ◌∷◌, ◌++◌, length, IsTrue, IsOk};
-ghost use Rattle.std.specs.Prelude.{◌⊎◌, OnOk, OnErr, IfOk, IfSome, IfNone, max, slice_index_or};
+ghost use Rattle.std.specs.Prelude.{◌⊎◌, OnOk, OnErr, IfOk, IfSome, IfNone, Some, cond, nat_eq, max, slice_index_or};
 ghost use Rattle.std.specs.VecDeque.{deque_len, deque_capacity};
 ghost use Rattle.amqp_session_outgoing.specs.Frames.{first_count, frames_count, last_room};
 ghost use Rattle.amqp_session_outgoing.specs.Queues.{held_in, firsts_in, frames_in, units_of, room_behind, TakesTurn};
 ghost use Rattle.amqp_session_outgoing.specs.Queues.{joined, trailed, turn_of, FollowsIn};
 ghost use Rattle.amqp_session_outgoing.specs.Fields.{queues_of, EachWaits, AllShort, IsPlace, IsNowhere, ChangesAt};
+ghost use Rattle.amqp_session_outgoing.specs.Positions.{position_of, spots_in, handles_in, AreNoted};
 ghost use Rattle.amqp_session_outgoing.specs.declared.turns.Queue.{Queue};
 
 use crate::frames::Outbound;
 use crate::nodes::{LIMIT, Row, Store};
 use crate::place::Place;
+use crate::positions::Positions;
 use amqp_session_types::OutputHandle;
 use std::alloc::{AllocError, Global};
 use std::collections::VecDeque;
@@ -33,6 +36,8 @@ impl<T: Drop, F: Drop> Drop for Queue<T, F> {
 /// The links that wait, in turn, each with its waiting transfers.
 pub(crate) struct Turns<T, F> {
     queues: VecDeque<Queue<T, F>>,
+    /// Where each of them stands.
+    positions: Positions,
     /// The nodes in which more transfers may wait.
     store: Store<Outbound<T, F>>,
     held: usize,
@@ -44,6 +49,7 @@ impl<T: Drop, F: Drop> Drop for Turns<T, F> {
     fn drop(self) {
         let Turns {
             queues: _,
+            positions: _,
             store: _,
             held: _,
             frames: _,
@@ -66,11 +72,13 @@ impl<T, F> Model for Turns<T, F> {
 
 impl<T: Drop, F: Drop> Turns<T, F> {
     /// Nothing waits. It takes no memory.
+    #[tactic(auto, using(crate::proofs::Standing::rules))]
     pub(crate) fn new(alloc: Global) -> Self
         ensures { result ≡ record { queues = []; room = 0 } }
     {
         Turns {
             queues: VecDeque::new(alloc),
+            positions: Positions::new(alloc),
             store: Store::new(alloc),
             held: 0,
             frames: 0,
@@ -112,7 +120,7 @@ impl<T: Drop, F: Drop> Turns<T, F> {
     pub(crate) fn is_waiting(&self, handle: OutputHandle) -> bool
         ensures { IsTrue result ↔ (0 < length (units_of handle.0 self.now.queues)) }
     {
-        place_of(&self.queues, handle).is_some()
+        place_of(&self.queues, &self.positions, handle).is_some()
     }
 
     /// The links that wait, in turn, each with how many of its transfers wait.
@@ -131,7 +139,7 @@ impl<T: Drop, F: Drop> Turns<T, F> {
         ensures firsts { firsts_in self.new.queues + first_count result.1.part
             ≡ firsts_in self.old.queues }
     {
-        let (handle, unit) = take_turn(&mut self.queues, &mut self.store);
+        let (handle, unit) = take_turn(&mut self.queues, &mut self.positions, &mut self.store);
         self.held -= 1;
         self.frames -= 1 + unit.behind.len() as u128;
         (handle, unit)
@@ -158,7 +166,14 @@ impl<T: Drop, F: Drop> Turns<T, F> {
         let count = batch.len();
         let held = sum_in_limit(self.held, count)?;
         let frames = self.frames + count_frames(batch);
-        join(&mut self.queues, &mut self.store, alloc, handle, batch)?;
+        join(
+            &mut self.queues,
+            &mut self.positions,
+            &mut self.store,
+            alloc,
+            handle,
+            batch,
+        )?;
         self.held = held;
         self.frames = frames;
         self.room = self.room.saturating_sub(count);
@@ -166,6 +181,7 @@ impl<T: Drop, F: Drop> Turns<T, F> {
     }
 
     /// Makes room for so many transfers, in one batch or in several, of one link or of several.
+    #[tactic(auto, using(crate::proofs::Standing::rules))]
     pub(crate) fn reserve(&mut self, count: usize) -> Result<(), AllocError>
         ensures ok { OnOk result (self.new ≡ record self.old { room = max self.old.room count }) }
         ensures err { OnErr result (self.new ≡ self.old) }
@@ -173,6 +189,7 @@ impl<T: Drop, F: Drop> Turns<T, F> {
         let room = self.room.max(count);
         let _ = sum_in_limit(self.held, room)?;
         self.queues.reserve(room)?;
+        self.positions.reserve(room)?;
         self.store.reserve(room)?;
         self.room = room;
         Ok(())
@@ -201,7 +218,7 @@ impl<T: Drop, F: Drop> Turns<T, F> {
         ensures kept { room_behind handle.0 count self.now.queues ≤ place.old →
             place.new ≡ place.old }
     {
-        match place_of(&self.queues, handle) {
+        match place_of(&self.queues, &self.positions, handle) {
             Some(index) => widen_behind(&self.queues[index].units, alloc, count, place),
             None => Ok(()),
         }
@@ -225,7 +242,7 @@ impl<T: Drop, F: Drop> Turns<T, F> {
         ensures fits { room_behind handle.0 1 self.old.queues ≤ place.old → IsOk result }
         ensures at_once { units_of handle.0 self.old.queues ≡ [] → place.new ≡ place.old }
     {
-        let Some(index) = place_of(&self.queues, handle) else {
+        let Some(index) = place_of(&self.queues, &self.positions, handle) else {
             return Ok(Some(frame));
         };
         follow(&mut self.queues, index, place, frame)?;
@@ -249,14 +266,19 @@ fn sum_in_limit(held: usize, count: usize) -> Result<usize, AllocError>
 /// store.
 fn take_turn<T: Drop, F: Drop>(
     queues: &mut VecDeque<Queue<T, F>>,
+    positions: &mut Positions,
     store: &mut Store<Outbound<T, F>>,
 ) -> (OutputHandle, Outbound<T, F>)
     requires some { 0 < length queues.old.items }
     requires waits { EachWaits queues.old.items }
     requires short { store.old + 1 < 2 ^ 63 }
+    requires noted { AreNoted (position_of positions.old)
+        (handles_in (queues_of queues.old.items)) }
     ensures taken { TakesTurn (queues_of queues.old.items) (result.0).0 result.1
         (queues_of queues.new.items) }
     ensures waits { EachWaits queues.new.items }
+    ensures noted { AreNoted (position_of positions.new) (handles_in (queues_of queues.new.items)) }
+    ensures spots { spots_in positions.old ≤ spots_in positions.new }
     ensures store { store.new ≡ store.old + 1 }
     ensures capacity { deque_capacity queues.new ≡ deque_capacity queues.old }
     ensures len { deque_len queues.new ≤ deque_len queues.old }
@@ -265,23 +287,29 @@ fn take_turn<T: Drop, F: Drop>(
     let unit = queue.units.take_first(store);
     let handle = queue.handle;
     if !queue.units.is_empty() {
+        positions.rotate(handle, queues.len());
         queues.push_back_reserved(queue);
         return (handle, unit);
     }
+    positions.remove_first(handle);
     (handle, unit)
 }
 
 /// Where a link stands in the turn.
-fn place_of<T, F>(queues: &VecDeque<Queue<T, F>>, handle: OutputHandle) -> Option<usize>
+fn place_of<T, F>(
+    queues: &VecDeque<Queue<T, F>>,
+    positions: &Positions,
+    handle: OutputHandle,
+) -> Option<usize>
+    requires noted { AreNoted (position_of positions.now)
+        (handles_in (queues_of queues.now.items)) }
     ensures some { IfSome result (λ i. IsPlace queues.now.items handle.0 i) }
     ensures none { IfNone result (IsNowhere queues.now.items handle.0) }
 {
-    for i in 0..queues.len() {
-        if queues[i].handle == handle {
-            return Some(i);
-        }
+    if queues.is_empty() {
+        return None;
     }
-    None
+    positions.get(handle)
 }
 
 /// Gets room for so many more frames behind the last of these transfers.
@@ -319,6 +347,7 @@ fn count_frames<T, F: Drop>(batch: &VecDeque<Outbound<T, F>>) -> u128
 #[tactic(auto, using(crate::proofs::Joining::rules))]
 fn join<T: Drop, F: Drop>(
     queues: &mut VecDeque<Queue<T, F>>,
+    positions: &mut Positions,
     store: &mut Store<Outbound<T, F>>,
     alloc: Global,
     handle: OutputHandle,
@@ -328,12 +357,17 @@ fn join<T: Drop, F: Drop>(
     requires waits { EachWaits queues.old.items }
     requires short { held_in (queues_of queues.old.items) + store.old < 2 ^ 63 }
     requires fits { held_in (queues_of queues.old.items) + length batch.old.items < 2 ^ 63 }
+    requires noted { AreNoted (position_of positions.old)
+        (handles_in (queues_of queues.old.items)) }
     ensures ok { OnOk result (queues_of queues.new.items
         ≡ joined handle.0 batch.old.items (queues_of queues.old.items)) }
     ensures err { OnErr result (queues_of queues.new.items ≡ queues_of queues.old.items) }
     ensures emptied { OnOk result (batch.new.items ≡ []) }
     ensures batch { OnErr result (batch.new.items ≡ batch.old.items) }
     ensures waits { EachWaits queues.new.items }
+    ensures noted { AreNoted (position_of positions.new) (handles_in (queues_of queues.new.items)) }
+    ensures taken { OnOk result (spots_in positions.old ≤ spots_in positions.new + 1) }
+    ensures spots { OnErr result (spots_in positions.old ≤ spots_in positions.new) }
     ensures store { OnOk result (store.new + length batch.old.items
         ≡ max store.old (length batch.old.items)) }
     ensures kept { OnErr result (store.old ≤ store.new) }
@@ -343,15 +377,15 @@ fn join<T: Drop, F: Drop>(
     ensures within { deque_len queues.new ≤ deque_capacity queues.new }
     ensures capacity { deque_capacity queues.old ≤ deque_capacity queues.new }
     ensures refused { OnErr result ((deque_capacity queues.old ≤ deque_len queues.old)
-        ⊎ (store.old < length batch.old.items)) }
+        ⊎ ((spots_in positions.old ≡ 0) ⊎ (store.old < length batch.old.items))) }
 {
     store.reserve(batch.len())?;
-    match place_of(queues, handle) {
+    match place_of(queues, positions, handle) {
         Some(place) => {
             join_at(queues, store, place, batch);
             Ok(())
         }
-        None => join_last(queues, store, alloc, handle, batch),
+        None => join_last(queues, positions, store, alloc, handle, batch),
     }
 }
 
@@ -381,6 +415,7 @@ fn join_at<T: Drop, F: Drop>(
 /// A batch of a link that has nothing waiting joins the turn at its end.
 fn join_last<T: Drop, F: Drop>(
     queues: &mut VecDeque<Queue<T, F>>,
+    positions: &mut Positions,
     store: &mut Store<Outbound<T, F>>,
     alloc: Global,
     handle: OutputHandle,
@@ -391,6 +426,13 @@ fn join_last<T: Drop, F: Drop>(
     requires nodes { length batch.old.items ≤ store.old }
     requires short { store.old < 2 ^ 63 }
     ensures waits { EachWaits queues.new.items }
+    ensures stands { OnOk result ((other : ℕ) → position_of positions.new other
+        ≡ cond (nat_eq handle.0 other) (Some (length queues.old.items))
+        (position_of positions.old other)) }
+    ensures stood { OnErr result ((other : ℕ) →
+        position_of positions.new other ≡ position_of positions.old other) }
+    ensures taken { OnOk result (spots_in positions.old ≤ spots_in positions.new + 1) }
+    ensures spots { OnErr result (spots_in positions.old ≤ spots_in positions.new) }
     ensures ok { OnOk result ((q : Queue T F) × (queues.new.items ≡ queues.old.items ++ q ∷ [])
         × (q.handle ≡ handle) × (q.units ≡ batch.old.items)) }
     ensures err { OnErr result (queues.new.items ≡ queues.old.items) }
@@ -402,9 +444,12 @@ fn join_last<T: Drop, F: Drop>(
     ensures joins { OnOk result (deque_len queues.new ≡ deque_len queues.old + 1) }
     ensures within { deque_len queues.new ≤ deque_capacity queues.new }
     ensures capacity { deque_capacity queues.old ≤ deque_capacity queues.new }
-    ensures refused { OnErr result (deque_capacity queues.old ≤ deque_len queues.old) }
+    ensures refused { OnErr result ((deque_capacity queues.old ≤ deque_len queues.old)
+        ⊎ (spots_in positions.old ≡ 0)) }
 {
     queues.reserve(1)?;
+    positions.reserve(1)?;
+    positions.insert_reserved(handle, queues.len());
     let mut units = Row::new(alloc);
     units.append(store, batch);
     queues.push_back_reserved(Queue { handle, units });

@@ -3,6 +3,7 @@ use Rattle.amqp_session_outgoing.specs.Queues.{Lists, held_in, firsts_in, frames
 use Rattle.amqp_session_outgoing.specs.Fields.{queues_of, EachShort}
 use Rattle.amqp_session_outgoing.proofs.Joining.{followed-at, held-followed, room-at, waits-at}
 use Rattle.amqp_session_outgoing.proofs.Numbering.{firsts-followed}
+use Rattle.amqp_session_outgoing.proofs.Standing.{noted-changed}
 use Rattle.amqp_session_outgoing.proofs.Counting.{frames-few, frames-followed, short-followed}
 use Rattle.amqp_session_outgoing.proofs.turns.Turns.follow.Goals as goal
 
@@ -19,6 +20,9 @@ invariant_of-self-2 g c =
       place = omega (arith, c.self.invariant.place, c.follow.ensures.len, c.follow.ensures.capacity);
       framed = omega (arith, c.self.invariant.framed, ap (λ queues. frames_in queues) e, frames-followed (c.args.handle).0 c.args.frame (queues_of c.self.inside.queues.items) waits);
       short = subst (λ queues. EachShort queues) (sym e) (short-followed (c.args.handle).0 c.args.frame (queues_of c.self.inside.queues.items) c.self.invariant.short (omega (arith, room, c.in_ok-follow.ensures.short c.in-Some.ensures.some.found)));
+      noted = noted-changed _ c.self.inside.queues.items c.follow.new.queues.items c.in-Some.index _
+          c.in_ok-follow.ensures.ok c.self.invariant.noted;
+      spots = c.self.invariant.spots;
     }
 
 pub returns-clause-held : goal.returns-clause-held

@@ -22,4 +22,6 @@ invariant_of-self-2 g c =
       place = omega (arith, c.requires, c.self.invariant.place, c.in_ok-join.ensures.joins, c.join.ensures.within, c.join.ensures.capacity);
       framed = omega (arith, c.self.invariant.framed, c.count_frames.ensures.count, ap (λ queues. frames_in queues) e, frames-joined (c.args.handle).0 c.args.batch.now.items (queues_of c.self.inside.queues.items));
       short = subst (λ queues. EachShort queues) (sym e) (short-joined (c.args.handle).0 c.args.batch.now.items (queues_of c.self.inside.queues.items) c.self.invariant.short c.count_frames.ensures.short);
+      noted = c.join.ensures.noted;
+      spots = omega (arith, c.requires, c.self.invariant.spots, c.in_ok-join.ensures.taken);
     }

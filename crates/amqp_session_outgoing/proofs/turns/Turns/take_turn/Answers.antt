@@ -18,6 +18,8 @@ invariant_of-self g c =
       place = omega (arith, c.self.invariant.place, c.take_turn-unit.ensures.len, c.take_turn-unit.ensures.capacity);
       framed = omega (arith, c.self.invariant.framed, fewer, c.len.ensures);
       short = short-turn _ _ _ _ c.take_turn-unit.ensures.taken c.self.invariant.short;
+      noted = c.take_turn-unit.ensures.noted;
+      spots = omega (arith, c.self.invariant.spots, c.take_turn-unit.ensures.spots);
     }
 
 pub returns-clause-held : goal.returns-clause-held
