@@ -43,7 +43,7 @@ edits:
 # Counts the instructions that the codec, the frames of a session, sessions, the endpoint and links take, by valgrind.
 bench:
 	@crates/amqp_bench/measure
-	@crates/amqp_link_bench/measure
+	@crates/amqp_script/measure
 
 # Proves and builds the program, and runs the script once for each of its requests for memory, with that request refused.
 memory:

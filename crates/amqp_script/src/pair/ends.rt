@@ -1,0 +1,195 @@
+//! The two ends of a link.
+use super::termini::{Terms, boxed_terms};
+use crate::carrier::Carrier;
+use crate::content::number_of_tag;
+use crate::fault::Fault;
+use crate::frame::Frame;
+use amqp_link::{Abort, End, LinkBase, LinkEnd, LinkFlowStateInner, ReceiverLink, SenderLink};
+use amqp_session::{DeliveryTag, ReceiverSettleMode, Role, Unsettled};
+use bytes::Bytes;
+use serde_amqp::Text;
+use std::alloc::{AllocError, Global};
+use std::collections::VecDeque;
+
+/// How many bytes a frame may have, where a script doesn't say it.
+const LIMIT: u32 = 512;
+
+/// An end of a link, and what is under way to it.
+pub struct Side {
+    /// The end.
+    pub end: Box<LinkEnd>,
+    /// The frames that are under way to it.
+    pub under_way: VecDeque<Frame>,
+    /// Its unsettled deliveries by their numbers.
+    pub deliveries: Unsettled,
+}
+
+impl Drop for Side {
+    fn drop(self) {
+        let Side {
+            end: _,
+            under_way: _,
+            deliveries: _,
+        } = self;
+    }
+}
+
+impl Side {
+    fn new(alloc: Global, role: Role, terms: Terms<'_>) -> Result<Side, AllocError> {
+        Ok(Side {
+            end: made(alloc, role, terms)?,
+            under_way: VecDeque::new(alloc),
+            deliveries: Unsettled::new(alloc),
+        })
+    }
+
+    /// The link, where it sends.
+    pub fn sender(&mut self) -> Result<&mut SenderLink, Fault> {
+        match self.end.end_mut() {
+            End::Sender(link) => Ok(link),
+            End::Receiver(_) => Err(Fault::Refused("no-sender")),
+        }
+    }
+
+    /// The link, where it receives.
+    pub fn receiver(&mut self) -> Result<&mut ReceiverLink, Fault> {
+        match self.end.end_mut() {
+            End::Receiver(link) => Ok(link),
+            End::Sender(_) => Err(Fault::Refused("no-receiver")),
+        }
+    }
+
+    /// The credit and the counts.
+    pub fn flow(&self) -> &LinkFlowStateInner {
+        match self.end.end() {
+            End::Sender(link) => link.flow_state().inner(),
+            End::Receiver(link) => link.flow_state(),
+        }
+    }
+}
+
+/// The two ends of a link, and what is under way between them.
+pub struct Pair {
+    /// The sending end.
+    pub sender: Side,
+    /// The receiving end.
+    pub receiver: Side,
+    /// What gives the sender's deliveries their numbers.
+    pub carrier: Carrier,
+    /// What the sender is to give up once it is attached.
+    pub aborts: VecDeque<Abort>,
+    /// What was sent, each message by the number in its tag.
+    pub messages: Vec<(u32, Bytes)>,
+    /// How many bytes a frame may have.
+    pub limit: u32,
+}
+
+impl Drop for Pair {
+    fn drop(self) {
+        let Pair {
+            sender: _,
+            receiver: _,
+            carrier: _,
+            aborts: _,
+            messages: _,
+            limit: _,
+        } = self;
+    }
+}
+
+/// The other end of a link.
+pub fn other(role: Role) -> Role {
+    match role {
+        Role::Sender => Role::Receiver,
+        Role::Receiver => Role::Sender,
+    }
+}
+
+impl Pair {
+    /// Two ends that were never attached, with the usual terms.
+    pub fn new(alloc: Global) -> Result<Pair, Fault> {
+        Pair::with_mode(alloc, ReceiverSettleMode::First)
+    }
+
+    /// The same, whose receiver settles so.
+    pub fn with_mode(alloc: Global, mode: ReceiverSettleMode) -> Result<Pair, Fault> {
+        let terms = Terms::usual(mode);
+        Ok(Pair {
+            sender: Side::new(alloc, Role::Sender, terms)?,
+            receiver: Side::new(alloc, Role::Receiver, terms)?,
+            carrier: Carrier::new(alloc)?,
+            aborts: VecDeque::new(alloc),
+            messages: Vec::new(alloc),
+            limit: LIMIT,
+        })
+    }
+
+    /// One of the ends.
+    pub fn side(&self, role: Role) -> &Side {
+        match role {
+            Role::Sender => &self.sender,
+            Role::Receiver => &self.receiver,
+        }
+    }
+
+    /// One of the ends, to be changed.
+    pub fn side_mut(&mut self, role: Role) -> &mut Side {
+        match role {
+            Role::Sender => &mut self.sender,
+            Role::Receiver => &mut self.receiver,
+        }
+    }
+
+    /// An end sends a frame.
+    pub fn send_frame(&mut self, role: Role, frame: Frame) -> Result<(), AllocError> {
+        self.side_mut(other(role)).under_way.push_back(frame)?;
+        Ok(())
+    }
+
+    /// Whether a message waits to be sent on.
+    pub fn waits(&self) -> bool {
+        match self.sender.end.end() {
+            End::Sender(link) => link.first_waiting().is_some(),
+            End::Receiver(_) => false,
+        }
+    }
+
+    /// Whether one of the two Attach listed only a part of the unsettled deliveries.
+    pub fn is_incomplete(&self) -> bool {
+        self.sender.end.local_state().is_incomplete()
+    }
+
+    /// Whether a new message may be sent.
+    pub fn may_send(&self) -> bool {
+        self.sender.flow().link_credit != 0 && !self.is_incomplete()
+    }
+}
+
+/// The bytes of the message with this tag, the last one that was sent.
+pub fn message_of<'a>(messages: &'a [(u32, Bytes)], tag: &DeliveryTag) -> Option<&'a Bytes> {
+    let number = number_of_tag(tag)?;
+    let mut found = None;
+    for (own, bytes) in messages {
+        if *own == number {
+            found = Some(bytes);
+        }
+    }
+    found
+}
+
+/// An end that was never attached.
+pub fn made(alloc: Global, role: Role, terms: Terms<'_>) -> Result<Box<LinkEnd>, AllocError> {
+    let base = base(alloc, terms)?;
+    let count = terms.initial_delivery_count.unwrap_or(0);
+    let end = match role {
+        Role::Sender => LinkEnd::new_sender(SenderLink::new(alloc, base, count, None)),
+        Role::Receiver => LinkEnd::new_receiver(ReceiverLink::new(alloc, base, count, None)),
+    };
+    Ok(Box::new(alloc, end)?)
+}
+
+fn base(alloc: Global, terms: Terms<'_>) -> Result<LinkBase, AllocError> {
+    let name = Text::from_str(alloc, "l")?;
+    let terms = boxed_terms(alloc, terms)?;
+    Ok(LinkBase::new(name, terms, None))
+}

@@ -1,0 +1,30 @@
+//! The credit that the receiving end gives.
+use super::ends::Pair;
+use crate::fault::Fault;
+use crate::frame::Frame;
+use amqp_session::{Boxed, LinkFlow, Role};
+use std::alloc::{AllocError, Global};
+
+/// The receiver gives this credit. The answer is the credit that was left.
+pub fn grant(pair: &mut Pair, alloc: Global, credit: u32) -> Result<u32, Fault> {
+    let granted = pair.receiver.receiver()?.grant(credit)?;
+    send_flow(pair, alloc, granted.flow)?;
+    Ok(granted.left)
+}
+
+/// The receiver wants the credit used up.
+pub fn drain(pair: &mut Pair, alloc: Global) -> Result<(), Fault> {
+    let flow = pair.receiver.receiver()?.drain()?;
+    Ok(send_flow(pair, alloc, flow)?)
+}
+
+/// The receiver asks for the sender's state.
+pub fn echo(pair: &mut Pair, alloc: Global) -> Result<(), Fault> {
+    let flow = pair.receiver.receiver()?.send_flow(true, false)?;
+    Ok(send_flow(pair, alloc, flow)?)
+}
+
+fn send_flow(pair: &mut Pair, alloc: Global, flow: LinkFlow) -> Result<(), AllocError> {
+    let flow = Boxed::new(alloc, flow)?;
+    pair.send_frame(Role::Receiver, Frame::Flow(flow))
+}

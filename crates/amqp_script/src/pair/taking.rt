@@ -1,0 +1,198 @@
+//! Frames that are made by hand.
+use super::attaching::take_attach;
+use super::delivering::{take_detach, take_flow, take_transfer};
+use super::ending::detach_frame;
+use super::ends::{Pair, other};
+use super::termini::{Terms, read_terms, source, target};
+use crate::content::{bytes_of, read_content, tag_of};
+use crate::fault::Fault;
+use crate::frames::{needed_state, read_link_flow, read_state, read_transfer};
+use crate::words::{Words, needed, number_of};
+use amqp_link::UnsettledList;
+use amqp_session::{
+    Attach, Boxed, DeliveryState, DeliveryTag, Handle, LinkRelay, Role, Source, TargetArchetype,
+};
+use serde_amqp::{Array, OrderedMap, Text};
+use std::alloc::{AllocError, Global};
+
+/// A frame that is made by hand reaches an end, and the answer says what came of it.
+pub fn take_by_hand(
+    pair: &mut Pair,
+    alloc: Global,
+    role: Role,
+    words: &mut Words<'_>,
+    text: &mut String,
+) -> Result<(), Fault> {
+    match words.word()? {
+        "attach" => take_read_attach(pair, alloc, role, words, text),
+        "flow" => take_flow(pair, alloc, role, read_link_flow(words), text),
+        "transfer" => take_read_transfer(pair, alloc, role, words, text),
+        "disposition" => take_read_disposition(pair, alloc, role, words, text),
+        "detach" => take_read_detach(pair, alloc, role, words, text),
+        _ => Err(Fault::Unreadable),
+    }
+}
+
+/// A disposition of the delivery with a tag reaches the link itself.
+fn take_read_disposition(
+    pair: &mut Pair,
+    alloc: Global,
+    role: Role,
+    words: &mut Words<'_>,
+    text: &mut String,
+) -> Result<(), Fault> {
+    let tag = tag_of(alloc, words.field("tag")?)?;
+    let state = read_state(words);
+    let settled = words.flag("settled");
+    let echoed = pair
+        .side_mut(role)
+        .end
+        .on_incoming_disposition(&tag, other(role), settled, state);
+    Ok(text.push_str(if echoed {
+        "disposition echoed"
+    } else {
+        "disposition"
+    })?)
+}
+
+fn take_read_detach(
+    pair: &mut Pair,
+    alloc: Global,
+    role: Role,
+    words: &mut Words<'_>,
+    text: &mut String,
+) -> Result<(), Fault> {
+    let closed = words.flag("closed");
+    let detach = detach_frame(alloc, closed, words.flag("error"))?;
+    take_detach(pair, alloc, role, &detach, text)
+}
+
+fn take_read_transfer(
+    pair: &mut Pair,
+    alloc: Global,
+    role: Role,
+    words: &mut Words<'_>,
+    text: &mut String,
+) -> Result<(), Fault> {
+    let delivery_id = words.optional("delivery-id");
+    let number = words.optional("tag");
+    let tag = tag(alloc, number)?;
+    let transfer = Boxed::new(alloc, read_transfer(words, 0, delivery_id, tag))?;
+    let payload = bytes_of(alloc, read_content(words)?, number.unwrap_or(0))?;
+    take_transfer(pair, alloc, role, transfer.into_inner(), payload, text)
+}
+
+fn tag(alloc: Global, number: Option<u32>) -> Result<Option<DeliveryTag>, AllocError> {
+    match number {
+        Some(number) => Ok(Some(tag_of(alloc, number)?)),
+        None => Ok(None),
+    }
+}
+
+fn take_read_attach(
+    pair: &mut Pair,
+    alloc: Global,
+    role: Role,
+    words: &mut Words<'_>,
+    text: &mut String,
+) -> Result<(), Fault> {
+    let attach = read_attach(alloc, other(role), words)?;
+    take_attach(pair, alloc, role, &attach, text)
+}
+
+fn read_attach(alloc: Global, from: Role, words: &mut Words<'_>) -> Result<Boxed<Attach>, Fault> {
+    let mut terms = read_terms(words);
+    if words.takes("uncounted") {
+        terms.initial_delivery_count = None;
+    }
+    let list = read_list(alloc, words)?;
+    let attach = attach_of(alloc, from, terms)?;
+    Ok(Boxed::new(alloc, with_list(attach, list, words.flag("incomplete")))?)
+}
+
+/// An Attach with this list, which is all that there is or isn't.
+pub fn with_list(attach: Boxed<Attach>, list: Option<UnsettledList>, incomplete: bool) -> Attach {
+    Attach {
+        unsettled: list,
+        incomplete_unsettled: incomplete,
+        ..attach.into_inner()
+    }
+}
+
+/// An Attach with these terms.
+fn attach_of(alloc: Global, from: Role, terms: Terms<'_>) -> Result<Boxed<Attach>, AllocError> {
+    let name = Text::from_str(alloc, "l")?;
+    let target = target(alloc, terms.target)?;
+    let source = source(alloc, terms.source)?;
+    Boxed::new(
+        alloc,
+        named_attach(alloc, from, terms, name, (source, target)),
+    )
+}
+
+fn named_attach(
+    alloc: Global,
+    from: Role,
+    terms: Terms<'_>,
+    name: Text,
+    (source, target): (Option<Source>, Option<TargetArchetype>),
+) -> Attach {
+    Attach {
+        name,
+        handle: Handle(0),
+        role: from,
+        snd_settle_mode: terms.snd_settle_mode,
+        rcv_settle_mode: terms.rcv_settle_mode,
+        source,
+        target,
+        unsettled: None,
+        incomplete_unsettled: false,
+        initial_delivery_count: terms.initial_delivery_count,
+        max_message_size: size_of(terms),
+        offered_capabilities: Array::new(alloc),
+        desired_capabilities: Array::new(alloc),
+        properties: None,
+    }
+}
+
+fn size_of(terms: Terms<'_>) -> Option<u64> {
+    if terms.max_message_size == 0 {
+        return None;
+    }
+    Some(terms.max_message_size)
+}
+
+/// The list of an Attach, if it has one.
+fn read_list(alloc: Global, words: &mut Words<'_>) -> Result<Option<UnsettledList>, Fault> {
+    match words.value("unsettled") {
+        Some(entries) => Ok(Some(list_of(alloc, entries)?)),
+        None => Ok(None),
+    }
+}
+
+/// A list with these entries, which are parted by commas.
+fn list_of(alloc: Global, entries: &str) -> Result<UnsettledList, Fault> {
+    let mut list = OrderedMap::new(alloc);
+    let words: Vec<&str> = entries.split(',').collect(alloc)?;
+    for word in words.as_slice() {
+        add_entry(alloc, &mut list, word)?;
+    }
+    Ok(list)
+}
+
+/// Adds an entry to a list: `0:none` or `0:accepted`.
+fn add_entry(alloc: Global, list: &mut UnsettledList, word: &str) -> Result<(), Fault> {
+    let Some((number, state)) = word.split_once(':') else {
+        return Err(Fault::Unreadable);
+    };
+    let tag = tag_of(alloc, needed(number_of(number))?)?;
+    list.insert(tag, listed_state(state)?)?;
+    Ok(())
+}
+
+fn listed_state(word: &str) -> Result<Option<DeliveryState>, Fault> {
+    if word == "none" {
+        return Ok(None);
+    }
+    Ok(Some(needed_state(word)?))
+}
