@@ -1,3 +1,4 @@
+//! Several of what waits are pulled at once.
 ghost use Rattle.std.specs.Prelude.{◌≡◌, ◌≤◌, ◌<◌, ◌++◌, drop, length, take, IfErr, IfOk};
 ghost use Rattle.amqp_endpoint_model.specs.declared.error.EndpointError.TheVariants.{Memory};
 ghost use Rattle.amqp_endpoint_core.specs.Queue.{AllWithin, Fills, frames_waiting, texts_of};

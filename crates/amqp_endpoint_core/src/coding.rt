@@ -1,3 +1,4 @@
+//! The protocol header, the own Open, and frames as bytes.
 ghost use Rattle.std.specs.Prelude.{◌≡◌, ◌+◌, ◌<◌, ◌≤◌, ◌^◌, ◌⊎◌, true, false, length, None, IfOk, IfErr};
 ghost use Rattle.amqp_session_frames.specs.Text.{FrameText};
 ghost use Rattle.amqp_session_frames.specs.Cutting.{IsPiece, with_size};

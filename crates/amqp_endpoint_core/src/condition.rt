@@ -1,3 +1,4 @@
+//! The conditions that an endpoint closes its connection with.
 ghost use Rattle.std.specs.Prelude.{◌≡◌};
 ghost use Rattle.amqp_endpoint_model.specs.Step.{condition_of};
 ghost use Rattle.amqp_endpoint_core.specs.Reading.{condition_text, told_by};

@@ -1,3 +1,4 @@
+//! The connection of an endpoint: headers, Open and Close.
 ghost use Rattle.std.specs.Prelude.{◌≡◌, ◌⊎◌, true, false, None, Some, is_some, IfOk, IfErr, OnOk, OnErr};
 ghost use Rattle.amqp_session_types.specs.declared.refusals.ConnectionError.TheVariants.{IllegalState};
 ghost use Rattle.amqp_session_connection.specs.State.{fresh};

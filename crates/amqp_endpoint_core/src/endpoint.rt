@@ -1,3 +1,4 @@
+//! An endpoint, and its calls of the connection.
 ghost use Rattle.std.specs.Prelude.{◌≡◌, ◌≤◌, ◌<◌, ◌==◌, ◌&&◌, ◌⊎◌, ◌++◌, ◌∷◌, [], true, false, length, drop, is_some};
 ghost use Rattle.std.specs.Prelude.{Some, None, IfOk, IfErr, OnOk, OnErr, MatchOption, MatchResult};
 ghost use Rattle.amqp_session_connection.specs.Table.{after_send_close};

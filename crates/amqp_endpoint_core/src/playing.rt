@@ -1,3 +1,4 @@
+//! An endpoint and a list of calls.
 ghost use Rattle.std.specs.Prelude.{◌≡◌, ◌⊎◌, map, Some, None, IfOk, IfErr};
 ghost use Rattle.amqp_endpoint_model.specs.Relay.{IsNew};
 ghost use Rattle.amqp_endpoint_model.specs.State.{State, fresh};
@@ -30,8 +31,8 @@ pub fn play<S: SessionRelay>(
     ensures limit { IfOk result (λ replies. KeepsLimit nothing calls.now (map told replies.items)) }
     ensures err { IfErr result (λ e. (e ≡ Memory) ⊎ (refusal_of_settings settings ≡ Some e)) }
 {
-    let mut replies = Vec::with_capacity(alloc, calls.len())?;
     let mut endpoint = Endpoint::<S>::new(alloc, settings)?;
+    let mut replies = Vec::with_capacity(alloc, calls.len())?;
     for call in calls {
         let answer = endpoint.call(call);
         let queued = endpoint.queued();

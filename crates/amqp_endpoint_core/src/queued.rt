@@ -1,3 +1,4 @@
+//! What an endpoint has queued, which is written as it is pulled.
 ghost use Rattle.std.specs.Prelude.{◌≡◌, ◌+◌, ◌<◌, ◌≤◌, ◌^◌, ◌++◌, [], true, drop, length, IfErr, IfOk, MatchOption};
 ghost use Rattle.std.specs.Prelude.{OnErr, OnOk};
 ghost use Rattle.amqp_session_frames.specs.Cutting.{with_size};

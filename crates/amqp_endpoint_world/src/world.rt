@@ -34,8 +34,8 @@ pub fn run<S: SessionRelay>(
     ensures err { IfErr result (λ e. (e ≡ Memory)
         ⊎ (refusal_of_either settings_a settings_b ≡ Some e)) }
 {
-    let mut replies = Vec::with_capacity(alloc, steps.len())?;
     let mut world = World::<S>::new(alloc, settings_a, settings_b)?;
+    let mut replies = Vec::with_capacity(alloc, steps.len())?;
     for step in steps {
         let did = world.step(step);
         let queued_a = world.queued_a();

@@ -1,3 +1,4 @@
+//! The calls that only ask.
 ghost use Rattle.std.specs.Prelude.{◌≡◌, IfErr, IfOk};
 ghost use Rattle.amqp_endpoint_model.specs.Said.{count, credit_is, truth, waiting};
 ghost use Rattle.amqp_endpoint_model.specs.Step.{IsRefused, SessionsAnswer};

@@ -1,3 +1,4 @@
+//! The calls of sessions.
 ghost use Rattle.std.specs.Prelude.{◌≡◌, IfErr, IfOk, OnErr, OnOk};
 ghost use Rattle.amqp_endpoint_model.specs.Said.{done, refusal_in, session_begun, tried_end};
 ghost use Rattle.amqp_endpoint_model.specs.Step.{IsRefused, SessionsDo};

@@ -1,3 +1,4 @@
+//! The peer's bytes are fed.
 ghost use Rattle.std.specs.Prelude.{◌≡◌, ◌++◌, [], true, Some, None, IsSome, IfOk, IfErr, OnOk, MatchOption};
 ghost use Rattle.std.specs.Prelude.{MatchResult};
 ghost use Rattle.amqp_endpoint_model.specs.State.{error_of, has_opened, own_close_with};

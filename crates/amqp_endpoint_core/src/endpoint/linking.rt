@@ -1,3 +1,4 @@
+//! The calls of links.
 ghost use Rattle.std.specs.Prelude.{◌≡◌, IfErr, IfOk, OnOk};
 ghost use Rattle.amqp_endpoint_model.specs.Said.{attaching, credit_is, done, link_closed};
 ghost use Rattle.amqp_endpoint_model.specs.Step.{IsRefused, SessionsDo};

@@ -1,3 +1,4 @@
+//! The calls of messages.
 ghost use Rattle.std.specs.Prelude.{◌≡◌, IfErr, IfOk, OnOk, Some};
 ghost use Rattle.amqp_link_message.specs.Message.{message_items};
 ghost use Rattle.amqp_link_message.specs.Payload.{payload_text};
