@@ -1,3 +1,4 @@
+//! Why a caller's loop stops before its end.
 ghost use Rattle.std.specs.Prelude.{◌≡◌};
 ghost use Rattle.amqp_caller.specs.declared.error.CallerError.TheVariants.{Endpoint, Stream};
 

@@ -1,3 +1,4 @@
+//! What the peer sends is read and fed.
 ghost use Rattle.std.specs.Prelude.{◌≡◌, ◌<◌, length, IfOk, MatchOption, OnErr};
 ghost use Rattle.std.specs.Io.KnownBytes.{IsAtEnd, Keeps};
 ghost use Rattle.amqp_endpoint_model.specs.Step.{Breaks};

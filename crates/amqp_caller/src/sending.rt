@@ -1,3 +1,4 @@
+//! What an endpoint has queued is written.
 ghost use Rattle.std.specs.Prelude.{◌≡◌, ◌<◌, [], length, IfErr, IfOk, OnOk};
 ghost use Rattle.amqp_endpoint_model.specs.declared.error.EndpointError.TheVariants.{Memory};
 ghost use Rattle.amqp_caller.specs.Moves.{PullsNext, Sends, StopsWriting, Writes};

@@ -1,3 +1,4 @@
+//! The loop of a caller: it writes, reads, and has a program answer what that tells.
 ghost use Rattle.std.specs.Prelude.{◌≡◌, ◌<◌, [], false, length, IfOk, OnOk};
 
 use crate::error::CallerError;

@@ -6,7 +6,7 @@ use Rattle.amqp_session_performatives.specs.declared.link_flow.LinkFlow.{LinkFlo
 use Rattle.amqp_session_performatives.specs.declared.session_frame.SessionFrame.{SessionFrame}
 use Rattle.amqp_session_core.specs.declared.batch.BehindFrame.TheVariants.{Flow}
 use Rattle.amqp_session_core.specs.State.{link_at}
-use Rattle.amqp_session_core.specs.Steps.{Steps, SendsBehind}
+use Rattle.amqp_session_core.specs.Steps.{Step, SendsBehind}
 use Rattle.amqp_link_receiver.specs.declared.flowing.Granted.{Granted}
 use Rattle.amqp_link_receiver.specs.State.{ReceiverState}
 use Rattle.amqp_link_ends.specs.declared.end.End.{End}
@@ -87,7 +87,7 @@ credit_given old handle credit granted mid new out out_mid out_new in_range gave
             left = handed.left;
             answer = handed.answer;
             sent =
-                subst (λ (g : Granted). Steps gives mid
+                subst (λ (g : Granted). Step gives mid
                 (SendsBehind handle (Flow (on_handle handle g.flow)) handed.left handed.answer) new)
                 gave.told handed.sent;
             frames_are = refl;
@@ -113,7 +113,7 @@ drain_wanted old handle flow mid new out out_mid out_new wants same handed =
             left = handed.left;
             answer = handed.answer;
             sent =
-                subst (λ (f : LinkFlow). Steps gives mid
+                subst (λ (f : LinkFlow). Step gives mid
                 (SendsBehind handle (Flow (on_handle handle f)) handed.left handed.answer) new)
                 wants.told handed.sent;
             frames_are = refl;

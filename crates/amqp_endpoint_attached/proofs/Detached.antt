@@ -7,7 +7,7 @@ use Rattle.amqp_session_performatives.specs.declared.detach.Detach.{Detach}
 use Rattle.amqp_session_performatives.specs.declared.session_frame.SessionFrame.{SessionFrame}
 use Rattle.amqp_session_core.specs.declared.batch.BehindFrame.TheVariants as behind
 use Rattle.amqp_session_core.specs.State.{link_at}
-use Rattle.amqp_session_core.specs.Steps.{Steps, SendsBehind}
+use Rattle.amqp_session_core.specs.Steps.{Step, SendsBehind}
 use Rattle.amqp_link_attach.specs.State.{after_send_detach, is_attached}
 use Rattle.amqp_link_attach.specs.declared.state.LinkState.{LinkState}
 use Rattle.amqp_link_attach.specs.declared.state.LinkState.TheVariants.{Attached, IncompleteAttachExchanged}
@@ -109,7 +109,7 @@ detach_given old handle closed error mid new detach out out_new detaches is hand
             left = handed.left;
             answer = handed.answer;
             sent =
-                subst (λ (d : Detach). Steps gives mid
+                subst (λ (d : Detach). Step gives mid
                 (SendsBehind handle (behind.Detach (record d { handle = record { 0 = handle.0 } })) handed.left
                 handed.answer) new)
                 is handed.sent;
@@ -133,7 +133,7 @@ detach_replied old handle closed error new detach out out_new is handed =
             left = handed.left;
             answer = handed.answer;
             sent =
-                subst (λ (d : Detach). Steps gives old.session
+                subst (λ (d : Detach). Step gives old.session
                 (SendsBehind handle (behind.Detach (record d { handle = record { 0 = handle.0 } })) handed.left
                 handed.answer) new)
                 is handed.sent;

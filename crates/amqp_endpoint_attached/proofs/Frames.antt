@@ -5,7 +5,7 @@ use Rattle.amqp_session_types.specs.declared.handles.OutputHandle.{OutputHandle}
 use Rattle.amqp_session_performatives.specs.declared.session_frame.SessionFrame.{SessionFrame}
 use Rattle.amqp_session_core.specs.declared.batch.BehindFrame.{BehindFrame}
 use Rattle.amqp_session_core.specs.Frames.{behind_frame}
-use Rattle.amqp_session_core.specs.Steps.{Steps, SendsBehind}
+use Rattle.amqp_session_core.specs.Steps.{Step, SendsBehind}
 use Rattle.amqp_link_ends.specs.declared.end.End.{End}
 use Rattle.amqp_endpoint_links.specs.declared.numbered.Numbered.{Numbered}
 use Rattle.amqp_endpoint_attached.specs.Linked.{Linked, LinksIn, gives}
@@ -15,7 +15,7 @@ use Rattle.amqp_endpoint_attached.specs.Sent.{IsAtMost, Says, Sends}
 module _ (old mid new : LinksIn) (handle : OutputHandle) (frame : BehindFrame) (links : List (Option (Numbered End)))
     (same : mid ≡ record old { links = links }) where
   at_most : (left : Option BehindFrame) (answer : Option SessionFrame) (frames : List SessionFrame)
-      → Steps gives mid (SendsBehind handle frame left answer) new → frames ≡ option_to_list answer
+      → Step gives mid (SendsBehind handle frame left answer) new → frames ≡ option_to_list answer
       → (frames ≡ []) ⊎ (frames ≡ behind_frame old.fields old.outgoing.next_outgoing_id frame ∷ [])
   at_most None answer frames sent are =
       inl (are ∙ ap (λ (o : Option SessionFrame). option_to_list o) sent.1)

@@ -16,7 +16,7 @@ use Rattle.amqp_session_core.specs.declared.fields.SessionFields.{SessionFields}
 use Rattle.amqp_session_core.specs.Frames.{frame_of}
 use Rattle.amqp_session_core.specs.Relay.{Relations}
 use Rattle.amqp_session_core.specs.State.{State, link_at}
-use Rattle.amqp_session_core.specs.Steps.{Steps, Allocates}
+use Rattle.amqp_session_core.specs.Steps.{Step, Allocates}
 use Rattle.amqp_link_ends.specs.declared.end.End.{End}
 use Rattle.amqp_link_sender.specs.declared.attaching.Attaching.{Attaching}
 use Rattle.amqp_endpoint_asked.specs.declared.links.AskedLink.{AskedLink}
@@ -36,7 +36,7 @@ numbered handle n e = ap (λ (k : ℕ). record { 0 = k }) e
 
 -- behind a step that gives a link a handle, which the peer's leads to
 module _ {R A T D : Type 0} (relations : Relations R A T D) (old mid : State R) (handle : ℕ) (link : R) (input : ℕ)
-    (step : Steps relations old (Allocates handle link (Some input)) mid) where
+    (step : Step relations old (Allocates handle link (Some input)) mid) where
   pub is_there : IsSome (link_at mid handle)
   is_there =
       ap is_some
@@ -57,7 +57,7 @@ frame_in fields attach = frame_of fields (body.Attach attach)
 -- a link that the peer doesn't ask for
 pub attached : (old new : Linked) (out room out_new : List SessionFrame) (limit number : ℕ) (link becomes : End)
     (handle : OutputHandle) (attach : Attach) → Sends limit link (offered old.session) attach becomes
-    → Steps gives old.session (Allocates handle.0 (with_number number becomes) None) new.session
+    → Step gives old.session (Allocates handle.0 (with_number number becomes) None) new.session
     → new ≡ record old { session = new.session } → room ≡ out
     → out_new ≡ room ++ attach_frame new.session attach ∷ []
     → Attaches old out limit number link handle new out_new
@@ -81,7 +81,7 @@ pub answered : (old new : Linked) (mid : State (Numbered End)) (out room out_new
     (link becomes : End) (input : InputHandle) (asked : AskedLink) (handle : OutputHandle) (attaching : Attaching)
     (attach : Attach) (reply : Option LinkFlow) (told : Answered) → map.get old.asked input.0 ≡ Some asked
     → Exchanges limit link asked (offered old.session) attaching attach reply becomes
-    → Steps gives old.session (Allocates handle.0 (with_number number becomes) (Some input.0)) mid
+    → Step gives old.session (Allocates handle.0 (with_number number becomes) (Some input.0)) mid
     → new ≡ record old { session = new.session; asked = map.remove old.asked input.0 } → room ≡ out
     → told ≡ record { handle = handle; exchange = attaching.exchange; aborts = attaching.aborts }
     → Replies gives handle reply mid (room ++ attach_frame mid attach ∷ []) new.session out_new

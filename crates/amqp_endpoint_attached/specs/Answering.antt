@@ -9,7 +9,7 @@ use Rattle.amqp_session_performatives.specs.declared.session_frame.SessionFrame.
 use Rattle.amqp_session_core.specs.declared.batch.BehindFrame.TheVariants as behind
 use Rattle.amqp_session_core.specs.Relay.{Relations}
 use Rattle.amqp_session_core.specs.State.{State}
-use Rattle.amqp_session_core.specs.Steps.{Steps, Allocates}
+use Rattle.amqp_session_core.specs.Steps.{Step, Allocates}
 use Rattle.amqp_session_core.specs.Told.{BehindSent}
 use Rattle.amqp_link_types.specs.declared.link_error.LinkError.{LinkError}
 use Rattle.amqp_link_ends.specs.Ends.{flow_answer, flowed, with_handle}
@@ -112,7 +112,7 @@ pub record Answers (old : Linked) (out : List SessionFrame) (limit number : ℕ)
   pub becomes : End
   pub exchanges : Exchanges limit link asked answered.handle (left_to_do answered) attach reply becomes
   pub mid : State (Numbered End)
-  pub allocates : Steps gives old.session (Allocates answered.handle.0 (with_number number becomes) (Some input.0)) mid
+  pub allocates : Step gives old.session (Allocates answered.handle.0 (with_number number becomes) (Some input.0)) mid
   pub replies :
       Replies gives answered.handle reply mid (out ++ attach_frame old.session attach ∷ []) new.session out_new
   pub rest : new ≡ record old { session = new.session; asked = map.remove old.asked input.0 }

@@ -4,7 +4,7 @@ use Rattle.amqp_session_types.specs.declared.handles.OutputHandle.{OutputHandle}
 use Rattle.amqp_session_performatives.specs.declared.attach.Attach.{Attach}
 use Rattle.amqp_session_performatives.specs.declared.session_frame.SessionFrame.{SessionFrame}
 use Rattle.amqp_session_core.specs.State.{State}
-use Rattle.amqp_session_core.specs.Steps.{Steps, Allocates}
+use Rattle.amqp_session_core.specs.Steps.{Step, Allocates}
 use Rattle.amqp_link_ends.specs.Ends.{with_handle}
 use Rattle.amqp_link_ends.specs.declared.end.End.{End}
 use Rattle.amqp_endpoint_attached.specs.Linked.{Linked, gives}
@@ -32,6 +32,6 @@ pub record Attaches (old : Linked) (out : List SessionFrame) (limit number : ℕ
   pub attach : Attach
   pub attaching : End
   pub sends : Sends limit link handle attach attaching
-  pub allocates : Steps gives old.session (Allocates handle.0 (with_number number attaching) None) new.session
+  pub allocates : Step gives old.session (Allocates handle.0 (with_number number attaching) None) new.session
   pub rest : new ≡ record old { session = new.session }
   pub handed : out_new ≡ out ++ attach_frame old.session attach ∷ []

@@ -5,7 +5,7 @@ use Rattle.amqp_session_types.specs.declared.handles.OutputHandle.{OutputHandle}
 use Rattle.amqp_session_performatives.specs.declared.detach.Detach.{Detach}
 use Rattle.amqp_session_performatives.specs.declared.session_frame.SessionFrame.{SessionFrame}
 use Rattle.amqp_session_core.specs.declared.batch.BehindFrame.TheVariants as behind
-use Rattle.amqp_session_core.specs.Steps.{Steps, Changes}
+use Rattle.amqp_session_core.specs.Steps.{Step, Changes}
 use Rattle.amqp_link_attach.specs.State.{is_attached}
 use Rattle.amqp_link_sender.specs.Ending as sender
 use Rattle.amqp_link_receiver.specs.Ending as receiver
@@ -38,7 +38,7 @@ pub record DetachesIn (old : LinksIn) (handle : OutputHandle) (closed : Bool) (n
   pub before : End
   pub after : End
   pub moved : detach_sent before closed ≡ Some after
-  pub changed : Steps gives old
+  pub changed : Step gives old
       (Changes handle.0 (record { number = number; link = before }) (record { number = number; link = after })) new
 
 -- an attached link is detached or closed, and its Detach is sent

@@ -5,7 +5,7 @@ use Rattle.amqp_session_types.specs.declared.handles.OutputHandle.{OutputHandle}
 use Rattle.amqp_session_performatives.specs.declared.link_flow.LinkFlow.{LinkFlow}
 use Rattle.amqp_session_performatives.specs.declared.session_frame.SessionFrame.{SessionFrame}
 use Rattle.amqp_session_core.specs.declared.batch.BehindFrame.TheVariants.{Flow}
-use Rattle.amqp_session_core.specs.Steps.{Steps, Changes}
+use Rattle.amqp_session_core.specs.Steps.{Step, Changes}
 use Rattle.amqp_link_attach.specs.State.{is_attached}
 use Rattle.amqp_link_flow.specs.Flows.{draining}
 use Rattle.amqp_link_receiver.specs.declared.flowing.Granted.{Granted}
@@ -56,7 +56,7 @@ pub record GivesIn (old : LinksIn) (handle : OutputHandle) (credit : ℕ) (grant
   pub receiver : ReceiverState
   pub attached : is_attached receiver.base.local_state ≡ true
   pub told : granted ≡ record { left = receiver.end.flow.link_credit; flow = own_flow (credited receiver credit) }
-  pub changed : Steps gives old
+  pub changed : Step gives old
       (Changes handle.0 (receiving number receiver) (receiving number (credited receiver credit))) new
 
 -- the credit of a link of a session is to be used up: the Flow that shows it is told
@@ -65,7 +65,7 @@ pub record DrainsIn (old : LinksIn) (handle : OutputHandle) (flow : LinkFlow) (n
   pub receiver : ReceiverState
   pub attached : is_attached receiver.base.local_state ≡ true
   pub told : flow ≡ own_flow (drained receiver)
-  pub changed : Steps gives old (Changes handle.0 (receiving number receiver) (receiving number (drained receiver))) new
+  pub changed : Step gives old (Changes handle.0 (receiving number receiver) (receiving number (drained receiver))) new
 
 -- an attached receiving link gives so much credit, in place of what was left, and its Flow is sent
 pub record CreditGiven (old : Linked) (handle : OutputHandle) (credit left : ℕ) (out : List SessionFrame) (new : Linked)

@@ -6,7 +6,7 @@ use Rattle.amqp_session_core.specs.declared.batch.BehindFrame.{BehindFrame}
 use Rattle.amqp_session_core.specs.Frames.{behind_frame}
 use Rattle.amqp_session_core.specs.Relay.{Relations}
 use Rattle.amqp_session_core.specs.State.{State}
-use Rattle.amqp_session_core.specs.Steps.{Steps, Changes, SendsBehind}
+use Rattle.amqp_session_core.specs.Steps.{Step, Changes, SendsBehind}
 use Rattle.amqp_link_ends.specs.declared.end.End.{End}
 use Rattle.amqp_endpoint_links.specs.declared.numbered.Numbered.{Numbered}
 use Rattle.amqp_endpoint_attached.specs.Linked.{Linked, LinksIn, gives}
@@ -15,10 +15,10 @@ use Rattle.amqp_endpoint_attached.specs.Linked.{Linked, LinksIn, gives}
 pub record Sends (old : Linked) (handle : OutputHandle) (before after : Numbered End) (frame : BehindFrame)
     (frames : List SessionFrame) (new : Linked) : Type 0 where
   pub mid : LinksIn
-  pub changed : Steps gives old.session (Changes handle.0 before after) mid
+  pub changed : Step gives old.session (Changes handle.0 before after) mid
   pub left : Option BehindFrame
   pub answer : Option SessionFrame
-  pub sent : Steps gives mid (SendsBehind handle frame left answer) new.session
+  pub sent : Step gives mid (SendsBehind handle frame left answer) new.session
   pub frames_are : frames ≡ option_to_list answer
   pub rest : new ≡ record old { session = new.session }
 
@@ -27,7 +27,7 @@ pub record Says (old : Linked) (handle : OutputHandle) (frame : BehindFrame) (fr
     : Type 0 where
   pub left : Option BehindFrame
   pub answer : Option SessionFrame
-  pub sent : Steps gives old.session (SendsBehind handle frame left answer) new.session
+  pub sent : Step gives old.session (SendsBehind handle frame left answer) new.session
   pub frames_are : frames ≡ option_to_list answer
   pub rest : new ≡ record old { session = new.session }
 
@@ -36,7 +36,7 @@ pub record HandsOut {R A T D : Type 0} (does : Relations R A T D) (old : State R
     (frame : BehindFrame) (out : List SessionFrame) (new : State R) (out_new : List SessionFrame) : Type 0 where
   pub left : Option BehindFrame
   pub answer : Option SessionFrame
-  pub sent : Steps does old (SendsBehind handle frame left answer) new
+  pub sent : Step does old (SendsBehind handle frame left answer) new
   pub added : out_new ≡ out ++ option_to_list answer
 
 -- none leaves, or this one does, with what its session tells of itself

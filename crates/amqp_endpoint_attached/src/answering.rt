@@ -5,7 +5,7 @@ ghost use Rattle.std.specs.FinMap as map;
 ghost use Rattle.std.specs.VecDeque.{deque_len, deque_capacity};
 ghost use Rattle.amqp_session_outgoing.specs.Queues.{room_behind};
 ghost use Rattle.amqp_session_core.specs.State.{link_at};
-ghost use Rattle.amqp_session_core.specs.Steps.{Steps, Allocates};
+ghost use Rattle.amqp_session_core.specs.Steps.{Step, Allocates};
 ghost use Rattle.amqp_link_ends.specs.Ends.{state_of};
 ghost use Rattle.amqp_endpoint_attached.specs.Answering.{Answers, RefusesAnswer, Replies};
 ghost use Rattle.amqp_endpoint_attached.specs.Links.{attach_frame, is_at_rest};
@@ -86,7 +86,8 @@ fn allocate<R: LinkRelay, M: Drop>(
     made: Result<M, AttachRefusal>,
 ) -> Result<(OutputHandle, M), AttachRefusal>
     ensures ok { IfOk result (λ r. (made ≡ Ok r.1)
-        × Steps R.gives session.old.session (Allocates (r.0).0 link (Some input.0)) session.new.session
+        × Step R.gives session.old.session (Allocates (r.0).0 link (Some input.0))
+        session.new.session
         × (session.new ≡ record session.old {
           session = session.new.session;
           asked = map.remove session.old.asked input.0;

@@ -3,7 +3,7 @@ ghost use Rattle.std.specs.Prelude.{◌≡◌, ◌<◌, ◌⊎◌, false, None, 
 ghost use Rattle.std.specs.VecDeque.{deque_len, deque_capacity};
 ghost use Rattle.amqp_link_attach.specs.State.{after_send_attach};
 ghost use Rattle.amqp_link_ends.specs.Ends.{state_of};
-ghost use Rattle.amqp_session_core.specs.Steps.{Steps, Allocates};
+ghost use Rattle.amqp_session_core.specs.Steps.{Step, Allocates};
 ghost use Rattle.amqp_endpoint_attached.specs.Attaching.{Attaches, RefusesAttach, Sends};
 ghost use Rattle.amqp_endpoint_attached.specs.Links.{offered};
 ghost use Rattle.amqp_endpoint_attached.specs.Refusals.{IsOffered, RefusesHandle};
@@ -80,7 +80,7 @@ fn allocate<R: LinkRelay, M: Drop>(
     made: Result<M, AttachRefusal>,
 ) -> Result<(OutputHandle, M), AttachRefusal>
     ensures ok { IfOk result (λ r. (made ≡ Ok r.1)
-        × Steps R.gives session.old (Allocates (r.0).0 link None) session.new) }
+        × Step R.gives session.old (Allocates (r.0).0 link None) session.new) }
     ensures err { IfErr result (λ e. (made ≡ Err e)
         ⊎ (IsOk made × RefusesHandle session.old None e)) }
     ensures kept { OnErr result (session.new ≡ session.old) }

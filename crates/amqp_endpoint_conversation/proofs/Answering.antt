@@ -10,7 +10,7 @@ use Rattle.amqp_endpoint_sessions.specs.declared.place.Place.{Place}
 use Rattle.amqp_endpoint_sessions.specs.declared.place.Place.TheVariants.{Asked, Live, Ending, Over}
 use Rattle.amqp_endpoint_sessions.specs.Lends.{set_asked, set_live}
 use Rattle.amqp_endpoint_sessions.specs.State.{State, asked_at, asked_of, live_at, live_of, with_asked, with_live}
-use Rattle.amqp_endpoint_sessions.specs.Steps.{Accepts, Steps}
+use Rattle.amqp_endpoint_sessions.specs.Steps.{Accepts, Step}
 
 module _ {A S : Type 0} (s : State A S) (n : ℕ) (x : S) where
   pub unlent : live_at s n ≡ Some x → set_live s n x ≡ s
@@ -73,7 +73,7 @@ module _ {A S : Type 0} (s : State A S) (n : ℕ) (x : A) where
 
 -- what is known of a session that was accepted
 module _ {A S : Type 0} (old : State A S) (number : ℕ) (incoming : IncomingChannel) (asked : A) (outgoing : OutgoingChannel)
-    (session : S) (new : State A S) (step : Steps old (Accepts number incoming asked outgoing session) new) where
+    (session : S) (new : State A S) (step : Step old (Accepts number incoming asked outgoing session) new) where
   pub was_asked : (wanted : A) → asked_at old number ≡ Some wanted → wanted ≡ asked
   was_asked wanted e = same_Some _ _ (sym e ∙ ap asked_of step.0)
 

@@ -199,11 +199,11 @@ module _ {R A T D : Type 0} (gives : Relations R A T D) (old : Conversation R) (
 
   pub tells_due : (s : AskingSession R) → s ≡ lent.value → (frame : SessionFrame)
       → ((s.session).fields).incoming_window ≤ 2 * (s.session).taken
-      → session_steps.Steps gives s.session (session_steps.TellsFlow frame) after
+      → session_steps.Step gives s.session (session_steps.TellsFlow frame) after
       → out_new ≡ out ++ frame ∷ [] → FlowTold gives old out number (changed s) out_new
   tells_due s same frame due tells queued =
       (subst (λ (s : AskingSession R). ((s.session).fields).incoming_window ≤ 2 * (s.session).taken
-      → session_steps.Steps gives s.session (session_steps.TellsFlow frame) after
+      → session_steps.Step gives s.session (session_steps.TellsFlow frame) after
       → FlowTold gives old out number (changed s) out_new) (sym same)
       (λ due tells. tells-if true (le-leb _ _ due)
       (record {

@@ -21,7 +21,7 @@ use Rattle.amqp_endpoint_links.specs.declared.asking.AskingSession.{AskingSessio
 use Rattle.amqp_endpoint_asked.specs.Asked.{Asked as AskedLinks}
 use Rattle.amqp_endpoint_links.specs.Beginning.{Accepted, Begun as BegunSession}
 use Rattle.amqp_endpoint_sessions.specs.State.{State, asked_at, asked_on, live_at}
-use Rattle.amqp_endpoint_sessions.specs.Steps.{Steps, Accepts, Begins, Asks, TakesBegin, ChangesLive, RefusesAsk}
+use Rattle.amqp_endpoint_sessions.specs.Steps.{Step, Accepts, Begins, Asks, TakesBegin, ChangesLive, RefusesAsk}
 use Rattle.amqp_endpoint_conversation.specs.declared.beginning.AcceptRefusal.{AcceptRefusal}
 use Rattle.amqp_endpoint_conversation.specs.declared.beginning.AcceptRefusal.TheVariants.{NotAsked, Unbegun}
 use Rattle.amqp_endpoint_conversation.specs.declared.beginning.BeginHeard.{BeginHeard}
@@ -49,7 +49,7 @@ pub record TakesItsBegin {R A T D : Type 0} (gives : Relations R A T D) (mid : S
   pub before : Box (AskingSession R)
   pub after : Box (AskingSession R)
   pub taken : HearsBegin gives true before.value out channel begin after.value out_new
-  pub stepped : Steps mid (ChangesLive number before after) new
+  pub stepped : Step mid (ChangesLive number before after) new
 
 -- a session with these links that are asked for in it
 abbrev pub with_links : {R : Type 0} → Box (AskingSession R) → AskedLinks → Box (AskingSession R)
@@ -72,7 +72,7 @@ module _ {R A T D : Type 0} (gives : Relations R A T D) where
     pub session : Box (AskingSession R)
     pub frame : SessionFrame
     pub begun : BegunSession gives channel old.first_transfer_number old.incoming_window frame session.value
-    pub stepped : Steps old.sessions (Begins number channel session) new.sessions
+    pub stepped : Step old.sessions (Begins number channel session) new.sessions
     pub rest : new ≡ record old { sessions = new.sessions }
     pub queued : out_new ≡ out ++ frame ∷ []
 
@@ -96,8 +96,8 @@ module _ {R A T D : Type 0} (gives : Relations R A T D) where
     pub mid : Sessions R
     pub accepted :
         Accepted gives wanted.value outgoing channel old.first_transfer_number old.incoming_window frame session.value
-    pub stepped : Steps old.sessions (Accepts number incoming wanted outgoing session) mid
-    pub taken_over : Steps mid (ChangesLive number session (with_links session wanted.value.links)) new.sessions
+    pub stepped : Step old.sessions (Accepts number incoming wanted outgoing session) mid
+    pub taken_over : Step mid (ChangesLive number session (with_links session wanted.value.links)) new.sessions
     pub rest : new ≡ record old { sessions = new.sessions }
     pub queued : out_new ≡ out ++ frame ∷ []
 
@@ -107,14 +107,14 @@ module _ {R A T D : Type 0} (gives : Relations R A T D) where
     pub names_none : begin.remote_channel ≡ None
     pub asked : Box AskedSession
     pub by_begin : asked.value ≡ asked_by begin
-    pub stepped : Steps old.sessions (Asks number channel asked) new.sessions
+    pub stepped : Step old.sessions (Asks number channel asked) new.sessions
     pub rest : new ≡ record old { sessions = new.sessions }
 
   -- the peer's channel is led to the session whose channel its Begin names
   pub record Leads (old : Conversation R) (channel : IncomingChannel) (begin : Begin) (number : ℕ) (mid : Sessions R)
       : Type 0 where
     pub names_one : IsSome begin.remote_channel
-    pub stepped : Steps old.sessions (TakesBegin number channel begin) mid
+    pub stepped : Step old.sessions (TakesBegin number channel begin) mid
 
   -- and nothing else changes
   pub record LeadsAlone (old : Conversation R) (channel : IncomingChannel) (begin : Begin) (number : ℕ)

@@ -18,7 +18,7 @@ use Rattle.amqp_endpoint_links.specs.declared.asking.AskingSession.{AskingSessio
 use Rattle.amqp_endpoint_sessions.specs.declared.place.Place.{Place}
 use Rattle.amqp_endpoint_sessions.specs.declared.place.Place.TheVariants.{Live}
 use Rattle.amqp_endpoint_sessions.specs.State.{live_at, reached}
-use Rattle.amqp_endpoint_sessions.specs.Steps.{Steps, Ends, TakesEnd}
+use Rattle.amqp_endpoint_sessions.specs.Steps.{Step, Ends, TakesEnd}
 use Rattle.amqp_endpoint_conversation.specs.declared.ending.EndHeard.{EndHeard}
 use Rattle.amqp_endpoint_conversation.specs.declared.conversation.Conversation.{Conversation}
 
@@ -39,7 +39,7 @@ module _ {R : Type 0} where
   pub record EndsHere (old : Conversation R) (out : List SessionFrame) (number : ℕ) (error : Option Error)
       (session : Box (AskingSession R)) (new : Conversation R) (out_new : List SessionFrame) : Type 0 where
     pub channel : OutgoingChannel
-    pub stepped : Steps old.sessions (Ends number channel session) new.sessions
+    pub stepped : Step old.sessions (Ends number channel session) new.sessions
     pub rest : new ≡ record old { sessions = new.sessions }
     pub queued : out_new ≡ out ++ end_frame channel error ∷ []
 
@@ -60,7 +60,7 @@ module _ {R : Type 0} where
   pub record EndsThere (old : Conversation R) (out : List SessionFrame) (channel : IncomingChannel) (end : End)
       (heard : EndHeard R) (new : Conversation R) (out_new : List SessionFrame) : Type 0 where
     pub stood : Place (Box AskedSession) (Box (AskingSession R))
-    pub stepped : Steps old.sessions (TakesEnd heard.number channel end stood) new.sessions
+    pub stepped : Step old.sessions (TakesEnd heard.number channel end stood) new.sessions
     pub reply : EndReply stood heard.ended out out_new
     pub rest : new ≡ record old { sessions = new.sessions }
 

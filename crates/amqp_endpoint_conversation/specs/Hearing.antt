@@ -14,7 +14,7 @@ use Rattle.amqp_endpoint_links.specs.declared.hearing.LinkPerformative.{LinkPerf
 use Rattle.amqp_endpoint_links.specs.declared.hearing.PerformativeTaken.{PerformativeTaken}
 use Rattle.amqp_endpoint_links.specs.Hearing.{Hears, HearsAsked}
 use Rattle.amqp_endpoint_sessions.specs.State.{asked_at, live_at, reached}
-use Rattle.amqp_endpoint_sessions.specs.Steps.{Steps, ChangesAsked, ChangesLive}
+use Rattle.amqp_endpoint_sessions.specs.Steps.{Step, ChangesAsked, ChangesLive}
 use Rattle.amqp_endpoint_conversation.specs.declared.conversation.Conversation.{Conversation}
 use Rattle.amqp_endpoint_conversation.specs.declared.hearing.Heard.{Heard}
 use Rattle.amqp_endpoint_conversation.specs.declared.hearing.Heard.TheVariants.{Asked, Live, Dropped}
@@ -31,7 +31,7 @@ module _ {R : Type 0} where
       (new : Conversation R) : Type 0 where
     pub after : Box AskedSession
     pub heard : HearsAsked before.value said (Ok tt) after.value
-    pub stepped : Steps old.sessions (ChangesAsked number before after) new.sessions
+    pub stepped : Step old.sessions (ChangesAsked number before after) new.sessions
     pub rest : new ≡ record old { sessions = new.sessions }
 
   -- it refuses it, and stays as it is
@@ -63,7 +63,7 @@ module _ {R A T D : Type 0} (gives : Relations R A T D) where
       (said : LinkPerformative) (told : Result (PerformativeTaken A T D) SessionError) (after : Box (AskingSession R))
       (new : Sessions R) (out_new : List SessionFrame) : Type 0 where
     pub heard : Hears gives before.value out said told after.value out_new
-    pub stepped : Steps old (ChangesLive number before after) new
+    pub stepped : Step old (ChangesLive number before after) new
 
   -- it takes it
   pub record LiveTakes (old : Conversation R) (out : List SessionFrame) (number : ℕ) (before : Box (AskingSession R))
@@ -148,9 +148,9 @@ module _ {R A T D : Type 0} (gives : Relations R A T D) where
       (new : Conversation R) (out_new : List SessionFrame) : Type 0 where
     pub after : Box (AskingSession R)
     pub frame : SessionFrame
-    pub tells : session_steps.Steps gives before.value.session (session_steps.TellsFlow frame) after.value.session
+    pub tells : session_steps.Step gives before.value.session (session_steps.TellsFlow frame) after.value.session
     pub links : after.value ≡ record before.value { session = after.value.session }
-    pub stepped : Steps old.sessions (ChangesLive number before after) new.sessions
+    pub stepped : Step old.sessions (ChangesLive number before after) new.sessions
     pub rest : new ≡ record old { sessions = new.sessions }
     pub queued : out_new ≡ out ++ frame ∷ []
 

@@ -5,7 +5,7 @@ ghost use Rattle.amqp_session_connection.specs.Steps.{RefusesSession};
 ghost use Rattle.amqp_session_connection.specs.Table.{refusal_of_begin};
 ghost use Rattle.amqp_endpoint_links.specs.declared.asking.AskingSession.{AskingSession};
 ghost use Rattle.amqp_endpoint_sessions.specs.State.{asked_at, asked_on, live_at};
-ghost use Rattle.amqp_endpoint_sessions.specs.Steps.{Steps, Begins, ChangesLive};
+ghost use Rattle.amqp_endpoint_sessions.specs.Steps.{Step, Begins, ChangesLive};
 ghost use Rattle.std.specs.Global.{Box};
 ghost use Rattle.std.specs.VecDeque.{deque_len, deque_capacity};
 ghost use Rattle.amqp_endpoint_conversation.specs.Beginning.{Accepting, AcceptsHere, BeginsHere, BeginAnswered};
@@ -82,7 +82,7 @@ impl<R: LinkRelay> Conversation<R> {
 
     /// A session begins, and answers its number. It is refused as `begin` is.
     fn enter(&mut self, session: Box<AskingSession<R>>) -> Result<u64, BeginError>
-        ensures ok { IfOk result (λ number. Steps self.old.sessions
+        ensures ok { IfOk result (λ number. Step self.old.sessions
             (Begins number (record { 0 = self.old.sessions.connection.offered }) session) self.new.sessions
             × (self.new ≡ record self.old { sessions = self.new.sessions })) }
         ensures err { IfErr result (RefusesSession self.old.sessions.connection) }
@@ -191,7 +191,8 @@ impl<R: LinkRelay> Conversation<R> {
     /// The links that the peer asked for before the session with this number was accepted go over to it.
     fn take_over(&mut self, number: u64, asked: Box<AskedSession>)
         ensures taken { (session : Box (AskingSession R)) → live_at self.old.sessions number ≡ Some session →
-            Steps self.old.sessions (ChangesLive number session (with_links session asked.value.links)) self.new.sessions }
+            Step self.old.sessions (ChangesLive number session (with_links session asked.value.links))
+            self.new.sessions }
         ensures rest { self.new ≡ record self.old { sessions = self.new.sessions } }
     {
         if let Some(session) = self.sessions.live_mut(number) {

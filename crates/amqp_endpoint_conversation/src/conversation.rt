@@ -1,3 +1,4 @@
+//! The sessions of an endpoint: they begin and end, by its calls and by its peer's Begin and End.
 use amqp_endpoint_asked::AskedSession;
 use amqp_endpoint_links::AskingSession;
 use amqp_endpoint_sessions::Sessions;

@@ -10,7 +10,7 @@ use Rattle.amqp_session_core.specs.declared.fields.SessionFields.{SessionFields}
 use Rattle.amqp_session_core.specs.Echoes.{opposite, without}
 use Rattle.amqp_session_core.specs.Relay.{Relations}
 use Rattle.amqp_session_core.specs.State.{State}
-use Rattle.amqp_session_core.specs.Steps.{Steps, SendsDisposition, SendsDispositionStep, table_of, with_table}
+use Rattle.amqp_session_core.specs.Steps.{Step, SendsDisposition, SendsDispositionStep, table_of, with_table}
 use Rattle.amqp_endpoint_disposing.specs.Sending.{SendsEach, SendsOne, frames_of, said_by}
 
 module _ {R A T D : Type 0} (does : Relations R A T D) where
@@ -27,7 +27,7 @@ module _ {R A T D : Type 0} (does : Relations R A T D) where
 
   -- a Disposition changes nothing that the session tells of itself
   pub fields-kept : (old : State R) (d : Disposition) (numbers : List ℕ) (new : State R)
-      → Steps does old (SendsDisposition d numbers) new → new.fields ≡ old.fields
+      → Step does old (SendsDisposition d numbers) new → new.fields ≡ old.fields
   fields-kept old d numbers new step = fields-step d.settled old d numbers new step
 
   outgoing-with : (role : Role) (table : Table) (s : State R) → role ≡ Receiver

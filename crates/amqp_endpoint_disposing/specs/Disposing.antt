@@ -3,7 +3,7 @@ use Rattle.std.specs.Prelude.{◌≡◌, ℕ, List, [], ◌∷◌, Bool, true, O
 use Rattle.amqp_session_types.specs.declared.handles.OutputHandle.{OutputHandle}
 use Rattle.amqp_session_states.specs.declared.delivery_state.DeliveryState.{DeliveryState}
 use Rattle.amqp_session_performatives.specs.declared.disposition.Disposition.{Disposition}
-use Rattle.amqp_session_core.specs.Steps.{Steps, Changes}
+use Rattle.amqp_session_core.specs.Steps.{Step, Changes}
 use Rattle.amqp_link_attach.specs.State.{is_attached}
 use Rattle.amqp_link_receiving.specs.declared.disposing.Disposable.{Disposable}
 use Rattle.amqp_link_receiver.specs.Disposing.{Disposes, disposable_now, disposed_of, disposition_of, is_settled}
@@ -41,7 +41,7 @@ pub record DisposesOfAll (handle : OutputHandle) (tags : List (List ℕ)) (state
   pub named : Named
   pub are_named : named_all receiver tags ≡ Ok named
   pub tells : TellsRuns (receiver.base.terms).rcv_settle_mode named state asked told
-  pub changed : Steps gives old
+  pub changed : Step gives old
       (Changes handle.0 (receiving number receiver)
       (receiving number (each_disposed receiver named (replicate (length named) state) asked))) new
 
@@ -54,6 +54,6 @@ pub record DisposesOfOne (handle : OutputHandle) (tag : List ℕ) (state : Deliv
   pub delivery : Disposable
   pub is_kept : disposable_now receiver tag ≡ Ok delivery
   pub tells : told ≡ disposition_of delivery.number (settles receiver delivery asked) state ∷ []
-  pub changed : Steps gives old
+  pub changed : Step gives old
       (Changes handle.0 (receiving number receiver)
       (receiving number (disposed_of receiver tag (settles receiver delivery asked) state))) new

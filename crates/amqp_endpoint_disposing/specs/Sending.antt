@@ -7,7 +7,7 @@ use Rattle.amqp_session_core.specs.declared.fields.SessionFields.{SessionFields}
 use Rattle.amqp_session_core.specs.Frames.{frame_of}
 use Rattle.amqp_session_core.specs.Relay.{Relations}
 use Rattle.amqp_session_core.specs.State.{State}
-use Rattle.amqp_session_core.specs.Steps.{Steps, SendsDisposition}
+use Rattle.amqp_session_core.specs.Steps.{Step, SendsDisposition}
 use Rattle.amqp_endpoint_attached.specs.Linked.{Linked, LinksIn, gives}
 use Rattle.amqp_endpoint_fitting.specs.Fits.{FrameFits}
 
@@ -22,7 +22,7 @@ module _ {R A T D : Type 0} (does : Relations R A T D) where
   -- a session sends a Disposition: it forgets the deliveries that this settles
   pub record SendsOne (old : State R) (d : Disposition) (new : State R) : Type 0 where
     pub settled : List ℕ
-    pub stepped : Steps does old (SendsDisposition d settled) new
+    pub stepped : Step does old (SendsDisposition d settled) new
 
   -- it sends each of these, one after the other
   abbrev pub SendsEach : State R → List Disposition → State R → Type 0

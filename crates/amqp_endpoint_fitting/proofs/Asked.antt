@@ -13,7 +13,7 @@ use Rattle.amqp_session_performatives.specs.declared.session_frame.SessionFrame.
 use Rattle.amqp_session_core.specs.History.{History}
 use Rattle.amqp_session_core.specs.Relay.{Relations}
 use Rattle.amqp_session_core.specs.State.{State, leads}
-use Rattle.amqp_session_core.specs.Steps.{Step, Steps, Allocates}
+use Rattle.amqp_session_core.specs.Steps.{Act, Step, Allocates}
 use Rattle.amqp_session_core.specs.Told.{FlowTaken}
 use Rattle.amqp_endpoint_asked.specs.Asked.{is_asked}
 use Rattle.amqp_endpoint_asked.specs.AskedSession.{session_part}
@@ -25,7 +25,9 @@ use Rattle.amqp_endpoint_links.specs.declared.hearing.PerformativeTaken.{Perform
 use Rattle.amqp_endpoint_links.specs.declared.hearing.PerformativeTaken.TheVariants as taken
 use Rattle.amqp_endpoint_links.specs.Asking.{FlowAt, FlowInSession}
 use Rattle.amqp_endpoint_links.specs.Hearing.{Hears, HearsFlow}
-use Rattle.amqp_endpoint_links.specs.History.{AskingStep, InSession, TakesAttach, TakesFlow, TakesDetach, AnswersLink, AskingSteps, AskingHistory, AtMostOne, IsAttach, IsDetach, IsFlow, IsTaken, IsHearing, AreHearing}
+use Rattle.amqp_endpoint_links.specs.History.{AskingAct, InSession, TakesAttach, TakesFlow, TakesDetach, AnswersLink}
+use Rattle.amqp_endpoint_links.specs.History.{AskingStep, AskingHistory, AtMostOne, IsAttach, IsDetach, IsFlow}
+use Rattle.amqp_endpoint_links.specs.History.{IsTaken, IsHearing, AreHearing}
 use Rattle.amqp_endpoint_links.proofs.Heard.{heard}
 use Rattle.amqp_endpoint_links.proofs.Projecting.{step-within}
 use Rattle.amqp_endpoint_fitting.specs.Fits.{FrameFits}
@@ -42,37 +44,37 @@ module _ {R A T D : Type 0} (gives : Relations R A T D) where
   Channel s = channel_of gives s.session
 
   -- what a call does in the session brings what the call brings
-  attach-sends : (channel limit : ℕ) (attach : AttachFrame) (named : NamedLink) (done : List (Step R A T D))
+  attach-sends : (channel limit : ℕ) (attach : AttachFrame) (named : NamedLink) (done : List (Act R A T D))
       → AtMostOne (IsAttach attach named) done → AllSendFit channel limit done
   attach-sends channel limit attach named [] are = tt
   attach-sends channel limit attach named (step ∷ []) are =
-      (subst (λ (s : Step R A T D). SendsFit channel limit s) (sym are.is) tt, tt)
+      (subst (λ (s : Act R A T D). SendsFit channel limit s) (sym are.is) tt, tt)
   attach-sends channel limit attach named (step ∷ next ∷ steps) are = absurd are
 
-  detach-sends : (channel limit : ℕ) (detach : DetachFrame) (done : List (Step R A T D))
+  detach-sends : (channel limit : ℕ) (detach : DetachFrame) (done : List (Act R A T D))
       → AtMostOne (IsDetach detach) done → AllSendFit channel limit done
   detach-sends channel limit detach [] are = tt
   detach-sends channel limit detach (step ∷ []) are =
-      (subst (λ (s : Step R A T D). SendsFit channel limit s) (sym are.is) tt, tt)
+      (subst (λ (s : Act R A T D). SendsFit channel limit s) (sym are.is) tt, tt)
   detach-sends channel limit detach (step ∷ next ∷ steps) are = absurd are
 
-  taken-sends : (channel limit : ℕ) (replies : RepliesFit gives) (flow : FlowFrame) (step : Step R A T D)
-      (old mid : State R) → IsTaken flow step → Steps gives old step mid → SendsFit channel limit step
+  taken-sends : (channel limit : ℕ) (replies : RepliesFit gives) (flow : FlowFrame) (step : Act R A T D)
+      (old mid : State R) → IsTaken flow step → Step gives old step mid → SendsFit channel limit step
   taken-sends channel limit replies flow step old mid t does =
-      subst (λ (s : Step R A T D). SendsFit channel limit s) (sym t.is)
+      subst (λ (s : Act R A T D). SendsFit channel limit s) (sym t.is)
       (flow-sends gives replies flow t.told t.reply t.base t.left t.frames old mid
-      (subst (λ (s : Step R A T D). Steps gives old s mid) t.is does))
+      (subst (λ (s : Act R A T D). Step gives old s mid) t.is does))
 
-  flow-step-sends : (channel limit : ℕ) (replies : RepliesFit gives) (flow : FlowFrame) (step : Step R A T D)
-      (old mid : State R) → IsFlow flow step → Steps gives old step mid → SendsFit channel limit step
+  flow-step-sends : (channel limit : ℕ) (replies : RepliesFit gives) (flow : FlowFrame) (step : Act R A T D)
+      (old mid : State R) → IsFlow flow step → Step gives old step mid → SendsFit channel limit step
   flow-step-sends channel limit replies flow step old mid (inl t) does =
       taken-sends channel limit replies flow step old mid t does
   flow-step-sends channel limit replies flow step old mid (inr (inl t)) does =
       taken-sends channel limit replies (session_part flow) step old mid t does
   flow-step-sends channel limit replies flow step old mid (inr (inr (base, is))) does =
-      subst (λ (s : Step R A T D). SendsFit channel limit s) (sym is) tt
+      subst (λ (s : Act R A T D). SendsFit channel limit s) (sym is) tt
 
-  flow-done-sends : (channel limit : ℕ) (replies : RepliesFit gives) (flow : FlowFrame) (done : List (Step R A T D))
+  flow-done-sends : (channel limit : ℕ) (replies : RepliesFit gives) (flow : FlowFrame) (done : List (Act R A T D))
       (old new : State R) → AtMostOne (IsFlow flow) done → History gives old done new → AllSendFit channel limit done
   flow-done-sends channel limit replies flow [] old new are run = tt
   flow-done-sends channel limit replies flow (step ∷ []) old new are run =
@@ -83,9 +85,9 @@ module _ {R A T D : Type 0} (gives : Relations R A T D) where
   abbrev Waits : ℕ → ℕ → AskingSession R → AskingSession R → Type 0
   Waits channel limit old new = AllWait old channel limit → AllWait new channel limit
 
-  step-waits-asked : (channel limit : ℕ) (replies : RepliesFit gives) (step : AskingStep R A T D)
+  step-waits-asked : (channel limit : ℕ) (replies : RepliesFit gives) (step : AskingAct R A T D)
       (old new : AskingSession R)
-      → AskingSteps gives old step new → AskingSendsFit channel limit step → Waits channel limit old new
+      → AskingStep gives old step new → AskingSendsFit channel limit step → Waits channel limit old new
   step-waits-asked channel limit replies (InSession step) old new s b =
       history-waits gives channel limit (step ∷ []) old.session new.session (new.session, s.0, refl) (b, tt)
   step-waits-asked channel limit replies (TakesAttach attach named result) old new s b =
@@ -104,7 +106,7 @@ module _ {R A T D : Type 0} (gives : Relations R A T D) where
       history-waits gives channel limit (Allocates handle link (Some input) ∷ []) old.session new.session
       (new.session, s.0, refl) (tt, tt)
 
-  pub asking-waits : (channel limit : ℕ) (replies : RepliesFit gives) (steps : List (AskingStep R A T D))
+  pub asking-waits : (channel limit : ℕ) (replies : RepliesFit gives) (steps : List (AskingAct R A T D))
       (start end : AskingSession R) → AskingHistory gives start steps end → AllAskingSendFit channel limit steps
       → Waits channel limit start end
   asking-waits channel limit replies [] start end run b = λ h.
@@ -116,13 +118,13 @@ module _ {R A T D : Type 0} (gives : Relations R A T D) where
   abbrev KeepsChannel : AskingSession R → AskingSession R → Type 0
   KeepsChannel old new = ((new.session).fields).channel ≡ ((old.session).fields).channel
 
-  step-channel-asked : (step : AskingStep R A T D) (old new : AskingSession R) → AskingSteps gives old step new
+  step-channel-asked : (step : AskingAct R A T D) (old new : AskingSession R) → AskingStep gives old step new
       → KeepsChannel old new
   step-channel-asked step old new s =
       let done = step-within gives step old new s in
       history-channel gives done.steps old.session new.session done.run
 
-  pub asking-channel : (steps : List (AskingStep R A T D)) (start end : AskingSession R)
+  pub asking-channel : (steps : List (AskingAct R A T D)) (start end : AskingSession R)
       → AskingHistory gives start steps end → KeepsChannel start end
   asking-channel [] start end run = ap (λ (s : AskingSession R). ((s.session).fields).channel) run
   asking-channel (step ∷ steps) start end run =
@@ -178,8 +180,8 @@ module _ {R A T D : Type 0} (gives : Relations R A T D) where
   flow-gives limit replies true flow (Err e) old new out out_new frames least t h is =
       nothing-behind limit out out_new frames t.2 is
 
-  step-gives : (limit : ℕ) (replies : RepliesFit gives) (step : AskingStep R A T D) (old new : AskingSession R)
-      (frames : List SessionFrame) → 512 ≤ limit → AskingSteps gives old step new
+  step-gives : (limit : ℕ) (replies : RepliesFit gives) (step : AskingAct R A T D) (old new : AskingSession R)
+      (frames : List SessionFrame) → 512 ≤ limit → AskingStep gives old step new
       → AskingSendsFit (Channel old) limit step → AskingEndFits limit step → AllWait old (Channel old) limit
       → AskingHands step frames → Gives limit frames
   step-gives limit replies (InSession step) old new frames least s b e h is =
@@ -192,7 +194,7 @@ module _ {R A T D : Type 0} (gives : Relations R A T D) where
   step-gives limit replies (AnswersLink handle link input) old new frames least s b e h is =
       none-given limit frames is
 
-  pub asking-gives : (channel limit : ℕ) (replies : RepliesFit gives) (steps : List (AskingStep R A T D))
+  pub asking-gives : (channel limit : ℕ) (replies : RepliesFit gives) (steps : List (AskingAct R A T D))
       (start end : AskingSession R) (frames : List SessionFrame) → 512 ≤ limit → AskingHistory gives start steps end
       → Channel start ≡ channel → AllAskingSendFit channel limit steps → AllAskingEndFit limit steps
       → AllWait start channel limit → AllAskingHand steps frames → Gives limit frames
@@ -212,20 +214,20 @@ module _ {R A T D : Type 0} (gives : Relations R A T D) where
       (rest (all-right IsRead first later r)))
 
   -- what the peer says
-  hearing-sends-one : (channel limit : ℕ) (said : LinkPerformative) (step : AskingStep R A T D) → IsHearing said step
+  hearing-sends-one : (channel limit : ℕ) (said : LinkPerformative) (step : AskingAct R A T D) → IsHearing said step
       → AskingSendsFit channel limit step
   hearing-sends-one channel limit (Attach attach named) step (result, is) =
-      subst (λ (s : AskingStep R A T D). AskingSendsFit channel limit s) (sym is) tt
+      subst (λ (s : AskingAct R A T D). AskingSendsFit channel limit s) (sym is) tt
   hearing-sends-one channel limit (Flow flow) step (out, result, out_new, is) =
-      subst (λ (s : AskingStep R A T D). AskingSendsFit channel limit s) (sym is) tt
+      subst (λ (s : AskingAct R A T D). AskingSendsFit channel limit s) (sym is) tt
   hearing-sends-one channel limit (Transfer transfer payload) step (handle, told, due, is) =
-      subst (λ (s : AskingStep R A T D). AskingSendsFit channel limit s) (sym is) tt
+      subst (λ (s : AskingAct R A T D). AskingSendsFit channel limit s) (sym is) tt
   hearing-sends-one channel limit (Disposition disposition) step (walk, echoes, is) =
-      subst (λ (s : AskingStep R A T D). AskingSendsFit channel limit s) (sym is) tt
+      subst (λ (s : AskingAct R A T D). AskingSendsFit channel limit s) (sym is) tt
   hearing-sends-one channel limit (Detach detach) step (result, is) =
-      subst (λ (s : AskingStep R A T D). AskingSendsFit channel limit s) (sym is) tt
+      subst (λ (s : AskingAct R A T D). AskingSendsFit channel limit s) (sym is) tt
 
-  hearing-sends : (channel limit : ℕ) (said : LinkPerformative) (steps : List (AskingStep R A T D))
+  hearing-sends : (channel limit : ℕ) (said : LinkPerformative) (steps : List (AskingAct R A T D))
       → AreHearing said steps → AllAskingSendFit channel limit steps
   hearing-sends channel limit said [] are = tt
   hearing-sends channel limit said (step ∷ []) are = (hearing-sends-one channel limit said step are, tt)

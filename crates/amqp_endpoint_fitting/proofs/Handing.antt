@@ -22,14 +22,19 @@ use Rattle.amqp_session_core.specs.Frames.{Left, behind_frame, frame_of, frames_
 use Rattle.amqp_session_core.specs.History.{History, frames_in, own_settles_as, reply_steps, sending_in, settles, settles_as}
 use Rattle.amqp_session_core.specs.Relay.{Relations}
 use Rattle.amqp_session_core.specs.State.{State}
-use Rattle.amqp_session_core.specs.Steps.{Step, Steps, Reply, NoReply, OfSession, OfLink, FlowAt, FlowStep, IsReply, Replies, SendsDispositionStep, at_once, own_begin, reply_frames, table_of, told_to_link, with_table, Stays, SendsBegin, TakesBegin, SendsEnd, TakesEnd, TakesAttach, TakesFlow, SetsWindow, TakesTransfer, TakesDisposition, TakesDetach, SendsBehind, SendsTransfers, SendsDisposition, TellsFlow, Allocates, Deallocates, Reserves, Changes}
+use Rattle.amqp_session_core.specs.Steps.{Act, Step, Reply, NoReply, OfSession, OfLink, FlowAt, FlowStep, IsReply}
+use Rattle.amqp_session_core.specs.Steps.{Replies, SendsDispositionStep, at_once, own_begin, reply_frames, table_of}
+use Rattle.amqp_session_core.specs.Steps.{told_to_link, with_table, Stays, SendsBegin, TakesBegin, SendsEnd, TakesEnd}
+use Rattle.amqp_session_core.specs.Steps.{TakesAttach, TakesFlow, SetsWindow, TakesTransfer, TakesDisposition}
+use Rattle.amqp_session_core.specs.Steps.{TakesDetach, SendsBehind, SendsTransfers, SendsDisposition, TellsFlow}
+use Rattle.amqp_session_core.specs.Steps.{Allocates, Deallocates, Reserves, Changes}
 use Rattle.amqp_session_core.specs.Tables.{RouteTable}
 use Rattle.amqp_session_core.proofs.SendingSide.{step-sends}
 use Rattle.amqp_endpoint_fitting.specs.Fits.{BehindFits, FrameFits}
 use Rattle.amqp_endpoint_fitting.specs.Handed.{AllEndFit, AllSendFit, EndFits, RepliesFit, ReplyFits, SendsFit, handed, handed_of}
 use Rattle.amqp_endpoint_fitting.specs.Read.{IsRead}
 use Rattle.amqp_endpoint_fitting.proofs.Lengths.{all-left, all-one, all-right, begin-fits, behind-fits, left-fit, session-flow-fits}
-use Rattle.amqp_endpoint_fitting.proofs.Queueing.{AllBringFit, AllFit, SentFits, Side, SideStep, history-fits, step-fits}
+use Rattle.amqp_endpoint_fitting.proofs.Queueing.{AllBringFit, AllFit, SentFits, Side, SideAct, history-fits, step-fits}
 
 -- settling brings nothing
 module _ (channel limit : ℕ) where
@@ -45,7 +50,7 @@ module _ (channel limit : ℕ) where
   own-settles-bring Sender numbers = settles-bring numbers
   own-settles-bring Receiver numbers = tt
 
-  reply-brings : (reply : Reply) (later : List SideStep) → ReplyFits reply → AllBringFit channel limit later
+  reply-brings : (reply : Reply) (later : List SideAct) → ReplyFits reply → AllBringFit channel limit later
       → AllBringFit channel limit (reply_steps reply ++ later)
   reply-brings NoReply later f b = b
   reply-brings OfSession later f b = b
@@ -66,7 +71,7 @@ module _ (limit : ℕ) where
   due-fits false frame f r = All-nil (FrameFits limit)
 
 module _ {R A T D : Type 0} where
-  brings : (channel limit : ℕ) (step : Step R A T D) → SendsFit channel limit step
+  brings : (channel limit : ℕ) (step : Act R A T D) → SendsFit channel limit step
       → AllBringFit channel limit (sending_in step)
   brings channel limit Stays b = tt
   brings channel limit (SendsBegin frame) b = tt
@@ -97,13 +102,13 @@ module _ {R A T D : Type 0} (gives : Relations R A T D) where
   channel_of s = ((s.fields).channel).0
 
   -- what waits
-  pub step-waits : (channel limit : ℕ) (step : Step R A T D) (old new : State R) → Steps gives old step new
+  pub step-waits : (channel limit : ℕ) (step : Act R A T D) (old new : State R) → Step gives old step new
       → SendsFit channel limit step → Lines old channel limit → Lines new channel limit
   step-waits channel limit step old new s b h =
       history-fits channel limit (sending_in step) old.outgoing new.outgoing (step-sends gives step old new s)
       (brings channel limit step b) h
 
-  pub history-waits : (channel limit : ℕ) (steps : List (Step R A T D)) (start end : State R)
+  pub history-waits : (channel limit : ℕ) (steps : List (Act R A T D)) (start end : State R)
       → History gives start steps end → AllSendFit channel limit steps → Lines start channel limit
       → Lines end channel limit
   history-waits channel limit [] start end run b h = subst (λ (s : State R). Lines s channel limit) (sym run) h
@@ -127,7 +132,7 @@ module _ {R A T D : Type 0} (gives : Relations R A T D) where
   sent-kept false old d numbers new s = kept-by old new old s.1 refl
   sent-kept true old d numbers new s = table-kept (opposite d.role) numbers old old new refl s.1
 
-  pub step-channel : (step : Step R A T D) (old new : State R) → Steps gives old step new → Kept old new
+  pub step-channel : (step : Act R A T D) (old new : State R) → Step gives old step new → Kept old new
   step-channel Stays old new s = kept-by old new old s refl
   step-channel (SendsBegin frame) old new s = kept-by old new _ s.2 refl
   step-channel (TakesBegin incoming begin base left frames) old new s = kept-by old new _ s.5 refl
@@ -154,7 +159,7 @@ module _ {R A T D : Type 0} (gives : Relations R A T D) where
   step-channel (Reserves count) old new s = kept-by old new _ s.1 refl
   step-channel (Changes handle before after) old new s = kept-by old new _ s.1 refl
 
-  pub history-channel : (steps : List (Step R A T D)) (start end : State R) → History gives start steps end
+  pub history-channel : (steps : List (Act R A T D)) (start end : State R) → History gives start steps end
       → Kept start end
   history-channel [] start end run = kept-by start end start run refl
   history-channel (step ∷ steps) start end run =
@@ -232,7 +237,7 @@ module _ {R A T D : Type 0} (gives : Relations R A T D) where
 
   behind-hands : (limit : ℕ) (fields : SessionFields) (number : ℕ) (handle : OutputHandle) (frame : BehindFrame)
       (left : Option BehindFrame) (answer : Option SessionFrame) (old new : Side) → 512 ≤ limit
-      → BehindFits (fields.channel).0 limit frame → sending.Steps old (sending.Follows handle frame left) new
+      → BehindFits (fields.channel).0 limit frame → sending.Step old (sending.Follows handle frame left) new
       → answer ≡ at_once fields number left → Hands limit (option_to_list answer)
   behind-hands limit fields number handle frame None answer old new least b s is =
       subst (MayFit limit) (sym is) (λ r. All-nil (FrameFits limit))
@@ -242,7 +247,7 @@ module _ {R A T D : Type 0} (gives : Relations R A T D) where
       subst (MayFit limit) (sym is)
       (one-fits limit (behind_frame fields number left) (behind-fits limit fields number left least fit))
 
-  pub step-hands : (limit : ℕ) (step : Step R A T D) (old new : State R) → 512 ≤ limit → Steps gives old step new
+  pub step-hands : (limit : ℕ) (step : Act R A T D) (old new : State R) → 512 ≤ limit → Step gives old step new
       → SendsFit (channel_of old) limit step → Lines old (channel_of old) limit → Hands limit (frames_in step)
   step-hands limit (TakesBegin incoming begin base left frames) old new least s b h =
       let same : channel_of new ≡ channel_of old =
@@ -273,7 +278,7 @@ module _ {R A T D : Type 0} (gives : Relations R A T D) where
   step-hands limit step old new least s b h = λ r. All-nil (FrameFits limit)
 
   -- an own Begin and an own End, too
-  pub whole-hands : (limit : ℕ) (step : Step R A T D) (old new : State R) → 512 ≤ limit → Steps gives old step new
+  pub whole-hands : (limit : ℕ) (step : Act R A T D) (old new : State R) → 512 ≤ limit → Step gives old step new
       → SendsFit (channel_of old) limit step → EndFits limit step → Lines old (channel_of old) limit
       → Hands limit (handed step)
   whole-hands limit (SendsBegin frame) old new least s b e h =
@@ -283,7 +288,7 @@ module _ {R A T D : Type 0} (gives : Relations R A T D) where
   whole-hands limit (SendsEnd error frame) old new least s b e h = one-fits limit frame (λ r. e)
   whole-hands limit step old new least s b e h = step-hands limit step old new least s b h
 
-  pub history-hands : (channel limit : ℕ) (steps : List (Step R A T D)) (start end : State R) → 512 ≤ limit
+  pub history-hands : (channel limit : ℕ) (steps : List (Act R A T D)) (start end : State R) → 512 ≤ limit
       → History gives start steps end → channel_of start ≡ channel → AllSendFit channel limit steps
       → AllEndFit limit steps → Lines start channel limit → Hands limit (handed_of steps)
   history-hands channel limit [] start end least run same b e h = λ r. All-nil (FrameFits limit)

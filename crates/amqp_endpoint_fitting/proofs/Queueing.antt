@@ -4,7 +4,8 @@ use Rattle.std.specs.Prelude.{All, Option, Some, None}
 use Rattle.std.proofs.lemmas.List.Elements.{All-nil, All-cons, All-head, All-tail, All-append, All-push}
 use Rattle.amqp_session_outgoing.specs.declared.frames.Outbound.{Outbound}
 use Rattle.amqp_session_outgoing.specs.declared.frames.Sent.{Sent}
-use Rattle.amqp_session_outgoing.specs.History.{Step, TakesWindow, SetsWindow, Accepts, Refuses, Follows, Reserves, Settles, SettlesRange, Forgets, Fails, Steps, History}
+use Rattle.amqp_session_outgoing.specs.History.{Act, TakesWindow, SetsWindow, Accepts, Refuses, Follows, Reserves}
+use Rattle.amqp_session_outgoing.specs.History.{Settles, SettlesRange, Forgets, Fails, Step, History}
 use Rattle.amqp_session_outgoing.specs.Queues.{Queues, FollowsIn, TakesTurn, TakesTurnOf, followed, joined, rejoined, trailed}
 use Rattle.amqp_session_outgoing.specs.State.{State, Leaves, Sends, with_batch, with_window}
 use Rattle.amqp_session_outgoing.specs.Told.{left_in}
@@ -25,8 +26,8 @@ Lines = Queues TransferFrame BehindFrame
 abbrev pub Side : Type 0
 Side = State TransferFrame BehindFrame
 
-abbrev pub SideStep : Type 0
-SideStep = Step TransferFrame BehindFrame
+abbrev pub SideAct : Type 0
+SideAct = Act TransferFrame BehindFrame
 
 -- a transfer that left, and what left right behind it
 pub record SentFits (channel limit : ℕ) (sent : Leaving) : Type 0 where
@@ -37,7 +38,7 @@ abbrev pub AllFit : ℕ → ℕ → Lines → Type 0
 AllFit channel limit queues = All (QueueFits channel limit) queues
 
 -- what a step of the sending side brings
-abbrev pub BringsFit : ℕ → ℕ → SideStep → Type 0
+abbrev pub BringsFit : ℕ → ℕ → SideAct → Type 0
 BringsFit channel limit (Accepts handle batch left) = All (UnitFits channel limit handle.0) batch
 BringsFit channel limit (Follows handle frame left) = BehindFits channel limit frame
 BringsFit channel limit step = Unit {0}
@@ -179,7 +180,7 @@ module _ (channel limit : ℕ) where
       leaves-fit left (with_batch old handle batch) new run (joined-fit handle batch old.queues b h)
 
   -- a step of the sending side
-  pub step-fits : (step : SideStep) (old new : Side) → Steps old step new → BringsFit channel limit step
+  pub step-fits : (step : SideAct) (old new : Side) → Step old step new → BringsFit channel limit step
       → LinesFit old.queues → Left (left_in step) new
   step-fits (TakesWindow base width left) old new s b h = leaves-fit left (with_window old base width) new s.0 h
   step-fits (SetsWindow base width) old new s b h = same-lines old new (ap (λ (x : Side). x.queues) s) h
@@ -195,12 +196,12 @@ module _ (channel limit : ℕ) where
   step-fits (Forgets handle) old new s b h = same-lines old new (ap (λ (x : Side). x.queues) s.1) h
   step-fits Fails old new s b h = same-lines old new (ap (λ (x : Side). x.queues) s) h
 
-  abbrev pub AllBringFit : List SideStep → Type 0
+  abbrev pub AllBringFit : List SideAct → Type 0
   AllBringFit [] = Unit {0}
   AllBringFit (step ∷ steps) = BringsFit channel limit step × AllBringFit steps
 
   -- steps of it
-  pub history-fits : (steps : List SideStep) (start end : Side) → History start steps end → AllBringFit steps
+  pub history-fits : (steps : List SideAct) (start end : Side) → History start steps end → AllBringFit steps
       → LinesFit start.queues → LinesFit end.queues
   history-fits [] start end run b h = subst LinesFit (sym (ap (λ (s : Side). s.queues) run)) h
   history-fits (step ∷ steps) start end run b h =

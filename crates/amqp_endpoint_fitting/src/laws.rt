@@ -10,12 +10,12 @@ ghost use Rattle.amqp_session_core.specs.declared.batch.TransferFrame.{TransferF
 ghost use Rattle.amqp_session_core.specs.declared.incoming.TransferTaken.{TransferTaken};
 ghost use Rattle.amqp_session_core.specs.History.{History, frames_in};
 ghost use Rattle.amqp_session_core.specs.State.{State, fresh};
-ghost use Rattle.amqp_session_core.specs.Steps.{Step, Steps};
+ghost use Rattle.amqp_session_core.specs.Steps.{Act, Step};
 ghost use Rattle.amqp_endpoint_asked.specs.declared.session.AskedSession.{AskedSession};
 ghost use Rattle.amqp_endpoint_links.specs.Beginning.{Accepted, Begun};
 ghost use Rattle.amqp_endpoint_links.specs.Hearing.{Hears};
 ghost use Rattle.amqp_endpoint_links.specs.Numbering.{numbered};
-ghost use Rattle.amqp_endpoint_links.specs.History.{AskingHistory, AskingStep, AskingSteps};
+ghost use Rattle.amqp_endpoint_links.specs.History.{AskingHistory, AskingAct, AskingStep};
 ghost use Rattle.amqp_endpoint_links.specs.declared.asking.AskingSession.{AskingSession};
 ghost use Rattle.amqp_endpoint_links.specs.declared.hearing.LinkPerformative.{LinkPerformative};
 ghost use Rattle.amqp_endpoint_links.specs.declared.hearing.PerformativeTaken.{PerformativeTaken};
@@ -31,40 +31,46 @@ use amqp_session_core::LinkRelay;
 /// What waits in a session goes on fitting the limit by each of its steps, where what the step brings fits, and the
 /// session's channel stays (part 2, 2.4.1, 2.5.6).
 pub fn what_waits_keeps_fitting<R: LinkRelay>()
-    ensures fits { (limit : ℕ) (old new : State R) (step : Step R R.Attached R.Transferred R.Detached) →
-        Steps R.gives old step new → SendsFit old.fields.channel.0 limit step →
+    ensures fits { (limit : ℕ) (old new : State R)
+        (step : Act R R.Attached R.Transferred R.Detached) →
+        Step R.gives old step new → SendsFit old.fields.channel.0 limit step →
         QueuesFit old.fields.channel.0 limit old.outgoing.queues →
         QueuesFit old.fields.channel.0 limit new.outgoing.queues }
-    ensures channel { (old new : State R) (step : Step R R.Attached R.Transferred R.Detached) →
-        Steps R.gives old step new → new.fields.channel ≡ old.fields.channel }
+    ensures channel { (old new : State R) (step : Act R R.Attached R.Transferred R.Detached) →
+        Step R.gives old step new → new.fields.channel ≡ old.fields.channel }
 {}
 
 /// What a step hands out fits the limit, where what waited fits it, and what the step brings: an own Begin, too, and an
 /// own End where it does by itself (part 2, 2.4.1, 2.7). The numbers of the frames are such as are read of them.
 pub fn what_leaves_fits<R: LinkRelay>()
-    ensures within { (limit : ℕ) (old new : State R) (step : Step R R.Attached R.Transferred R.Detached) →
-        Steps R.gives old step new → SendsFit old.fields.channel.0 limit step →
+    ensures within { (limit : ℕ) (old new : State R)
+        (step : Act R R.Attached R.Transferred R.Detached) →
+        Step R.gives old step new → SendsFit old.fields.channel.0 limit step →
         QueuesFit old.fields.channel.0 limit old.outgoing.queues → 512 ≤ limit →
         All IsRead (frames_in step) → All (FrameFits limit) (frames_in step) }
-    ensures whole { (limit : ℕ) (old new : State R) (step : Step R R.Attached R.Transferred R.Detached) →
-        Steps R.gives old step new → SendsFit old.fields.channel.0 limit step → EndFits limit step →
+    ensures whole { (limit : ℕ) (old new : State R)
+        (step : Act R R.Attached R.Transferred R.Detached) →
+        Step R.gives old step new → SendsFit old.fields.channel.0 limit step → EndFits limit step →
         QueuesFit old.fields.channel.0 limit old.outgoing.queues → 512 ≤ limit →
         All IsRead (handed step) → All (FrameFits limit) (handed step) }
 {}
 
 /// So it is by all steps of a history.
 pub fn what_waits_keeps_fitting_throughout<R: LinkRelay>()
-    ensures fits { (limit : ℕ) (start end : State R) (steps : List (Step R R.Attached R.Transferred R.Detached)) →
+    ensures fits { (limit : ℕ) (start end : State R)
+        (steps : List (Act R R.Attached R.Transferred R.Detached)) →
         History R.gives start steps end → AllSendFit start.fields.channel.0 limit steps →
         QueuesFit start.fields.channel.0 limit start.outgoing.queues →
         QueuesFit start.fields.channel.0 limit end.outgoing.queues }
-    ensures channel { (start end : State R) (steps : List (Step R R.Attached R.Transferred R.Detached)) →
+    ensures channel { (start end : State R)
+        (steps : List (Act R R.Attached R.Transferred R.Detached)) →
         History R.gives start steps end → end.fields.channel ≡ start.fields.channel }
 {}
 
 /// So does what is handed out by all steps of a history.
 pub fn what_leaves_fits_throughout<R: LinkRelay>()
-    ensures { (limit : ℕ) (start end : State R) (steps : List (Step R R.Attached R.Transferred R.Detached)) →
+    ensures { (limit : ℕ) (start end : State R)
+        (steps : List (Act R R.Attached R.Transferred R.Detached)) →
         History R.gives start steps end → AllSendFit start.fields.channel.0 limit steps → AllEndFit limit steps →
         QueuesFit start.fields.channel.0 limit start.outgoing.queues → 512 ≤ limit →
         All IsRead (handed_of steps) → All (FrameFits limit) (handed_of steps) }
@@ -73,20 +79,21 @@ pub fn what_leaves_fits_throughout<R: LinkRelay>()
 /// So it is in a session with its asked links, where no link answers a Flow with properties (part 2, 2.6.3, 2.7.4).
 pub fn what_waits_with_asked_links_keeps_fitting<R: LinkRelay>()
     ensures fits { (limit : ℕ) (start end : AskingSession R)
-        (steps : List (AskingStep R R.Attached R.Transferred R.Detached)) →
+        (steps : List (AskingAct R R.Attached R.Transferred R.Detached)) →
         AskingHistory R.gives start steps end → RepliesFit R.gives →
         AllAskingSendFit start.session.fields.channel.0 limit steps →
         QueuesFit start.session.fields.channel.0 limit start.session.outgoing.queues →
         QueuesFit start.session.fields.channel.0 limit end.session.outgoing.queues }
     ensures channel { (start end : AskingSession R)
-        (steps : List (AskingStep R R.Attached R.Transferred R.Detached)) →
+        (steps : List (AskingAct R R.Attached R.Transferred R.Detached)) →
         AskingHistory R.gives start steps end → end.session.fields.channel ≡ start.session.fields.channel }
 {}
 
 /// So does what such a session hands out.
 pub fn what_leaves_with_asked_links_fits<R: LinkRelay>()
     ensures { (limit : ℕ) (start end : AskingSession R)
-        (steps : List (AskingStep R R.Attached R.Transferred R.Detached)) (frames : List SessionFrame) →
+        (steps : List (AskingAct R R.Attached R.Transferred R.Detached))
+        (frames : List SessionFrame) →
         AskingHistory R.gives start steps end → RepliesFit R.gives →
         AllAskingSendFit start.session.fields.channel.0 limit steps → AllAskingEndFit limit steps →
         QueuesFit start.session.fields.channel.0 limit start.session.outgoing.queues → 512 ≤ limit →

@@ -10,7 +10,7 @@ use Rattle.amqp_session_performatives.specs.declared.begin.Begin.{Begin}
 use Rattle.amqp_session_performatives.specs.declared.session_frame.SessionFrame.{SessionFrame}
 use Rattle.amqp_session_core.specs.History.{History}
 use Rattle.amqp_session_core.specs.State.{fresh}
-use Rattle.amqp_session_core.specs.Steps.{SendsBegin, Step}
+use Rattle.amqp_session_core.specs.Steps.{SendsBegin, Act}
 use Rattle.amqp_link_base.specs.declared.detached.Detached.{Detached}
 use Rattle.amqp_link_ends.specs.declared.end.End.{End}
 use Rattle.amqp_link_ends.specs.declared.relay.AttachTold.{AttachTold}
@@ -22,7 +22,7 @@ use Rattle.amqp_endpoint_links.specs.Beginning.{accept_steps}
 use Rattle.amqp_endpoint_names.specs.State.{place_at as link_place}
 use Rattle.amqp_endpoint_names.specs.declared.place.LinkPlace.TheVariants.{AtRest, Held}
 use Rattle.amqp_endpoint_sessions.specs.State.{live_of}
-use Rattle.amqp_endpoint_sessions.specs.Steps.{Accepts, Begins, ChangesLive, EndTold, Steps, TellsEnd}
+use Rattle.amqp_endpoint_sessions.specs.Steps.{Accepts, Begins, ChangesLive, EndTold, Step, TellsEnd}
 use Rattle.amqp_endpoint_sessions.proofs.Owning.{at}
 use Rattle.amqp_endpoint_model.specs.declared.call.Call.{Call}
 use Rattle.amqp_endpoint_model.specs.declared.call.Call.TheVariants as call
@@ -43,7 +43,7 @@ use Rattle.amqp_endpoint_linked.specs.Calling.{Calls, answer_of}
 use Rattle.amqp_endpoint_linked.specs.Sending.{tag_of}
 use Rattle.amqp_endpoint_linked.specs.declared.linked.LinkedSessions.{LinkedSessions}
 use Rattle.amqp_endpoint_laws.specs.Agreeing.{Agree}
-use Rattle.amqp_endpoint_laws.specs.Conversing.{SessionsStep}
+use Rattle.amqp_endpoint_laws.specs.Conversing.{SessionsAct}
 use Rattle.amqp_endpoint_laws.specs.Held.{Agrees, number_at, number_in, number_live}
 use Rattle.amqp_endpoint_laws.proofs.Agreeing.{Same, shut, stay}
 use Rattle.amqp_endpoint_laws.proofs.HeldParting.{session-back}
@@ -67,7 +67,7 @@ talk-on old mid new first later n handle = later n handle ∙ first n handle
 
 -- one session goes on, and its links bear their numbers still
 pub live-same : (number : ℕ) (before after : Session) (old new : Talk)
-    → Steps old.sessions (ChangesLive number before after) new.sessions
+    → Step old.sessions (ChangesLive number before after) new.sessions
     → KeepNumbers before.value.session after.value.session → TalkSame old new
 live-same number before after old new stepped kept =
     changed-same number before.value.session after.value.session old.sessions new.sessions
@@ -130,7 +130,7 @@ attached old new links links_new limit session link number events frames l a =
 
 -- a session that begins has no links
 abbrev accepting : ℕ → IncomingChannel → Begin → Option SessionFlow → SessionFrame
-    → List (Step Link AttachTold Told Detached)
+    → List (Act Link AttachTold Told Detached)
 accepting first incoming begin flow frame = accept_steps first incoming begin flow frame
 
 accepting-keeps : (first : ℕ) (incoming : IncomingChannel) (begin : Begin) (flow : Option SessionFlow)
@@ -171,7 +171,7 @@ begun old new number frames b =
 accepted : (old new : Talk) (channel : IncomingChannel) (number : ℕ) (frames : List SessionFrame)
     → AcceptsHere gives old [] channel number new frames → TalkSame old new
 accepted old new channel number frames a =
-    let step : SessionsStep = Accepts number a.incoming a.wanted a.outgoing a.session in
+    let step : SessionsAct = Accepts number a.incoming a.wanted a.outgoing a.session in
     let (was, is) = (at number old.sessions step a.mid a.stepped).about (eq-eqb number number refl) in
     let there : Talk = record old { sessions = a.mid } in
     talk-on old there new

@@ -41,7 +41,7 @@ use Rattle.amqp_endpoint_links.specs.declared.asking.NamedLink.TheVariants.{Wait
 use Rattle.amqp_endpoint_links.specs.declared.hearing.LinkPerformative.{LinkPerformative}
 use Rattle.amqp_endpoint_links.specs.declared.hearing.PerformativeTaken.{PerformativeTaken}
 use Rattle.amqp_endpoint_sessions.specs.State.{asked_at, asked_of, ended_place, live_at, reached, with_asked}
-use Rattle.amqp_endpoint_sessions.specs.Steps.{Asks, ChangesAsked, Steps, TakesBegin, TakesEnd}
+use Rattle.amqp_endpoint_sessions.specs.Steps.{Asks, ChangesAsked, Step, TakesBegin, TakesEnd}
 use Rattle.amqp_endpoint_sessions.specs.declared.place.Place.TheVariants.{Asked, Ending, Live, Over}
 use Rattle.amqp_endpoint_sessions.proofs.Owning.{at}
 use Rattle.amqp_endpoint_conversation.specs.declared.beginning.BeginHeard.{BeginHeard}
@@ -75,7 +75,7 @@ use Rattle.amqp_endpoint_link_hearing.specs.Saying.{BarsSaid, EndsBy, FailsBySai
 use Rattle.amqp_endpoint_link_hearing.specs.Transferring as transferring
 use Rattle.amqp_endpoint_link_hearing.specs.Transferring.{Comes, RemembersUnless}
 use Rattle.amqp_endpoint_linked.specs.Hearing.{Hears, RefusesBody}
-use Rattle.amqp_endpoint_laws.specs.Conversing.{SessionsStep}
+use Rattle.amqp_endpoint_laws.specs.Conversing.{SessionsAct}
 use Rattle.amqp_endpoint_laws.specs.Held.{Agrees, Numbers, number_at, number_in, number_live, number_of}
 use Rattle.amqp_endpoint_laws.proofs.Agreeing.{Same, stay}
 use Rattle.amqp_endpoint_laws.proofs.HeldCalled.{Stands, TalkSame, live-same, stays-held, talk-on, talk-same}
@@ -125,7 +125,7 @@ asked-live (Ending channel) before after handle e = refl
 asked-live (Over peer_end complete) before after handle e = refl
 
 asked-changed : (number : ℕ) (before after : Box AskedSession) (old new : Talk)
-    → Steps old.sessions (ChangesAsked number before after) new.sessions → TalkSame old new
+    → Step old.sessions (ChangesAsked number before after) new.sessions → TalkSame old new
 asked-changed number before after old new stepped =
     let (stood, was, lives, is) =
     (at number old.sessions (ChangesAsked number before after) new.sessions stepped).about
@@ -245,7 +245,7 @@ begin-answered : (old : Talk) (out : List SessionFrame) (channel : IncomingChann
     (result : Result BeginHeard BeginRefusal) (new : Talk) (out_new : List SessionFrame)
     → BeginAnswered gives old out channel begin result new out_new → TalkSame old new
 begin-answered old out channel begin (Ok (begin_heard.Asked number)) new out_new (a, none) =
-    let step : SessionsStep = Asks number channel a.asked in
+    let step : SessionsAct = Asks number channel a.asked in
     let (was, is) = (at number old.sessions step new.sessions a.stepped).about (eq-eqb number number refl) in
     about-same number old.sessions new.sessions
     (λ n e. (at n old.sessions step new.sessions a.stepped).other e)
@@ -420,11 +420,11 @@ detach-becomes (Some (session, detached)) old mid new links links_new it frames 
 -- the peer's End
 -- of one that has no links here
 over-taken : (stood : Stood) (number : ℕ) (channel : IncomingChannel) (end : EndFrame) (old new : Sessions)
-    (links links_new : Links) → Steps old (TakesEnd number channel end stood) new
+    (links links_new : Links) → Step old (TakesEnd number channel end stood) new
     → ((handle : ℕ) → Stands (Some (ended_place stood)) handle ≡ Stands (Some stood) handle)
     → links_new ≡ links → Agrees (number_at old) links → Agrees (number_at new) links_new
 over-taken stood number channel end old new links links_new stepped same is a =
-    let step : SessionsStep = TakesEnd number channel end stood in
+    let step : SessionsAct = TakesEnd number channel end stood in
     let (was, becomes) = (at number old step new stepped).about (eq-eqb number number refl) in
     stay (number_at old) (number_at new) links links_new
     (about-same number old new
@@ -436,10 +436,10 @@ over-taken stood number channel end old new links links_new stepped same is a =
 
 end-taken : (stood : Stood) (ended : Option Session) (number : ℕ) (channel : IncomingChannel) (end : EndFrame)
     (old new : Sessions) (frames : List SessionFrame) (links links_new : Links)
-    → Steps old (TakesEnd number channel end stood) new → EndReply stood ended [] frames
+    → Step old (TakesEnd number channel end stood) new → EndReply stood ended [] frames
     → SessionGivenBack links ended links_new → Agrees (number_at old) links → Agrees (number_at new) links_new
 end-taken (Live outgoing session) ended number channel end old new frames links links_new stepped (is, sent) back a =
-    let step : SessionsStep = TakesEnd number channel end (Live outgoing session) in
+    let step : SessionsAct = TakesEnd number channel end (Live outgoing session) in
     let (was, becomes) = (at number old step new stepped).about (eq-eqb number number refl) in
     session-back number session old new links links_new
     (record {

@@ -31,11 +31,11 @@ use Rattle.amqp_endpoint_names.specs.State.{held_of, place_at as link_place}
 use Rattle.amqp_endpoint_names.specs.declared.place.LinkPlace.{LinkPlace}
 use Rattle.amqp_endpoint_names.specs.declared.place.LinkPlace.TheVariants.{Held}
 use Rattle.amqp_endpoint_sessions.specs.State.{finished_place, live_at, live_of}
-use Rattle.amqp_endpoint_sessions.specs.Steps.{EndSent, Finished, Finishes as FinishesStep, Steps}
+use Rattle.amqp_endpoint_sessions.specs.Steps.{EndSent, Finished, Finishes as FinishesStep, Step}
 use Rattle.amqp_endpoint_sessions.specs.declared.place.Place.TheVariants.{Asked, Ending, Live, Over}
 use Rattle.amqp_endpoint_sessions.proofs.Owning.{at}
 use Rattle.amqp_endpoint_laws.specs.Agreeing.{Agree}
-use Rattle.amqp_endpoint_laws.specs.Conversing.{SessionsStep}
+use Rattle.amqp_endpoint_laws.specs.Conversing.{SessionsAct}
 use Rattle.amqp_endpoint_laws.specs.Held.{Agrees, number_at, number_in, number_live}
 use Rattle.amqp_endpoint_laws.proofs.Agreeing.{stay}
 use Rattle.amqp_endpoint_laws.proofs.HeldCalled.{Stands, called}
@@ -67,11 +67,11 @@ left-first (suc count) old new links links_new (mid, links_mid, first, one) a =
 
 -- the connection of sessions is over
 idle-over : (stood : Stood) (number : ℕ) (old new : Sessions) (links links_new : Links)
-    → Steps old (FinishesStep number stood) new
+    → Step old (FinishesStep number stood) new
     → ((handle : ℕ) → Stands (Some (finished_place stood)) handle ≡ Stands (Some stood) handle) → links_new ≡ links
     → Agrees (number_at old) links → Agrees (number_at new) links_new
 idle-over stood number old new links links_new stepped same is a =
-    let step : SessionsStep = FinishesStep number stood in
+    let step : SessionsAct = FinishesStep number stood in
     let (was, becomes) = (at number old step new stepped).about (eq-eqb number number refl) in
     stay (number_at old) (number_at new) links links_new
     (about-same number old new
@@ -86,7 +86,7 @@ over-one : (number : ℕ) (stood : Option Stood) (old new : Sessions) (links lin
     → Agrees (number_at new) links_new
 over-one number None old new links links_new f back a = rests old new links links_new f.1 back a
 over-one number (Some (Live channel session)) old new links links_new f back a =
-    let step : SessionsStep = FinishesStep number (Live channel session) in
+    let step : SessionsAct = FinishesStep number (Live channel session) in
     let (was, becomes) = (at number old step new f).about (eq-eqb number number refl) in
     session-back number session old new links links_new
     (record {

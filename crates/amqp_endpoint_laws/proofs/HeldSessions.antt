@@ -13,7 +13,7 @@ use Rattle.amqp_endpoint_links.specs.declared.asking.AskingSession.{AskingSessio
 use Rattle.amqp_endpoint_links.specs.declared.numbered.Numbered.{Numbered}
 use Rattle.amqp_endpoint_names.specs.State.{State as LinksBy}
 use Rattle.amqp_endpoint_sessions.specs.State.{live_of, place_at, told_place, with_live}
-use Rattle.amqp_endpoint_sessions.specs.Steps.{ChangesLive, Ends, Steps}
+use Rattle.amqp_endpoint_sessions.specs.Steps.{ChangesLive, Ends, Step}
 use Rattle.amqp_endpoint_sessions.specs.declared.place.Place.{Place}
 use Rattle.amqp_endpoint_sessions.specs.declared.place.Place.TheVariants.{Asked, Ending, Live, Over}
 use Rattle.amqp_endpoint_sessions.proofs.Owning.{at, other_number, same_number}
@@ -214,7 +214,7 @@ module _ {R : Type 0} where
   Stands o handle = number_live (live_of o) handle
 
   pub live-changed : (number : ℕ) (before after : SessionOf R) (old new : Sessions (Numbered R))
-      → Steps old (ChangesLive number before after) new
+      → Step old (ChangesLive number before after) new
       → Changed number before.value.session after.value.session old new
   live-changed number before after old new stepped =
       let (stood, was, lives, becomes) =
@@ -279,7 +279,7 @@ module _ {R : Type 0} where
     pub other : (n handle : ℕ) → (n == number) ≡ false → number_at new n handle ≡ number_at old n handle
 
   pub ends-gone : (number : ℕ) (channel : OutgoingChannel) (session : SessionOf R) (old new : Sessions (Numbered R))
-      → Steps old (Ends number channel session) new → Gone number session old new
+      → Step old (Ends number channel session) new → Gone number session old new
   ends-gone number channel session old new stepped =
       let (was, becomes) =
       (at number old (Ends number channel session) new stepped).about (eq-eqb number number refl) in

@@ -21,7 +21,7 @@ use Rattle.amqp_session_unsettled.specs.Table.{Table}
 use Rattle.amqp_session_core.specs.Echoes.{Reach, ReachesAt, Walks, opposite}
 use Rattle.amqp_session_core.specs.State.{StepsAt, link_at}
 use Rattle.amqp_session_core.specs.Steps.{Allocates, Changes, Deallocates, FlowAt, SendsBehind, SendsDisposition}
-use Rattle.amqp_session_core.specs.Steps.{SendsDispositionStep, SendsTransfers, SetsWindow, Step, Steps, TakesAttach}
+use Rattle.amqp_session_core.specs.Steps.{SendsDispositionStep, SendsTransfers, SetsWindow, Act, Step, TakesAttach}
 use Rattle.amqp_session_core.specs.Steps.{TakesBegin, TakesDetach, TakesDisposition, TakesFlow, told_to_link}
 use Rattle.amqp_session_core.specs.Steps.{with_table}
 use Rattle.amqp_session_core.specs.Frames.{Left}
@@ -65,8 +65,8 @@ unless-leads handle h (Some to) is = by (to == handle) refl
         absurd (none-some h (sym (ap (λ (b : Bool). if b then None else Some to) e) ∙ is))
     by false e = sym (ap (λ (b : Bool). if b then None else Some to) e) ∙ is
 
-pub less : (step : Step Link AttachTold Told Detached) (old new : LinksIn) → routed_in step ≡ None
-    → Steps gives old step new → LeadsLess old new
+pub less : (step : Act Link AttachTold Told Detached) (old new : LinksIn) → routed_in step ≡ None
+    → Step gives old step new → LeadsLess old new
 less step old new none s input h there = by (change gives step old new s)
   where
     by : Change old new step → map.get old.routes input ≡ Some h
@@ -159,7 +159,7 @@ module _ (Rel : Holding → Holding → Type 0) (still : (a : Holding) → Rel a
 
 -- its owner changes a link
 pub changed-stays : (old new : LinksIn) (handle : ℕ) (before after : Link)
-    → Steps gives old (Changes handle before after) new → Stays (held_link (Some before)) (held_link (Some after))
+    → Step gives old (Changes handle before after) new → Stays (held_link (Some before)) (held_link (Some after))
     → Rests old new
 changed-stays old new handle before after s keeps =
     record {
@@ -169,7 +169,7 @@ changed-stays old new handle before after s keeps =
 
 -- a frame of a link is sent, or its transfers, or Dispositions
 pub behind-stays : (old new : LinksIn) (handle : OutputHandle) (frame : BehindFrame) (left : Option BehindFrame)
-    (answer : Option SessionFrame) → Steps gives old (SendsBehind handle frame left answer) new → Rests old new
+    (answer : Option SessionFrame) → Step gives old (SendsBehind handle frame left answer) new → Rests old new
 behind-stays old new handle frame left answer s =
     record {
       holds = links-same old new (ap (λ (x : LinksIn). x.links) s.2);
@@ -177,7 +177,7 @@ behind-stays old new handle frame left answer s =
     }
 
 pub batch-stays : (old new : LinksIn) (handle : OutputHandle) (batch : Transfers) (left : Left)
-    (frames : List SessionFrame) → Steps gives old (SendsTransfers handle batch left frames) new → Rests old new
+    (frames : List SessionFrame) → Step gives old (SendsTransfers handle batch left frames) new → Rests old new
 batch-stays old new handle batch left frames s =
     record {
       holds = links-same old new (ap (λ (x : LinksIn). x.links) s.2);
@@ -195,7 +195,7 @@ sent-same true old d numbers new s =
     ap (λ (x : LinksIn). x.links) s.1 ∙ table-same (opposite d.role) _ old
 
 pub sent-stays : (old new : LinksIn) (d : Disposition) (numbers : List ℕ)
-    → Steps gives old (SendsDisposition d numbers) new → Rests old new
+    → Step gives old (SendsDisposition d numbers) new → Rests old new
 sent-stays old new d numbers s =
     record {
       holds = links-same old new (sent-same d.settled old d numbers new s);
@@ -208,7 +208,7 @@ freed-at : (old new : LinksIn) (h : ℕ) (freed : Bool) → link_at new h ≡ (i
 freed-at old new h true is = inr (ap held_link is)
 freed-at old new h false is = inl (ap held_link is)
 
-pub freed-stays : (old new : LinksIn) (handle : ℕ) → Steps gives old (Deallocates handle) new → Rests old new
+pub freed-stays : (old new : LinksIn) (handle : ℕ) → Step gives old (Deallocates handle) new → Rests old new
 freed-stays old new handle s =
     record {
       holds = λ h. freed-at old new h (h == handle) (s.0 h);
@@ -233,7 +233,7 @@ given-comes number old new handle link fresh vacant becomes h = by (eqb_tells h 
         ∙ ap (λ (b : Bool). if b then Some link else link_at old h) p.0))))
 
 pub allocated-comes : (number : ℕ) (old new : LinksIn) (handle : ℕ) (link : Link) (input : Option ℕ)
-    → IsFresh number (held_link (Some link)) → Steps gives old (Allocates handle link input) new
+    → IsFresh number (held_link (Some link)) → Step gives old (Allocates handle link input) new
     → Each (Comes number) old new
 allocated-comes number old new handle link None fresh s = given-comes number old new handle link fresh s.1 s.3
 allocated-comes number old new handle link (Some input) fresh s = given-comes number old new handle link fresh s.2 s.4
@@ -288,7 +288,7 @@ attach-goes old new handle attach told st =
     (λ a b t. numbered-so Goes goes-still a b t.1 (attaches-go a.number a.link attach told b.link t.0))
 
 -- a step by which no Attach and no transfer is taken, no link attaches and none is changed by its owner
-abbrev pub IsCalm : Step Link AttachTold Told Detached → Type 0
+abbrev pub IsCalm : Act Link AttachTold Told Detached → Type 0
 IsCalm (TakesFlow flow told reply base left frames) = Unit {0}
 IsCalm (SetsWindow flow base) = Unit {0}
 IsCalm (TakesDisposition d walk echoes) = Unit {0}
@@ -296,7 +296,7 @@ IsCalm (TakesDetach handle detach told) = Unit {0}
 IsCalm (TakesBegin channel begin base left frames) = Unit {0}
 IsCalm step = ⊥
 
-calm-holds : (step : Step Link AttachTold Told Detached) (old new : LinksIn) → Steps gives old step new
+calm-holds : (step : Act Link AttachTold Told Detached) (old new : LinksIn) → Step gives old step new
     → IsCalm step → Each Stays old new
 calm-holds (TakesFlow flow told reply base left frames) old new s calm = flow-at old new flow flow.handle told s.link
 calm-holds (SetsWindow flow base) old new s calm = links-same old new (ap (λ (x : LinksIn). x.links) s.2)
@@ -308,7 +308,7 @@ calm-holds (TakesBegin channel begin base left frames) old new s calm =
     links-same old new (ap (λ (x : LinksIn). x.links) s.5)
 calm-holds step old new s calm = absurd calm
 
-calm-routes : (step : Step Link AttachTold Told Detached) → IsCalm step → routed_in step ≡ None
+calm-routes : (step : Act Link AttachTold Told Detached) → IsCalm step → routed_in step ≡ None
 calm-routes (TakesFlow flow told reply base left frames) calm = refl
 calm-routes (SetsWindow flow base) calm = refl
 calm-routes (TakesDisposition d walk echoes) calm = refl
@@ -316,13 +316,13 @@ calm-routes (TakesDetach handle detach told) calm = refl
 calm-routes (TakesBegin channel begin base left frames) calm = refl
 calm-routes step calm = absurd calm
 
-pub calm-stays : (step : Step Link AttachTold Told Detached) (old new : LinksIn) → Steps gives old step new
+pub calm-stays : (step : Act Link AttachTold Told Detached) (old new : LinksIn) → Step gives old step new
     → IsCalm step → Rests old new
 calm-stays step old new s calm =
     record { holds = calm-holds step old new s calm; leads = less step old new (calm-routes step calm) s }
 
 pub taken-goes : (old new : LinksIn) (handle : ℕ) (attach : Attach) (told : Result AttachTold RelayError)
-    → Steps gives old (TakesAttach handle attach told) new → Each Goes old new
+    → Step gives old (TakesAttach handle attach told) new → Each Goes old new
 taken-goes old new handle attach (Ok told) s = attach-goes old new handle attach (Ok told) s.1
 taken-goes old new handle attach (Err e) s = attach-goes old new handle attach (Err e) s.1
 
@@ -354,7 +354,7 @@ put-leads old new key handle input h put there = by (eqb_tells input key)
     by (inr p) = inl (sym (got ∙ ap (λ (b : Bool). cond b (Some handle) (map.get old input)) p.0) ∙ there)
 
 taken-leads : (old new : LinksIn) (handle : ℕ) (attach : Attach) (told : Result AttachTold RelayError)
-    → Steps gives old (TakesAttach handle attach told) new → (input h : ℕ) → map.get new.routes input ≡ Some h
+    → Step gives old (TakesAttach handle attach told) new → (input h : ℕ) → map.get new.routes input ≡ Some h
     → (map.get old.routes input ≡ Some h) ⊎ ((input ≡ attach.handle.0) × (h ≡ handle))
 taken-leads old new handle attach (Ok told) s input h there =
     put-leads old.routes new.routes attach.handle.0 handle input h (ap (λ (x : LinksIn). x.routes) s.2) there
@@ -362,7 +362,7 @@ taken-leads old new handle attach (Err e) s input h there =
     inl (less (TakesAttach handle attach (Err e)) old new refl s input h there)
 
 taken-waits : (old new : LinksIn) (handle : ℕ) (attach : Attach) (told : Result AttachTold RelayError)
-    → Steps gives old (TakesAttach handle attach told) new → (k : ℕ) (held : Option Delivery)
+    → Step gives old (TakesAttach handle attach told) new → (k : ℕ) (held : Option Delivery)
     → held_link (link_at new handle) ≡ Some (k, (false, held)) → LeadsLess old new
 taken-waits old new handle attach (Ok told) s k held is =
     absurd
@@ -374,7 +374,7 @@ taken-waits old new handle attach (Ok told) s k held is =
 taken-waits old new handle attach (Err e) s k held is = less (TakesAttach handle attach (Err e)) old new refl s
 
 pub attach-leads : (old new : LinksIn) (handle : ℕ) (attach : Attach) (told : Result AttachTold RelayError)
-    → Steps gives old (TakesAttach handle attach told) new → LeadsMore attach handle old new
+    → Step gives old (TakesAttach handle attach told) new → LeadsMore attach handle old new
 attach-leads old new handle attach told s =
     record {
       holds = taken-goes old new handle attach told s;
@@ -401,7 +401,7 @@ given-others old new handle link becomes h apart =
 
 -- it waits only where none leads to it
 pub allocated-leads : (old new : LinksIn) (handle : ℕ) (link : Link) (input : Option ℕ)
-    → Steps gives old (Allocates handle link input) new
+    → Step gives old (Allocates handle link input) new
     → ((k : ℕ) (held : Option Delivery) → held_link (Some link) ≡ Some (k, (false, held)) → input ≡ None)
     → LeadsFirst handle old new
 allocated-leads old new handle link None s waits =

@@ -13,7 +13,7 @@ use Rattle.amqp_session_performatives.specs.declared.attach.Attach.{Attach}
 use Rattle.amqp_session_performatives.specs.declared.session_frame.SessionFrame.{SessionFrame}
 use Rattle.amqp_session_core.specs.History.{History}
 use Rattle.amqp_session_core.specs.State.{link_at}
-use Rattle.amqp_session_core.specs.Steps.{Step, Steps as SessionSteps, TakesDisposition}
+use Rattle.amqp_session_core.specs.Steps.{Act, Step as SessionStep, TakesDisposition}
 use Rattle.amqp_link_base.specs.declared.detached.Detached.{Detached}
 use Rattle.amqp_link_attach.specs.declared.state.LinkState.{LinkState}
 use Rattle.amqp_link_attach.specs.declared.state.LinkState.TheVariants as state
@@ -36,7 +36,7 @@ use Rattle.amqp_endpoint_link_hearing.specs.Naming.{named_by, named_held, named_
 use Rattle.amqp_endpoint_link_hearing.specs.Saying.{LinkHeard}
 use Rattle.amqp_endpoint_linking.specs.Linking.{Link, Links, Session, Sessions, Stood, Talk}
 use Rattle.amqp_endpoint_links.specs.Hearing.{Hears}
-use Rattle.amqp_endpoint_links.specs.History.{AreHearing, AskingHistory, AskingStep, AtMostOne, IsAttach, IsDetach}
+use Rattle.amqp_endpoint_links.specs.History.{AreHearing, AskingHistory, AskingAct, AtMostOne, IsAttach, IsDetach}
 use Rattle.amqp_endpoint_links.specs.History.{IsDoneBy, IsFlow, IsHearing}
 use Rattle.amqp_endpoint_links.specs.declared.asking.NamedLink.{NamedLink}
 use Rattle.amqp_endpoint_links.specs.declared.asking.NamedLink.TheVariants.{Absent, Waiting}
@@ -49,10 +49,10 @@ use Rattle.amqp_endpoint_names.specs.State.{held_at}
 use Rattle.amqp_endpoint_sessions.specs.Own.{is_about}
 use Rattle.amqp_endpoint_sessions.specs.State.{asked_at, asked_of, live_at, live_of, place_at, reached}
 use Rattle.amqp_endpoint_sessions.specs.State.{with_asked, with_live}
-use Rattle.amqp_endpoint_sessions.specs.Steps.{ChangesAsked, ChangesLive, Ends, Steps}
+use Rattle.amqp_endpoint_sessions.specs.Steps.{ChangesAsked, ChangesLive, Ends, Step}
 use Rattle.amqp_endpoint_sessions.specs.declared.place.Place.TheVariants.{Asked, Live, Ending, Over}
 use Rattle.amqp_endpoint_sessions.proofs.Owning.{at, same_number}
-use Rattle.amqp_endpoint_laws.specs.Conversing.{SessionsStep}
+use Rattle.amqp_endpoint_laws.specs.Conversing.{SessionsAct}
 use Rattle.amqp_endpoint_laws.specs.Held.{number_live, number_of}
 use Rattle.amqp_endpoint_laws.proofs.HoldingEnds.{Goes, Holding, Part, Stays, goes-on, held_end, held_if, held_link}
 use Rattle.amqp_endpoint_laws.proofs.HoldingEnds.{stands_so, stays-on, stays-still}
@@ -146,7 +146,7 @@ another-live (Ending channel) before after is = absurd (none-some before is)
 another-live (Over peer_end complete) before after is = absurd (none-some before is)
 
 -- it stands there then
-pub changed-live : (m : ℕ) (before after : Session) (old new : Sessions) → Steps old (ChangesLive m before after) new
+pub changed-live : (m : ℕ) (before after : Session) (old new : Sessions) → Step old (ChangesLive m before after) new
     → live_at new m ≡ Some after
 changed-live m before after old new s =
     let (stood, was, lives, becomes) = (at m old (ChangesLive m before after) new s).about (eq-same m) in
@@ -163,7 +163,7 @@ still-asked (Over peer_end complete) before after is = absurd (none-some before 
 module _ (At : Option Session → Option Session → Type 0)
     (still : (old new : Option Session) → new ≡ old → At old new) where
   -- a session goes on
-  pub live-changes : (m : ℕ) (before after : Session) (old new : Sessions) → Steps old (ChangesLive m before after) new
+  pub live-changes : (m : ℕ) (before after : Session) (old new : Sessions) → Step old (ChangesLive m before after) new
       → At (Some before) (Some after) → (n : ℕ) → At (live_at old n) (live_at new n)
   live-changes m before after old new s it n = by (n == m) refl
     where
@@ -178,7 +178,7 @@ module _ (At : Option Session → Option Session → Type 0)
           still (live_at old n) (live_at new n) (ap live_of ((at n old (ChangesLive m before after) new s).other e))
 
   asked-changes : (m : ℕ) (before after : Box AskedSession) (old new : Sessions)
-      → Steps old (ChangesAsked m before after) new → (n : ℕ) → At (live_at old n) (live_at new n)
+      → Step old (ChangesAsked m before after) new → (n : ℕ) → At (live_at old n) (live_at new n)
   asked-changes m before after old new s n = by (n == m) refl
     where
       by : (b : Bool) → (n == m) ≡ b → At (live_at old n) (live_at new n)
@@ -233,8 +233,8 @@ module _ (At : Option Session → Option Session → Type 0)
     hears-so h frames t = hears-in (reached old.sessions channel.0) refl h frames t
 
 -- a session begins without a link, or is over
-pub born-stays : (m : ℕ) (step : SessionsStep) (old new : Sessions)
-    → ((n : ℕ) → (n == m) ≡ false → is_about n step ≡ false) → Steps old step new
+pub born-stays : (m : ℕ) (step : SessionsAct) (old new : Sessions)
+    → ((n : ℕ) → (n == m) ≡ false → is_about n step ≡ false) → Step old step new
     → RestsAt (live_at old m) (live_at new m) → AllRest old new
 born-stays m step old new apart s rests n = by (n == m) refl
   where
@@ -244,8 +244,8 @@ born-stays m step old new apart s rests n = by (n == m) refl
     by false e = rests-same (live_at old n) (live_at new n) (ap live_of ((at n old step new s).other (apart n e)))
 
 -- or is asked for
-pub dead-stays : (m : ℕ) (step : SessionsStep) (old new : Sessions)
-    → ((n : ℕ) → (n == m) ≡ false → is_about n step ≡ false) → Steps old step new → live_at new m ≡ None
+pub dead-stays : (m : ℕ) (step : SessionsAct) (old new : Sessions)
+    → ((n : ℕ) → (n == m) ≡ false → is_about n step ≡ false) → Step old step new → live_at new m ≡ None
     → AllRest old new
 dead-stays m step old new apart s dead =
     born-stays m step old new apart s (rests-dead (live_at old m) (live_at new m) dead)
@@ -260,7 +260,7 @@ ends-stays number error session old new out out_new e =
     (ap live_of is)
 
 -- what is done in a session that goes on
-pub inside-stays : (m : ℕ) (before after : Session) (old new : Sessions) → Steps old (ChangesLive m before after) new
+pub inside-stays : (m : ℕ) (before after : Session) (old new : Sessions) → Step old (ChangesLive m before after) new
     → Rests before.value.session after.value.session → AllRest old new
 inside-stays m before after old new s each =
     live-changes RestsAt rests-same m before after old new s (record { holds = each.holds; leads = each.leads })
@@ -280,27 +280,27 @@ IsCalmSaid it = Unit {0}
 
 module _ (old new : LinksIn) where
   one-does : (Rel : LinksIn → LinksIn → Type 0) → (Rests old new → Rel old new)
-      → (Is : Step Link AttachTold Told Detached → Type 0) (steps : List (Step Link AttachTold Told Detached))
-      → ((step : Step Link AttachTold Told Detached) → Is step → SessionSteps gives old step new → Rel old new)
+      → (Is : Act Link AttachTold Told Detached → Type 0) (steps : List (Act Link AttachTold Told Detached))
+      → ((step : Act Link AttachTold Told Detached) → Is step → SessionStep gives old step new → Rel old new)
       → AtMostOne Is steps → History gives old steps new → Rel old new
   one-does Rel rests Is [] does are same = rests (all-same old new same)
   one-does Rel rests Is (step ∷ []) does are (mid, s, same) =
-      does step are (subst (λ (x : LinksIn). SessionSteps gives old step x) (sym same) s)
+      does step are (subst (λ (x : LinksIn). SessionStep gives old step x) (sym same) s)
   one-does Rel rests Is (step ∷ next ∷ steps) does are run = absurd are
 
-  is-calm : (step other : Step Link AttachTold Told Detached) → step ≡ other → IsCalm other
-      → SessionSteps gives old step new → Rests old new
+  is-calm : (step other : Act Link AttachTold Told Detached) → step ≡ other → IsCalm other
+      → SessionStep gives old step new → Rests old new
   is-calm step other is calm s =
       calm-stays other old new
-      (subst (λ (x : Step Link AttachTold Told Detached). SessionSteps gives old x new) is s) calm
+      (subst (λ (x : Act Link AttachTold Told Detached). SessionStep gives old x new) is s) calm
 
-step-rests : (it : LinkPerformative) (step : AskingStep Link AttachTold Told Detached) (old new : Linked)
+step-rests : (it : LinkPerformative) (step : AskingAct Link AttachTold Told Detached) (old new : Linked)
     → IsCalmSaid it → IsHearing it step → Within gives step old new → Rests old.session new.session
 step-rests (said.Flow flow) step old new calm (out, result, out_new, is) w =
     one-does old.session new.session Rests (λ r. r) (IsFlow flow) w.steps (λ s i stepped. by s i stepped)
-    (subst (λ (x : AskingStep Link AttachTold Told Detached). IsDoneBy x w.steps) is w.are) w.run
+    (subst (λ (x : AskingAct Link AttachTold Told Detached). IsDoneBy x w.steps) is w.are) w.run
   where
-    by : (s : Step Link AttachTold Told Detached) → IsFlow flow s → SessionSteps gives old.session s new.session
+    by : (s : Act Link AttachTold Told Detached) → IsFlow flow s → SessionStep gives old.session s new.session
         → Rests old.session new.session
     by s (inl t) stepped = is-calm old.session new.session s _ t.is tt stepped
     by s (inr (inl t)) stepped = is-calm old.session new.session s _ t.is tt stepped
@@ -309,22 +309,22 @@ step-rests (said.Transfer transfer payload) step old new calm is w = absurd calm
 step-rests (said.Attach attach named) step old new calm is w = absurd calm
 step-rests (said.Disposition disposition) step old new calm (walk, echoes, is) w =
     let done : w.steps ≡ TakesDisposition disposition walk echoes ∷ [] =
-    subst (λ (x : AskingStep Link AttachTold Told Detached). IsDoneBy x w.steps) is w.are in
+    subst (λ (x : AskingAct Link AttachTold Told Detached). IsDoneBy x w.steps) is w.are in
     let (mid, s, same) =
-    subst (λ (ss : List (Step Link AttachTold Told Detached)). History gives old.session ss new.session) done w.run in
+    subst (λ (ss : List (Act Link AttachTold Told Detached)). History gives old.session ss new.session) done w.run in
     is-calm old.session new.session (TakesDisposition disposition walk echoes)
     (TakesDisposition disposition walk echoes) refl tt
     (subst
-    (λ (x : LinksIn). SessionSteps gives old.session (TakesDisposition disposition walk echoes) x) (sym same) s)
+    (λ (x : LinksIn). SessionStep gives old.session (TakesDisposition disposition walk echoes) x) (sym same) s)
 step-rests (said.Detach detach) step old new calm (result, is) w =
     one-does old.session new.session Rests (λ r. r) (IsDetach detach) w.steps
     (λ s i stepped. is-calm old.session new.session s _ i.is tt stepped)
-    (subst (λ (x : AskingStep Link AttachTold Told Detached). IsDoneBy x w.steps) is w.are) w.run
+    (subst (λ (x : AskingAct Link AttachTold Told Detached). IsDoneBy x w.steps) is w.are) w.run
 
 hearing-does : (Rel : LinksIn → LinksIn → Type 0) (it : LinkPerformative)
-    (steps : List (AskingStep Link AttachTold Told Detached)) (old new : Linked)
+    (steps : List (AskingAct Link AttachTold Told Detached)) (old new : Linked)
     → (Rests old.session new.session → Rel old.session new.session)
-    → ((step : AskingStep Link AttachTold Told Detached) → IsHearing it step → Within gives step old new
+    → ((step : AskingAct Link AttachTold Told Detached) → IsHearing it step → Within gives step old new
     → Rel old.session new.session)
     → AreHearing it steps → AskingHistory gives old steps new → Rel old.session new.session
 hearing-does Rel it [] old new rests does are same =
@@ -352,7 +352,7 @@ abbrev AttachesIn : Attach → NamedLink → LinksIn → LinksIn → Type 0
 AttachesIn attach named old new =
     Rests old new ⊎ ((handle : OutputHandle) × (named ≡ Waiting handle) × LeadsMore attach handle.0 old new)
 
-step-attaches : (attach : Attach) (named : NamedLink) (step : AskingStep Link AttachTold Told Detached)
+step-attaches : (attach : Attach) (named : NamedLink) (step : AskingAct Link AttachTold Told Detached)
     (old new : Linked) → IsHearing (said.Attach attach named) step → Within gives step old new
     → AttachesIn attach named old.session new.session
 step-attaches attach named step old new (result, is) w =
@@ -362,10 +362,10 @@ step-attaches attach named step old new (result, is) w =
       i.handle,
       i.waits,
       attach-leads old.session new.session i.handle.0 attach i.told
-          (subst (λ (x : Step Link AttachTold Told Detached). SessionSteps gives old.session x new.session) i.is
+          (subst (λ (x : Act Link AttachTold Told Detached). SessionStep gives old.session x new.session) i.is
           stepped),
     ))
-    (subst (λ (x : AskingStep Link AttachTold Told Detached). IsDoneBy x w.steps) is w.are) w.run
+    (subst (λ (x : AskingAct Link AttachTold Told Detached). IsDoneBy x w.steps) is w.are) w.run
 
 -- that link wasn't attached before
 waits-so : (s : LinkState) (h handle : OutputHandle) → standing s h ≡ Waiting handle

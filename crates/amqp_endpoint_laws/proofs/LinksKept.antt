@@ -16,8 +16,8 @@ use Rattle.amqp_link_ends.specs.declared.end.End.{End}
 use Rattle.amqp_endpoint_names.specs.declared.place.LinkPlace.{LinkPlace}
 use Rattle.amqp_endpoint_names.specs.declared.place.LinkPlace.TheVariants.{AtRest, Held}
 use Rattle.amqp_endpoint_names.specs.State.{AreApart, fresh, place_at}
-use Rattle.amqp_endpoint_names.specs.Steps.{Closed, Closes, Enters, History, Holds, MakesRoom, Rested, Rests, Step}
-use Rattle.amqp_endpoint_names.specs.Steps.{Steps}
+use Rattle.amqp_endpoint_names.specs.Steps.{Closed, Closes, Enters, History, Holds, MakesRoom, Rested, Rests, Act}
+use Rattle.amqp_endpoint_names.specs.Steps.{Step}
 use Rattle.amqp_endpoint_names.proofs.Apart.{none_apart, stay_apart}
 use Rattle.amqp_endpoint_model.specs.declared.call.Call.{Call}
 use Rattle.amqp_endpoint_model.specs.declared.call.Call.TheVariants as call
@@ -48,7 +48,7 @@ use Rattle.amqp_endpoint_laws.proofs.Keeping.{Keeps, KeepsSilent}
 use Rattle.amqp_endpoint_laws.specs.Linking.{HaveCome}
 use Rattle.amqp_endpoint_laws.proofs.Kept.{run-keeps}
 
-more : (start mid end : Links) (steps others : List (Step End)) → History start steps mid → History mid others end
+more : (start mid end : Links) (steps others : List (Act End)) → History start steps mid → History mid others end
     → History start (steps ++ others) end
 more start mid end [] others same h = subst (λ (l : Links). History l others end) same h
 more start mid end (step ∷ steps) others (next, one, rest) h = (next, one, more next mid end steps others rest h)
@@ -64,20 +64,20 @@ abbrev pub FinishedGoesOn : Type 0
 FinishedGoesOn = (old new : Talk) (links links_new : Links) → Finishes old links new links_new → GoOn links links_new
 
 -- a step by which no link attaches again
-abbrev pub HoldsNone : Step End → Type 0
+abbrev pub HoldsNone : Act End → Type 0
 HoldsNone (Holds number session handle link) = ⊥
 HoldsNone step = Unit {0}
 
 -- each of them
-abbrev AllHoldNone : List (Step End) → Type 0
+abbrev AllHoldNone : List (Act End) → Type 0
 AllHoldNone [] = Unit {0}
 AllHoldNone (step ∷ steps) = HoldsNone step × AllHoldNone steps
 
-given-holds-none : (step : Step End) → IsGivenBack step → HoldsNone step
+given-holds-none : (step : Act End) → IsGivenBack step → HoldsNone step
 given-holds-none (Holds number session handle link) back = absurd back
 given-holds-none step back = tt
 
-hold-none : (steps : List (Step End)) → All IsGivenBack steps → AllHoldNone steps
+hold-none : (steps : List (Act End)) → All IsGivenBack steps → AllHoldNone steps
 hold-none [] given = tt
 hold-none (step ∷ steps) given = (
   given-holds-none step (All-head IsGivenBack step steps given),
@@ -86,16 +86,16 @@ hold-none (step ∷ steps) given = (
 
 -- what each such step keeps is kept by all that an endpoint does
 module _ (P : Links → Type 0)
-    (kept : (step : Step End) (old new : Links) → HoldsNone step → Steps old step new → P old → P new)
+    (kept : (step : Act End) (old new : Links) → HoldsNone step → Step old step new → P old → P new)
     (back_on : BackGoesOn) where
-  all-kept : (steps : List (Step End)) (old new : Links) → AllHoldNone steps → History old steps new → P old → P new
+  all-kept : (steps : List (Act End)) (old new : Links) → AllHoldNone steps → History old steps new → P old → P new
   all-kept [] old new none same p = subst P (sym same) p
   all-kept (step ∷ steps) old new (one, others) (mid, stepped, rest) p =
       all-kept steps mid new others rest (kept step old mid one stepped p)
 
   -- by further steps
   module _ (old new : Links) (came : P old) where
-    by : (steps : List (Step End)) → AllHoldNone steps → History old steps new → P new
+    by : (steps : List (Act End)) → AllHoldNone steps → History old steps new → P new
     by steps none h = all-kept steps old new none h came
 
     same : new ≡ old → P new
@@ -268,7 +268,7 @@ module _ (P : Links → Type 0)
               called by_call answer old new limit frames c.0 came;
         }
 
-come-on : (step : Step End) (old new : Links) → HoldsNone step → Steps old step new → HaveCome old → HaveCome new
+come-on : (step : Act End) (old new : Links) → HoldsNone step → Step old step new → HaveCome old → HaveCome new
 come-on step old new none stepped came =
     record {
       steps = came.steps ++ step ∷ [];

@@ -6,10 +6,10 @@ use Rattle.std.proofs.lemmas.Bool.Decides.{eqb_tells}
 use Rattle.std.proofs.lemmas.Option.{none-some}
 use Rattle.amqp_session_types.specs.declared.handles.OutputHandle.{OutputHandle}
 use Rattle.amqp_link_ends.specs.declared.end.End.{End}
-use Rattle.amqp_endpoint_names.specs.Own.{SlotSteps, is_about, slot_at}
+use Rattle.amqp_endpoint_names.specs.Own.{SlotStep, is_about, slot_at}
 use Rattle.amqp_endpoint_names.specs.State.{open_of, place_at, place_of}
-use Rattle.amqp_endpoint_names.specs.Steps.{ChangesAtRest, Closes, Enters, Holds, LowersRoom, MakesRoom, Rests, Step}
-use Rattle.amqp_endpoint_names.specs.Steps.{Steps}
+use Rattle.amqp_endpoint_names.specs.Steps.{ChangesAtRest, Closes, Enters, Holds, LowersRoom, MakesRoom, Rests, Act}
+use Rattle.amqp_endpoint_names.specs.Steps.{Step}
 use Rattle.amqp_endpoint_names.specs.declared.place.LinkPlace.{LinkPlace}
 use Rattle.amqp_endpoint_names.specs.declared.place.LinkPlace.TheVariants.{AtRest, Held}
 use Rattle.amqp_endpoint_names.specs.declared.place.Named.{Named}
@@ -38,7 +38,7 @@ module _ (link session : ℕ) (handle : OutputHandle) where
   none-here : None ≢ Some here
   none-here is = absurd cc
 
-  elsewhere-on : (step : Step End) (old new : Slot) → HoldsNone step → SlotSteps old step new → IsElsewhere old
+  elsewhere-on : (step : Act End) (old new : Slot) → HoldsNone step → SlotStep old step new → IsElsewhere old
       → IsElsewhere new
   elsewhere-on (MakesRoom name) old new none s e = absurd s
   elsewhere-on (LowersRoom room) old new none s e = absurd s
@@ -52,7 +52,7 @@ module _ (link session : ℕ) (handle : OutputHandle) where
       subst IsElsewhere (sym is) ((λ same. absurd (none-some _ (sym same))), none-here)
 
   -- it stays so
-  stays-elsewhere : (step : Step End) (old new : Links) → HoldsNone step → Steps old step new
+  stays-elsewhere : (step : Act End) (old new : Links) → HoldsNone step → Step old step new
       → IsElsewhere (slot_at old link) → IsElsewhere (slot_at new link)
   stays-elsewhere step old new none s e = by (is_about link step) refl
     where
@@ -62,11 +62,11 @@ module _ (link session : ℕ) (handle : OutputHandle) where
       by false about = subst IsElsewhere (sym ((at link old step new s).other about)) e
 
   -- and it stays entered
-  stays-entered : (step : Step End) (old new : Links) → HoldsNone step → Steps old step new
+  stays-entered : (step : Act End) (old new : Links) → HoldsNone step → Step old step new
       → slot_at old link ≢ None → slot_at new link ≢ None
   stays-entered step old new none s e = by (is_about link step) refl
     where
-      entered : (it : Step End) (o p : Slot) → SlotSteps o it p → p ≢ None
+      entered : (it : Act End) (o p : Slot) → SlotStep o it p → p ≢ None
       entered (MakesRoom name) o p t = absurd t
       entered (LowersRoom room) o p t = absurd t
       entered (Enters number name n h) o p t = λ is. absurd (none-some _ (sym is ∙ t.1))

@@ -18,12 +18,12 @@ use Rattle.amqp_session_core.specs.Relay.{Relations}
 use Rattle.amqp_session_core.specs.State.{State, StepsAt, link_at}
 use Rattle.amqp_session_core.specs.Steps.{Allocates, Changes, Deallocates, FlowAt, Reserves, SendsBegin, SendsBehind}
 use Rattle.amqp_session_core.specs.Steps.{SendsDisposition, SendsDispositionStep, SendsEnd, SendsTransfers, SetsWindow}
-use Rattle.amqp_session_core.specs.Steps.{Stays, Step, Steps, TakesAttach, TakesBegin, TakesDetach, TakesDisposition}
+use Rattle.amqp_session_core.specs.Steps.{Stays, Act, Step, TakesAttach, TakesBegin, TakesDetach, TakesDisposition}
 use Rattle.amqp_session_core.specs.Steps.{TakesEnd, TakesFlow, TakesTransfer, TellsFlow, told_to_link, with_table}
 use Rattle.amqp_session_core.specs.Tables.{RouteTable}
 use Rattle.amqp_endpoint_asked.specs.AskedSession.{session_part}
 use Rattle.amqp_endpoint_links.specs.Hearing.{Hears}
-use Rattle.amqp_endpoint_links.specs.History.{AreHearing, AskingHistory, AskingStep, AtMostOne, IsAttach}
+use Rattle.amqp_endpoint_links.specs.History.{AreHearing, AskingHistory, AskingAct, AtMostOne, IsAttach}
 use Rattle.amqp_endpoint_links.specs.History.{IsDetach, IsDoneBy, IsFlow, IsHearing, IsTaken}
 use Rattle.amqp_endpoint_links.specs.Numbering.{numbered}
 use Rattle.amqp_endpoint_links.specs.declared.asking.AskingSession.{AskingSession}
@@ -95,13 +95,13 @@ module _ {R : Type 0} where
 
 module _ {R A T D : Type 0} where
   -- a step that leaves each link under its handle, with its number
-  abbrev pub KeepsNumbers : Step (Numbered R) A T D → Type 0
+  abbrev pub KeepsNumbers : Act (Numbered R) A T D → Type 0
   KeepsNumbers (Allocates handle link input) = ⊥
   KeepsNumbers (Deallocates handle) = ⊥
   KeepsNumbers (Changes handle before after) = after.number ≡ before.number
   KeepsNumbers step = Unit {0}
 
-  abbrev pub AllKeepNumbers : List (Step (Numbered R) A T D) → Type 0
+  abbrev pub AllKeepNumbers : List (Act (Numbered R) A T D) → Type 0
   AllKeepNumbers [] = Unit {0}
   AllKeepNumbers (step ∷ steps) = KeepsNumbers step × AllKeepNumbers steps
 
@@ -142,7 +142,7 @@ module _ {R A T D : Type 0} (does : Relations R A T D) where
   sent-kept false old d numbers new s = same-kept old new s.1
   sent-kept true old d numbers new s = still old new _ s.1 (table-same (opposite d.role) _ old)
 
-  pub step-kept : (step : Step (Numbered R) A T D) (old new : State (Numbered R)) → Steps gives old step new
+  pub step-kept : (step : Act (Numbered R) A T D) (old new : State (Numbered R)) → Step gives old step new
       → KeepsNumbers step → KeepNumbers old new
   step-kept Stays old new s k = same-kept old new s
   step-kept (SendsBegin frame) old new s k = still old new _ s.2 refl
@@ -183,19 +183,19 @@ module _ {R A T D : Type 0} (does : Relations R A T D) where
       λ other.
       ap (λ (x : State (Numbered R)). number_in x other) s.1 ∙ put-kept old.links handle before after s.0 k other
 
-  pub history-kept : (steps : List (Step (Numbered R) A T D)) (old new : State (Numbered R))
+  pub history-kept : (steps : List (Act (Numbered R) A T D)) (old new : State (Numbered R))
       → History gives old steps new → AllKeepNumbers steps → KeepNumbers old new
   history-kept [] old new same k = same-kept old new same
   history-kept (step ∷ steps) old new (mid, one, rest) k =
       kept-on old mid new (step-kept step old mid one k.0) (history-kept steps mid new rest k.1)
 
   -- a link leaves its handle
-  pub freed-number : (handle : ℕ) (old new : State (Numbered R)) → Steps gives old (Deallocates handle) new
+  pub freed-number : (handle : ℕ) (old new : State (Numbered R)) → Step gives old (Deallocates handle) new
       → (other : ℕ) → number_in new other ≡ (if other == handle then None else number_in old other)
   freed-number handle old new s other = ap number_of (s.0 other) ∙ number-if (other == handle) None (link_at old other)
 
   pub placed : (handle : ℕ) (link : Numbered R) (input : Option ℕ) (old new : State (Numbered R))
-      → Steps gives old (Allocates handle link input) new → Placed handle link.number old new
+      → Step gives old (Allocates handle link input) new → Placed handle link.number old new
   placed handle link None old new s =
       record {
         none = ap number_of s.1;
@@ -208,45 +208,45 @@ module _ {R A T D : Type 0} (does : Relations R A T D) where
       }
 
   -- what a session hears leaves each link under its handle
-  at-most-keeps : (is : Step (Numbered R) A T D → Type 0)
-      → ((step : Step (Numbered R) A T D) → is step → KeepsNumbers step)
-      → (done : List (Step (Numbered R) A T D)) → AtMostOne is done → AllKeepNumbers done
+  at-most-keeps : (is : Act (Numbered R) A T D → Type 0)
+      → ((step : Act (Numbered R) A T D) → is step → KeepsNumbers step)
+      → (done : List (Act (Numbered R) A T D)) → AtMostOne is done → AllKeepNumbers done
   at-most-keeps is keeps [] m = tt
   at-most-keeps is keeps (step ∷ []) m = (keeps step m, tt)
   at-most-keeps is keeps (step ∷ next ∷ steps) m = absurd m
 
-  taken-keeps : (flow : Flow) (step : Step (Numbered R) A T D) → IsTaken flow step → KeepsNumbers step
-  taken-keeps flow step t = subst (λ (s : Step (Numbered R) A T D). KeepsNumbers s) (sym t.is) tt
+  taken-keeps : (flow : Flow) (step : Act (Numbered R) A T D) → IsTaken flow step → KeepsNumbers step
+  taken-keeps flow step t = subst (λ (s : Act (Numbered R) A T D). KeepsNumbers s) (sym t.is) tt
 
-  flow-keeps : (flow : Flow) (step : Step (Numbered R) A T D) → IsFlow flow step → KeepsNumbers step
+  flow-keeps : (flow : Flow) (step : Act (Numbered R) A T D) → IsFlow flow step → KeepsNumbers step
   flow-keeps flow step (inl t) = taken-keeps flow step t
   flow-keeps flow step (inr (inl t)) = taken-keeps (session_part flow) step t
   flow-keeps flow step (inr (inr (base, is))) =
-      subst (λ (s : Step (Numbered R) A T D). KeepsNumbers s) (sym is) tt
+      subst (λ (s : Act (Numbered R) A T D). KeepsNumbers s) (sym is) tt
 
-  hearing-keeps : (said : LinkPerformative) (step : AskingStep (Numbered R) A T D)
-      (done : List (Step (Numbered R) A T D)) → IsHearing said step → IsDoneBy step done → AllKeepNumbers done
+  hearing-keeps : (said : LinkPerformative) (step : AskingAct (Numbered R) A T D)
+      (done : List (Act (Numbered R) A T D)) → IsHearing said step → IsDoneBy step done → AllKeepNumbers done
   hearing-keeps (Attach attach named) step done (result, is) d =
       at-most-keeps (IsAttach attach named)
-      (λ s a. subst (λ (x : Step (Numbered R) A T D). KeepsNumbers x) (sym a.is) tt) done
-      (subst (λ (x : AskingStep (Numbered R) A T D). IsDoneBy x done) is d)
+      (λ s a. subst (λ (x : Act (Numbered R) A T D). KeepsNumbers x) (sym a.is) tt) done
+      (subst (λ (x : AskingAct (Numbered R) A T D). IsDoneBy x done) is d)
   hearing-keeps (FlowSaid flow) step done (out, result, out_new, is) d =
       at-most-keeps (IsFlow flow) (flow-keeps flow) done
-      (subst (λ (x : AskingStep (Numbered R) A T D). IsDoneBy x done) is d)
+      (subst (λ (x : AskingAct (Numbered R) A T D). IsDoneBy x done) is d)
   hearing-keeps (Transfer transfer payload) step done (handle, told, due, is) d =
       let one : done ≡ TakesTransfer handle transfer payload told due ∷ [] =
-      subst (λ (x : AskingStep (Numbered R) A T D). IsDoneBy x done) is d in
-      subst (λ (ds : List (Step (Numbered R) A T D)). AllKeepNumbers ds) (sym one) (tt, tt)
+      subst (λ (x : AskingAct (Numbered R) A T D). IsDoneBy x done) is d in
+      subst (λ (ds : List (Act (Numbered R) A T D)). AllKeepNumbers ds) (sym one) (tt, tt)
   hearing-keeps (DispositionSaid disposition) step done (walk, echoes, is) d =
       let one : done ≡ TakesDisposition disposition walk echoes ∷ [] =
-      subst (λ (x : AskingStep (Numbered R) A T D). IsDoneBy x done) is d in
-      subst (λ (ds : List (Step (Numbered R) A T D)). AllKeepNumbers ds) (sym one) (tt, tt)
+      subst (λ (x : AskingAct (Numbered R) A T D). IsDoneBy x done) is d in
+      subst (λ (ds : List (Act (Numbered R) A T D)). AllKeepNumbers ds) (sym one) (tt, tt)
   hearing-keeps (Detach detach) step done (result, is) d =
       at-most-keeps (IsDetach detach)
-      (λ s a. subst (λ (x : Step (Numbered R) A T D). KeepsNumbers x) (sym a.is) tt) done
-      (subst (λ (x : AskingStep (Numbered R) A T D). IsDoneBy x done) is d)
+      (λ s a. subst (λ (x : Act (Numbered R) A T D). KeepsNumbers x) (sym a.is) tt) done
+      (subst (λ (x : AskingAct (Numbered R) A T D). IsDoneBy x done) is d)
 
-  called-kept : (said : LinkPerformative) (steps : List (AskingStep (Numbered R) A T D))
+  called-kept : (said : LinkPerformative) (steps : List (AskingAct (Numbered R) A T D))
       (old new : AskingSession (Numbered R)) → AreHearing said steps → AskingHistory gives old steps new
       → KeepNumbers old.session new.session
   called-kept said [] old new are same =

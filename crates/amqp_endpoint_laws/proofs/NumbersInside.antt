@@ -7,7 +7,7 @@ use Rattle.amqp_session_performatives.specs.declared.disposition.Disposition.{Di
 use Rattle.amqp_session_performatives.specs.declared.link_flow.LinkFlow.{LinkFlow}
 use Rattle.amqp_session_performatives.specs.declared.session_frame.SessionFrame.{SessionFrame}
 use Rattle.amqp_session_core.specs.State.{link_at}
-use Rattle.amqp_session_core.specs.Steps.{Changes, SendsBehind, SendsDisposition, SendsTransfers, Steps}
+use Rattle.amqp_session_core.specs.Steps.{Changes, SendsBehind, SendsDisposition, SendsTransfers, Step}
 use Rattle.amqp_session_core.specs.declared.batch.BehindFrame.{BehindFrame}
 use Rattle.amqp_session_core.specs.declared.batch.BehindFrame.TheVariants as behind
 use Rattle.amqp_session_core.specs.declared.dispositions.Touched.{Touched}
@@ -46,13 +46,13 @@ stays-kept old new same = same-kept old.session new.session (ap (λ (s : Linked)
 
 -- a link is changed, and bears its number still
 changed-kept : (handle : ℕ) (before after : Numbered End) (old new : LinksIn)
-    → Steps gives old (Changes handle before after) new → after.number ≡ before.number → KeepNumbers old new
+    → Step gives old (Changes handle before after) new → after.number ≡ before.number → KeepNumbers old new
 changed-kept handle before after old new stepped same =
     step-kept end_gives (Changes handle before after) old new stepped same
 
 -- a Flow or a Detach of a link is sent
 behind-kept : (handle : OutputHandle) (frame : BehindFrame) (left : Option BehindFrame) (answer : Option SessionFrame)
-    (old new : LinksIn) → Steps gives old (SendsBehind handle frame left answer) new → KeepNumbers old new
+    (old new : LinksIn) → Step gives old (SendsBehind handle frame left answer) new → KeepNumbers old new
 behind-kept handle frame left answer old new stepped =
     step-kept end_gives (SendsBehind handle frame left answer) old new stepped tt
 

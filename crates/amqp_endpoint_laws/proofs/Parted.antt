@@ -7,7 +7,7 @@ use Rattle.amqp_session_types.specs.declared.handles.OutputHandle.{OutputHandle}
 use Rattle.amqp_endpoint_names.specs.declared.place.LinkPlace.{LinkPlace}
 use Rattle.amqp_endpoint_names.specs.declared.place.Named.{Named}
 use Rattle.amqp_endpoint_names.specs.State.{State, held_at, held_of, open_of, place_of}
-use Rattle.amqp_endpoint_names.specs.Steps.{Closed, Closes, Enters, Rested, Rests, Steps}
+use Rattle.amqp_endpoint_names.specs.Steps.{Closed, Closes, Enters, Rested, Rests, Step}
 use Rattle.amqp_endpoint_names.specs.Own.{slot_at}
 use Rattle.amqp_endpoint_names.proofs.Owning.{at, same_number}
 
@@ -100,7 +100,7 @@ module _ {L : Type 0} where
     pub other : (link : ℕ) → (link == number) ≡ false → slot_at new link ≡ slot_at old link
 
   pub entered : (number : ℕ) (name : List ℕ) (session : ℕ) (handle : OutputHandle) (old new : State L)
-      → Steps old (Enters number name session handle) new → Entered number session handle old new
+      → Step old (Enters number name session handle) new → Entered number session handle old new
   entered number name session handle old new s =
       let (none, is) = (at number old (Enters number name session handle) new s).about (eq-eqb number number refl) in
       record {
@@ -114,7 +114,7 @@ module _ {L : Type 0} where
     pub other : (link : ℕ) → (link == number) ≡ false → slot_at new link ≡ slot_at old link
     pub here : slot_at new number ≡ Some None
 
-  pub closes-shut : (number : ℕ) (place : LinkPlace L) (old new : State L) → Steps old (Closes number place) new
+  pub closes-shut : (number : ℕ) (place : LinkPlace L) (old new : State L) → Step old (Closes number place) new
       → Shut number old new
   closes-shut number place old new s =
       let (stood, had, was, is) = (at number old (Closes number place) new s).about (eq-eqb number number refl) in

@@ -37,7 +37,7 @@ use Rattle.amqp_endpoint_links.specs.declared.hearing.LinkPerformative.{LinkPerf
 use Rattle.amqp_endpoint_links.specs.declared.hearing.LinkPerformative.TheVariants as said
 use Rattle.amqp_endpoint_links.specs.declared.hearing.PerformativeTaken.TheVariants as taken
 use Rattle.amqp_endpoint_sessions.specs.State.{asked_at, live_at, live_of, reached, with_live}
-use Rattle.amqp_endpoint_sessions.specs.Steps.{ChangesLive, Steps}
+use Rattle.amqp_endpoint_sessions.specs.Steps.{ChangesLive, Step}
 use Rattle.amqp_endpoint_sessions.specs.declared.place.Place.TheVariants.{Asked, Live, Ending, Over}
 use Rattle.amqp_endpoint_sessions.proofs.Owning.{at}
 use Rattle.amqp_endpoint_conversation.specs.declared.beginning.BeginHeard.{BeginHeard}
@@ -124,7 +124,7 @@ live-behind (Ending channel) before after is = absurd (none-some before is)
 live-behind (Over peer_end complete) before after is = absurd (none-some before is)
 
 changed-live : (number : ℕ) (before after : Session) (old new : Sessions)
-    → Steps old (ChangesLive number before after) new → live_at new number ≡ Some after
+    → Step old (ChangesLive number before after) new → live_at new number ≡ Some after
 changed-live number before after old new s =
     let (stood, was, lives, becomes) =
     (at number old (ChangesLive number before after) new s).about (eq-same number) in

@@ -41,7 +41,7 @@ use Rattle.amqp_endpoint_model.specs.declared.call.Call.{Call}
 use Rattle.amqp_endpoint_model.specs.declared.error.EndpointError.{EndpointError}
 use Rattle.amqp_endpoint_model.specs.declared.event.Event.{Event}
 use Rattle.amqp_endpoint_model.specs.declared.settings.Settings.{Settings}
-use Rattle.amqp_endpoint_sessions.specs.Own.{PlaceHistory, PlaceSteps, steps_of}
+use Rattle.amqp_endpoint_sessions.specs.Own.{PlaceHistory, PlaceStep, steps_of}
 use Rattle.amqp_endpoint_sessions.specs.State.{finished_place, place_at, reached}
 use Rattle.amqp_endpoint_sessions.specs.Steps.{Accepts, Asks, Begins}
 use Rattle.amqp_endpoint_sessions.specs.Steps.{ChangesAsked, ChangesConnection, ChangesLive, Ends}
@@ -51,7 +51,7 @@ use Rattle.amqp_endpoint_sessions.specs.declared.place.Place.TheVariants.{Asked,
 use Rattle.amqp_endpoint_sessions.proofs.Owning.{at, other_number, own, same_number}
 use Rattle.amqp_endpoint_talk.specs.Inside.{Batches}
 use Rattle.amqp_endpoint_talk.specs.Windows.{Came, Passing, went}
-use Rattle.amqp_endpoint_laws.specs.Conversing.{SessionsStep}
+use Rattle.amqp_endpoint_laws.specs.Conversing.{SessionsAct}
 use Rattle.amqp_endpoint_laws.specs.Passed.{PassesIn, called_in, passes_in, session_taking}
 use Rattle.amqp_endpoint_laws.proofs.PassedCalled.{IsSend, called}
 use Rattle.amqp_endpoint_laws.proofs.PassedHeard.{frame-heard}
@@ -155,7 +155,7 @@ over-at None old new links links_new n e f =
     over-on old new n (inr e) (finished-first (length old.places) old new links links_new f n)
 
 -- no session vanishes
-kept-there : (step : SessionsStep) (a : Option Stood) (mid : Option Stood) → PlaceSteps a step mid → mid ≡ None → ⊥
+kept-there : (step : SessionsAct) (a : Option Stood) (mid : Option Stood) → PlaceStep a step mid → mid ≡ None → ⊥
 kept-there (ChangesConnection before after) a mid s none = s
 kept-there (Begins number channel session) a mid s none = none-some _ (sym none ∙ s.1)
 kept-there (Asks number channel asked) a mid s none = none-some _ (sym none ∙ s.1)
@@ -168,7 +168,7 @@ kept-there (TellsEnd number) a mid (stood, was, came, is) none = none-some _ (sy
 kept-there (ChangesAsked number before after) a mid (stood, was, lives, is) none = none-some _ (sym none ∙ is)
 kept-there (ChangesLive number before after) a mid (stood, was, lives, is) none = none-some _ (sym none ∙ is)
 
-never-was : (steps : List SessionsStep) (a : Option Stood) (end : Option Stood) → PlaceHistory a steps end
+never-was : (steps : List SessionsAct) (a : Option Stood) (end : Option Stood) → PlaceHistory a steps end
     → end ≡ None → a ≡ None
 never-was [] a end same none = sym same ∙ none
 never-was (step ∷ steps) a end (mid, one, rest) none =

@@ -14,7 +14,7 @@ use Rattle.amqp_session_performatives.specs.declared.session_frame.SessionFrame.
 use Rattle.amqp_session_frames.specs.declared.frame.FrameBody.TheVariants as body
 use Rattle.amqp_session_core.specs.Frames.{Left}
 use Rattle.amqp_session_core.specs.State.{State}
-use Rattle.amqp_session_core.specs.Steps.{Steps, TakesBegin}
+use Rattle.amqp_session_core.specs.Steps.{Step, TakesBegin}
 use Rattle.amqp_link_base.specs.declared.detached.Detached.{Detached}
 use Rattle.amqp_link_ends.specs.declared.relay.AttachTold.{AttachTold}
 use Rattle.amqp_link_receiving.specs.declared.answer.Told.{Told}
@@ -28,12 +28,12 @@ use Rattle.amqp_endpoint_links.specs.declared.hearing.PerformativeTaken.{Perform
 use Rattle.amqp_endpoint_linking.specs.Linking.{Link, Session, Stood, Talk}
 use Rattle.amqp_endpoint_sessions.specs.Own.{is_about}
 use Rattle.amqp_endpoint_sessions.specs.State.{asked_of, live_of, place_at, with_asked, with_live}
-use Rattle.amqp_endpoint_sessions.specs.Steps.{ChangesAsked, ChangesLive, Steps as SessionsSteps}
+use Rattle.amqp_endpoint_sessions.specs.Steps.{ChangesAsked, ChangesLive, Step as SessionsStep}
 use Rattle.amqp_endpoint_sessions.specs.declared.place.Place.TheVariants.{Asked, Live, Ending, Over}
 use Rattle.amqp_endpoint_sessions.proofs.Owning.{at, same_number}
 use Rattle.amqp_endpoint_talk.specs.Inside.{AcceptsInside, Batches, DoneInside, said_in}
 use Rattle.amqp_endpoint_talk.specs.Windows.{Came, Passing, body_said, went}
-use Rattle.amqp_endpoint_laws.specs.Conversing.{SessionsStep}
+use Rattle.amqp_endpoint_laws.specs.Conversing.{SessionsAct}
 use Rattle.amqp_endpoint_laws.specs.Passed.{is_it, sent_in}
 
 -- a session that is ending, or over
@@ -54,7 +54,7 @@ pub data GoesBy (accepted : Batches) (old new : State Link) (ps : List Passing) 
       → ps ≡ Came (body_said it) ∷ went frames → GoesBy accepted old new ps
   opens : accepted ≡ [] → (channel : IncomingChannel) (begin : Begin) (base : ℕ) (left : Left)
       (frames : List SessionFrame)
-      → Steps gives old (TakesBegin channel begin base left frames) new
+      → Step gives old (TakesBegin channel begin base left frames) new
       → ps ≡ Came (body.Begin begin) ∷ went frames → GoesBy accepted old new ps
 
 -- a relation of where a session stands, of what passes in it, and of where it stands then, which all that it does keeps
@@ -136,8 +136,8 @@ module _ {Allows : Batches → Type 0} (J : ℕ → Option Stood → List Passin
       record { here = k.free _ _ frames free; others = λ n e. k.still _ _ _ refl; first = refl }
 
   -- a step of the sessions that is about no other
-  module _ (m : ℕ) (step : SessionsStep) (old new : Talk) (ps : List Passing) where
-    pub by-step : ((n : ℕ) → (n == m) ≡ false → is_about n step ≡ false) → SessionsSteps old.sessions step new.sessions
+  module _ (m : ℕ) (step : SessionsAct) (old new : Talk) (ps : List Passing) where
+    pub by-step : ((n : ℕ) → (n == m) ≡ false → is_about n step ≡ false) → SessionsStep old.sessions step new.sessions
         → new ≡ record old { sessions = new.sessions }
         → J old.first_transfer_number (place_at old.sessions m) ps (place_at new.sessions m) → Passed m ps old new
     by-step not-about s rest j =
@@ -155,7 +155,7 @@ module _ {Allows : Batches → Type 0} (J : ℕ → Option Stood → List Passin
       (subst (λ (o : Option Stood). J first was ps o) (sym f) j)
 
   pub going-passed : (m : ℕ) (accepted : Batches) (before after : Session) (old new : Talk) (ps : List Passing)
-      → Allows accepted → SessionsSteps old.sessions (ChangesLive m before after) new.sessions
+      → Allows accepted → SessionsStep old.sessions (ChangesLive m before after) new.sessions
       → new ≡ record old { sessions = new.sessions }
       → GoesBy accepted before.value.session after.value.session ps → Passed m ps old new
   going-passed m accepted before after old new ps allowed s rest g =
@@ -167,20 +167,20 @@ module _ {Allows : Batches → Type 0} (J : ℕ → Option Stood → List Passin
 
   -- it accepts no transfers
   pub live-passed : (m : ℕ) (before after : Session) (old new : Talk) (ps : List Passing)
-      → SessionsSteps old.sessions (ChangesLive m before after) new.sessions
+      → SessionsStep old.sessions (ChangesLive m before after) new.sessions
       → new ≡ record old { sessions = new.sessions }
       → GoesBy [] before.value.session after.value.session ps → Passed m ps old new
   live-passed m before after old new ps s rest g = going-passed m [] before after old new ps k.quiet s rest g
 
   pub inside-passed : (m : ℕ) (before after : Session) (old new : Talk) (frames : List SessionFrame)
-      → SessionsSteps old.sessions (ChangesLive m before after) new.sessions
+      → SessionsStep old.sessions (ChangesLive m before after) new.sessions
       → new ≡ record old { sessions = new.sessions }
       → DoneInside gives before.value.session frames after.value.session → Passed m (went frames) old new
   inside-passed m before after old new frames s rest d =
       live-passed m before after old new (went frames) s rest (by-steps frames d refl)
 
   pub asked-passed : (m : ℕ) (before after : Box AskedSession) (it : LinkPerformative) (old new : Talk)
-      → SessionsSteps old.sessions (ChangesAsked m before after) new.sessions
+      → SessionsStep old.sessions (ChangesAsked m before after) new.sessions
       → new ≡ record old { sessions = new.sessions }
       → HearsAsked before.value it (Ok tt) after.value → Passed m (Came (body_said it) ∷ []) old new
   asked-passed m before after it old new s rest h =

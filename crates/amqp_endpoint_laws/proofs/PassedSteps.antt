@@ -22,7 +22,7 @@ use Rattle.amqp_session_frames.specs.declared.frame.FrameBody.TheVariants as bod
 use Rattle.amqp_session_core.specs.Frames.{session_flow}
 use Rattle.amqp_session_core.specs.History.{History}
 use Rattle.amqp_session_core.specs.State.{State, leads}
-use Rattle.amqp_session_core.specs.Steps.{SendsBegin, SetsWindow, Step, Steps, TakesBegin, TakesDisposition}
+use Rattle.amqp_session_core.specs.Steps.{SendsBegin, SetsWindow, Act, Step, TakesBegin, TakesDisposition}
 use Rattle.amqp_session_core.specs.Steps.{TakesFlow, TakesTransfer}
 use Rattle.amqp_session_core.specs.Told.{FlowTaken}
 use Rattle.amqp_session_core.specs.declared.fields.SessionFields.{SessionFields}
@@ -41,7 +41,7 @@ use Rattle.amqp_endpoint_fitting.specs.Handed.{handed_of}
 use Rattle.amqp_endpoint_links.specs.Asking.{FlowAt, FlowInSession}
 use Rattle.amqp_endpoint_links.specs.Beginning.{Accepted, Begun, accept_steps}
 use Rattle.amqp_endpoint_links.specs.Hearing.{Hears, HearsAsked}
-use Rattle.amqp_endpoint_links.specs.History.{AreHearing, AskingHistory, AskingStep, AtMostOne, IsAttach, IsDetach}
+use Rattle.amqp_endpoint_links.specs.History.{AreHearing, AskingHistory, AskingAct, AtMostOne, IsAttach, IsDetach}
 use Rattle.amqp_endpoint_links.specs.History.{IsDoneBy, IsHearing}
 use Rattle.amqp_endpoint_links.specs.declared.hearing.LinkPerformative.{LinkPerformative}
 use Rattle.amqp_endpoint_links.specs.declared.hearing.LinkPerformative.TheVariants as said
@@ -63,8 +63,8 @@ use Rattle.amqp_endpoint_laws.specs.Passed.{HasCome, PassesIn, sent_in}
 use Rattle.amqp_endpoint_laws.proofs.PassedKept.{new-judges}
 use Rattle.amqp_endpoint_laws.proofs.PassedPlaces.{GoesBy, IsGone, Keeping, by-steps, hears, opens}
 
-abbrev LinkStep : Type 0
-LinkStep = Step Link AttachTold Told Detached
+abbrev LinkAct : Type 0
+LinkAct = Act Link AttachTold Told Detached
 
 pub sent-went : (frames : List SessionFrame) → sent_in (went frames) ≡ frames
 sent-went [] = refl
@@ -81,12 +81,12 @@ more-sent ps qs = ap said_in (sent-append ps qs) ∙ said-both (sent_in ps) (sen
 
 -- what links say among what passes is what these steps hand out of it
 pub record Did (accepted : Batches) (old : State Link) (ps : List Passing) (new : State Link) : Type 0 where
-  pub steps : List LinkStep
+  pub steps : List LinkAct
   pub history : History gives old steps new
   pub accepts : accepted_of steps ≡ accepted
   pub says : said_in (sent_in ps) ≡ said_in (handed_of steps)
 
-one-did : (step : LinkStep) (old new : State Link) (ps : List Passing) → Steps gives old step new
+one-did : (step : LinkAct) (old new : State Link) (ps : List Passing) → Step gives old step new
     → said_in (sent_in ps) ≡ said_in (handed_of (step ∷ [])) → Did (accepted_of (step ∷ [])) old ps new
 one-did step old new ps s is = record { steps = step ∷ []; history = (new, s, refl); accepts = refl; says = is }
 
@@ -132,7 +132,7 @@ due-none true f number = refl
 due-none false f number = refl
 
 transfer-none : (handle : ℕ) (it : Transfer) (payload : List ℕ) (told : Result (TransferAnswer Told) RelayError)
-    (due : Option SessionFrame) (old new : State Link) → Steps gives old (TakesTransfer handle it payload told due) new
+    (due : Option SessionFrame) (old new : State Link) → Step gives old (TakesTransfer handle it payload told due) new
     → said_in (handed_of {R = Link} {A = AttachTold} {T = Told} {D = Detached} (TakesTransfer handle it payload
     told due ∷ []))
     ≡ []
@@ -142,40 +142,40 @@ transfer-none handle it payload (Err e) due old new s =
     ap (λ (f : Option SessionFrame). said_in (option_to_list f ++ [])) s.2
 
 -- nothing is said by steps, and no transfer accepted
-record Silent (steps : List LinkStep) : Type 0 where
+record Silent (steps : List LinkAct) : Type 0 where
   says : said_in (handed_of steps) ≡ []
   accepts : accepted_of steps ≡ []
 
-one-none : (Is : LinkStep → Type 0) → ((step : LinkStep) → Is step → Silent (step ∷ [])) → (steps : List LinkStep)
+one-none : (Is : LinkAct → Type 0) → ((step : LinkAct) → Is step → Silent (step ∷ [])) → (steps : List LinkAct)
     → AtMostOne Is steps → Silent steps
 one-none Is by [] are = record { says = refl; accepts = refl }
 one-none Is by (step ∷ []) are = by step are
 one-none Is by (step ∷ next ∷ steps) are = absurd are
 
-step-none : (it : LinkPerformative) (step : AskingStep Link AttachTold Told Detached) (old new : Linked)
+step-none : (it : LinkPerformative) (step : AskingAct Link AttachTold Told Detached) (old new : Linked)
     → IsHearing it step → ((flow : Flow) → it ≢ said.Flow flow) → (w : Within gives step old new)
     → Silent w.steps
 step-none (said.Attach attach named) step old new (result, is) other w =
     one-none (IsAttach attach named)
-    (λ s i. subst (λ (x : LinkStep). Silent (x ∷ [])) (sym i.is) (record { says = refl; accepts = refl })) w.steps
-    (subst (λ (x : AskingStep Link AttachTold Told Detached). IsDoneBy x w.steps) is w.are)
+    (λ s i. subst (λ (x : LinkAct). Silent (x ∷ [])) (sym i.is) (record { says = refl; accepts = refl })) w.steps
+    (subst (λ (x : AskingAct Link AttachTold Told Detached). IsDoneBy x w.steps) is w.are)
 step-none (said.Flow flow) step old new is other w = absurd (other flow refl)
 step-none (said.Transfer transfer payload) step old new (handle, told, due, is) other w =
     let done : w.steps ≡ TakesTransfer handle transfer payload told due ∷ [] =
-    subst (λ (x : AskingStep Link AttachTold Told Detached). IsDoneBy x w.steps) is w.are in
-    let run = subst (λ (ss : List LinkStep). History gives old.session ss new.session) done w.run in
+    subst (λ (x : AskingAct Link AttachTold Told Detached). IsDoneBy x w.steps) is w.are in
+    let run = subst (λ (ss : List LinkAct). History gives old.session ss new.session) done w.run in
     subst Silent (sym done)
     (record { says = transfer-none handle transfer payload told due old.session run.0 run.1; accepts = refl })
 step-none (said.Disposition disposition) step old new (walk, echoes, is) other w =
     let done : w.steps ≡ TakesDisposition disposition walk echoes ∷ [] =
-    subst (λ (x : AskingStep Link AttachTold Told Detached). IsDoneBy x w.steps) is w.are in
+    subst (λ (x : AskingAct Link AttachTold Told Detached). IsDoneBy x w.steps) is w.are in
     subst Silent (sym done) (record { says = refl; accepts = refl })
 step-none (said.Detach detach) step old new (result, is) other w =
     one-none (IsDetach detach)
-    (λ s i. subst (λ (x : LinkStep). Silent (x ∷ [])) (sym i.is) (record { says = refl; accepts = refl })) w.steps
-    (subst (λ (x : AskingStep Link AttachTold Told Detached). IsDoneBy x w.steps) is w.are)
+    (λ s i. subst (λ (x : LinkAct). Silent (x ∷ [])) (sym i.is) (record { says = refl; accepts = refl })) w.steps
+    (subst (λ (x : AskingAct Link AttachTold Told Detached). IsDoneBy x w.steps) is w.are)
 
-heard-did : (it : LinkPerformative) (steps : List (AskingStep Link AttachTold Told Detached))
+heard-did : (it : LinkPerformative) (steps : List (AskingAct Link AttachTold Told Detached))
     (frames : List SessionFrame) (old new : Linked) → AreHearing it steps → ((flow : Flow) → it ≢ said.Flow flow)
     → frames ≡ [] → AskingHistory gives old steps new
     → Did [] old.session (Came (body_said it) ∷ went frames) new.session

@@ -21,7 +21,7 @@ use Rattle.amqp_endpoint_attached.specs.Links.{attach_frame}
 use Rattle.amqp_endpoint_links.specs.declared.hearing.LinkPerformative.{LinkPerformative}
 use Rattle.amqp_endpoint_links.specs.declared.hearing.PerformativeTaken.{PerformativeTaken}
 use Rattle.amqp_endpoint_sessions.specs.State.{asked_at, live_at, reached}
-use Rattle.amqp_endpoint_sessions.specs.Steps.{ChangesLive, EndTold, Steps}
+use Rattle.amqp_endpoint_sessions.specs.Steps.{ChangesLive, EndTold, Step}
 use Rattle.amqp_endpoint_conversation.specs.declared.ending.EndHeard.{EndHeard}
 use Rattle.amqp_endpoint_conversation.specs.Beginning.{AcceptsHere, AsksFor, BeginBarred, BeginDropped, BeginsHere}
 use Rattle.amqp_endpoint_conversation.specs.Beginning.{BeginsThere}
@@ -61,7 +61,7 @@ pub record Walk (Allows : Batches → Type 0) (P : ℕ → List Wired → Talk �
       → AreOn session.value.session.fields.channel.0 frames → P m (goes frames) talk talk
   -- a session goes on by itself
   pub inside : (m : ℕ) (accepted : Batches) (frames : List SessionFrame) (before after : Session) (old new : Talk)
-      → Allows accepted → Steps old.sessions (ChangesLive m before after) new.sessions → IsRest old new
+      → Allows accepted → Step old.sessions (ChangesLive m before after) new.sessions → IsRest old new
       → AcceptsInside gives accepted before.value.session frames after.value.session → P m (goes frames) old new
   -- the one that a channel reaches hears its peer: one that has begun, one that is asked for, or one that is over
   pub hears : (m channel : ℕ) (it : LinkPerformative)

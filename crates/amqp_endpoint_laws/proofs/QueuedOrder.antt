@@ -25,7 +25,7 @@ use Rattle.amqp_session_core.specs.Relay.{Relations}
 use Rattle.amqp_session_core.specs.State.{State, fresh, link_at}
 use Rattle.amqp_session_core.specs.Steps.{Allocates, Changes, Deallocates, NoReply, OfLink, OfSession, Reply, Reserves}
 use Rattle.amqp_session_core.specs.Steps.{SendsBegin, SendsBehind, SendsDisposition, SendsEnd, SendsTransfers}
-use Rattle.amqp_session_core.specs.Steps.{SetsWindow, Stays, Step, Steps, TakesAttach, TakesBegin, TakesDetach}
+use Rattle.amqp_session_core.specs.Steps.{SetsWindow, Stays, Act, Step, TakesAttach, TakesBegin, TakesDetach}
 use Rattle.amqp_session_core.specs.Steps.{TakesDisposition, TakesEnd, TakesFlow, TakesTransfer, TellsFlow, reply_frames}
 use Rattle.amqp_session_core.specs.declared.batch.BehindFrame.{BehindFrame}
 use Rattle.amqp_session_core.specs.declared.batch.BehindFrame.TheVariants as behind
@@ -120,7 +120,7 @@ left-bare h f (s ∷ left) =
     ∙ sym (bares-both (if s.handle.0 == h then turn_frames s else []) (frames_by h left))
 
 abbrev Sending : Type 0
-Sending = sending.Step TransferFrame BehindFrame
+Sending = sending.Act TransferFrame BehindFrame
 
 -- what leaves by two lists of steps
 out-both : (h : ℕ) (xs ys : List Sending) → bares (out_of h (xs ++ ys)) ≡ bares (out_of h xs) ++ bares (out_of h ys)
@@ -239,7 +239,7 @@ batch-bare false batch = refl
 
 module _ {R A T D : Type 0} where
   -- what a step accepts
-  step-accepted : (h : ℕ) (step : Step R A T D)
+  step-accepted : (h : ℕ) (step : Act R A T D)
       → bares (frames_accepted h (sending_in step)) ≡ map bare (pieces_by h (accepted_in step))
   step-accepted h Stays = refl
   step-accepted h (SendsBegin frame) = refl
@@ -265,7 +265,7 @@ module _ {R A T D : Type 0} where
 
 module _ {R A T D : Type 0} (gives : Relations R A T D) where
   -- what it hands out
-  step-handed : (h : ℕ) (step : Step R A T D) (old new : State R) → Steps gives old step new
+  step-handed : (h : ℕ) (step : Act R A T D) (old new : State R) → Step gives old step new
       → map bare (pieces_on h (handed step)) ≡ bares (out_of h (sending_in step))
   step-handed h Stays old new s = refl
   step-handed h (SendsBegin frame) old new s =
@@ -308,7 +308,7 @@ module _ {R A T D : Type 0} (gives : Relations R A T D) where
   step-handed h (Reserves count) old new s = refl
   step-handed h (Changes handle before after) old new s = refl
 
-  history-handed : (h : ℕ) (steps : List (Step R A T D)) (old new : State R) → History gives old steps new
+  history-handed : (h : ℕ) (steps : List (Act R A T D)) (old new : State R) → History gives old steps new
       → map bare (pieces_on h (handed_of steps)) ≡ bares (out_of h (sending_of steps))
   history-handed h [] old new same = refl
   history-handed h (step ∷ steps) old new (mid, stepped, rest) =
@@ -318,7 +318,7 @@ module _ {R A T D : Type 0} (gives : Relations R A T D) where
       ∙ ap (λ (ps : List Piece). bares (out_of h (sending_in step)) ++ ps) (history-handed h steps mid new rest)
       ∙ sym (out-both h (sending_in step) (sending_of steps))
 
-  history-accepted : (h : ℕ) (steps : List (Step R A T D))
+  history-accepted : (h : ℕ) (steps : List (Act R A T D))
       → bares (frames_accepted h (sending_of steps)) ≡ map bare (pieces_by h (accepted_of steps))
   history-accepted h [] = refl
   history-accepted h (step ∷ steps) =
@@ -330,7 +330,7 @@ module _ {R A T D : Type 0} (gives : Relations R A T D) where
       ∙ map-both bare (pieces_by h (accepted_in step)) (pieces_by h (accepted_of steps)))
 
   -- by steps of its own
-  pub steps-in-order : (h : ℕ) (steps : List (Step R A T D)) (old new : State R) → Distinct old.outgoing.queues
+  pub steps-in-order : (h : ℕ) (steps : List (Act R A T D)) (old new : State R) → Distinct old.outgoing.queues
       → History gives old steps new
       → map bare (pieces_on h (handed_of steps)) ++ map bare (pieces_waiting h new)
       ≡ map bare (pieces_waiting h old) ++ map bare (pieces_by h (accepted_of steps))
@@ -346,7 +346,7 @@ module _ {R A T D : Type 0} (gives : Relations R A T D) where
       (bares-units (units_of h old.outgoing.queues))
       ∙ ap (λ (ps : List Piece). map bare (pieces_waiting h old) ++ ps) (history-accepted h steps)
 
-  pub steps-distinct : (steps : List (Step R A T D)) (old new : State R) → Distinct old.outgoing.queues
+  pub steps-distinct : (steps : List (Act R A T D)) (old new : State R) → Distinct old.outgoing.queues
       → History gives old steps new → Distinct new.outgoing.queues
   steps-distinct steps old new apart run =
       history-distinct (sending_of steps) old.outgoing new.outgoing apart (history-sends gives steps old new run)
@@ -364,7 +364,7 @@ module _ {R A T D : Type 0} (gives : Relations R A T D) where
   clash (Some r) some is = absurd cc
 
   -- a step accepts nothing of it
-  accepts-none : (h : ℕ) (step : Step R A T D) (old new : State R) → Steps gives old step new → link_at old h ≡ None
+  accepts-none : (h : ℕ) (step : Act R A T D) (old new : State R) → Step gives old step new → link_at old h ≡ None
       → pieces_by h (accepted_in step) ≡ []
   accepts-none h (SendsTransfers handle batch left frames) old new s none =
       elim (eqb_tells handle.0 h) [
@@ -375,7 +375,7 @@ module _ {R A T D : Type 0} (gives : Relations R A T D) where
   accepts-none h step old new s none = refl
 
   -- as it is taken back
-  freed-none : (h : ℕ) (step : Step R A T D) (old new : State R) → Steps gives old step new
+  freed-none : (h : ℕ) (step : Act R A T D) (old new : State R) → Step gives old step new
       → is_freed h (step ∷ []) ≡ true → pieces_waiting h new ≡ []
   freed-none h (Deallocates handle) old new s freed =
       elim (eqb_tells handle h) [
@@ -388,7 +388,7 @@ module _ {R A T D : Type 0} (gives : Relations R A T D) where
       ]
   freed-none h step old new s freed = let wrong : false ≡ true = freed in absurd cc
 
-  step-none-waits : (step : Step R A T D) (old new : State R) → Distinct old.outgoing.queues → Steps gives old step new
+  step-none-waits : (step : Act R A T D) (old new : State R) → Distinct old.outgoing.queues → Step gives old step new
       → NoneWaits old → NoneWaits new
   step-none-waits step old new apart s waits h none = by (link_at old h) refl
     where
@@ -410,7 +410,7 @@ module _ {R A T D : Type 0} (gives : Relations R A T D) where
           ∙ accepts-none h step old new s there)))
       by (Some r) there = freed r there (is_freed h (step ∷ [])) refl
 
-  none-waits-on : (steps : List (Step R A T D)) (old new : State R) → Distinct old.outgoing.queues
+  none-waits-on : (steps : List (Act R A T D)) (old new : State R) → Distinct old.outgoing.queues
       → History gives old steps new → NoneWaits old → NoneWaits new
   none-waits-on [] old new apart same waits = subst NoneWaits (sym same) waits
   none-waits-on (step ∷ steps) old new apart (mid, stepped, rest) waits =
@@ -418,7 +418,7 @@ module _ {R A T D : Type 0} (gives : Relations R A T D) where
       (step-none-waits step old mid apart stepped waits)
 
   -- of a session since it was new
-  pub since-new : (channel : OutgoingChannel) (first window : ℕ) (steps : List (Step R A T D)) (end : State R)
+  pub since-new : (channel : OutgoingChannel) (first window : ℕ) (steps : List (Act R A T D)) (end : State R)
       → History gives (fresh channel first window) steps end
       → Distinct end.outgoing.queues × ((h : ℕ) → link_at end h ≡ None → pieces_waiting h end ≡ [])
   since-new channel first window steps end run = (

@@ -8,10 +8,10 @@ use Rattle.amqp_endpoint_sessions.specs.declared.place.Place.{Place}
 use Rattle.amqp_endpoint_sessions.specs.declared.place.Place.TheVariants.{Asked, Live, Ending, Over}
 use Rattle.amqp_endpoint_sessions.specs.State.{State, channel_at, channel_in, channel_of, ended_place, finished_place}
 use Rattle.amqp_endpoint_sessions.specs.State.{place_at}
-use Rattle.amqp_endpoint_sessions.specs.Steps.{Step, Steps, History, ChangesConnection, Begins, Asks, Accepts}
+use Rattle.amqp_endpoint_sessions.specs.Steps.{Act, Step, History, ChangesConnection, Begins, Asks, Accepts}
 use Rattle.amqp_endpoint_sessions.specs.Steps.{TakesBegin, Finished, TakesEnd, Ends, Finishes, TellsEnd, ChangesAsked}
 use Rattle.amqp_endpoint_sessions.specs.Steps.{ChangesLive}
-use Rattle.amqp_endpoint_sessions.specs.Own.{KeepsChannels, PlaceSteps, is_about}
+use Rattle.amqp_endpoint_sessions.specs.Own.{KeepsChannels, PlaceStep, is_about}
 use Rattle.amqp_endpoint_sessions.proofs.Apart.{asked_same, live_same, split, told_same}
 use Rattle.amqp_endpoint_sessions.proofs.Owning.{At, at, other_number, same_number}
 
@@ -20,17 +20,17 @@ under-more k count under other =
     elim (cases_lt k count) [ inl less ↦ less | inr past ↦ absurd (other (omega (arith, under, past))) ]
 
 -- no channel is given to a session, nor by the owner of the connection itself
-abbrev pub GivesNone : {A S : Type 0} → Step A S → Type 0
+abbrev pub GivesNone : {A S : Type 0} → Act A S → Type 0
 GivesNone (ChangesConnection before after) = after.live ≡ before.live
 GivesNone (Begins number channel session) = ⊥
 GivesNone (Accepts number incoming asked outgoing session) = ⊥
 GivesNone step = Unit {0}
 
-abbrev pub GiveNone : {A S : Type 0} → List (Step A S) → Type 0
+abbrev pub GiveNone : {A S : Type 0} → List (Act A S) → Type 0
 GiveNone [] = Unit {0}
 GiveNone (step ∷ steps) = GivesNone step × GiveNone steps
 
-pub give-keep : {A S : Type 0} (steps : List (Step A S)) → GiveNone steps → KeepsChannels steps
+pub give-keep : {A S : Type 0} (steps : List (Act A S)) → GiveNone steps → KeepsChannels steps
 give-keep [] g = tt
 give-keep (ChangesConnection before after ∷ steps) g = (g.0, give-keep steps g.1)
 give-keep (Begins number channel session ∷ steps) g = absurd g.0
@@ -61,7 +61,7 @@ module _ {A S : Type 0} where
   finished-none (Ending c) = refl
   finished-none (Over p c) = refl
 
-  none-about : (step : Step A S) (was now : Option (Place A S)) → GivesNone step → PlaceSteps was step now
+  none-about : (step : Act A S) (was now : Option (Place A S)) → GivesNone step → PlaceStep was step now
       → channel_in was ≡ None → channel_in now ≡ None
   none-about (ChangesConnection before after) was now g p none = absurd p
   none-about (Begins number channel session) was now g p none = absurd g
@@ -79,7 +79,7 @@ module _ {A S : Type 0} where
   none-about (ChangesLive number before after) was now g (stood, had, there, is) none =
       ap channel_in is ∙ live_same stood after ∙ sym (ap channel_in had) ∙ none
 
-  step-none : (old : State A S) (step : Step A S) (new : State A S) → GivesNone step → Steps old step new
+  step-none : (old : State A S) (step : Act A S) (new : State A S) → GivesNone step → Step old step new
       → HasNone old → HasNone new
   step-none old step new g s none n =
       let found : At n old step new = at n old step new s in
@@ -87,7 +87,7 @@ module _ {A S : Type 0} where
       (λ here. none-about step (place_at old n) (place_at new n) g (found.about here) (none n))
       (λ apart. ap channel_in (found.other apart) ∙ none n)
 
-  pub steps-none : (start : State A S) (steps : List (Step A S)) (end : State A S) → GiveNone steps
+  pub steps-none : (start : State A S) (steps : List (Act A S)) (end : State A S) → GiveNone steps
       → History start steps end → HasNone start → HasNone end
   steps-none start [] end g h none = subst HasNone (sym h) none
   steps-none start (step ∷ steps) end g (mid, s, h) none =

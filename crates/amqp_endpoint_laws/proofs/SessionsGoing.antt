@@ -5,32 +5,32 @@ use Rattle.std.proofs.Common.{refl, subst}
 use Rattle.std.specs.Prelude.{Result, ⊤}
 use Rattle.amqp_session_types.specs.declared.channels.OutgoingChannel.{OutgoingChannel}
 use Rattle.amqp_session_types.specs.declared.refusals.TryEndError.{TryEndError}
-use Rattle.amqp_endpoint_sessions.specs.Steps.{Steps, History, EndSent, EndTold, Finished, Ends, Finishes, TellsEnd}
+use Rattle.amqp_endpoint_sessions.specs.Steps.{Step, History, EndSent, EndTold, Finished, Ends, Finishes, TellsEnd}
 use Rattle.amqp_endpoint_linking.specs.Linking.{Links, Session, Sessions, Stood}
 use Rattle.amqp_endpoint_linking.specs.Ending.{LeavesFirst, FinishesFirst}
-use Rattle.amqp_endpoint_laws.specs.Conversing.{SessionsStep}
+use Rattle.amqp_endpoint_laws.specs.Conversing.{SessionsAct}
 use Rattle.amqp_endpoint_laws.proofs.SessionsApart.{GiveNone, GivesNone}
 
 -- sessions go on so
 pub record Go (old new : Sessions) : Type 0 where
-  pub steps : List SessionsStep
+  pub steps : List SessionsAct
   pub history : History old steps new
   pub none : GiveNone steps
 
 pub stays : (old new : Sessions) → new ≡ old → Go old new
 stays old new same = record { steps = []; history = same; none = tt }
 
-pub goes-by : (step : SessionsStep) (old new : Sessions) → GivesNone step → Steps old step new → Go old new
+pub goes-by : (step : SessionsAct) (old new : Sessions) → GivesNone step → Step old step new → Go old new
 goes-by step old new none stepped =
     record { steps = step ∷ []; history = (new, stepped, refl); none = (none, tt) }
 
-pub joined : (old mid new : Sessions) (steps others : List SessionsStep) → History old steps mid
+pub joined : (old mid new : Sessions) (steps others : List SessionsAct) → History old steps mid
     → History mid others new → History old (steps ++ others) new
 joined old mid new [] others same h = subst (λ (s : Sessions). History s others new) same h
 joined old mid new (step ∷ steps) others (next, one, rest) h =
     (next, one, joined next mid new steps others rest h)
 
-none-joined : (steps others : List SessionsStep) → GiveNone steps → GiveNone others → GiveNone (steps ++ others)
+none-joined : (steps others : List SessionsAct) → GiveNone steps → GiveNone others → GiveNone (steps ++ others)
 none-joined [] others n m = m
 none-joined (step ∷ steps) others n m = (n.0, none-joined steps others n.1 m)
 

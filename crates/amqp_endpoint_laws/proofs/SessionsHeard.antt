@@ -28,7 +28,7 @@ use Rattle.amqp_endpoint_links.specs.declared.asking.NamedLink.{NamedLink}
 use Rattle.amqp_endpoint_links.specs.declared.asking.NamedLink.TheVariants.{Waiting}
 use Rattle.amqp_endpoint_links.specs.declared.hearing.LinkPerformative.{LinkPerformative}
 use Rattle.amqp_endpoint_sessions.specs.State.{asked_at, live_at, reached}
-use Rattle.amqp_endpoint_sessions.specs.Steps.{Asks, ChangesAsked, ChangesLive, Ends, Steps, TakesBegin, TakesEnd}
+use Rattle.amqp_endpoint_sessions.specs.Steps.{Asks, ChangesAsked, ChangesLive, Ends, Step, TakesBegin, TakesEnd}
 use Rattle.amqp_endpoint_conversation.specs.declared.beginning.BeginHeard.{BeginHeard}
 use Rattle.amqp_endpoint_conversation.specs.declared.beginning.BeginHeard.TheVariants as begin_heard
 use Rattle.amqp_endpoint_conversation.specs.declared.beginning.BeginRefusal.{BeginRefusal}
@@ -67,7 +67,7 @@ pub talk-stays : (old new : Talk) → new ≡ old → TalkGoes old new
 talk-stays old new same = stays old.sessions new.sessions (ap (λ (t : Talk). t.sessions) same)
 
 pub changed : (number : ℕ) (before after : Session) (old new : Talk)
-    → Steps old.sessions (ChangesLive number before after) new.sessions
+    → Step old.sessions (ChangesLive number before after) new.sessions
     → TalkGoes old new
 changed number before after old new stepped =
     goes-by (ChangesLive number before after) old.sessions new.sessions tt stepped

@@ -13,7 +13,7 @@ use Rattle.amqp_endpoint_asked.specs.declared.session.AskedSession.{AskedSession
 use Rattle.amqp_endpoint_names.specs.declared.place.LinkPlace.TheVariants.{AtRest, Held}
 use Rattle.amqp_endpoint_names.specs.State.{place_at}
 use Rattle.amqp_endpoint_sessions.specs.State.{channel_at}
-use Rattle.amqp_endpoint_sessions.specs.Steps.{Accepts, Begins, ChangesConnection, ChangesLive, Ends, History, Steps}
+use Rattle.amqp_endpoint_sessions.specs.Steps.{Accepts, Begins, ChangesConnection, ChangesLive, Ends, History, Step}
 use Rattle.amqp_endpoint_model.specs.declared.call.Call.{Call}
 use Rattle.amqp_endpoint_model.specs.declared.call.Call.TheVariants as call
 use Rattle.amqp_endpoint_model.specs.declared.event.Event.{Event}
@@ -38,7 +38,7 @@ use Rattle.amqp_endpoint_linked.specs.Calling.{Calls}
 use Rattle.amqp_endpoint_linked.specs.Does.{linked}
 use Rattle.amqp_endpoint_linked.specs.Sending.{tag_of}
 use Rattle.amqp_endpoint_linked.specs.declared.linked.LinkedSessions.{LinkedSessions}
-use Rattle.amqp_endpoint_laws.specs.Conversing.{SessionsGoOn, SessionsStep}
+use Rattle.amqp_endpoint_laws.specs.Conversing.{SessionsGoOn, SessionsAct}
 use Rattle.amqp_endpoint_laws.proofs.Keeping.{Keeps, KeepsSilent, MayDo}
 use Rattle.amqp_endpoint_laws.proofs.Kept.{run-keeps}
 use Rattle.amqp_endpoint_sessions.proofs.Apart.{Each, apart, each_under}
@@ -78,11 +78,11 @@ attached old new links links_new limit session link number events frames a =
 pub data ByCall (may_begin : Type 0) (old new : Sessions) : Type 0 where
   plainly : Go old new → ByCall may_begin old new
   begun : may_begin → (number : ℕ) (channel : OutgoingChannel) (session : Session)
-      → Steps old (Begins number channel session) new → ByCall may_begin old new
+      → Step old (Begins number channel session) new → ByCall may_begin old new
   accepted : may_begin → (number : ℕ) (incoming : IncomingChannel) (wanted : Box AskedSession)
       (outgoing : OutgoingChannel) (session after : Session) (mid : Sessions)
-      → Steps old (Accepts number incoming wanted outgoing session) mid
-      → Steps mid (ChangesLive number session after) new → ByCall may_begin old new
+      → Step old (Accepts number incoming wanted outgoing session) mid
+      → Step mid (ChangesLive number session after) new → ByCall may_begin old new
 
 pub called : (phase : Phase) (by_call : Call) (answer : Said) (old new : LinkedSessions) (limit : ℕ)
     (frames : List SessionFrame) → MayDo phase by_call → Calls old limit by_call answer frames new
@@ -129,7 +129,7 @@ called phase by_call answer old new limit frames may c = absurd c
 
 -- from these sessions on
 module _ (start : Sessions) where
-  further : (old new : Sessions) (steps : List SessionsStep) → History old steps new → SessionsGoOn start old
+  further : (old new : Sessions) (steps : List SessionsAct) → History old steps new → SessionsGoOn start old
       → SessionsGoOn start new
   further old new steps h on =
       record { steps = on.steps ++ steps; history = joined start old new on.steps steps on.history h }

@@ -2,10 +2,10 @@
 use Rattle.std.specs.Prelude.{List}
 use Rattle.amqp_link_ends.specs.declared.end.End.{End}
 use Rattle.amqp_endpoint_names.specs.State.{fresh}
-use Rattle.amqp_endpoint_names.specs.Steps.{History, Step}
+use Rattle.amqp_endpoint_names.specs.Steps.{History, Act}
 use Rattle.amqp_endpoint_linking.specs.Linking.{Links}
 
 -- links are what these steps, one after the other, made of none
 pub record HaveCome (links : Links) : Type 0 where
-  pub steps : List (Step End)
+  pub steps : List (Act End)
   pub history : History fresh steps links

@@ -10,7 +10,7 @@ use Rattle.amqp_session_connection.specs.Steps.{named_session}
 use Rattle.amqp_session_performatives.specs.declared.session_frame.SessionFrame.{SessionFrame}
 use Rattle.amqp_session_core.specs.History.{History}
 use Rattle.amqp_session_core.specs.State.{State as SessionState, fresh}
-use Rattle.amqp_session_core.specs.Steps.{Step}
+use Rattle.amqp_session_core.specs.Steps.{Act}
 use Rattle.amqp_session_frames.specs.declared.frame.FrameBody.{FrameBody}
 use Rattle.amqp_session_frames.specs.declared.frame.FrameBody.TheVariants as body
 use Rattle.amqp_endpoint_deeds.specs.Deeds.{Deed, Does, IsDeed, Takes}
@@ -92,6 +92,6 @@ PassesIn number old (deed ∷ deeds) new passings =
 pub record HasCome (first : ℕ) (passings : List Passing) (s : SessionState Link) : Type 0 where
   pub channel : OutgoingChannel
   pub window : ℕ
-  pub steps : List (Step Link AttachTold Told Detached)
+  pub steps : List (Act Link AttachTold Told Detached)
   pub history : History gives (fresh channel first window) steps s
   pub says : said_in (sent_in passings) ≡ said_in (handed_of steps)

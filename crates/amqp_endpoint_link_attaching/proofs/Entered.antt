@@ -7,7 +7,7 @@ use Rattle.amqp_endpoint_attached.specs.declared.refusal.AttachRefusal.{AttachRe
 use Rattle.amqp_endpoint_attached.specs.declared.refusal.AttachRefusal.TheVariants as why
 use Rattle.amqp_endpoint_conversation.specs.Ending.{IsMapped}
 use Rattle.amqp_endpoint_model.specs.declared.error.EndpointError.{EndpointError}
-use Rattle.amqp_endpoint_names.specs.Steps.{Enters, Steps}
+use Rattle.amqp_endpoint_names.specs.Steps.{Enters, Step}
 use Rattle.amqp_endpoint_link_attaching.specs.Attaching.{AttachesIn, LinkAttaches, with_room}
 use Rattle.amqp_endpoint_link_attaching.specs.Places.{LinkTalk, LinksBy, name_of}
 use Rattle.amqp_endpoint_link_attaching.specs.Refusals.{BarsAttaching, BarsIn, BarsMade, MayAttach, RefusesIn}
@@ -19,7 +19,7 @@ module _ (old new : LinkTalk) (links links_new : LinksBy) (out out_new : List Se
     (link : End) (placed : Placed) where
   pub link-attaches : IsMapped old session → AttachesIn old out limit session link placed new out_new
       → placed.link ≡ length links.links
-      → Steps (with_room links) (Enters (length links.links) (name_of link) placed.session placed.handle) links_new
+      → Step (with_room links) (Enters (length links.links) (name_of link) placed.session placed.handle) links_new
       → LinkAttaches old links out limit session link placed new links_new out_new
   link-attaches mapped attaches numbered enters =
       let o = own old new out out_new limit session link placed attaches in
@@ -29,10 +29,10 @@ module _ (old new : LinkTalk) (links links_new : LinksBy) (out out_new : List Se
         attaches = o.attaches;
         queued = o.queued;
         entered =
-            subst (λ (n : ℕ). Steps (with_room links) (Enters n (name_of link) session placed.handle) links_new)
+            subst (λ (n : ℕ). Step (with_room links) (Enters n (name_of link) session placed.handle) links_new)
             (sym numbered)
             (subst
-            (λ (s : ℕ). Steps (with_room links) (Enters (length links.links) (name_of link) s placed.handle) links_new)
+            (λ (s : ℕ). Step (with_room links) (Enters (length links.links) (name_of link) s placed.handle) links_new)
             attaches.held enters);
       }
 
@@ -43,16 +43,16 @@ module _ (old new : LinkTalk) (links mid links_new : LinksBy) (out out_new : Lis
       → (r : Result Placed EndpointError)
       → IfOk r (λ placed. AttachesIn old out limit session link placed new out_new)
       → IfOk r (λ placed. placed.link ≡ number)
-      → IfOk r (λ placed. Steps mid (Enters (length mid.links) name placed.session placed.handle) links_new)
+      → IfOk r (λ placed. Step mid (Enters (length mid.links) name placed.session placed.handle) links_new)
       → IfOk r (λ placed. LinkAttaches old links out limit session link placed new links_new out_new)
   all-attach mapped roomy named next (Ok placed) attaches numbered enters =
       link-attaches old new links links_new out out_new limit session link placed mapped attaches
       (numbered ∙ next ∙ ap (λ (ls : LinksBy). length ls.links) roomy)
       (subst
-      (λ (n : List ℕ). Steps (with_room links) (Enters (length links.links) n placed.session placed.handle) links_new)
+      (λ (n : List ℕ). Step (with_room links) (Enters (length links.links) n placed.session placed.handle) links_new)
       named
       (subst
-      (λ (ls : LinksBy). Steps ls (Enters (length ls.links) name placed.session placed.handle) links_new) roomy
+      (λ (ls : LinksBy). Step ls (Enters (length ls.links) name placed.session placed.handle) links_new) roomy
       enters))
   all-attach mapped roomy named next (Err e) attaches numbered enters = tt
 

@@ -23,8 +23,8 @@ use Rattle.amqp_link_ends.specs.Gives.{flows_at}
 use Rattle.amqp_link_ends.specs.Standing.{standing_of}
 use Rattle.amqp_link_unsettled.specs.Listing.{FitsFrame}
 use Rattle.amqp_endpoint_links.specs.declared.numbered.Numbered.{Numbered}
-use Rattle.amqp_endpoint_links.specs.History.{AskingHistory, AskingStep, AnswersLink, InSession}
-use Rattle.amqp_endpoint_sessions.specs.Steps.{ChangesLive, Steps}
+use Rattle.amqp_endpoint_links.specs.History.{AskingHistory, AskingAct, AnswersLink, InSession}
+use Rattle.amqp_endpoint_sessions.specs.Steps.{ChangesLive, Step}
 use Rattle.amqp_endpoint_model.specs.State.{fits, frame_of}
 use Rattle.amqp_endpoint_model.specs.declared.error.EndpointError.{EndpointError}
 use Rattle.amqp_endpoint_attach_lengths.proofs.Frames.{attach-fits}
@@ -59,12 +59,12 @@ kept-plain : (link : End) (kept : Option LinkFlow) (flow : LinkFlow) → Some fl
 kept-plain link None flow is = absurd cc
 kept-plain link (Some f) flow is = reply_plain link f flow (sym is)
 
-abbrev LinkStep : Type 0
-LinkStep = AskingStep (Numbered End) AttachTold Told Detached
+abbrev LinkAct : Type 0
+LinkAct = AskingAct (Numbered End) AttachTold Told Detached
 
 -- what a session does as a link attaches, behind the Attach that is handed out
 record Does (before after : Linked) (frames : List SessionFrame) : Type 0 where
-  pub steps : List LinkStep
+  pub steps : List LinkAct
   pub history : AskingHistory gives before steps after
   pub sends : (most : ℕ) → AllAskingSendFit (((before.session).fields).channel).0 most steps
   pub ends : (most : ℕ) → AllAskingEndFit most steps
@@ -104,7 +104,7 @@ module _ (before after : Linked) (limit : ℕ) (link : End) (placed : Placed) (f
     abbrev mid : Linked
     mid = record { session = a.mid; asked = map.remove before.asked input.0 }
 
-    abbrev answers : LinkStep
+    abbrev answers : LinkAct
     answers = AnswersLink (placed.handle).0 (with_number placed.link a.becomes) input.0
 
     by-reply : (reply : Option LinkFlow) → a.reply ≡ reply
@@ -191,7 +191,7 @@ attach-goes limit talk out frame fit =
     }
 
 module _ (old new : LinkTalk) (before after : Box Linked) (session : ℕ)
-    (stepped : Steps old.sessions (ChangesLive session before after) new.sessions) where
+    (stepped : Step old.sessions (ChangesLive session before after) new.sessions) where
   does-goes : (most : ℕ) (out frames : List SessionFrame) → Does before.value after.value frames
       → All IsRead frames → Goes most old new out (out ++ frames)
   does-goes most out frames d reads =

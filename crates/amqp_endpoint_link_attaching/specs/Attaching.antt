@@ -10,8 +10,8 @@ use Rattle.amqp_endpoint_attached.specs.Attaching.{Attaches}
 use Rattle.amqp_endpoint_attached.specs.Linked.{Linked}
 use Rattle.amqp_endpoint_attached.specs.declared.answering.Answered.{Answered}
 use Rattle.amqp_endpoint_conversation.specs.Ending.{IsMapped}
-use Rattle.amqp_endpoint_names.specs.Steps.{Enters, Steps as NamesStep}
-use Rattle.amqp_endpoint_sessions.specs.Steps.{ChangesLive, Steps}
+use Rattle.amqp_endpoint_names.specs.Steps.{Enters, Step as NamesStep}
+use Rattle.amqp_endpoint_sessions.specs.Steps.{ChangesLive, Step}
 use Rattle.amqp_endpoint_link_attaching.specs.Places.{LinkTalk, LinksBy, Meets, name_of}
 use Rattle.amqp_endpoint_link_attaching.specs.declared.placed.Placed.{Placed}
 
@@ -43,7 +43,7 @@ pub record AttachesIn (old : LinkTalk) (out : List SessionFrame) (limit session 
   pub after : Box Linked
   pub attached : AttachesOne before.value out limit link placed after.value out_new
   pub held : placed.session ≡ session
-  pub stepped : Steps old.sessions (ChangesLive session before after) new.sessions
+  pub stepped : Step old.sessions (ChangesLive session before after) new.sessions
   pub rest : new ≡ record old { sessions = new.sessions }
 
 -- the links with room for one more

@@ -1,7 +1,7 @@
 //! How a link that attaches comes to be among the endpoint's links, by its number and its name (part 2, 2.6.1).
 ghost use Rattle.std.specs.Prelude.{◌≡◌, ◌<◌, IfErr, IfOk, OnErr, OnOk, length};
 ghost use Rattle.amqp_endpoint_names.specs.State.{IsNewName};
-ghost use Rattle.amqp_endpoint_names.specs.Steps.{Enters, LowersRoom, Steps};
+ghost use Rattle.amqp_endpoint_names.specs.Steps.{Enters, LowersRoom, Step};
 ghost use Rattle.amqp_endpoint_link_attaching.specs.Attaching.{with_room};
 ghost use Rattle.amqp_endpoint_link_attaching.specs.Refusals.{BarsName, MayAttach};
 
@@ -51,9 +51,10 @@ pub(crate) fn enter(
 )
     requires room { 0 < links.old.room }
     requires new_name { IsNewName links.old.links name }
-    ensures ok { IfOk placed.now (λ p. Steps links.old (Enters (length links.old.links) name p.session p.handle)
+    ensures ok { IfOk placed.now (λ p. Step links.old
+        (Enters (length links.old.links) name p.session p.handle)
         links.new) }
-    ensures err { OnErr placed.now (Steps links.old (LowersRoom room) links.new) }
+    ensures err { OnErr placed.now (Step links.old (LowersRoom room) links.new) }
 {
     match placed {
         Ok(placed) => {

@@ -18,7 +18,7 @@ use Rattle.amqp_link_receiving.specs.declared.answer.Told.{Told}
 use Rattle.amqp_link_ends.specs.declared.end.End.{End}
 use Rattle.amqp_link_ends.specs.declared.relay.AttachTold.{AttachTold}
 use Rattle.amqp_endpoint_links.specs.declared.numbered.Numbered.{Numbered}
-use Rattle.amqp_endpoint_links.specs.History.{AskingHistory, AskingStep, InSession}
+use Rattle.amqp_endpoint_links.specs.History.{AskingHistory, AskingAct, InSession}
 use Rattle.amqp_endpoint_lengths.proofs.Frames.{detach_fits, larger_fits}
 use Rattle.amqp_endpoint_lengths.specs.Plain.{IsPlainDetach}
 use Rattle.amqp_endpoint_names.specs.declared.place.LinkPlace.{LinkPlace}
@@ -92,12 +92,12 @@ closed-in old number handle lent live before after out out_new same events c =
     let d = subst (λ (s : Linked). ClosedBy events handle s out after out_new) same c in
     done-in old number lent live (closes events) handle after d.frames out out_new d.closed d.added
 
-abbrev LinkStep : Type 0
-LinkStep = AskingStep (Numbered End) AttachTold Told Detached
+abbrev LinkAct : Type 0
+LinkAct = AskingAct (Numbered End) AttachTold Told Detached
 
 -- the steps by which a link tells, of which none brings or hands out a frame
 record Tail (old new : Linked) : Type 0 where
-  steps : List LinkStep
+  steps : List LinkAct
   history : AskingHistory gives old steps new
   sends : (channel limit : ℕ) → AllAskingSendFit channel limit steps
   ends : (limit : ℕ) → AllAskingEndFit limit steps
@@ -147,7 +147,7 @@ module _ (old new : LinkTalk) (number : ℕ) (handle : OutputHandle) (out out_ne
       })) least
       (detach_fits ((before.session).fields).channel.0 (own_detach handle true None) plain) in
       let frames = d.frames in
-      let steps : List LinkStep =
+      let steps : List LinkAct =
       InSession (Changes handle.0 stood stands)
       ∷ InSession (SendsBehind handle (behind.Detach (own_detach handle true None)) s.left s.answer)
       ∷ tail.steps in

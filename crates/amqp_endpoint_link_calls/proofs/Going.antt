@@ -17,8 +17,8 @@ use Rattle.amqp_link_ends.specs.Ends.{flow_answer, state_of}
 use Rattle.amqp_link_ends.specs.Gives.{flows_at}
 use Rattle.amqp_link_ends.specs.Standing.{standing_of}
 use Rattle.amqp_endpoint_links.specs.declared.numbered.Numbered.{Numbered}
-use Rattle.amqp_endpoint_links.specs.History.{AskingHistory, AskingStep, InSession}
-use Rattle.amqp_endpoint_sessions.specs.Steps.{ChangesLive, Steps}
+use Rattle.amqp_endpoint_links.specs.History.{AskingHistory, AskingAct, InSession}
+use Rattle.amqp_endpoint_sessions.specs.Steps.{ChangesLive, Step}
 use Rattle.amqp_endpoint_model.specs.State.{fits, frame_of}
 use Rattle.amqp_endpoint_fitting.specs.Fits.{BehindFits}
 use Rattle.amqp_endpoint_fitting.specs.Handed.{AllAskingHand}
@@ -41,13 +41,13 @@ answers-plain before after flow answer flows = at (standing_of (state_of before.
     at Detaching f = absurd cc
     at Apart f = absurd cc
 
-abbrev LinkStep : Type 0
-LinkStep = AskingStep (Numbered End) AttachTold Told Detached
+abbrev LinkAct : Type 0
+LinkAct = AskingAct (Numbered End) AttachTold Told Detached
 
 -- the steps of its session by which a link is changed, and sends a frame
 module _ (before after : Linked) (handle : OutputHandle) (stood stands : Numbered End) (frame : BehindFrame)
     (frames : List SessionFrame) (sends : Sends before handle stood stands frame frames after) where
-  abbrev steps : List LinkStep
+  abbrev steps : List LinkAct
   steps =
       InSession (Changes handle.0 stood stands) ∷ InSession (SendsBehind handle frame sends.left sends.answer) ∷ []
 
@@ -71,7 +71,7 @@ module _ (before after : Linked) (handle : OutputHandle) (stood stands : Numbere
 
 module _ (limit number : ℕ) (old new : LinkTalk) (before after : Box Linked) (handle : OutputHandle)
     (stood stands : Numbered End) (frame : BehindFrame) (frames out out_new : List SessionFrame) where
-  pub sent-goes : Steps old.sessions (ChangesLive number before after) new.sessions
+  pub sent-goes : Step old.sessions (ChangesLive number before after) new.sessions
       → Sends before.value handle stood stands frame frames after.value
       → BehindFits ((((before.value).session).fields).channel).0 limit frame → out_new ≡ out ++ frames
       → All IsRead frames → Goes limit old new out out_new

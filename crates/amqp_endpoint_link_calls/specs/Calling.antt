@@ -4,7 +4,7 @@ use Rattle.std.specs.Global.{Box}
 use Rattle.amqp_session_types.specs.declared.handles.OutputHandle.{OutputHandle}
 use Rattle.amqp_session_performatives.specs.declared.session_frame.SessionFrame.{SessionFrame}
 use Rattle.amqp_endpoint_names.specs.declared.place.LinkPlace.TheVariants.{Held, AtRest}
-use Rattle.amqp_endpoint_sessions.specs.Steps.{ChangesLive, Steps}
+use Rattle.amqp_endpoint_sessions.specs.Steps.{ChangesLive, Step}
 use Rattle.amqp_endpoint_model.specs.declared.error.EndpointError.{EndpointError}
 use Rattle.amqp_endpoint_model.specs.declared.error.EndpointError.TheVariants.{UnknownLink}
 use Rattle.amqp_endpoint_attached.specs.Linked.{Linked}
@@ -36,7 +36,7 @@ pub record DoneIn (does : Does) (number : ℕ) (handle : OutputHandle) (old : Li
   pub after : Box Linked
   pub frames : List SessionFrame
   pub did : does handle before.value frames after.value
-  pub stepped : Steps old.sessions (ChangesLive number before after) new.sessions
+  pub stepped : Step old.sessions (ChangesLive number before after) new.sessions
   pub rest : new ≡ record old { sessions = new.sessions }
   pub queued : out_new ≡ out ++ frames
 

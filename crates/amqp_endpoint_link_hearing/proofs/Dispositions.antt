@@ -39,14 +39,14 @@ use Rattle.amqp_endpoint_link_hearing.specs.Disposing.{Rested, Serves, StandsFor
 use Rattle.amqp_endpoint_link_hearing.specs.InSession.{GoesOn}
 use Rattle.amqp_endpoint_link_hearing.specs.Saying.{FailsBySaid, LinkHeard}
 use Rattle.amqp_endpoint_link_hearing.specs.declared.disposing.Ready.{Ready}
-use Rattle.amqp_endpoint_link_hearing.proofs.Doing.{LinkStep}
+use Rattle.amqp_endpoint_link_hearing.proofs.Doing.{LinkAct}
 use Rattle.amqp_endpoint_link_hearing.proofs.Heard.{IsTaken, taken-in}
 use Rattle.amqp_endpoint_link_hearing.proofs.Lent.{behind-talk}
 use Rattle.amqp_endpoint_link_hearing.proofs.Plain.{answers-plain}
 
 -- a session goes on by steps that neither hand out frames nor bring any
 pub record Quiet (old new : Linked) : Type 0 where
-  pub steps : List LinkStep
+  pub steps : List LinkAct
   pub history : AskingHistory gives old steps new
   pub sends : (channel limit : ℕ) → AllAskingSendFit channel limit steps
   pub ends : (limit : ℕ) → AllAskingEndFit limit steps

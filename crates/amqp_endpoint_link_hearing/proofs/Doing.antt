@@ -10,7 +10,7 @@ use Rattle.amqp_session_core.specs.Steps.{Changes, Deallocates, SendsBehind}
 use Rattle.amqp_link_base.specs.declared.detached.Detached.{Detached}
 use Rattle.amqp_link_ends.specs.declared.relay.AttachTold.{AttachTold}
 use Rattle.amqp_link_receiving.specs.declared.answer.Told.{Told}
-use Rattle.amqp_endpoint_links.specs.History.{AskingHistory, AskingStep, InSession}
+use Rattle.amqp_endpoint_links.specs.History.{AskingHistory, AskingAct, InSession}
 use Rattle.amqp_endpoint_model.specs.State.{error_of, fits, frame_of}
 use Rattle.amqp_session_outgoing.specs.Queues.{room_behind}
 use Rattle.amqp_endpoint_lengths.specs.Plain.{SaysConditionAlone}
@@ -32,12 +32,12 @@ use Rattle.amqp_endpoint_link_hearing.specs.declared.closing.Condition.{Conditio
 use Rattle.amqp_endpoint_link_hearing.specs.declared.closing.Condition.TheVariants as condition
 use Rattle.amqp_endpoint_link_hearing.proofs.Plain.{answers-plain}
 
-abbrev pub LinkStep : Type 0
-LinkStep = AskingStep Link AttachTold Told Detached
+abbrev pub LinkAct : Type 0
+LinkAct = AskingAct Link AttachTold Told Detached
 
 -- what is done in a session is done by steps that bring what fits
 pub record Done (limit : ℕ) (old : Linked) (frames : List SessionFrame) (new : Linked) : Type 0 where
-  pub steps : List LinkStep
+  pub steps : List LinkAct
   pub history : AskingHistory gives old steps new
   pub sends : AllAskingSendFit old.session.fields.channel.0 limit steps
   pub ends : AllAskingEndFit limit steps
@@ -73,7 +73,7 @@ given limit old handle closed error frames new fit g =
     }
 
 -- a link leaves its session, or not
-abbrev out-steps : OutputHandle → Option Link → List LinkStep
+abbrev out-steps : OutputHandle → Option Link → List LinkAct
 out-steps handle None = []
 out-steps handle (Some link) = InSession (Deallocates handle.0) ∷ []
 

@@ -29,13 +29,13 @@ use Rattle.amqp_endpoint_link_hearing.specs.Flowing.{LeaveWith, LeavesOnce, Leav
 use Rattle.amqp_endpoint_link_hearing.specs.Heard.{session_of}
 use Rattle.amqp_endpoint_link_hearing.specs.InSession.{GoesOn}
 use Rattle.amqp_endpoint_link_hearing.specs.Saying.{LinkHeard}
-use Rattle.amqp_endpoint_link_hearing.proofs.Doing.{LinkStep}
+use Rattle.amqp_endpoint_link_hearing.proofs.Doing.{LinkAct}
 use Rattle.amqp_endpoint_link_hearing.proofs.Heard.{taken-in}
 use Rattle.amqp_endpoint_link_hearing.proofs.Lent.{behind-talk}
 use Rattle.amqp_endpoint_link_hearing.proofs.Plain.{answers-plain}
 
 -- own handles are taken back, one after the other
-abbrev pub frees : List OutputHandle → List LinkStep
+abbrev pub frees : List OutputHandle → List LinkAct
 frees [] = []
 frees (handle ∷ handles) = InSession (Deallocates handle.0) ∷ frees handles
 

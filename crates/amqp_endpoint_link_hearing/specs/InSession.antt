@@ -3,7 +3,7 @@ use Rattle.std.specs.Prelude.{◌≡◌, ℕ, List, [], Bool, true, false, Optio
 use Rattle.amqp_session_types.specs.declared.error.Error.{Error}
 use Rattle.amqp_session_types.specs.declared.handles.OutputHandle.{OutputHandle}
 use Rattle.amqp_session_performatives.specs.declared.session_frame.SessionFrame.{SessionFrame}
-use Rattle.amqp_endpoint_sessions.specs.Steps.{Steps, ChangesLive}
+use Rattle.amqp_endpoint_sessions.specs.Steps.{Step, ChangesLive}
 use Rattle.amqp_endpoint_lengths.specs.Plain.{message_size_exceeded, transfer_limit_exceeded}
 use Rattle.amqp_endpoint_model.specs.Step.{not_allowed}
 use Rattle.amqp_endpoint_attached.specs.Detaching.{DetachGiven, DetachReplied, is_there}
@@ -18,7 +18,7 @@ pub record GoesOn (Does : Linked → Linked → Type 0) (old : Talk) (session : 
   pub before : Session
   pub after : Session
   pub done : Does before.value after.value
-  pub stepped : Steps old.sessions (ChangesLive session before after) new.sessions
+  pub stepped : Step old.sessions (ChangesLive session before after) new.sessions
   pub rest : new ≡ record old { sessions = new.sessions }
 
 -- the condition's name (part 2, 2.8.15, 2.8.18)

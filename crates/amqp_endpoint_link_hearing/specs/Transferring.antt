@@ -6,7 +6,7 @@ use Rattle.amqp_session_types.specs.declared.handles.OutputHandle.{OutputHandle}
 use Rattle.amqp_session_performatives.specs.declared.session_frame.SessionFrame.{SessionFrame}
 use Rattle.amqp_session_performatives.specs.declared.transfer.Transfer.{Transfer}
 use Rattle.amqp_session_core.specs.State.{reached}
-use Rattle.amqp_session_core.specs.Steps.{Changes, Steps}
+use Rattle.amqp_session_core.specs.Steps.{Changes, Step}
 use Rattle.amqp_session_core.specs.declared.incoming.TransferTaken.{TransferTaken}
 use Rattle.amqp_link_types.specs.declared.link_error.LinkError.TheVariants.{ReceiverTransfer}
 use Rattle.amqp_link_types.specs.declared.refusals.ReceiverTransferError.{ReceiverTransferError}
@@ -77,7 +77,7 @@ remembering (Sender link) tag number = Sender link
 pub record Remembers (handle : OutputHandle) (tag : List ℕ) (number : ℕ) (old new : Linked) : Type 0 where
   pub link : Link
   pub changed :
-      Steps gives old.session
+      Step gives old.session
       (Changes handle.0 link (record link { link = remembering link.link tag number })) new.session
   pub rest : new ≡ record old { session = new.session }
 

@@ -10,12 +10,12 @@ use Rattle.amqp_session_types.specs.declared.handles.OutputHandle.{OutputHandle}
 use Rattle.amqp_session_states.specs.declared.delivery_state.DeliveryState.{DeliveryState}
 use Rattle.amqp_session_performatives.specs.declared.disposition.Disposition.{Disposition}
 use Rattle.amqp_session_performatives.specs.declared.session_frame.SessionFrame.{SessionFrame}
-use Rattle.amqp_session_core.specs.Steps.{Changes, SendsDisposition, Steps}
+use Rattle.amqp_session_core.specs.Steps.{Changes, SendsDisposition, Step}
 use Rattle.amqp_link_base.specs.declared.detached.Detached.{Detached}
 use Rattle.amqp_link_receiving.specs.declared.answer.Told.{Told}
 use Rattle.amqp_link_ends.specs.declared.end.End.{End}
 use Rattle.amqp_link_ends.specs.declared.relay.AttachTold.{AttachTold}
-use Rattle.amqp_endpoint_links.specs.History.{AskingHistory, AskingStep, InSession}
+use Rattle.amqp_endpoint_links.specs.History.{AskingHistory, AskingAct, InSession}
 use Rattle.amqp_endpoint_links.specs.declared.numbered.Numbered.{Numbered}
 use Rattle.amqp_endpoint_sessions.specs.State.{live_at}
 use Rattle.amqp_endpoint_fitting.specs.Handed.{AllAskingEndFit, AllAskingHand, AllAskingSendFit}
@@ -36,12 +36,12 @@ use Rattle.amqp_endpoint_link_messages.specs.Disposing.{disposes_of_all, dispose
 use Rattle.amqp_endpoint_link_messages.specs.Disposing.{disposes_of_tags}
 use Rattle.amqp_endpoint_link_messages.specs.Keeping.{kept_tag, kept_tags}
 
-abbrev LinkStep : Type 0
-LinkStep = AskingStep (Numbered End) AttachTold Told Detached
+abbrev LinkAct : Type 0
+LinkAct = AskingAct (Numbered End) AttachTold Told Detached
 
 -- steps of a session by which nothing waits that didn't, and which hand out no frame themselves
 record Tail (old new : Linked) : Type 0 where
-  steps : List LinkStep
+  steps : List LinkAct
   history : AskingHistory gives old steps new
   sends : (channel limit : ℕ) → AllAskingSendFit channel limit steps
   ends : (limit : ℕ) → AllAskingEndFit limit steps
@@ -73,7 +73,7 @@ sent-tail s (d ∷ rest) new (mid, sent, sends) =
 pub record ChangesLink (handle : OutputHandle) (old new : LinksIn) : Type 0 where
   pub stood : Numbered End
   pub stands : Numbered End
-  pub changed : Steps gives old (Changes handle.0 stood stands) new
+  pub changed : Step gives old (Changes handle.0 stood stands) new
 
 disposed-tail : (handle : OutputHandle) (before after : Linked) (mid : LinksIn) (told : List Disposition)
     → ChangesLink handle before.session mid → SendsEach gives mid told after.session

@@ -12,7 +12,7 @@ use Rattle.amqp_link_sender.specs.Sends.{entry_unless, sent, with_room}
 use Rattle.amqp_link_ends.specs.declared.end.End.{End}
 use Rattle.amqp_link_ends.specs.declared.relay.AttachTold.{AttachTold}
 use Rattle.amqp_endpoint_links.specs.declared.numbered.Numbered.{Numbered}
-use Rattle.amqp_endpoint_links.specs.History.{AskingHistory, AskingStep, InSession}
+use Rattle.amqp_endpoint_links.specs.History.{AskingHistory, AskingAct, InSession}
 use Rattle.amqp_endpoint_sessions.specs.State.{live_at}
 use Rattle.amqp_endpoint_model.specs.declared.call.Sending.{Sending}
 use Rattle.amqp_endpoint_model.specs.declared.error.EndpointError.{EndpointError}
@@ -75,14 +75,14 @@ module _ (old : LinkTalk) (number : ℕ) (handle : OutputHandle) (lent : Box Lin
       (subst (λ (b : Linked). SendAnswered b limit handle (with_tag tag message) (Err e) out after out_new) same
       answered)
 
-abbrev LinkStep : Type 0
-LinkStep = AskingStep (Numbered End) AttachTold Told Detached
+abbrev LinkAct : Type 0
+LinkAct = AskingAct (Numbered End) AttachTold Told Detached
 
 -- the steps of its session by which a message is sent: its link makes room, the session takes the transfers, and the
 -- link has sent it
 module _ (limit : ℕ) (handle : OutputHandle) (m : Message) (settled : Bool) (before after : Linked)
     (frames : List SessionFrame) (did : MessageSent before limit handle m settled [] after frames) where
-  abbrev steps : List LinkStep
+  abbrev steps : List LinkAct
   steps =
       InSession (Changes handle.0 (sending did.number did.before) (sending did.number (with_room did.before)))
       ∷ InSession (SendsTransfers handle did.transfers (did.sends).left (did.sends).frames)

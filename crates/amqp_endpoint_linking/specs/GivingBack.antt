@@ -2,7 +2,7 @@
 use Rattle.std.specs.Prelude.{◌≡◌, ℕ, List, [], ◌∷◌, Bool, true, false, Option, Some, None, Result, ⊤, All}
 use Rattle.amqp_link_ends.specs.declared.end.End.{End}
 use Rattle.amqp_endpoint_names.specs.declared.place.LinkPlace.{LinkPlace}
-use Rattle.amqp_endpoint_names.specs.Steps.{Closed, Closes, History, Rested, Rests, Step}
+use Rattle.amqp_endpoint_names.specs.Steps.{Closed, Closes, History, Rested, Rests, Act}
 use Rattle.amqp_endpoint_attached.specs.Ends.{broken, is_closed_end}
 use Rattle.amqp_endpoint_linking.specs.Linking.{Link, Links, Session, links_of}
 
@@ -36,13 +36,13 @@ SessionGivenBack old None new = new ≡ old
 SessionGivenBack old (Some session) new = AllGivenBack old (links_of session) new
 
 -- a link comes to rest, or is closed
-abbrev pub IsGivenBack : Step End → Type 0
+abbrev pub IsGivenBack : Act End → Type 0
 IsGivenBack (Rests number link) = Unit {0}
 IsGivenBack (Closes number place) = Unit {0}
 IsGivenBack step = ⊥
 
 -- links go on by such steps alone
 pub record GoOn (old new : Links) : Type 0 where
-  pub steps : List (Step End)
+  pub steps : List (Act End)
   pub history : History old steps new
   pub given_back : All IsGivenBack steps

@@ -16,7 +16,7 @@ use Rattle.amqp_session_core.specs.declared.relay.RelayError.{RelayError}
 use Rattle.amqp_session_core.specs.History.{History}
 use Rattle.amqp_session_core.specs.Relay.{Relations}
 use Rattle.amqp_session_core.specs.State.{State, live_in, reached}
-use Rattle.amqp_session_core.specs.Steps.{Step, Allocates, TakesAttach as SessionAttaches}
+use Rattle.amqp_session_core.specs.Steps.{Act, Allocates, TakesAttach as SessionAttaches}
 use Rattle.amqp_session_core.specs.Tables.{RouteTable}
 use Rattle.amqp_endpoint_asked.specs.declared.links.AskRefusal.{AskRefusal}
 use Rattle.amqp_endpoint_asked.specs.declared.links.AskRefusal.TheVariants as ask
@@ -29,7 +29,9 @@ use Rattle.amqp_endpoint_links.specs.declared.asking.NamedLink.TheVariants.{Abse
 use Rattle.amqp_endpoint_links.specs.declared.asking.AttachTaken.{AttachTaken}
 use Rattle.amqp_endpoint_links.specs.declared.asking.DetachTaken.{DetachTaken}
 use Rattle.amqp_endpoint_links.specs.Asking.{in_use, AttachAt, FlowAt, DetachAt}
-use Rattle.amqp_endpoint_links.specs.History.{AskingStep, InSession, TakesAttach, TakesFlow, TakesDetach, AnswersLink, AskingSteps, AskingHistory, AtMostOne, IsAttach, IsFlow, IsDetach, RoutesNone, RouteNone, routed_in}
+use Rattle.amqp_endpoint_links.specs.History.{AskingAct, InSession, TakesAttach, TakesFlow, TakesDetach, AnswersLink}
+use Rattle.amqp_endpoint_links.specs.History.{AskingStep, AskingHistory, AtMostOne, IsAttach, IsFlow, IsDetach}
+use Rattle.amqp_endpoint_links.specs.History.{RoutesNone, RouteNone, routed_in}
 use Rattle.amqp_endpoint_links.proofs.Projecting.{Done, attach-done, flow-done, detach-done, step-within, within}
 use Rattle.amqp_endpoint_links.proofs.Routing.{Routed, none-routed, none-stays, routed-on}
 
@@ -45,11 +47,13 @@ neither false c e = (refl, e)
 
 module _ {R A T D : Type 0} (gives : Relations R A T D) where
   -- one step at most leaves a handle that leads nowhere as it is, where it doesn't have it lead to a link
-  kept-none : (is : Step R A T D → Type 0) (old new : State R) (input : ℕ) → Done gives is old new
-      → ((step : Step R A T D) → is step → routed_in step ≢ Some input) → map.get old.routes input ≡ None → map.get new.routes input ≡ None
+  kept-none : (is : Act R A T D → Type 0) (old new : State R) (input : ℕ) → Done gives is old new
+      → ((step : Act R A T D) → is step → routed_in step ≢ Some input) → map.get old.routes input ≡ None
+      → map.get new.routes input ≡ None
   kept-none is old new input done other none = by done.steps done.are done.run
     where
-      by : (steps : List (Step R A T D)) → AtMostOne is steps → History gives old steps new → map.get new.routes input ≡ None
+      by : (steps : List (Act R A T D)) → AtMostOne is steps → History gives old steps new
+          → map.get new.routes input ≡ None
       by [] are run = ap (λ (s : State R). map.get s.routes input) run ∙ none
       by (step ∷ []) are run =
           ap (λ (s : State R). map.get s.routes input) run.2 ∙ none-stays gives step old run.0 input run.1 (other step are) none
@@ -111,8 +115,9 @@ module _ {R A T D : Type 0} (gives : Relations R A T D) where
       (λ step is. other step is (λ same. absurd (let clash : true ≡ false = sym (ap (λ (k : ℕ). is_some (map.get old.asked k)) same ∙ was) ∙ free.0 in cc)))
       (apart input was)
     where
-      other : (step : Step R A T D) → IsAttach attach (Waiting own) step → ((attach.handle).0 ≢ input) → routed_in step ≢ Some input
-      other step is ne e = by is.told (ap (λ (s : Step R A T D). routed_in s) (sym is.is) ∙ e)
+      other : (step : Act R A T D) → IsAttach attach (Waiting own) step → ((attach.handle).0 ≢ input)
+          → routed_in step ≢ Some input
+      other step is ne e = by is.told (ap (λ (s : Act R A T D). routed_in s) (sym is.is) ∙ e)
         where
           by : (told : Result A RelayError) → routed_in {R = R} {A = A} {T = T} {D = D} (SessionAttaches (is.handle).0 attach told) ≡ Some input → ⊥
           by (Ok told) e = ne (let same : (attach.handle).0 ≡ input = cc in same)
@@ -139,10 +144,10 @@ module _ {R A T D : Type 0} (gives : Relations R A T D) where
       told-of-there old.asked flow flow.handle input (some-moves _ _ (ap (λ (s : AskingSession R). map.get s.asked input) t.1) there)
   flow-asked true old out flow (Err e) new out_new t input there = some-moves _ _ (ap (λ (s : AskingSession R). map.get s.asked input) t.1) there
 
-  flow-routes : (flow : Flow) (input : ℕ) (step : Step R A T D) → IsFlow flow step → routed_in step ≢ Some input
-  flow-routes flow input step (inl is) e = none≢some (ap (λ (s : Step R A T D). routed_in s) (sym is.is) ∙ e)
-  flow-routes flow input step (inr (inl is)) e = none≢some (ap (λ (s : Step R A T D). routed_in s) (sym is.is) ∙ e)
-  flow-routes flow input step (inr (inr is)) e = none≢some (ap (λ (s : Step R A T D). routed_in s) (sym is.1) ∙ e)
+  flow-routes : (flow : Flow) (input : ℕ) (step : Act R A T D) → IsFlow flow step → routed_in step ≢ Some input
+  flow-routes flow input step (inl is) e = none≢some (ap (λ (s : Act R A T D). routed_in s) (sym is.is) ∙ e)
+  flow-routes flow input step (inr (inl is)) e = none≢some (ap (λ (s : Act R A T D). routed_in s) (sym is.is) ∙ e)
+  flow-routes flow input step (inr (inr is)) e = none≢some (ap (λ (s : Act R A T D). routed_in s) (sym is.1) ∙ e)
 
   -- what is left of the asked links was there
   taken-there : (asked : Asked) (handle input : ℕ) → IsSome (map.get (map.remove asked handle) input) → (input ≢ handle) × IsSome (map.get asked input)
@@ -161,10 +166,11 @@ module _ {R A T D : Type 0} (gives : Relations R A T D) where
       (taken-there old.asked (detach.handle).0 input (some-moves _ _ (ap (λ (s : AskingSession R). map.get s.asked input) t.1) there)).1
   detach-asked false old detach result new t input there = some-moves _ _ (ap (λ (s : AskingSession R). map.get s.asked input) t.rest) there
 
-  detach-routes : (detach : Detach) (input : ℕ) (step : Step R A T D) → IsDetach detach step → routed_in step ≢ Some input
-  detach-routes detach input step is e = none≢some (ap (λ (s : Step R A T D). routed_in s) (sym is.is) ∙ e)
+  detach-routes : (detach : Detach) (input : ℕ) (step : Act R A T D) → IsDetach detach step
+      → routed_in step ≢ Some input
+  detach-routes detach input step is e = none≢some (ap (λ (s : Act R A T D). routed_in s) (sym is.is) ∙ e)
 
-  step-apart : (step : AskingStep R A T D) (old new : AskingSession R) → AskingSteps gives old step new → RoutesNone step
+  step-apart : (step : AskingAct R A T D) (old new : AskingSession R) → AskingStep gives old step new → RoutesNone step
       → Routed gives old.session → IsApart old.asked old.session.routes → IsApart new.asked new.session.routes
   step-apart (InSession step) old new s none routed apart input there =
       same-asked old new (ap (λ (x : AskingSession R). x.asked) s.1)
@@ -182,7 +188,8 @@ module _ {R A T D : Type 0} (gives : Relations R A T D) where
       none-stays gives (Allocates handle link (Some given)) old.session new.session input s.0
       (λ e. was.0 (let same : given ≡ input = cc in sym same)) (apart input was.1)
 
-  history-apart : (steps : List (AskingStep R A T D)) (start end : AskingSession R) → AskingHistory gives start steps end → RouteNone steps
+  history-apart : (steps : List (AskingAct R A T D)) (start end : AskingSession R)
+      → AskingHistory gives start steps end → RouteNone steps
       → Routed gives start.session → IsApart start.asked start.session.routes → IsApart end.asked end.session.routes
   history-apart [] start end run none routed apart = stays-apart start end run apart
   history-apart (step ∷ steps) start end run none routed apart =
@@ -191,7 +198,7 @@ module _ {R A T D : Type 0} (gives : Relations R A T D) where
       (routed-on gives one.steps start.session (run.0).session one.run routed)
       (step-apart step start run.0 run.1 none.0 routed apart)
 
-  pub asked-apart : (start end : AskingSession R) (steps : List (AskingStep R A T D)) → start.session.routes ≡ map.empty
+  pub asked-apart : (start end : AskingSession R) (steps : List (AskingAct R A T D)) → start.session.routes ≡ map.empty
       → AskingHistory gives start steps end → RouteNone steps → (handle : ℕ) → IsSome (map.get end.asked handle)
       → (map.get end.session.routes handle ≡ None) × (reached end.session handle ≡ None)
   asked-apart start end steps empty run none handle there =
@@ -210,7 +217,7 @@ module _ {R A T D : Type 0} (gives : Relations R A T D) where
           lives None there = absurd cc
           lives (Some r) there = refl
 
-  pub all-reached : (start end : AskingSession R) (steps : List (AskingStep R A T D)) → start.session.routes ≡ map.empty
+  pub all-reached : (start end : AskingSession R) (steps : List (AskingAct R A T D)) → start.session.routes ≡ map.empty
       → AskingHistory gives start steps end → (handle : ℕ) → reached end.session handle ≡ map.get end.session.routes handle
   all-reached start end steps empty run handle =
       let inner = within gives steps start end run in

@@ -19,7 +19,8 @@ use Rattle.amqp_session_core.specs.Frames.{Left, frames_left}
 use Rattle.amqp_session_core.specs.Relay.{Relations}
 use Rattle.amqp_session_core.specs.History.{History}
 use Rattle.amqp_session_core.specs.State.{State, fresh, leads}
-use Rattle.amqp_session_core.specs.Steps.{Steps, SendsBegin, TakesBegin, TakesFlow, Reply, NoReply, OfSession, OfLink, IsReply, Replies, FlowAt, reply_frames, taken_behind}
+use Rattle.amqp_session_core.specs.Steps.{Step, SendsBegin, TakesBegin, TakesFlow, Reply, NoReply, OfSession, OfLink}
+use Rattle.amqp_session_core.specs.Steps.{IsReply, Replies, FlowAt, reply_frames, taken_behind}
 use Rattle.amqp_session_core.specs.Tables.{RouteTable}
 use Rattle.amqp_session_core.specs.Told.{BeginTaken, FlowTaken}
 use Rattle.amqp_endpoint_asked.specs.declared.session.SessionFlow.{SessionFlow}
@@ -105,13 +106,21 @@ module _ {R A T D : Type 0} (gives : Relations R A T D) where
 
   pub accepted-history : (channel : OutgoingChannel) (first window : ℕ) (incoming : IncomingChannel) (begin : Begin)
       (flow : Option SessionFlow) (frame : SessionFrame) (mid new : State R)
-      → TakesAsked gives (fresh channel first window) incoming begin flow mid → Steps gives mid (SendsBegin frame) new
+      → TakesAsked gives (fresh channel first window) incoming begin flow mid → Step gives mid (SendsBegin frame) new
       → History gives (fresh channel first window) (TakesBegin incoming begin first [] [] ∷ (kept_steps first flow ++ SendsBegin frame ∷ [])) new
   accepted-history channel first window incoming begin None frame mid new t sent =
-      (t.mid, t.begun, (new, subst (λ (s : State R). Steps gives s (SendsBegin frame) new) t.told sent, refl))
+      (t.mid, t.begun, (new, subst (λ (s : State R). Step gives s (SendsBegin frame) new) t.told sent, refl))
   accepted-history channel first window incoming begin (Some flow) frame mid new t sent =
-      let base = based first begin.incoming_window (t.mid).outgoing flow.next_incoming_id (t.begun.2.0) in
-      (t.mid, t.begun, (mid, subst (λ (b : ℕ). Steps gives t.mid (TakesFlow (flow_of flow) None NoReply b [] []) mid) base t.told, (new, sent, refl)))
+      let base = based first begin.incoming_window (t.mid).outgoing flow.next_incoming_id (t.begun.2.0) in (
+        t.mid,
+        t.begun,
+        (
+          mid,
+          subst (λ (b : ℕ). Step gives t.mid (TakesFlow (flow_of flow) None NoReply b [] []) mid)
+              base t.told,
+          (new, sent, refl),
+        ),
+      )
 
   pub flow-kept : {Y F : Type 0} (old new : State R) (out out_new : List SessionFrame) (flow : SessionFlow) (said : Flow)
       (r : Result ⊤ SessionError) (s : Result Y F) → said ≡ flow_of flow → is_ok s ≡ is_ok r → IsIdle old out

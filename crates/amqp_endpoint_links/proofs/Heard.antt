@@ -11,7 +11,7 @@ use Rattle.amqp_session_performatives.specs.declared.transfer.Transfer.{Transfer
 use Rattle.amqp_session_core.specs.declared.incoming.TransferTaken.{TransferTaken}
 use Rattle.amqp_session_core.specs.Relay.{Relations}
 use Rattle.amqp_session_core.specs.State.{State, reached}
-use Rattle.amqp_session_core.specs.Steps.{Steps, TakesTransfer, TakesDisposition}
+use Rattle.amqp_session_core.specs.Steps.{Step, TakesTransfer, TakesDisposition}
 use Rattle.amqp_session_core.specs.Told.{LinkRefuses, TransferAt}
 use Rattle.amqp_endpoint_links.specs.declared.asking.AskingSession.{AskingSession}
 use Rattle.amqp_endpoint_links.specs.declared.asking.NamedLink.{NamedLink}
@@ -20,18 +20,20 @@ use Rattle.amqp_endpoint_links.specs.declared.hearing.LinkPerformative.TheVarian
 use Rattle.amqp_endpoint_links.specs.declared.hearing.PerformativeTaken.{PerformativeTaken}
 use Rattle.amqp_endpoint_links.specs.declared.hearing.PerformativeTaken.TheVariants as taken
 use Rattle.amqp_endpoint_links.specs.Hearing.{Hears, HearsAttach, HearsDetach, HearsDisposition, HearsFlow, HearsTransfer}
-use Rattle.amqp_endpoint_links.specs.History.{AskingStep, InSession, TakesAttach, TakesFlow, TakesDetach, AskingSteps, AskingHistory, IsHearing, AreHearing, AllKeep, RouteNone, StepKeeps, RoutesNone, frees_handle, is_handle_freed}
+use Rattle.amqp_endpoint_links.specs.History.{AskingAct, InSession, TakesAttach, TakesFlow, TakesDetach, AskingStep}
+use Rattle.amqp_endpoint_links.specs.History.{AskingHistory, IsHearing, AreHearing, AllKeep, RouteNone, StepKeeps}
+use Rattle.amqp_endpoint_links.specs.History.{RoutesNone, frees_handle, is_handle_freed}
 
 module _ {R A T D : Type 0} (gives : Relations R A T D) where
   abbrev pub Heard : LinkPerformative → AskingSession R → AskingSession R → Type 0
   Heard said old new =
-      (steps : List (AskingStep R A T D)) × AreHearing said steps × AskingHistory gives old steps new
+      (steps : List (AskingAct R A T D)) × AreHearing said steps × AskingHistory gives old steps new
 
   nothing : (said : LinkPerformative) (old new : AskingSession R) → new ≡ old → Heard said old new
   nothing said old new same = ([], tt, same)
 
-  one : (said : LinkPerformative) (step : AskingStep R A T D) (old new : AskingSession R) → IsHearing said step
-      → AskingSteps gives old step new → Heard said old new
+  one : (said : LinkPerformative) (step : AskingAct R A T D) (old new : AskingSession R) → IsHearing said step
+      → AskingStep gives old step new → Heard said old new
   one said step old new is does = (step ∷ [], is, (new, does, refl))
 
   attach-heard : (attach : AttachFrame) (named : NamedLink) (told : Result (PerformativeTaken A T D) SessionError)
@@ -135,22 +137,22 @@ module _ {R A T D : Type 0} (gives : Relations R A T D) where
 
 module _ {R A T D : Type 0} (keeps : R → R → Type 0) where
   -- a call that frees no handle, isn't a link's owner's, and leads no handle of the peer's to a link by itself
-  abbrev pub IsPlain : List (AskingStep R A T D) → Type 0
+  abbrev pub IsPlain : List (AskingAct R A T D) → Type 0
   IsPlain steps = ((link : ℕ) → is_handle_freed link steps ≡ false) × AllKeep keeps steps × RouteNone steps
 
-  plain-one : (said : LinkPerformative) (step : AskingStep R A T D) → IsHearing said step → IsPlain (step ∷ [])
+  plain-one : (said : LinkPerformative) (step : AskingAct R A T D) → IsHearing said step → IsPlain (step ∷ [])
   plain-one (Attach attach named) step (result, is) =
-      subst (λ (s : AskingStep R A T D). IsPlain (s ∷ [])) (sym is) (λ link. refl, (tt, tt), (tt, tt))
+      subst (λ (s : AskingAct R A T D). IsPlain (s ∷ [])) (sym is) (λ link. refl, (tt, tt), (tt, tt))
   plain-one (Flow flow) step (out, result, out_new, is) =
-      subst (λ (s : AskingStep R A T D). IsPlain (s ∷ [])) (sym is) (λ link. refl, (tt, tt), (tt, tt))
+      subst (λ (s : AskingAct R A T D). IsPlain (s ∷ [])) (sym is) (λ link. refl, (tt, tt), (tt, tt))
   plain-one (Transfer transfer payload) step (handle, told, due, is) =
-      subst (λ (s : AskingStep R A T D). IsPlain (s ∷ [])) (sym is) (λ link. refl, (tt, tt), (refl, tt))
+      subst (λ (s : AskingAct R A T D). IsPlain (s ∷ [])) (sym is) (λ link. refl, (tt, tt), (refl, tt))
   plain-one (Disposition disposition) step (walk, echoes, is) =
-      subst (λ (s : AskingStep R A T D). IsPlain (s ∷ [])) (sym is) (λ link. refl, (tt, tt), (refl, tt))
+      subst (λ (s : AskingAct R A T D). IsPlain (s ∷ [])) (sym is) (λ link. refl, (tt, tt), (refl, tt))
   plain-one (Detach detach) step (result, is) =
-      subst (λ (s : AskingStep R A T D). IsPlain (s ∷ [])) (sym is) (λ link. refl, (tt, tt), (tt, tt))
+      subst (λ (s : AskingAct R A T D). IsPlain (s ∷ [])) (sym is) (λ link. refl, (tt, tt), (tt, tt))
 
-  pub plain : (said : LinkPerformative) (steps : List (AskingStep R A T D)) → AreHearing said steps → IsPlain steps
+  pub plain : (said : LinkPerformative) (steps : List (AskingAct R A T D)) → AreHearing said steps → IsPlain steps
   plain said [] are = (λ link. refl, tt, tt)
   plain said (step ∷ []) are = plain-one said step are
   plain said (step ∷ next ∷ steps) are = absurd are

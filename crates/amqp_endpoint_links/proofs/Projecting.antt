@@ -12,7 +12,8 @@ use Rattle.amqp_session_performatives.specs.declared.session_frame.SessionFrame.
 use Rattle.amqp_session_core.specs.History.{History}
 use Rattle.amqp_session_core.specs.Relay.{Relations}
 use Rattle.amqp_session_core.specs.State.{State, leads, reached}
-use Rattle.amqp_session_core.specs.Steps.{Step, Steps, TakesAttach as SessionAttaches, TakesFlow as SessionFlows, SetsWindow, TakesDetach as SessionDetaches, Allocates}
+use Rattle.amqp_session_core.specs.Steps.{Act, Step, TakesAttach as SessionAttaches, TakesFlow as SessionFlows}
+use Rattle.amqp_session_core.specs.Steps.{SetsWindow, TakesDetach as SessionDetaches, Allocates}
 use Rattle.amqp_session_core.specs.Told.{AttachTaken as SessionAttached, DetachAt as SessionDetachAt, FlowTaken, LinkRefuses}
 use Rattle.amqp_endpoint_asked.specs.Asked.{is_asked}
 use Rattle.amqp_endpoint_asked.specs.AskedSession.{session_part}
@@ -22,19 +23,22 @@ use Rattle.amqp_endpoint_links.specs.declared.asking.NamedLink.TheVariants.{Abse
 use Rattle.amqp_endpoint_links.specs.declared.asking.AttachTaken.{AttachTaken}
 use Rattle.amqp_endpoint_links.specs.declared.asking.DetachTaken.{DetachTaken}
 use Rattle.amqp_endpoint_links.specs.Asking.{in_use, AttachAt, FlowAt, FlowInSession, DetachAt}
-use Rattle.amqp_endpoint_links.specs.History.{AskingStep, InSession, TakesAttach, TakesFlow, TakesDetach, AnswersLink, AskingSteps, AskingHistory, AtMostOne, IsAttach, IsTaken, IsFlow, IsDetach, IsDoneBy, AreDoneBy}
+use Rattle.amqp_endpoint_links.specs.History.{AskingAct, InSession, TakesAttach, TakesFlow, TakesDetach, AnswersLink}
+use Rattle.amqp_endpoint_links.specs.History.{AskingStep, AskingHistory, AtMostOne, IsAttach, IsTaken, IsFlow}
+use Rattle.amqp_endpoint_links.specs.History.{IsDetach, IsDoneBy, AreDoneBy}
 
 module _ {R A T D : Type 0} (gives : Relations R A T D) where
   -- one step at most of the session itself, and that is such
-  pub record Done (is : Step R A T D → Type 0) (old new : State R) : Type 0 where
-    pub steps : List (Step R A T D)
+  pub record Done (is : Act R A T D → Type 0) (old new : State R) : Type 0 where
+    pub steps : List (Act R A T D)
     pub are : AtMostOne is steps
     pub run : History gives old steps new
 
-  none-done : (is : Step R A T D → Type 0) (old new : State R) → new ≡ old → Done is old new
+  none-done : (is : Act R A T D → Type 0) (old new : State R) → new ≡ old → Done is old new
   none-done is old new same = record { steps = []; are = tt; run = same }
 
-  one-done : (is : Step R A T D → Type 0) (step : Step R A T D) (old new : State R) → is step → Steps gives old step new → Done is old new
+  one-done : (is : Act R A T D → Type 0) (step : Act R A T D) (old new : State R) → is step → Step gives old step new
+      → Done is old new
   one-done is step old new such does = record { steps = step ∷ []; are = such; run = (new, does, refl) }
 
   -- the link that waits takes an Attach
@@ -131,12 +135,13 @@ module _ {R A T D : Type 0} (gives : Relations R A T D) where
   detach-done false old detach result new t = detach-in (reached old.session (detach.handle).0) detach t.told old.session new.session t.taken
 
   -- a call is these steps of the session itself
-  pub record Within (step : AskingStep R A T D) (old new : AskingSession R) : Type 0 where
-    pub steps : List (Step R A T D)
+  pub record Within (step : AskingAct R A T D) (old new : AskingSession R) : Type 0 where
+    pub steps : List (Act R A T D)
     pub are : IsDoneBy step steps
     pub run : History gives old.session steps new.session
 
-  pub step-within : (step : AskingStep R A T D) (old new : AskingSession R) → AskingSteps gives old step new → Within step old new
+  pub step-within : (step : AskingAct R A T D) (old new : AskingSession R) → AskingStep gives old step new
+      → Within step old new
   step-within (InSession step) old new s = record { steps = step ∷ []; are = refl; run = (new.session, s.0, refl) }
   step-within (TakesAttach attach named result) old new s =
       let done = attach-done (in_use old (attach.handle).0) old attach named result new s in
@@ -150,17 +155,18 @@ module _ {R A T D : Type 0} (gives : Relations R A T D) where
   step-within (AnswersLink handle link input) old new s =
       record { steps = Allocates handle link (Some input) ∷ []; are = refl; run = (new.session, s.0, refl) }
 
-  pub joined : (steps later : List (Step R A T D)) (start mid end : State R) → History gives start steps mid
+  pub joined : (steps later : List (Act R A T D)) (start mid end : State R) → History gives start steps mid
       → History gives mid later end → History gives start (steps ++ later) end
   joined [] later start mid end run more = subst (λ (s : State R). History gives s later end) run more
   joined (step ∷ steps) later start mid end run more = (run.0, run.1, joined steps later run.0 mid end run.2 more)
 
-  pub record Inner (steps : List (AskingStep R A T D)) (start end : AskingSession R) : Type 0 where
-    pub done : List (Step R A T D)
+  pub record Inner (steps : List (AskingAct R A T D)) (start end : AskingSession R) : Type 0 where
+    pub done : List (Act R A T D)
     pub are : AreDoneBy steps done
     pub run : History gives start.session done end.session
 
-  pub within : (steps : List (AskingStep R A T D)) (start end : AskingSession R) → AskingHistory gives start steps end → Inner steps start end
+  pub within : (steps : List (AskingAct R A T D)) (start end : AskingSession R) → AskingHistory gives start steps end
+      → Inner steps start end
   within [] start end run = record { done = []; are = refl; run = ap (λ (s : AskingSession R). s.session) run }
   within (step ∷ steps) start end run =
       let one = step-within step start run.0 run.1 in

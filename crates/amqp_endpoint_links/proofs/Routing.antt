@@ -15,7 +15,10 @@ use Rattle.amqp_session_core.specs.Echoes.{opposite}
 use Rattle.amqp_session_core.specs.History.{History, frees}
 use Rattle.amqp_session_core.specs.Relay.{Relations}
 use Rattle.amqp_session_core.specs.State.{State, StepsAt, link_at}
-use Rattle.amqp_session_core.specs.Steps.{Step, Stays, SendsBegin, TakesBegin, SendsEnd, TakesEnd, TakesAttach, TakesFlow, SetsWindow, TakesTransfer, TakesDisposition, TakesDetach, SendsBehind, SendsTransfers, SendsDisposition, TellsFlow, Allocates, Deallocates, Reserves, Changes, Steps, SendsDispositionStep, with_table}
+use Rattle.amqp_session_core.specs.Steps.{Act, Stays, SendsBegin, TakesBegin, SendsEnd, TakesEnd, TakesAttach}
+use Rattle.amqp_session_core.specs.Steps.{TakesFlow, SetsWindow, TakesTransfer, TakesDisposition, TakesDetach}
+use Rattle.amqp_session_core.specs.Steps.{SendsBehind, SendsTransfers, SendsDisposition, TellsFlow, Allocates}
+use Rattle.amqp_session_core.specs.Steps.{Deallocates, Reserves, Changes, Step, SendsDispositionStep, with_table}
 use Rattle.amqp_session_core.specs.Tables.{RouteTable, unless_to}
 use Rattle.amqp_session_core.proofs.Owning.{own-history}
 use Rattle.amqp_endpoint_asked.proofs.Tables.{get-put, get-put-other, get-take}
@@ -53,7 +56,7 @@ module _ {R : Type 0} where
 
 module _ {R A T D : Type 0} where
   -- what a step changes of the routes
-  pub data Change (old new : State R) (step : Step R A T D) : Type 0 where
+  pub data Change (old new : State R) (step : Act R A T D) : Type 0 where
     Same : (same : (q : ℕ) → map.get new.routes q ≡ map.get old.routes q) (live : (h : ℕ) → frees h step ≡ false) → Change old new step
     Puts : (key handle : ℕ) (told : routed_in step ≡ Some key) (put : new.routes ≡ map.insert old.routes key handle)
         (there : IsSome (link_at new handle)) (live : (h : ℕ) → frees h step ≡ false) → Change old new step
@@ -61,20 +64,21 @@ module _ {R A T D : Type 0} where
     Frees : (handle : ℕ) (left : (q : ℕ) → map.get new.routes q ≡ unless_to handle (map.get old.routes q))
         (freed : (h : ℕ) → frees h step ≡ (handle == h)) → Change old new step
 
-  same-routes : (old new s : State R) (step : Step R A T D) → new ≡ s → s.routes ≡ old.routes → ((h : ℕ) → frees h step ≡ false) → Change old new step
+  same-routes : (old new s : State R) (step : Act R A T D) → new ≡ s → s.routes ≡ old.routes
+      → ((h : ℕ) → frees h step ≡ false) → Change old new step
   same-routes old new s step is kept live =
       Same (λ q. ap (λ (x : State R). map.get x.routes q) is ∙ ap (λ (t : RouteTable). map.get t q) kept) live
 
 module _ {R A T D : Type 0} (gives : Relations R A T D) where
-  abbrev Does : State R → Step R A T D → State R → Type 0
-  Does = Steps gives
+  abbrev Does : State R → Act R A T D → State R → Type 0
+  Does = Step gives
 
   sent-change : (settled : Bool) (old new : State R) (d : Disposition) (numbers : List ℕ) → SendsDispositionStep gives settled old d numbers new
       → Change {R = R} {A = A} {T = T} {D = D} old new (SendsDisposition d numbers)
   sent-change false old new d numbers s = same-routes old new old (SendsDisposition d numbers) s.1 refl (λ h. refl)
   sent-change true old new d numbers s = same-routes old new _ (SendsDisposition d numbers) s.1 (table-kept (opposite d.role) _ old) (λ h. refl)
 
-  pub change : (step : Step R A T D) (old new : State R) → Does old step new → Change old new step
+  pub change : (step : Act R A T D) (old new : State R) → Does old step new → Change old new step
   change Stays old new s = same-routes old new old Stays s refl (λ h. refl)
   change (SendsBegin frame) old new s = same-routes old new _ (SendsBegin frame) s.2 refl (λ h. refl)
   change (TakesBegin channel begin base left frames) old new s = same-routes old new _ (TakesBegin channel begin base left frames) s.5 refl (λ h. refl)
@@ -114,7 +118,8 @@ module _ {R A T D : Type 0} (gives : Relations R A T D) where
       }
 
   -- a link stays until its handle is taken back
-  stays-live : (step : Step R A T D) (old new : State R) (h : ℕ) → Does old step new → frees h step ≡ false → IsSome (link_at old h) → IsSome (link_at new h)
+  stays-live : (step : Act R A T D) (old new : State R) (h : ℕ) → Does old step new → frees h step ≡ false
+      → IsSome (link_at old h) → IsSome (link_at new h)
   stays-live step old new h does live there = by (link_at old h) refl there
     where
       by : (o : Option R) → link_at old h ≡ o → IsSome o → IsSome (link_at new h)
@@ -123,7 +128,7 @@ module _ {R A T D : Type 0} (gives : Relations R A T D) where
           let own = own-history gives h r (step ∷ []) old new (new, does, refl) (ap (λ (b : Bool). if b then true else false) live) e in
           some-is (link_at new h) own.new own.stands
 
-  pub routed-step : (step : Step R A T D) (old new : State R) → Does old step new → Routed old → Routed new
+  pub routed-step : (step : Act R A T D) (old new : State R) → Does old step new → Routed old → Routed new
   routed-step step old new does routed = record { each = λ input h there. by input h there (change step old new does) }
     where
       by : (input h : ℕ) → map.get new.routes input ≡ Some h → Change old new step → IsSome (link_at new h)
@@ -161,12 +166,14 @@ module _ {R A T D : Type 0} (gives : Relations R A T D) where
                   (freed h ∙ apart-eqb handle h (λ e. absurd (let yes : (to == handle) ≡ true = eq-eqb to handle (same ∙ sym e) in cc)))
                   (routed.each input h (was ∙ got))
 
-  pub routed-on : (steps : List (Step R A T D)) (start end : State R) → History gives start steps end → Routed start → Routed end
+  pub routed-on : (steps : List (Act R A T D)) (start end : State R) → History gives start steps end → Routed start
+      → Routed end
   routed-on [] start end run routed = subst (λ (s : State R). Routed s) (sym run) routed
   routed-on (step ∷ steps) start end run routed = routed-on steps run.0 end run.2 (routed-step step start run.0 run.1 routed)
 
   -- a handle that leads nowhere does so until a step has it lead to a link
-  pub none-stays : (step : Step R A T D) (old new : State R) (input : ℕ) → Does old step new → routed_in step ≢ Some input → map.get old.routes input ≡ None → map.get new.routes input ≡ None
+  pub none-stays : (step : Act R A T D) (old new : State R) (input : ℕ) → Does old step new
+      → routed_in step ≢ Some input → map.get old.routes input ≡ None → map.get new.routes input ≡ None
   none-stays step old new input does other none = by (change step old new does)
     where
       by : Change old new step → map.get new.routes input ≡ None

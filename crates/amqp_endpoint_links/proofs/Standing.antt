@@ -15,7 +15,7 @@ use Rattle.amqp_session_core.specs.Frames.{frame_of}
 use Rattle.amqp_session_core.specs.History.{History}
 use Rattle.amqp_session_core.specs.Relay.{Relations}
 use Rattle.amqp_session_core.specs.State.{State, fresh}
-use Rattle.amqp_session_core.specs.Steps.{Steps, SendsBegin, TakesBegin, TakesFlow, NoReply, own_begin}
+use Rattle.amqp_session_core.specs.Steps.{Step, SendsBegin, TakesBegin, TakesFlow, NoReply, own_begin}
 use Rattle.amqp_session_core.specs.Table.{after_send_begin}
 use Rattle.amqp_endpoint_asked.specs.declared.session.AskedSession.{AskedSession}
 use Rattle.amqp_endpoint_asked.specs.declared.session.SessionFlow.{SessionFlow}
@@ -58,7 +58,7 @@ module _ {R A T D : Type 0} (gives : Relations R A T D) where
       }
 
   received : (channel : OutgoingChannel) (incoming : IncomingChannel) (begin : Begin) (first window : ℕ) (mid : State R)
-      → Steps gives (fresh channel first window) (TakesBegin incoming begin first [] []) mid
+      → Step gives (fresh channel first window) (TakesBegin incoming begin first [] []) mid
       → mid ≡ with_peer channel incoming begin first window begin.next_outgoing_id BeginReceived 0 (sending.with_window (sending_history.fresh first) first begin.incoming_window)
   received channel incoming begin first window mid (goes, based, (opens, held), frames, counted, becomes) =
       let states : Some BeginReceived ≡ Some mid.local_state = goes in
@@ -68,7 +68,8 @@ module _ {R A T D : Type 0} (gives : Relations R A T D) where
       ∙ ap (λ (t : ℕ). with_peer channel incoming begin first window begin.next_outgoing_id BeginReceived t mid.outgoing) counted
       ∙ ap (λ (o : Side). with_peer channel incoming begin first window begin.next_outgoing_id BeginReceived 0 o) opens
 
-  told-after : (flow : SessionFlow) (base : ℕ) (mid told : State R) → Steps gives mid (TakesFlow (flow_of flow) None NoReply base [] []) told
+  told-after : (flow : SessionFlow) (base : ℕ) (mid told : State R)
+      → Step gives mid (TakesFlow (flow_of flow) None NoReply base [] []) told
       → told ≡ record mid {
         fields = record mid.fields { next_incoming_id = Some flow.next_outgoing_id };
         outgoing = sending.with_window mid.outgoing base flow.incoming_window;

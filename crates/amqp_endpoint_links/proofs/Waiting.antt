@@ -9,7 +9,7 @@ use Rattle.amqp_session_core.specs.declared.relay.RelayError.{RelayError}
 use Rattle.amqp_session_core.specs.History.{History}
 use Rattle.amqp_session_core.specs.Relay.{Relations}
 use Rattle.amqp_session_core.specs.State.{State}
-use Rattle.amqp_session_core.specs.Steps.{Step, Steps, TakesAttach}
+use Rattle.amqp_session_core.specs.Steps.{Act, Step, TakesAttach}
 use Rattle.amqp_endpoint_links.specs.declared.asking.AskingSession.{AskingSession}
 use Rattle.amqp_endpoint_links.specs.declared.asking.NamedLink.{NamedLink}
 use Rattle.amqp_endpoint_links.specs.declared.asking.AttachTaken.{AttachTaken}
@@ -23,17 +23,17 @@ Side = sending.State TransferFrame BehindFrame
 
 module _ {R A T D : Type 0} (gives : Relations R A T D) where
   side-kept : (handle : ℕ) (attach : Attach) (told : Result A RelayError) (a b : State R)
-      → Steps gives a (TakesAttach handle attach told) b → b.outgoing ≡ a.outgoing
+      → Step gives a (TakesAttach handle attach told) b → b.outgoing ≡ a.outgoing
   side-kept handle attach (Ok told) a b does = ap (λ (s : State R). s.outgoing) does.2
   side-kept handle attach (Err e) a b does = ap (λ (s : State R). s.outgoing) does.2
 
-  done-kept : (attach : Attach) (named : NamedLink) (old new : State R) (steps : List (Step R A T D))
+  done-kept : (attach : Attach) (named : NamedLink) (old new : State R) (steps : List (Act R A T D))
       → AtMostOne (IsAttach attach named) steps → History gives old steps new → new.outgoing ≡ old.outgoing
   done-kept attach named old new [] are run = ap (λ (s : State R). s.outgoing) run
   done-kept attach named old new (step ∷ []) are (mid, does, same) =
       ap (λ (s : State R). s.outgoing) same
       ∙ side-kept (are.handle).0 attach are.told old mid
-      (subst (λ (s : Step R A T D). Steps gives old s mid) are.is does)
+      (subst (λ (s : Act R A T D). Step gives old s mid) are.is does)
   done-kept attach named old new (step ∷ next ∷ steps) are run = absurd are
 
   pub attach-waits : (old : AskingSession R) (attach : Attach) (named : NamedLink)

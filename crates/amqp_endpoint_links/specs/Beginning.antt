@@ -12,7 +12,7 @@ use Rattle.amqp_session_core.specs.declared.state.SessionState.TheVariants.{Begi
 use Rattle.amqp_session_core.specs.History.{History}
 use Rattle.amqp_session_core.specs.Relay.{Relations}
 use Rattle.amqp_session_core.specs.State.{State, fresh}
-use Rattle.amqp_session_core.specs.Steps.{Step, Steps, SendsBegin, TakesBegin, TakesFlow, NoReply}
+use Rattle.amqp_session_core.specs.Steps.{Act, Step, SendsBegin, TakesBegin, TakesFlow, NoReply}
 use Rattle.amqp_endpoint_asked.specs.declared.session.AskedSession.{AskedSession}
 use Rattle.amqp_endpoint_asked.specs.declared.session.SessionFlow.{SessionFlow}
 use Rattle.amqp_endpoint_asked.specs.AskedSession.{flow_of}
@@ -25,13 +25,13 @@ base_behind first (Some number) = number
 
 module _ {R A T D : Type 0} where
   -- what was kept of a Flow is taken. Nothing answers it, and nothing leaves
-  abbrev pub kept_steps : ℕ → Option SessionFlow → List (Step R A T D)
+  abbrev pub kept_steps : ℕ → Option SessionFlow → List (Act R A T D)
   kept_steps first None = []
   kept_steps first (Some flow) =
       TakesFlow (flow_of flow) None NoReply (base_behind first flow.next_incoming_id) [] [] ∷ []
 
   -- the peer's Begin is taken and what was kept of a Flow, and the own Begin leaves. No other frame does
-  abbrev pub accept_steps : ℕ → IncomingChannel → Begin → Option SessionFlow → SessionFrame → List (Step R A T D)
+  abbrev pub accept_steps : ℕ → IncomingChannel → Begin → Option SessionFlow → SessionFrame → List (Act R A T D)
   accept_steps first incoming begin flow frame =
       TakesBegin incoming begin first [] [] ∷ (kept_steps first flow ++ SendsBegin frame ∷ [])
 
@@ -85,13 +85,13 @@ module _ {R A T D : Type 0} (gives : Relations R A T D) where
   -- the peer's Begin is taken, and nothing leaves
   abbrev pub TakesBeginAlone : State R → IncomingChannel → Begin → State R → Type 0
   TakesBeginAlone old incoming begin new =
-      Steps gives old (TakesBegin incoming begin (old.outgoing).next_outgoing_id [] []) new
+      Step gives old (TakesBegin incoming begin (old.outgoing).next_outgoing_id [] []) new
 
   -- what was kept of a Flow is taken, and nothing leaves
   abbrev pub TakesKept : State R → Option SessionFlow → State R → Type 0
   TakesKept old None new = new ≡ old
   TakesKept old (Some flow) new =
-      Steps gives old (TakesFlow (flow_of flow) None NoReply (base_of old.outgoing flow.next_incoming_id) [] []) new
+      Step gives old (TakesFlow (flow_of flow) None NoReply (base_of old.outgoing flow.next_incoming_id) [] []) new
 
   -- first the one, and then the other
   pub record TakesAsked (old : State R) (incoming : IncomingChannel) (begin : Begin) (flow : Option SessionFlow)

@@ -1,6 +1,6 @@
 -- A link with the number by which its endpoint names it.
 use Rattle.std.specs.Prelude.{◌≡◌, List, [], ◌∷◌}
-use Rattle.amqp_session_core.specs.Relay.{LinkStep, Relations, Attaches, Flows, Transfers, Disposes, Detaches}
+use Rattle.amqp_session_core.specs.Relay.{LinkAct, Relations, Attaches, Flows, Transfers, Disposes, Detaches}
 use Rattle.amqp_session_core.specs.Relay.{SendsBatch, SendsFrame, SendsDisposition, Changes}
 use Rattle.amqp_endpoint_links.specs.declared.numbered.Numbered.{Numbered}
 
@@ -23,7 +23,7 @@ module _ {R A T D : Type 0} where
       }
 
   -- the steps of the link
-  abbrev pub without_number : LinkStep (Numbered R) A T D → LinkStep R A T D
+  abbrev pub without_number : LinkAct (Numbered R) A T D → LinkAct R A T D
   without_number (Attaches attach told) = Attaches attach told
   without_number (Flows flow told) = Flows flow told
   without_number (Transfers transfer payload told) = Transfers transfer payload told
@@ -34,6 +34,6 @@ module _ {R A T D : Type 0} where
   without_number (SendsDisposition disposition) = SendsDisposition disposition
   without_number (Changes before after) = Changes before.link after.link
 
-  abbrev pub without_numbers : List (LinkStep (Numbered R) A T D) → List (LinkStep R A T D)
+  abbrev pub without_numbers : List (LinkAct (Numbered R) A T D) → List (LinkAct R A T D)
   without_numbers [] = []
   without_numbers (step ∷ steps) = without_number step ∷ without_numbers steps

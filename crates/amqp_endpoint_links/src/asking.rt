@@ -5,7 +5,7 @@ ghost use Rattle.std.specs.VecDeque.{deque_len, deque_capacity};
 ghost use Rattle.amqp_session_outgoing.specs.Queues.{frames_in};
 ghost use Rattle.amqp_session_core.specs.Refusals.{RefusesLink};
 ghost use Rattle.amqp_session_core.specs.State.{links_in};
-ghost use Rattle.amqp_session_core.specs.Steps.{Steps, Allocates};
+ghost use Rattle.amqp_session_core.specs.Steps.{Step, Allocates};
 ghost use Rattle.amqp_endpoint_links.specs.Asking.{in_use, AsksFor, ByLink, AttachAnswered, FlowAnswered};
 ghost use Rattle.amqp_endpoint_links.specs.Asking.{DetachAnswered};
 
@@ -162,7 +162,7 @@ impl<R: LinkRelay> AskingSession<R> {
         input_handle: InputHandle,
     ) -> Result<OutputHandle, Unallocated<R>>
         ensures ok { IfOk result (λ handle.
-            Steps R.gives self.old.session (Allocates handle.0 link (Some input_handle.0)) self.new.session
+            Step R.gives self.old.session (Allocates handle.0 link (Some input_handle.0)) self.new.session
             × (self.new ≡ record self.old {
               session = self.new.session;
               asked = map.remove self.old.asked input_handle.0;

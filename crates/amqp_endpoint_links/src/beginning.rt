@@ -2,7 +2,7 @@
 ghost use Rattle.std.specs.Prelude.{◌≡◌, [], None, Some, IsSome, is_ok, IfOk, OnOk, OnErr};
 ghost use Rattle.std.specs.FinMap as map;
 ghost use Rattle.amqp_session_core.specs.declared.state.SessionState.TheVariants.{BeginReceived};
-ghost use Rattle.amqp_session_core.specs.Steps.{Steps, SendsBegin};
+ghost use Rattle.amqp_session_core.specs.Steps.{Step, SendsBegin};
 ghost use Rattle.amqp_session_core.specs.Table.{after_send_begin, after_incoming_begin};
 ghost use Rattle.amqp_endpoint_links.specs.Beginning.{Begun, Accepted, IsIdle, TakesBeginAlone, TakesKept, TakesAsked};
 
@@ -60,7 +60,7 @@ impl<R: LinkRelay> AskingSession<R> {
 /// The own Begin, which the state allows.
 fn send_begin<R: LinkRelay>(session: &mut Session<R>, alloc: Global) -> SessionFrame
     requires { IsSome (after_send_begin session.old.local_state) }
-    ensures { Steps R.gives session.old (SendsBegin result) session.new }
+    ensures { Step R.gives session.old (SendsBegin result) session.new }
 {
     let Ok(frame) = session.send_begin(alloc) else {
         unreachable!()

@@ -6,14 +6,14 @@ ghost use Rattle.amqp_session_types.specs.declared.channels.OutgoingChannel.{Out
 ghost use Rattle.amqp_session_types.specs.declared.refusals.SessionError.{SessionError};
 ghost use Rattle.amqp_session_performatives.specs.declared.session_frame.SessionFrame.{SessionFrame};
 ghost use Rattle.amqp_session_core.specs.History.{History, OwnersKeep, is_freed, own_of};
-ghost use Rattle.amqp_session_core.specs.Relay.{LinkHistory, LinkStep, OwnerKeeps};
+ghost use Rattle.amqp_session_core.specs.Relay.{LinkHistory, LinkAct, OwnerKeeps};
 ghost use Rattle.amqp_session_core.specs.State.{fresh, link_at, reached};
-ghost use Rattle.amqp_session_core.specs.Steps.{Step, SendsBegin};
+ghost use Rattle.amqp_session_core.specs.Steps.{Act, SendsBegin};
 ghost use Rattle.amqp_endpoint_asked.specs.declared.session.AskedSession.{AskedSession};
 ghost use Rattle.amqp_endpoint_links.specs.Beginning.{Begun, Accepted, accept_steps, begin_frame, begun_state};
 ghost use Rattle.amqp_endpoint_links.specs.Beginning.{accepted_with};
 ghost use Rattle.amqp_endpoint_links.specs.Hearing.{Hears};
-ghost use Rattle.amqp_endpoint_links.specs.History.{AskingStep, AskingHistory, AreDoneBy, AreHearing, AllKeep};
+ghost use Rattle.amqp_endpoint_links.specs.History.{AskingAct, AskingHistory, AreDoneBy, AreHearing, AllKeep};
 ghost use Rattle.amqp_endpoint_links.specs.History.{RouteNone, is_handle_freed};
 ghost use Rattle.amqp_endpoint_links.specs.Numbering.{keeping, numbered, without_numbers};
 ghost use Rattle.amqp_endpoint_links.specs.declared.asking.AskingSession.{AskingSession};
@@ -26,7 +26,8 @@ use amqp_session_core::{LinkOwner, LinkRelay};
 /// A link with its number has the history of the link, and its number stays, where its owner's changes keep what they
 /// keep of the link, and the number. So what a link layer says of its links holds of those that bear a number.
 pub fn a_link_keeps_its_number<R: LinkRelay, O: LinkOwner<R>>()
-    ensures { (start end : Numbered R) (steps : List (LinkStep (Numbered R) R.Attached R.Transferred R.Detached)) →
+    ensures { (start end : Numbered R)
+        (steps : List (LinkAct (Numbered R) R.Attached R.Transferred R.Detached)) →
         LinkHistory (numbered R.gives) start steps end → OwnerKeeps (keeping O.keeps) steps →
         (end.number ≡ start.number)
         × LinkHistory R.gives start.link (without_numbers steps) end.link
@@ -36,9 +37,10 @@ pub fn a_link_keeps_its_number<R: LinkRelay, O: LinkOwner<R>>()
 /// Inside the history of a session with its asked links the session has a history of its own, of what each call does in
 /// it: so what `amqp_session_core::laws` says of sessions holds of it.
 pub fn the_session_has_its_own_history<R: LinkRelay>()
-    ensures { (start end : AskingSession R) (steps : List (AskingStep R R.Attached R.Transferred R.Detached)) →
+    ensures { (start end : AskingSession R)
+        (steps : List (AskingAct R R.Attached R.Transferred R.Detached)) →
         AskingHistory R.gives start steps end →
-        (done : List (Step R R.Attached R.Transferred R.Detached)) × AreDoneBy steps done
+        (done : List (Act R R.Attached R.Transferred R.Detached)) × AreDoneBy steps done
         × History R.gives start.session done end.session }
 {}
 
@@ -46,15 +48,15 @@ pub fn the_session_has_its_own_history<R: LinkRelay>()
 /// the laws of sessions say of one that was fresh holds of it.
 pub fn a_new_session_goes_on<R: LinkRelay>()
     ensures begun { (channel : OutgoingChannel) (first window : ℕ) (frame : SessionFrame) (start end : AskingSession R)
-        (steps : List (AskingStep R R.Attached R.Transferred R.Detached)) →
+        (steps : List (AskingAct R R.Attached R.Transferred R.Detached)) →
         Begun R.gives channel first window frame start → AskingHistory R.gives start steps end →
-        (done : List (Step R R.Attached R.Transferred R.Detached)) × AreDoneBy steps done
+        (done : List (Act R R.Attached R.Transferred R.Detached)) × AreDoneBy steps done
         × History R.gives (fresh channel first window) (SendsBegin frame ∷ done) end.session }
     ensures accepted { (wanted : AskedSession) (channel : OutgoingChannel) (incoming : IncomingChannel)
         (first window : ℕ) (frame : SessionFrame) (start end : AskingSession R)
-        (steps : List (AskingStep R R.Attached R.Transferred R.Detached)) →
+        (steps : List (AskingAct R R.Attached R.Transferred R.Detached)) →
         Accepted R.gives wanted channel incoming first window frame start → AskingHistory R.gives start steps end →
-        (done : List (Step R R.Attached R.Transferred R.Detached)) × AreDoneBy steps done
+        (done : List (Act R R.Attached R.Transferred R.Detached)) × AreDoneBy steps done
         × History R.gives (fresh channel first window)
         (accept_steps first incoming wanted.begin wanted.flow frame ++ done) end.session }
 {}
@@ -63,21 +65,22 @@ pub fn a_new_session_goes_on<R: LinkRelay>()
 /// each change of a link by its owner is one of these. So what a law of sessions asks of a history is asked of the
 /// calls.
 pub fn what_is_done_is_told_by_the_calls<R: LinkRelay, O: LinkOwner<R>>()
-    ensures freed { (steps : List (AskingStep R R.Attached R.Transferred R.Detached))
-        (done : List (Step R R.Attached R.Transferred R.Detached)) → AreDoneBy steps done →
+    ensures freed { (steps : List (AskingAct R R.Attached R.Transferred R.Detached))
+        (done : List (Act R R.Attached R.Transferred R.Detached)) → AreDoneBy steps done →
         (link : ℕ) → is_freed link done ≡ is_handle_freed link steps }
-    ensures kept { (steps : List (AskingStep R R.Attached R.Transferred R.Detached))
-        (done : List (Step R R.Attached R.Transferred R.Detached)) → AreDoneBy steps done →
+    ensures kept { (steps : List (AskingAct R R.Attached R.Transferred R.Detached))
+        (done : List (Act R R.Attached R.Transferred R.Detached)) → AreDoneBy steps done →
         AllKeep O.keeps steps → OwnersKeep O.keeps done }
 {}
 
 /// So each link has a history of its own, until a call of the session takes its own handle back, and the changes in it
 /// keep what each change by the links' owner keeps: a law of a link layer holds in sessions with asked links.
 pub fn each_link_has_its_own_history<R: LinkRelay, O: LinkOwner<R>>()
-    ensures { (start end : AskingSession R) (steps : List (AskingStep R R.Attached R.Transferred R.Detached)) →
+    ensures { (start end : AskingSession R)
+        (steps : List (AskingAct R R.Attached R.Transferred R.Detached)) →
         AskingHistory R.gives start steps end → AllKeep O.keeps steps →
         (link : ℕ) (old : R) → link_at start.session link ≡ Some old → is_handle_freed link steps ≡ false →
-        (done : List (Step R R.Attached R.Transferred R.Detached)) × AreDoneBy steps done
+        (done : List (Act R R.Attached R.Transferred R.Detached)) × AreDoneBy steps done
         × ((new : R) × (link_at end.session link ≡ Some new)
         × LinkHistory R.gives old (own_of link done) new × OwnerKeeps O.keeps (own_of link done)) }
 {}
@@ -108,7 +111,8 @@ pub fn a_new_session_has_no_routes<R: LinkRelay>()
 /// Each handle of the peer's that leads anywhere leads to a link that is there (part 2, 2.6.2): an own handle that is
 /// taken back takes its routes along. So a handle by which no link is reached isn't in use in the session either.
 pub fn each_route_leads_to_a_link<R: LinkRelay>()
-    ensures { (start end : AskingSession R) (steps : List (AskingStep R R.Attached R.Transferred R.Detached)) →
+    ensures { (start end : AskingSession R)
+        (steps : List (AskingAct R R.Attached R.Transferred R.Detached)) →
         start.session.routes ≡ map.empty → AskingHistory R.gives start steps end →
         (handle : ℕ) → reached end.session handle ≡ map.get end.session.routes handle }
 {}
@@ -117,7 +121,8 @@ pub fn each_route_leads_to_a_link<R: LinkRelay>()
 /// calls alone that take an Attach, or have a link answer (part 2, 2.6.2, 2.8.17). So a link that answers an asked one
 /// isn't refused for the peer's handle.
 pub fn an_asked_handle_leads_to_no_link<R: LinkRelay>()
-    ensures { (start end : AskingSession R) (steps : List (AskingStep R R.Attached R.Transferred R.Detached)) →
+    ensures { (start end : AskingSession R)
+        (steps : List (AskingAct R R.Attached R.Transferred R.Detached)) →
         start.session.routes ≡ map.empty → AskingHistory R.gives start steps end → RouteNone steps →
         (handle : ℕ) → IsSome (map.get end.asked handle) →
         (map.get end.session.routes handle ≡ None) × (reached end.session handle ≡ None) }
@@ -130,9 +135,10 @@ pub fn what_is_heard_is_a_call<R: LinkRelay, O: LinkOwner<R>>()
     ensures call { (old new : AskingSession R) (out out_new : List SessionFrame) (said : LinkPerformative)
         (told : Result (PerformativeTaken R.Attached R.Transferred R.Detached) SessionError) →
         Hears R.gives old out said told new out_new →
-        (steps : List (AskingStep R R.Attached R.Transferred R.Detached)) × AreHearing said steps
+        (steps : List (AskingAct R R.Attached R.Transferred R.Detached)) × AreHearing said steps
         × AskingHistory R.gives old steps new }
-    ensures plain { (said : LinkPerformative) (steps : List (AskingStep R R.Attached R.Transferred R.Detached)) →
+    ensures plain { (said : LinkPerformative)
+        (steps : List (AskingAct R R.Attached R.Transferred R.Detached)) →
         AreHearing said steps →
         ((link : ℕ) → is_handle_freed link steps ≡ false) × AllKeep O.keeps steps × RouteNone steps }
 {}

@@ -6,7 +6,8 @@ use Rattle.amqp_endpoint_names.specs.declared.place.LinkPlace.{LinkPlace}
 use Rattle.amqp_endpoint_names.specs.declared.place.LinkPlace.TheVariants.{Held, AtRest}
 use Rattle.amqp_endpoint_names.specs.declared.place.Named.{Named}
 use Rattle.amqp_endpoint_names.specs.State.{State, AreApart, IsNewName, fresh, name_in, put_in}
-use Rattle.amqp_endpoint_names.specs.Steps.{Step, Steps, History, MakesRoom, LowersRoom, Enters, Rests, Holds, ChangesAtRest, Closes}
+use Rattle.amqp_endpoint_names.specs.Steps.{Act, Step, History, MakesRoom, LowersRoom, Enters, Rests, Holds}
+use Rattle.amqp_endpoint_names.specs.Steps.{ChangesAtRest, Closes}
 use Rattle.amqp_endpoint_names.proofs.Slots.{name-before, name-entered, name-gone, name-left, name-put}
 
 pub none_apart : (L : Type 0) → AreApart (fresh {L = L}).links
@@ -53,7 +54,7 @@ module _ {L : Type 0} where
       → AreApart new.links
   same_links old new links is apart = subst (λ (ls : List (Option (Named L))). AreApart ls) (sym is) apart
 
-  step_apart : (old : State L) (step : Step L) (new : State L) → Steps old step new → AreApart old.links
+  step_apart : (old : State L) (step : Act L) (new : State L) → Step old step new → AreApart old.links
       → AreApart new.links
   step_apart old (MakesRoom name) new s apart =
       same_links old new old.links (ap (λ (x : State L). x.links) s.1) apart
@@ -71,7 +72,7 @@ module _ {L : Type 0} where
   step_apart old (Closes number place) new s apart =
       same_links old new _ (ap (λ (x : State L). x.links) s.1) (closed_apart old.links apart number)
 
-  pub stay_apart : (start end : State L) (steps : List (Step L)) → AreApart start.links → History start steps end
+  pub stay_apart : (start end : State L) (steps : List (Act L)) → AreApart start.links → History start steps end
       → AreApart end.links
   stay_apart start end [] apart h = same_links start end start.links (ap (λ (x : State L). x.links) h) apart
   stay_apart start end (step ∷ steps) apart (mid, s, h) = stay_apart mid end steps (step_apart start step mid s apart) h

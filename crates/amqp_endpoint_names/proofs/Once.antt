@@ -4,7 +4,8 @@ use Rattle.amqp_endpoint_names.specs.declared.place.LinkPlace.{LinkPlace}
 use Rattle.amqp_endpoint_names.specs.declared.place.LinkPlace.TheVariants.{Held, AtRest}
 use Rattle.amqp_endpoint_names.specs.declared.place.Named.{Named}
 use Rattle.amqp_endpoint_names.specs.State.{State, moved, put_in}
-use Rattle.amqp_endpoint_names.specs.Steps.{Step, Steps, History, MakesRoom, LowersRoom, Enters, Rests, Holds, ChangesAtRest, Closes}
+use Rattle.amqp_endpoint_names.specs.Steps.{Act, Step, History, MakesRoom, LowersRoom, Enters, Rests, Holds}
+use Rattle.amqp_endpoint_names.specs.Steps.{ChangesAtRest, Closes}
 use Rattle.amqp_endpoint_names.specs.Own.{times_given}
 use Rattle.amqp_endpoint_names.proofs.Owning.{same_number}
 
@@ -19,7 +20,7 @@ module _ {L : Type 0} where
   one_more s slot = length-append s.links (slot ∷ [])
 
   -- no step makes the links fewer
-  kept : (old : State L) (step : Step L) (new : State L) → Steps old step new → count old ≤ count new
+  kept : (old : State L) (step : Act L) (new : State L) → Step old step new → count old ≤ count new
   kept old (MakesRoom name) new s = omega (arith, ap count s.1)
   kept old (LowersRoom room) new s = omega (arith, ap count s)
   kept old (Enters number name session handle) new s =
@@ -31,7 +32,7 @@ module _ {L : Type 0} where
   kept old (Closes number place) new s = omega (arith, ap count s.1, length-set old.links number None)
 
   module _ (n : ℕ) where
-    pub never : (start : State L) (steps : List (Step L)) (end : State L) → History start steps end → n < count start
+    pub never : (start : State L) (steps : List (Act L)) (end : State L) → History start steps end → n < count start
         → times_given n steps ≡ 0
     never start [] end h below = refl
     never start (MakesRoom name ∷ steps) end (mid, s, h) below =
@@ -57,7 +58,7 @@ module _ {L : Type 0} where
     never start (Closes number place ∷ steps) end (mid, s, h) below =
         never mid steps end h (omega (arith, kept start (Closes number place) mid s))
 
-    pub once : (start end : State L) (steps : List (Step L)) → History start steps end → times_given n steps ≤ 1
+    pub once : (start end : State L) (steps : List (Act L)) → History start steps end → times_given n steps ≤ 1
     once start end [] h = omega arith
     once start end (MakesRoom name ∷ steps) (mid, s, h) = once mid end steps h
     once start end (LowersRoom room ∷ steps) (mid, s, h) = once mid end steps h

@@ -6,8 +6,9 @@ use Rattle.amqp_endpoint_names.specs.declared.place.LinkPlace.{LinkPlace}
 use Rattle.amqp_endpoint_names.specs.declared.place.LinkPlace.TheVariants.{Held, AtRest}
 use Rattle.amqp_endpoint_names.specs.declared.place.Named.{Named}
 use Rattle.amqp_endpoint_names.specs.State.{State, held_of, moved, open_of, place_of, put_in, rest_of}
-use Rattle.amqp_endpoint_names.specs.Steps.{Step, Steps, History, MakesRoom, LowersRoom, Enters, Rests, Holds, ChangesAtRest, Closes}
-use Rattle.amqp_endpoint_names.specs.Own.{SlotHistory, SlotSteps, is_about, slot_at, steps_of}
+use Rattle.amqp_endpoint_names.specs.Steps.{Act, Step, History, MakesRoom, LowersRoom, Enters, Rests, Holds}
+use Rattle.amqp_endpoint_names.specs.Steps.{ChangesAtRest, Closes}
+use Rattle.amqp_endpoint_names.specs.Own.{SlotHistory, SlotStep, is_about, slot_at, steps_of}
 use Rattle.amqp_endpoint_names.proofs.Slots.{get-before, get-other, get-pushed, get-same}
 
 pub same_number : (n number : ℕ) → (n == number) ≡ true → n ≡ number
@@ -90,11 +91,11 @@ module _ {L : Type 0} (n : ℕ) where
           ∙ get-before old.links slot n (λ same. other_number n number e (same ∙ sym last))
 
   -- a link behind a step: as the step says that is about it, and else as it was
-  pub record At (old : State L) (step : Step L) (new : State L) : Type 0 where
-    pub about : is_about n step ≡ true → SlotSteps (slot_at old n) step (slot_at new n)
+  pub record At (old : State L) (step : Act L) (new : State L) : Type 0 where
+    pub about : is_about n step ≡ true → SlotStep (slot_at old n) step (slot_at new n)
     pub other : is_about n step ≡ false → slot_at new n ≡ slot_at old n
 
-  pub at : (old : State L) (step : Step L) (new : State L) → Steps old step new → At old step new
+  pub at : (old : State L) (step : Act L) (new : State L) → Step old step new → At old step new
   at old (MakesRoom name) new s =
       record {
         about = λ e. absurd (true≢false (sym e));
@@ -144,7 +145,7 @@ module _ {L : Type 0} (n : ℕ) where
         other = put_else old new number None is;
       }
 
-  pub own : (start : State L) (steps : List (Step L)) (end : State L) → History start steps end
+  pub own : (start : State L) (steps : List (Act L)) (end : State L) → History start steps end
       → SlotHistory (slot_at start n) (steps_of n steps) (slot_at end n)
   own start [] end h = ap (λ (x : State L). slot_at x n) h
   own start (step ∷ steps) end (mid, s, h) = by (at start step mid s) (own mid steps end h) (is_about n step) refl
@@ -166,7 +167,7 @@ module _ {L : Type 0} (n : ℕ) where
 
 module _ {L : Type 0} where
   -- nothing happens to a link that is closed
-  no_step : (step : Step L) (mid : Option (Option (Named L))) → SlotSteps (Some None) step mid → ⊥
+  no_step : (step : Act L) (mid : Option (Option (Named L))) → SlotStep (Some None) step mid → ⊥
   no_step (MakesRoom name) mid s = s
   no_step (LowersRoom room) mid s = s
   no_step (Enters number name session handle) mid s = none-some _ (sym s.0)
@@ -175,13 +176,13 @@ module _ {L : Type 0} where
   no_step (ChangesAtRest number before after) mid (stood, is, _, _) = none-some _ (same_Some _ _ is)
   no_step (Closes number place) mid (stood, is, _, _) = none-some _ (same_Some _ _ is)
 
-  closed : (start : Option (Option (Named L))) (steps : List (Step L)) (end : Option (Option (Named L)))
+  closed : (start : Option (Option (Named L))) (steps : List (Act L)) (end : Option (Option (Named L)))
       → SlotHistory start steps end → start ≡ Some None → end ≡ Some None
   closed start [] end h e = h ∙ e
   closed start (step ∷ steps) end (mid, s, h) e =
-      absurd (no_step step mid (subst (λ (o : Option (Option (Named L))). SlotSteps o step mid) e s))
+      absurd (no_step step mid (subst (λ (o : Option (Option (Named L))). SlotStep o step mid) e s))
 
-  pub stays_closed : (n : ℕ) (start end : State L) (steps : List (Step L)) → History start steps end
+  pub stays_closed : (n : ℕ) (start end : State L) (steps : List (Act L)) → History start steps end
       → slot_at start n ≡ Some None → slot_at end n ≡ Some None
   stays_closed n start end steps h e =
       closed (slot_at start n) (steps_of n steps) (slot_at end n) (own n start steps end h) e

@@ -1,6 +1,6 @@
 //! The links of an endpoint by their numbers and their names (part 2, 2.6.1).
 //!
-//! What a call does says `Steps` in specs/Steps.antt.
+//! What a call does says `Step` in specs/Steps.antt.
 #![tactic(auto)]
 
 pub mod laws;

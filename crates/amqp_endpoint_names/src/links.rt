@@ -1,10 +1,11 @@
+//! The links of an endpoint by their numbers and names.
 ghost use Rattle.std.specs.Prelude.{◌≡◌, ◌<◌, length, option_copied, IsOk};
 ghost use Rattle.std.specs.Option.{option_copied_mut};
 ghost use types.Logic.{sem};
 ghost use Rattle.amqp_endpoint_names.specs.State.{AreApart, IsNewName, Names, fresh, held_at, link_at, name_at};
 ghost use Rattle.amqp_endpoint_names.specs.State.{place_at, rest_at};
 ghost use Rattle.amqp_endpoint_names.specs.Lends.{lends_at_rest};
-ghost use Rattle.amqp_endpoint_names.specs.Steps.{Closed, Entered, HandedOut, LowersRoom, Rested, RoomMade, Steps};
+ghost use Rattle.amqp_endpoint_names.specs.Steps.{Closed, Entered, HandedOut, LowersRoom, Rested, RoomMade, Step};
 
 use crate::moving;
 use crate::place::{LinkPlace, LinkRefusal, Named, NewName};
@@ -158,7 +159,7 @@ impl<L: Drop> Links<L> {
     /// Gives up room that was made: at most so many links more are sure to find room then. Nothing else changes, and it
     /// takes no memory.
     pub fn lower_room(&mut self, room: usize)
-        ensures { Steps self.old (LowersRoom room) self.new }
+        ensures { Step self.old (LowersRoom room) self.new }
     {
         self.room = self.room.min(room);
     }

@@ -1,3 +1,4 @@
+//! Where a link is, and its name.
 ghost use Rattle.std.specs.Prelude.{◌≡◌, IfErr, IfOk, IsSome, Some, option_copied};
 ghost use Rattle.std.specs.Borrow.{Lends};
 ghost use types.Logic.{sem};

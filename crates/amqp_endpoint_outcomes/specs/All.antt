@@ -2,7 +2,7 @@
 use Rattle.std.specs.Prelude.{◌≡◌, ◌≤◌, ℕ, List, [], ◌∷◌, ◌++◌, All, Option, Some, None, IfSome, drop, length, take}
 use Rattle.amqp_session_types.specs.declared.error.Error.{Error}
 use Rattle.amqp_session_types.specs.declared.handles.OutputHandle.{OutputHandle}
-use Rattle.amqp_session_core.specs.Steps.{Steps, Changes}
+use Rattle.amqp_session_core.specs.Steps.{Step, Changes}
 use Rattle.amqp_link_sender_messages.specs.declared.resolution.Resolution.{Resolution}
 use Rattle.amqp_link_sender.specs.Results.{send_result}
 use Rattle.amqp_link_sender.specs.Sending.{Sending}
@@ -53,7 +53,7 @@ first_told count error (Some link) = told_by link.number error count link.link
 abbrev pub TellsIn : ℕ → OutputHandle → Option (Numbered End) → LinksIn → LinksIn → Type 0
 TellsIn count handle None old new = new ≡ old
 TellsIn count handle (Some link) old new =
-    Steps gives old (Changes handle.0 link (record link { link = behind_told count link.link })) new
+    Step gives old (Changes handle.0 link (record link { link = behind_told count link.link })) new
 
 -- and nothing else changes
 pub record TellsFirst (count : ℕ) (handle : OutputHandle) (link : Option (Numbered End)) (old new : Linked) : Type 0

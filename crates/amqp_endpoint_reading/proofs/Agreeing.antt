@@ -18,7 +18,7 @@ use Rattle.amqp_endpoint_sessions.specs.declared.place.Place.TheVariants.{Asked,
 use Rattle.amqp_endpoint_sessions.specs.State.{State, asked_in, asked_on, ended_place, first_of, place_at, reached}
 use Rattle.amqp_endpoint_sessions.specs.State.{routed, routed_in, told_place, when_asked, with_asked, with_channel}
 use Rattle.amqp_endpoint_sessions.specs.State.{with_live}
-use Rattle.amqp_endpoint_sessions.specs.Steps.{Step, Steps, History, ChangesConnection, Begins, Asks, Accepts}
+use Rattle.amqp_endpoint_sessions.specs.Steps.{Act, Step, History, ChangesConnection, Begins, Asks, Accepts}
 use Rattle.amqp_endpoint_sessions.specs.Steps.{TakesBegin, TakesEnd, Ends, Finishes, TellsEnd, ChangesAsked}
 use Rattle.amqp_endpoint_sessions.specs.Steps.{ChangesLive}
 use Rattle.amqp_endpoint_sessions.specs.Steps.{TakesChannelBack}
@@ -182,7 +182,7 @@ module _ {A S : Type 0} where
       (base : ℕ) (r : Reader) → Stand (view old) → Agree base r (view old)
       → Stand (view new) × Agree base (reads r) (view new)
 
-  abbrev Behind : Step A S → Reader → Reader
+  abbrev Behind : Act A S → Reader → Reader
   Behind step r = behind_step r step
 
   still : (old new : State A S) → length new.places ≡ length old.places
@@ -205,9 +205,9 @@ module _ {A S : Type 0} where
       (ap (λ (t : State A S). t.asked) is) role
 
   begun : (old new : State A S) (n : ℕ) (channel : OutgoingChannel) (session : S)
-      → Steps old (Begins n channel session) new → Keeps old (Behind (Begins n channel session)) new
+      → Step old (Begins n channel session) new → Keeps old (Behind (Begins n channel session)) new
   begun old new n channel session s base r stands agrees =
-      let step : Step A S = Begins n channel session in
+      let step : Act A S = Begins n channel session in
       let allocated = s.0 in
       let is_new : role_at old n ≡ Nowhere = ap role_of ((at n old step new s).about (itself n)).0 in
       let vacant : map.get old.connection.live channel.0 ≡ None =
@@ -230,9 +230,9 @@ module _ {A S : Type 0} where
       )
 
   asked-for : (old new : State A S) (n : ℕ) (channel : IncomingChannel) (wanted : A)
-      → Steps old (Asks n channel wanted) new → Keeps old (Behind (Asks n channel wanted)) new
+      → Step old (Asks n channel wanted) new → Keeps old (Behind (Asks n channel wanted)) new
   asked-for old new n channel wanted s base r stands agrees =
-      let step : Step A S = Asks n channel wanted in
+      let step : Act A S = Asks n channel wanted in
       let is_new : role_at old n ≡ Nowhere = ap role_of ((at n old step new s).about (itself n)).0 in
       let unasked : views.asked_in (view old) channel.0 ≡ None =
       sym (asked-is old channel.0) ∙ first-none (routed old channel.0) (asked_on old channel.0) s.0 in
@@ -253,10 +253,10 @@ module _ {A S : Type 0} where
       )
 
   accepted : (old new : State A S) (n : ℕ) (incoming : IncomingChannel) (wanted : A) (outgoing : OutgoingChannel)
-      (session : S) → Steps old (Accepts n incoming wanted outgoing session) new
+      (session : S) → Step old (Accepts n incoming wanted outgoing session) new
       → Keeps old (Behind (Accepts n incoming wanted outgoing session)) new
   accepted old new n incoming wanted outgoing session s base r stands agrees =
-      let step : Step A S = Accepts n incoming wanted outgoing session in
+      let step : Act A S = Accepts n incoming wanted outgoing session in
       let mid = (s.1).mid in
       let given = (s.1).given in
       let led = (s.1).led in
@@ -285,7 +285,7 @@ module _ {A S : Type 0} where
       )
 
   taken : (old new : State A S) (n : ℕ) (channel : IncomingChannel) (begin : Begin)
-      → Steps old (TakesBegin n channel begin) new → Keeps old (Behind (TakesBegin n channel begin)) new
+      → Step old (TakesBegin n channel begin) new → Keeps old (Behind (TakesBegin n channel begin)) new
   taken old new n channel begin s base r stands agrees = by begin.remote_channel refl
     where
       by : (o : Option ℕ) → begin.remote_channel ≡ o
@@ -320,11 +320,11 @@ module _ {A S : Type 0} where
   over-role (Over p c) = refl
 
   ended : (old new : State A S) (n : ℕ) (channel : IncomingChannel) (end : End) (stood : Place A S)
-      → Steps old (TakesEnd n channel end stood) new → Keeps old (Behind (TakesEnd n channel end stood)) new
+      → Step old (TakesEnd n channel end stood) new → Keeps old (Behind (TakesEnd n channel end stood)) new
   ended old new n channel end stood s base r stands agrees = by stood s (reaches r channel.0) refl
     where
       -- the session that was read
-      is_read : (stood : Place A S) → Steps old (TakesEnd n channel end stood) new → (o : Option ℕ)
+      is_read : (stood : Place A S) → Step old (TakesEnd n channel end stood) new → (o : Option ℕ)
           → reaches r channel.0 ≡ o → Some n ≡ from base o
       is_read stood s o e =
           sym s.0
@@ -334,7 +334,7 @@ module _ {A S : Type 0} where
           (asked-is old channel.0 ∙ agrees.asked channel.0)
           ∙ first-read base (r.led channel.0) (r.asked channel.0) ∙ ap (from base) e
 
-      role : (stood : Place A S) → Steps old (TakesEnd n channel end stood) new
+      role : (stood : Place A S) → Step old (TakesEnd n channel end stood) new
           → IsPut (role_at old) n Gone (role_at new)
       role stood s =
           role-put old new n Gone
@@ -342,7 +342,7 @@ module _ {A S : Type 0} where
           (λ m e. (at m old (TakesEnd n channel end stood) new s).other e)
 
       -- one that is asked for
-      while_asked : (c : IncomingChannel) (a : A) → Steps old (TakesEnd n channel end (Asked c a)) new → (k : ℕ)
+      while_asked : (c : IncomingChannel) (a : A) → Step old (TakesEnd n channel end (Asked c a)) new → (k : ℕ)
           → n ≡ base + k → Stand (view new) × Agree base (peer_ends (Some k) r) (view new)
       while_asked c a s k is =
           let unrouted = (s.2).0 in
@@ -386,7 +386,7 @@ module _ {A S : Type 0} where
             connection = new.connection;
             places = slice_set old.places n (ended_place stood);
           }
-          → Steps old (TakesEnd n channel end stood) new → (k : ℕ) → n ≡ base + k
+          → Step old (TakesEnd n channel end stood) new → (k : ℕ) → n ≡ base + k
           → Stand (view new) × Agree base (peer_ends (Some k) r) (view new)
       while_on stood c stood_as back after s k is =
           let stood_so : role_at old n ≡ Has c.0 = ap role_of s.1 ∙ stood_as in
@@ -442,14 +442,14 @@ module _ {A S : Type 0} where
           cut_at told (here b same so) = cut (ap (views.led_in (view old)) same ∙ told) so
           cut_at told (apart b ne so) = stays so
 
-      at_stood : (stood : Place A S) → Steps old (TakesEnd n channel end stood) new → (k : ℕ) → n ≡ base + k
+      at_stood : (stood : Place A S) → Step old (TakesEnd n channel end stood) new → (k : ℕ) → n ≡ base + k
           → Stand (view new) × Agree base (peer_ends (Some k) r) (view new)
       at_stood (Asked c a) s k is = while_asked c a s k is
       at_stood (Live c l) s k is = while_on (Live c l) c refl (s.2).0 (s.2).1 s k is
       at_stood (Ending c) s k is = while_on (Ending c) c refl (s.2).0 (s.2).1 s k is
       at_stood (Over p c) s k is = absurd s.2
 
-      by : (stood : Place A S) → Steps old (TakesEnd n channel end stood) new → (o : Option ℕ)
+      by : (stood : Place A S) → Step old (TakesEnd n channel end stood) new → (o : Option ℕ)
           → reaches r channel.0 ≡ o
           → Stand (view new) × Agree base (peer_ends (reaches r channel.0) r) (view new)
       by stood s None e = absurd (none-some n (sym (is_read stood s None e)))
@@ -457,7 +457,7 @@ module _ {A S : Type 0} where
           let (stand, agree) = at_stood stood s k (same_Some n (base + k) (is_read stood s (Some k) e)) in
           (stand, subst (λ (o : Option ℕ). Agree base (peer_ends o r) (view new)) (sym e) agree)
 
-  step-keeps : (step : Step A S) (old new : State A S) → OnConnection (step ∷ []) → Steps old step new
+  step-keeps : (step : Act A S) (old new : State A S) → OnConnection (step ∷ []) → Step old step new
       → Keeps old (Behind step) new
   step-keeps (ChangesConnection before after) old new (live, routes, on) s =
       still old new (ap (λ (t : State A S). length t.places) s.1)
@@ -502,7 +502,7 @@ module _ {A S : Type 0} where
       (λ m e. (at m old (ChangesLive n before after) new s).other e))
 
   -- of a list of steps, the first and the others
-  first-on : (step : Step A S) (steps : List (Step A S)) → OnConnection (step ∷ steps)
+  first-on : (step : Act A S) (steps : List (Act A S)) → OnConnection (step ∷ steps)
       → OnConnection (step ∷ []) × OnConnection steps
   first-on (ChangesConnection before after) steps (live, routes, on) = ((live, routes, tt), on)
   first-on (Begins number channel session) steps on = (tt, on)
@@ -516,7 +516,7 @@ module _ {A S : Type 0} where
   first-on (ChangesAsked number before after) steps on = (tt, on)
   first-on (ChangesLive number before after) steps on = (tt, on)
 
-  steps-keep : (steps : List (Step A S)) (base : ℕ) (r : Reader) (old new : State A S) → History old steps new
+  steps-keep : (steps : List (Act A S)) (base : ℕ) (r : Reader) (old new : State A S) → History old steps new
       → OnConnection steps → Stand (view old) → Agree base r (view old)
       → Stand (view new) × Agree base (behind_steps r steps) (view new)
   steps-keep [] base r old new same on stands agrees = (
@@ -536,7 +536,7 @@ module _ {A S : Type 0} where
       ∙ ap (λ (o : Option ℕ). first_of (from base (r.led channel)) o) (a.asked channel)
       ∙ first-read base (r.led channel) (r.asked channel)
 
-  pub channels-tell : (base : ℕ) (r : Reader) (start end : State A S) (steps : List (Step A S))
+  pub channels-tell : (base : ℕ) (r : Reader) (start end : State A S) (steps : List (Act A S))
       → History start steps end → OnConnection steps → InTables start → Agrees base r start
       → InTables end × Agrees base (behind_steps r steps) end
   channels-tell base r start end steps h on stands agrees =

@@ -17,7 +17,7 @@ use Rattle.amqp_endpoint_sessions.specs.declared.place.Place.{Place}
 use Rattle.amqp_endpoint_sessions.specs.declared.place.Place.TheVariants.{Asked, Live, Ending, Over}
 use Rattle.amqp_endpoint_sessions.specs.State.{State, asked_in, ended_place, finished_place, place_at, routed_in}
 use Rattle.amqp_endpoint_sessions.specs.State.{told_place, when_asked, with_asked, with_live}
-use Rattle.amqp_endpoint_sessions.specs.Steps.{Step, Steps, History, GivesBack, EndTaken, ChangesConnection, Begins}
+use Rattle.amqp_endpoint_sessions.specs.Steps.{Act, Step, History, GivesBack, EndTaken, ChangesConnection, Begins}
 use Rattle.amqp_endpoint_sessions.specs.Steps.{Asks}
 use Rattle.amqp_endpoint_sessions.specs.Steps.{Accepts, TakesBegin, TakesEnd, Ends, Finishes, TellsEnd, ChangesAsked}
 use Rattle.amqp_endpoint_sessions.specs.Steps.{ChangesLive}
@@ -93,17 +93,17 @@ module _ {A S : Type 0} where
   finished-table old new (Ending d) g m c e = same-table old new m c g.1 e
   finished-table old new (Over p d) g m c e = same-table old new m c g.1 e
 
-  step-known : (step : Step A S) (old new : State A S) → Steps old step new → Known old → Known new
+  step-known : (step : Act A S) (old new : State A S) → Step old step new → Known old → Known new
   step-known (ChangesConnection before after) old new s k =
       same-places old new (ap (λ (t : State A S). t.asked) s.1)
       (λ m. (at m old (ChangesConnection before after) new s).other refl) k
   step-known (Begins n channel session) old new s k =
-      let step : Step A S = Begins n channel session in
+      let step : Act A S = Begins n channel session in
       known-by old new n (λ m b none. is-there old new (Live channel session) m ((at m old step new s).about b).1 none)
       (λ m b. (at m old step new s).other b)
       (λ m c e b. same-table old new m c (ap (λ (t : State A S). t.asked) s.2) e) k
   step-known (Asks n channel wanted) old new s k =
-      let step : Step A S = Asks n channel wanted in
+      let step : Act A S = Asks n channel wanted in
       known-by old new n
       (λ m b none. is-there old new (Asked channel wanted) m ((at m old step new s).about b).1 none)
       (λ m b. (at m old step new s).other b)
@@ -123,7 +123,7 @@ module _ {A S : Type 0} where
           not_it m same e = other_number m n e same
       put_entry m c e b (apart d ne so) = sym so ∙ e
   step-known (Accepts n incoming wanted outgoing session) old new s k =
-      let step : Step A S = Accepts n incoming wanted outgoing session in
+      let step : Act A S = Accepts n incoming wanted outgoing session in
       known-by old new n
       (λ m b none. is-there old new (Live outgoing session) m ((at m old step new s).about b).1 none)
       (λ m b. (at m old step new s).other b)
@@ -132,20 +132,20 @@ module _ {A S : Type 0} where
       same-places old new (ap (λ (t : State A S). t.asked) s.1)
       (λ m. (at m old (TakesBegin n channel begin) new s).other refl) k
   step-known (TakesEnd n channel end stood) old new s k =
-      let step : Step A S = TakesEnd n channel end stood in
+      let step : Act A S = TakesEnd n channel end stood in
       known-by old new n (λ m b none. is-there old new (ended_place stood) m ((at m old step new s).about b).1 none)
       (λ m b. (at m old step new s).other b) (λ m c e b. ended-table old new n channel end stood s.2 m c e) k
   step-known (Ends n channel session) old new s k =
-      let step : Step A S = Ends n channel session in
+      let step : Act A S = Ends n channel session in
       known-by old new n (λ m b none. is-there old new (Ending channel) m ((at m old step new s).about b).1 none)
       (λ m b. (at m old step new s).other b)
       (λ m c e b. same-table old new m c (ap (λ (t : State A S). t.asked) s.1) e) k
   step-known (Finishes n stood) old new s k =
-      let step : Step A S = Finishes n stood in
+      let step : Act A S = Finishes n stood in
       known-by old new n (λ m b none. is-there old new (finished_place stood) m ((at m old step new s).about b).1 none)
       (λ m b. (at m old step new s).other b) (λ m c e b. finished-table old new stood s.1 m c e) k
   step-known (TellsEnd n) old new s k =
-      let step : Step A S = TellsEnd n in
+      let step : Act A S = TellsEnd n in
       known-by old new n
       (λ m b none.
       let (stood, had, came, is) = (at m old step new s).about b in
@@ -153,7 +153,7 @@ module _ {A S : Type 0} where
       (λ m b. (at m old step new s).other b)
       (λ m c e b. same-table old new m c (ap (λ (t : State A S). t.asked) s.3) e) k
   step-known (ChangesAsked n before after) old new s k =
-      let step : Step A S = ChangesAsked n before after in
+      let step : Act A S = ChangesAsked n before after in
       known-by old new n
       (λ m b none.
       let (stood, had, was, is) = (at m old step new s).about b in
@@ -161,7 +161,7 @@ module _ {A S : Type 0} where
       (λ m b. (at m old step new s).other b)
       (λ m c e b. same-table old new m c (ap (λ (t : State A S). t.asked) s.1) e) k
   step-known (ChangesLive n before after) old new s k =
-      let step : Step A S = ChangesLive n before after in
+      let step : Act A S = ChangesLive n before after in
       known-by old new n
       (λ m b none.
       let (stood, had, was, is) = (at m old step new s).about b in
@@ -169,7 +169,7 @@ module _ {A S : Type 0} where
       (λ m b. (at m old step new s).other b)
       (λ m c e b. same-table old new m c (ap (λ (t : State A S). t.asked) s.1) e) k
 
-  pub steps-known : (steps : List (Step A S)) (old new : State A S) → History old steps new → Known old → Known new
+  pub steps-known : (steps : List (Act A S)) (old new : State A S) → History old steps new → Known old → Known new
   steps-known [] old new same k = subst Known (sym same) k
   steps-known (step ∷ steps) old new (mid, one, rest) k =
       steps-known steps mid new rest (step-known step old mid one k)

@@ -26,7 +26,7 @@ use Rattle.amqp_endpoint_links.proofs.Standing.{accepted-stands, begun-stands}
 use Rattle.amqp_endpoint_sessions.specs.declared.place.Place.{Place}
 use Rattle.amqp_endpoint_sessions.specs.declared.place.Place.TheVariants.{Asked, Live, Ending, Over}
 use Rattle.amqp_endpoint_sessions.specs.State.{State, asked_at, asked_in, live_at, place_at, reached, when_asked}
-use Rattle.amqp_endpoint_sessions.specs.Steps.{Step, Steps, History, ChangesConnection, Begins, Asks, Accepts}
+use Rattle.amqp_endpoint_sessions.specs.Steps.{Act, Step, History, ChangesConnection, Begins, Asks, Accepts}
 use Rattle.amqp_endpoint_sessions.specs.Steps.{TakesBegin}
 use Rattle.amqp_endpoint_sessions.specs.Steps.{TakesEnd, Ends, Finishes, TellsEnd, ChangesAsked, ChangesLive}
 use Rattle.amqp_endpoint_conversation.specs.declared.beginning.BeginHeard.{BeginHeard}
@@ -97,17 +97,17 @@ read-on [] more r = refl
 read-on (it ∷ frames) more r = read-on frames more (behind r it)
 
 module _ {A S : Type 0} where
-  steps-on : (steps more : List (Step A S)) (r : Reader)
+  steps-on : (steps more : List (Act A S)) (r : Reader)
       → behind_steps r (steps ++ more) ≡ behind_steps (behind_steps r steps) more
   steps-on [] more r = refl
   steps-on (step ∷ steps) more r = steps-on steps more (behind_step r step)
 
-  joined : (old mid new : State A S) (steps more : List (Step A S)) → History old steps mid → History mid more new
+  joined : (old mid new : State A S) (steps more : List (Act A S)) → History old steps mid → History mid more new
       → History old (steps ++ more) new
   joined old mid new [] more same h = subst (λ (s : State A S). History s more new) same h
   joined old mid new (step ∷ steps) more (next, one, rest) h = (next, one, joined next mid new steps more rest h)
 
-  both-go : (steps more : List (Step A S)) → OnConnection steps → OnConnection more → OnConnection (steps ++ more)
+  both-go : (steps more : List (Act A S)) → OnConnection steps → OnConnection more → OnConnection (steps ++ more)
   both-go [] more on later = later
   both-go (ChangesConnection before after ∷ steps) more (live, routes, on) later =
       (live, routes, both-go steps more on later)
@@ -135,7 +135,7 @@ module _ {A S : Type 0} where
       }
 
   -- by one step, or by none
-  pub by-one : (old new : State A S) (frames : List Wired) (step : Step A S) → Steps old step new
+  pub by-one : (old new : State A S) (frames : List Wired) (step : Act A S) → Step old step new
       → OnConnection (step ∷ []) → ((r : Reader) → behind_all r frames ≡ behind_step r step) → Follows frames old new
   by-one old new frames step s on reads =
       record { steps = step ∷ []; history = (new, s, refl); goes_on = on; reads = reads }
@@ -146,7 +146,7 @@ module _ {A S : Type 0} where
 
   -- a session goes on by itself
   pub inside-follows : (old new : State A S) (number : ℕ) (before after : S) (frames : List SessionFrame)
-      → Steps old (ChangesLive number before after) new → NoBegins frames → Follows (goes frames) old new
+      → Step old (ChangesLive number before after) new → NoBegins frames → Follows (goes frames) old new
   inside-follows old new number before after frames s plain =
       by-one old new (goes frames) (ChangesLive number before after) s tt (none-read frames plain)
 
@@ -215,7 +215,7 @@ module _ {R X T D : Type 0} (gives : Relations R X T D) where
   begin-follows old new channel begin (begin_heard.Begun number) frames b =
       let t = b.takes in
       let took = (t.taken).0 in
-      let step : session_steps.Step R X T D = session_steps.TakesBegin channel begin took.base took.left took.frames in
+      let step : session_steps.Act R X T D = session_steps.TakesBegin channel begin took.base took.left took.frames in
       let plain : NoBegins frames =
       same-none frames took.frames took.added
       (plain-of _ took.frames (step-of gives step t.before.value.session t.after.value.session took.stepped)) in
@@ -277,7 +277,7 @@ module _ {R X T D : Type 0} (gives : Relations R X T D) (channel : ℕ) (it : Fr
   live-hears : (old new : Conversation R) (number : ℕ) (before after : Box (AskingSession R))
       (said_so : LinkPerformative) (told : Result (PerformativeTaken X T D) SessionError) (frames : List SessionFrame)
       → Hears gives before.value [] said_so told after.value frames
-      → Steps old.sessions (ChangesLive number before after) new.sessions → Hearing old frames new
+      → Step old.sessions (ChangesLive number before after) new.sessions → Hearing old frames new
   live-hears old new number before after said_so told frames h s =
       by-one old.sessions new.sessions (comes channel it ∷ goes frames) (ChangesLive number before after) s tt
       (heard-read channel it frames is

@@ -20,7 +20,7 @@ use Rattle.amqp_session_core.specs.Frames.{Left, behind_frame, frames_behind, fr
 use Rattle.amqp_session_core.specs.History.{frames_in}
 use Rattle.amqp_session_core.specs.Relay.{Relations}
 use Rattle.amqp_session_core.specs.State.{State, leads}
-use Rattle.amqp_session_core.specs.Steps.{Step, Steps, Reply, NoReply, OfSession, OfLink, at_once, reply_frames}
+use Rattle.amqp_session_core.specs.Steps.{Act, Step, Reply, NoReply, OfSession, OfLink, at_once, reply_frames}
 use Rattle.amqp_session_core.specs.Steps.{Stays}
 use Rattle.amqp_session_core.specs.Steps.{SendsBegin, TakesBegin, SendsEnd, TakesEnd, TakesAttach, TakesFlow}
 use Rattle.amqp_session_core.specs.Steps.{SetsWindow}
@@ -99,7 +99,7 @@ module _ {R A T D : Type 0} (gives : Relations R A T D) where
   channel_of s = ((s.fields).channel).0
 
   -- whatever step of a session's own
-  pub step-of : (step : Step R A T D) (old new : State R) → Steps gives old step new
+  pub step-of : (step : Act R A T D) (old new : State R) → Step gives old step new
       → AreOf (channel_of old) (frames_in step)
   step-of Stays old new s = tt
   step-of (SendsBegin frame) old new s = tt

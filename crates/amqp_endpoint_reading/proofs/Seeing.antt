@@ -26,7 +26,7 @@ use Rattle.amqp_endpoint_links.specs.declared.hearing.PerformativeTaken.{Perform
 use Rattle.amqp_endpoint_sessions.specs.declared.place.Place.{Place}
 use Rattle.amqp_endpoint_sessions.specs.declared.place.Place.TheVariants.{Asked, Live, Ending, Over}
 use Rattle.amqp_endpoint_sessions.specs.State.{State, asked_on, live_at, live_of, place_at, reached, routed}
-use Rattle.amqp_endpoint_sessions.specs.Steps.{ChangesAsked, ChangesLive, EndTold, Steps, TakesBegin, TellsEnd}
+use Rattle.amqp_endpoint_sessions.specs.Steps.{ChangesAsked, ChangesLive, EndTold, Step, TakesBegin, TellsEnd}
 use Rattle.amqp_endpoint_sessions.proofs.Owning.{at}
 use Rattle.amqp_endpoint_conversation.specs.declared.beginning.BeginHeard.TheVariants as begin_heard
 use Rattle.amqp_endpoint_conversation.specs.declared.conversation.Conversation.{Conversation}
@@ -173,7 +173,7 @@ module _ {R : Type 0} where
         }
 
     pub sees-inside : (after : Box (AskingSession R)) (old new : Sessions R)
-        → Steps old (ChangesLive m before after) new → Sees m (goes frames) old new
+        → Step old (ChangesLive m before after) new → Sees m (goes frames) old new
     sees-inside after old new s =
         record {
           follows = λ stands. inside-follows old new m before after frames s (plain-of _ frames are);
@@ -194,7 +194,7 @@ module _ {R : Type 0} where
         }
 
     pub sees-asked : (before after : Box AskedSession) (old new : Sessions R) → reached old channel ≡ Some m
-        → Steps old (ChangesAsked m before after) new → Sees m (comes channel it ∷ []) old new
+        → Step old (ChangesAsked m before after) new → Sees m (comes channel it ∷ []) old new
     sees-asked before after old new reaches s =
         record {
           follows = λ stands.
@@ -319,7 +319,7 @@ module _ {R X T D : Type 0} (gives : Relations R X T D) where
   sees-begun channel begin number frames old new b =
       let t = b.takes in
       let took = (t.taken).0 in
-      let step : session_steps.Step R X T D = session_steps.TakesBegin channel begin took.base took.left took.frames in
+      let step : session_steps.Act R X T D = session_steps.TakesBegin channel begin took.base took.left took.frames in
       let are : AreOf ((((t.before).value).session).fields.channel).0 frames =
       same-of _ frames took.frames took.added
       (step-of gives step ((t.before).value).session ((t.after).value).session took.stepped) in

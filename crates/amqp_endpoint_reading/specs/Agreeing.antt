@@ -4,7 +4,7 @@ use Rattle.std.specs.FinMap as map
 use Rattle.amqp_endpoint_sessions.specs.declared.place.Place.{Place}
 use Rattle.amqp_endpoint_sessions.specs.declared.place.Place.TheVariants.{Asked, Live, Ending, Over}
 use Rattle.amqp_endpoint_sessions.specs.State.{State, asked_on, place_at, routed}
-use Rattle.amqp_endpoint_sessions.specs.Steps.{Step, Accepts, Asks, Begins, ChangesConnection, Finishes, TakesBegin}
+use Rattle.amqp_endpoint_sessions.specs.Steps.{Act, Accepts, Asks, Begins, ChangesConnection, Finishes, TakesBegin}
 use Rattle.amqp_endpoint_sessions.specs.Steps.{TakesEnd}
 use Rattle.amqp_endpoint_reading.specs.Reading.{Reader, own_begins, peer_begins, peer_ends, reaches}
 
@@ -68,7 +68,7 @@ module _ {A S : Type 0} where
     pub asked : (channel : ℕ) → asked_on s channel ≡ from base (r.asked channel)
 
   -- what is read as this is done
-  abbrev pub behind_step : Reader → Step A S → Reader
+  abbrev pub behind_step : Reader → Act A S → Reader
   behind_step r (Begins number channel session) = own_begins None channel.0 r
   behind_step r (Asks number channel asked) = peer_begins None channel.0 r
   behind_step r (Accepts number incoming asked outgoing session) = own_begins (Some incoming.0) outgoing.0 r
@@ -76,12 +76,12 @@ module _ {A S : Type 0} where
   behind_step r (TakesEnd number channel end stood) = peer_ends (reaches r channel.0) r
   behind_step r step = r
 
-  abbrev pub behind_steps : Reader → List (Step A S) → Reader
+  abbrev pub behind_steps : Reader → List (Act A S) → Reader
   behind_steps r [] = r
   behind_steps r (step ∷ steps) = behind_steps (behind_step r step) steps
 
   -- steps on one connection, which isn't over: its owner gives and takes no channel of its, and leads none
-  abbrev pub OnConnection : List (Step A S) → Type 0
+  abbrev pub OnConnection : List (Act A S) → Type 0
   OnConnection [] = Unit {0}
   OnConnection (ChangesConnection before after ∷ steps) =
       (after.live ≡ before.live) × (after.routes ≡ before.routes) × OnConnection steps

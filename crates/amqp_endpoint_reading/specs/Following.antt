@@ -6,7 +6,7 @@ use Rattle.amqp_session_performatives.specs.declared.session_frame.SessionFrame.
 use Rattle.amqp_session_performatives.specs.declared.session_frame.SessionFrameBody.{SessionFrameBody}
 use Rattle.amqp_session_performatives.specs.declared.session_frame.SessionFrameBody.TheVariants as session
 use Rattle.amqp_endpoint_sessions.specs.State.{State}
-use Rattle.amqp_endpoint_sessions.specs.Steps.{History, Step}
+use Rattle.amqp_endpoint_sessions.specs.Steps.{History, Act}
 use Rattle.amqp_endpoint_reading.specs.Agreeing.{OnConnection, behind_steps, from}
 use Rattle.amqp_endpoint_reading.specs.Reading.{Comes, Goes, Reader, Wired, behind, behind_all, whose}
 
@@ -48,7 +48,7 @@ AreOf channel (frame ∷ frames) = (frame.channel ≡ channel) × IsNoBegin fram
 
 -- the sessions went on by such steps as are read off these frames
 pub record Follows {A S : Type 0} (frames : List Wired) (old new : State A S) : Type 0 where
-  pub steps : List (Step A S)
+  pub steps : List (Act A S)
   pub history : History old steps new
   pub goes_on : OnConnection steps
   pub reads : (r : Reader) → behind_all r frames ≡ behind_steps r steps

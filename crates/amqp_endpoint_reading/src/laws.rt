@@ -18,7 +18,7 @@ ghost use Rattle.amqp_endpoint_links.specs.declared.asking.AskingSession.{Asking
 ghost use Rattle.amqp_endpoint_links.specs.declared.hearing.LinkPerformative.{LinkPerformative};
 ghost use Rattle.amqp_endpoint_links.specs.declared.hearing.PerformativeTaken.{PerformativeTaken};
 ghost use Rattle.amqp_endpoint_sessions.specs.State.{State, reached};
-ghost use Rattle.amqp_endpoint_sessions.specs.Steps.{ChangesLive, History, Step, Steps};
+ghost use Rattle.amqp_endpoint_sessions.specs.Steps.{ChangesLive, History, Act, Step};
 ghost use Rattle.amqp_endpoint_conversation.specs.declared.beginning.BeginHeard.{BeginHeard};
 ghost use Rattle.amqp_endpoint_conversation.specs.declared.beginning.BeginHeard.TheVariants as begin_heard;
 ghost use Rattle.amqp_endpoint_conversation.specs.declared.beginning.BeginRefusal.TheVariants.{Session};
@@ -42,7 +42,7 @@ use amqp_session_core::LinkRelay;
 /// Begin that is sent in it, or the Begin or End of the peer's that is taken, and nothing else: which session has which
 /// own channel, and which one the peer's frames on a channel reach (part 2, 2.5.1, 2.5.2).
 pub fn channels_tell_the_sessions<A: Drop, S: Drop>()
-    ensures goes_on { (base : ℕ) (r : Reader) (start end : State A S) (steps : List (Step A S)) →
+    ensures goes_on { (base : ℕ) (r : Reader) (start end : State A S) (steps : List (Act A S)) →
         History start steps end → OnConnection steps → InTables start → Agrees base r start →
         InTables end × Agrees base (behind_steps r steps) end }
     ensures reached { (base : ℕ) (r : Reader) (s : State A S) (channel : ℕ) → Agrees base r s →
@@ -78,7 +78,8 @@ pub fn what_is_done_is_read<R: LinkRelay>()
     ensures tells { (old new : Conversation R) (number : ℕ) (frames : List SessionFrame) →
         FlowTold R.gives old [] number new frames → Follows (goes frames) old.sessions new.sessions }
     ensures within { (old new : Conversation R) (number : ℕ) (before after : Box (AskingSession R))
-        (frames : List SessionFrame) → Steps old.sessions (ChangesLive number before after) new.sessions →
+        (frames : List SessionFrame) → Step old.sessions (ChangesLive number before after)
+        new.sessions →
         NoBegins frames → Follows (goes frames) old.sessions new.sessions }
 {}
 
@@ -96,7 +97,7 @@ pub fn what_is_read_is_kept<A: Drop, S: Drop>()
 /// Where a connection begins anew behind one that is over, nothing is read of it yet, and it agrees with that: the
 /// sessions that are asked for on it get the numbers behind those that there were (part 2, 2.4.1, 2.5.1).
 pub fn a_new_connection_is_read_from_nothing<A: Drop, S: Drop>()
-    ensures known { (start end : State A S) (steps : List (Step A S)) →
+    ensures known { (start end : State A S) (steps : List (Act A S)) →
         History start steps end → Known start → Known end }
     ensures anew { (s : State A S) → Known s → ((number : ℕ) → IsOff (role_at s number)) →
         s.connection.live ≡ map.empty → s.connection.routes ≡ map.empty →
@@ -105,8 +106,9 @@ pub fn a_new_connection_is_read_from_nothing<A: Drop, S: Drop>()
 
 /// What a session that has begun hands out by itself is on its own channel, and no Begin is among it (part 2, 2.5.1).
 pub fn what_a_session_hands_out_is_on_its_channel<R: LinkRelay>()
-    ensures steps { (old new : SessionState R) (step : session.Step R R.Attached R.Transferred R.Detached) →
-        session.Steps R.gives old step new → AreOf old.fields.channel.0 (frames_in step) }
+    ensures steps { (old new : SessionState R)
+        (step : session.Act R R.Attached R.Transferred R.Detached) →
+        session.Step R.gives old step new → AreOf old.fields.channel.0 (frames_in step) }
     ensures hears { (old new : AskingSession R) (said : LinkPerformative)
         (told : Result (PerformativeTaken R.Attached R.Transferred R.Detached) SessionError)
         (frames : List SessionFrame) → Hears R.gives old [] said told new frames →

@@ -13,7 +13,7 @@ use Rattle.amqp_session_core.specs.declared.batch.BehindFrame.{BehindFrame}
 use Rattle.amqp_session_core.specs.declared.batch.TransferFrame.{TransferFrame}
 use Rattle.amqp_session_core.specs.Batch.{Transfers}
 use Rattle.amqp_session_core.specs.State.{link_at}
-use Rattle.amqp_session_core.specs.Steps.{Steps, Changes}
+use Rattle.amqp_session_core.specs.Steps.{Step, Changes}
 use Rattle.amqp_session_core.specs.Told.{TransfersSent}
 use Rattle.amqp_link_split.specs.Room.{room_of}
 use Rattle.amqp_link_split.specs.Splitting.{Splits}
@@ -250,11 +250,11 @@ module _ (old : Linked) (limit : ℕ) (handle : OutputHandle) (m : Message) (rea
       sym over.commits.changed.0 ∙ taken_there mid over.taken handle batch.batch out out_new over.sends
       ∙ behind old.session handle m ready mid by
 
-  committed : Steps gives over.taken
+  committed : Step gives over.taken
       (Changes handle.0 (sending by.number (with_room by.before))
       (sending by.number (sent (with_room by.before) batch.entry))) new
   committed =
-      subst (λ (n : Numbered End). Steps gives over.taken
+      subst (λ (n : Numbered End). Step gives over.taken
       (Changes handle.0 n (record { number = n.number; link = sent_by n.link batch.entry })) new)
       (same_Some _ _ stands) over.commits.changed
 
@@ -262,7 +262,7 @@ module _ (old : Linked) (limit : ℕ) (handle : OutputHandle) (m : Message) (rea
   By b =
       (room_of (first_on handle m b) limit ≡ Some is.room)
       × Splits (first_on handle m b) m.payload is.room batch.batch
-      × Steps gives over.taken
+      × Step gives over.taken
       (Changes handle.0 (sending by.number (with_room by.before))
       (sending by.number (sent (with_room by.before) (entry_unless b m.tag m.format m.payload)))) new
 
@@ -270,7 +270,7 @@ module _ (old : Linked) (limit : ℕ) (handle : OutputHandle) (m : Message) (rea
   by_goes = (
     pieces.is_room,
     pieces.splits,
-    subst (λ (o : Option Open). Steps gives over.taken
+    subst (λ (o : Option Open). Step gives over.taken
         (Changes handle.0 (sending by.number (with_room by.before))
         (sending by.number (sent (with_room by.before) o))) new)
         entry_is committed,

@@ -7,7 +7,7 @@ use Rattle.amqp_session_performatives.specs.declared.transfer.Transfer.{Transfer
 use Rattle.amqp_session_outgoing.specs.History.{HasFreeNumbers}
 use Rattle.amqp_session_core.specs.Batch.{Transfers}
 use Rattle.amqp_session_core.specs.State.{link_at}
-use Rattle.amqp_session_core.specs.Steps.{Steps, Changes}
+use Rattle.amqp_session_core.specs.Steps.{Step, Changes}
 use Rattle.amqp_session_core.specs.Told.{TransfersSent}
 use Rattle.amqp_link_split.specs.Room.{room_of}
 use Rattle.amqp_link_split.specs.Splitting.{Splits}
@@ -100,7 +100,7 @@ pub record ReadiesIn (old : LinksIn) (handle : OutputHandle) (m : Message) (read
   pub before : Sending
   pub allowed : refusal before m.tag (length m.payload) ≡ None
   pub is : ready ≡ prepared m.tag m.format m.payload (goes before m)
-  pub changed : Steps gives old (Changes handle.0 (sending number before) (sending number (with_room before))) new
+  pub changed : Step gives old (Changes handle.0 (sending number before) (sending number (with_room before))) new
 
 -- a sending link keeps room for so many messages at most
 abbrev pub lowered : End → ℕ → End
@@ -111,7 +111,7 @@ lowered (Receiver r) room = Receiver r
 pub record Lowers (old : LinksIn) (handle : OutputHandle) (room : ℕ) (new : LinksIn) : Type 0 where
   pub number : ℕ
   pub before : End
-  pub changed : Steps gives old
+  pub changed : Step gives old
       (Changes handle.0 (record { number = number; link = before })
       (record { number = number; link = lowered before room })) new
 
@@ -164,7 +164,7 @@ sent_by (Receiver r) entry = Receiver r
 pub record Commits (old : LinksIn) (handle : OutputHandle) (entry : Option Open) (new : LinksIn) : Type 0 where
   pub number : ℕ
   pub before : End
-  pub changed : Steps gives old
+  pub changed : Step gives old
       (Changes handle.0 (record { number = number; link = before })
       (record { number = number; link = sent_by before entry })) new
 
@@ -215,10 +215,10 @@ pub record MessageSent (old : Linked) (limit : ℕ) (handle : OutputHandle) (m :
   pub is_room : room_of (first_on handle m settled) limit ≡ Some room
   pub splits : Splits (first_on handle m settled) m.payload room transfers
   pub fit : (channel : ℕ) → All (UnitFits channel limit handle.0) transfers
-  pub prepares : Steps gives old.session
+  pub prepares : Step gives old.session
       (Changes handle.0 (sending number before) (sending number (with_room before))) mid
   pub sends : TransfersSent gives mid out handle transfers taken out_new
-  pub commits : Steps gives taken
+  pub commits : Step gives taken
       (Changes handle.0 (sending number (with_room before))
       (sending number (sent (with_room before) (entry_unless settled m.tag m.format m.payload)))) new.session
   pub rest : new ≡ record old { session = new.session }

@@ -10,7 +10,9 @@ use Rattle.amqp_session_connection.specs.Steps.{DeallocateSession}
 use Rattle.amqp_endpoint_sessions.specs.declared.place.Place.{Place}
 use Rattle.amqp_endpoint_sessions.specs.declared.place.Place.TheVariants.{Asked, Live, Ending, Over}
 use Rattle.amqp_endpoint_sessions.specs.State.{State, channel_at, channel_in, channel_of, ended_place, finished_place, fresh, place_at, told_place, with_asked, with_live}
-use Rattle.amqp_endpoint_sessions.specs.Steps.{Step, Steps, History, ChangesConnection, Begins, Asks, Accepts, TakesBegin, TakesEnd, Ends, Finishes, TellsEnd, ChangesAsked, ChangesLive}
+use Rattle.amqp_endpoint_sessions.specs.Steps.{Act, Step, History, ChangesConnection, Begins, Asks, Accepts}
+use Rattle.amqp_endpoint_sessions.specs.Steps.{TakesBegin, TakesEnd, Ends, Finishes, TellsEnd, ChangesAsked}
+use Rattle.amqp_endpoint_sessions.specs.Steps.{ChangesLive}
 use Rattle.amqp_endpoint_sessions.specs.Own.{KeepsChannels}
 use Rattle.amqp_endpoint_sessions.proofs.Places.{get-put, get-take}
 use Rattle.amqp_endpoint_sessions.proofs.Owning.{at, same_number, other_number}
@@ -92,11 +94,13 @@ module _ {A S : Type 0} where
   asked_same (Over p c) after = refl
 
   -- what a place is behind a step that is about another session, or changes no channel
-  else_is : (n : ℕ) (old : State A S) (step : Step A S) (new : State A S) (c : OutgoingChannel) → place_at new n ≡ place_at old n
+  else_is : (n : ℕ) (old : State A S) (step : Act A S) (new : State A S) (c : OutgoingChannel)
+      → place_at new n ≡ place_at old n
       → channel_at new n ≡ Some c → channel_at old n ≡ Some c
   else_is n old step new c is e = sym (ap channel_in is) ∙ e
 
-  step_keeps : (old : State A S) (step : Step A S) (new : State A S) → KeepsChannels (step ∷ []) → Steps old step new → Each old → Each new
+  step_keeps : (old : State A S) (step : Act A S) (new : State A S) → KeepsChannels (step ∷ []) → Step old step new
+      → Each old → Each new
   step_keeps old (ChangesConnection before after) new (k, _) s each =
       kept old new each
       (ap (λ (x : State A S). x.connection.live) s.1 ∙ k ∙ ap (λ (x : channels.State). x.live) s.0)
@@ -129,7 +133,7 @@ module _ {A S : Type 0} where
       (λ n c e. else_is n old (TakesBegin number channel begin) new c ((at n old (TakesBegin number channel begin) new s).other refl) e)
   step_keeps old (TakesEnd number channel end stood) new k s each = by stood s
     where
-      gone : (stood : Place A S) (s : Steps old (TakesEnd number channel end stood) new) (n : ℕ) (c : OutgoingChannel)
+      gone : (stood : Place A S) (s : Step old (TakesEnd number channel end stood) new) (n : ℕ) (c : OutgoingChannel)
           → channel_at new n ≡ Some c → (channel_at old n ≡ Some c) × (n ≢ number)
       gone stood s n c e =
           let found = at n old (TakesEnd number channel end stood) new s in
@@ -143,7 +147,7 @@ module _ {A S : Type 0} where
           over (Ending c) = refl
           over (Over p c) = refl
 
-      by : (stood : Place A S) → Steps old (TakesEnd number channel end stood) new → Each new
+      by : (stood : Place A S) → Step old (TakesEnd number channel end stood) new → Each new
       by (Asked c a) s = kept old new each (ap (λ (x : State A S). x.connection.live) (s.2).1) (λ n c e. (gone _ s n c e).0)
       by (Live c l) s =
           let had = ap channel_in s.1 in let back = (s.2).0 in
@@ -163,7 +167,7 @@ module _ {A S : Type 0} where
       (λ apart. else_is n old (Ends number channel session) new c (found.other apart) e))
   step_keeps old (Finishes number stood) new k s each = by stood s
     where
-      gone : (stood : Place A S) (s : Steps old (Finishes number stood) new) (n : ℕ) (c : OutgoingChannel)
+      gone : (stood : Place A S) (s : Step old (Finishes number stood) new) (n : ℕ) (c : OutgoingChannel)
           → channel_at new n ≡ Some c → (channel_at old n ≡ Some c) × (n ≢ number)
       gone stood s n c e =
           let found = at n old (Finishes number stood) new s in
@@ -177,7 +181,7 @@ module _ {A S : Type 0} where
           over (Ending c) = refl
           over (Over p c) = refl
 
-      by : (stood : Place A S) → Steps old (Finishes number stood) new → Each new
+      by : (stood : Place A S) → Step old (Finishes number stood) new → Each new
       by (Asked c a) s = kept old new each (ap (λ (x : channels.State). x.live) (s.1).0) (λ n c e. (gone _ s n c e).0)
       by (Live c l) s =
           let had = ap channel_in s.0 in
@@ -212,7 +216,8 @@ module _ {A S : Type 0} where
       (λ apart. else_is n old (ChangesLive number before after) new c (found.other apart) e))
 
   -- of a list of steps, the first and the others
-  first_keeps : (step : Step A S) (steps : List (Step A S)) → KeepsChannels (step ∷ steps) → KeepsChannels (step ∷ []) × KeepsChannels steps
+  first_keeps : (step : Act A S) (steps : List (Act A S)) → KeepsChannels (step ∷ steps)
+      → KeepsChannels (step ∷ []) × KeepsChannels steps
   first_keeps (ChangesConnection before after) steps k = ((k.0, tt), k.1)
   first_keeps (Begins number channel session) steps k = (tt, k)
   first_keeps (Asks number channel asked) steps k = (tt, k)
@@ -225,14 +230,15 @@ module _ {A S : Type 0} where
   first_keeps (ChangesAsked number before after) steps k = (tt, k)
   first_keeps (ChangesLive number before after) steps k = (tt, k)
 
-  pub each_under : (start : State A S) (steps : List (Step A S)) (end : State A S) → KeepsChannels steps → History start steps end
+  pub each_under : (start : State A S) (steps : List (Act A S)) (end : State A S) → KeepsChannels steps
+      → History start steps end
       → Each start → Each end
   each_under start [] end k h each = subst Each (sym h) each
   each_under start (step ∷ steps) end k (mid, s, h) each =
       let (first, rest) = first_keeps step steps k in
       each_under mid steps end rest h (step_keeps start step mid first s each)
 
-  pub begins_apart : (connection : channels.State) (end : State A S) (steps : List (Step A S)) → KeepsChannels steps
+  pub begins_apart : (connection : channels.State) (end : State A S) (steps : List (Act A S)) → KeepsChannels steps
       → History (fresh connection) steps end
       → (m n : ℕ) (c : OutgoingChannel) → channel_at end m ≡ Some c → channel_at end n ≡ Some c → m ≡ n
   begins_apart connection end steps k h =

@@ -7,8 +7,10 @@ use Rattle.amqp_endpoint_sessions.specs.declared.place.PeerEnd.TheVariants.{Miss
 use Rattle.amqp_endpoint_sessions.specs.declared.place.Place.{Place}
 use Rattle.amqp_endpoint_sessions.specs.declared.place.Place.TheVariants.{Asked, Live, Ending, Over}
 use Rattle.amqp_endpoint_sessions.specs.State.{State, asked_of, ended_place, finished_place, live_of, peer_end_of, place_at, told_place, with_asked, with_live}
-use Rattle.amqp_endpoint_sessions.specs.Steps.{Step, Steps, History, EndTaken, ChangesConnection, Begins, Asks, Accepts, TakesBegin, TakesEnd, Ends, Finishes, TellsEnd, ChangesAsked, ChangesLive}
-use Rattle.amqp_endpoint_sessions.specs.Own.{PlaceHistory, PlaceSteps, is_about, steps_of}
+use Rattle.amqp_endpoint_sessions.specs.Steps.{Act, Step, History, EndTaken, ChangesConnection, Begins, Asks, Accepts}
+use Rattle.amqp_endpoint_sessions.specs.Steps.{TakesBegin, TakesEnd, Ends, Finishes, TellsEnd, ChangesAsked}
+use Rattle.amqp_endpoint_sessions.specs.Steps.{ChangesLive}
+use Rattle.amqp_endpoint_sessions.specs.Own.{PlaceHistory, PlaceStep, is_about, steps_of}
 
 module _ {X : Type 0} where
   pub get-same : (xs : List X) (i : ℕ) (x v : X) → slice_get xs i ≡ Some x → slice_get (slice_set xs i v) i ≡ Some v
@@ -78,11 +80,12 @@ module _ {A S : Type 0} (n : ℕ) where
           ∙ get-before old.places put n (λ same. other_number n number e (same ∙ sym last))
 
   -- where a session stands behind a step: as the step says that is about it, and else where it stood
-  pub record At (old : State A S) (step : Step A S) (new : State A S) : Type 0 where
-    pub about : is_about n step ≡ true → PlaceSteps (place_at old n) step (place_at new n)
+  pub record At (old : State A S) (step : Act A S) (new : State A S) : Type 0 where
+    pub about : is_about n step ≡ true → PlaceStep (place_at old n) step (place_at new n)
     pub other : is_about n step ≡ false → place_at new n ≡ place_at old n
 
-  same_places : (old new : State A S) (step : Step A S) → is_about n step ≡ false → new.places ≡ old.places → At old step new
+  same_places : (old new : State A S) (step : Act A S) → is_about n step ≡ false → new.places ≡ old.places
+      → At old step new
   same_places old new step not is =
       record {
         about = λ e. absurd (true≢false (sym e ∙ not));
@@ -100,7 +103,7 @@ module _ {A S : Type 0} (n : ℕ) where
   asked_there None before e = absurd (none-some _ e)
   asked_there (Some stood) before e = (stood, refl, e)
 
-  pub at : (old : State A S) (step : Step A S) (new : State A S) → Steps old step new → At old step new
+  pub at : (old : State A S) (step : Act A S) (new : State A S) → Step old step new → At old step new
   at old (ChangesConnection before after) new s = same_places old new _ refl (ap (λ (x : State A S). x.places) s.1)
   at old (Begins number channel session) new s =
       let is = ap (λ (x : State A S). x.places) s.2 in
@@ -171,7 +174,7 @@ module _ {A S : Type 0} (n : ℕ) where
         other = put_else old new number (with_live stood after) is;
       }
 
-  pub own : (start : State A S) (steps : List (Step A S)) (end : State A S) → History start steps end
+  pub own : (start : State A S) (steps : List (Act A S)) (end : State A S) → History start steps end
       → PlaceHistory (place_at start n) (steps_of n steps) (place_at end n)
   own start [] end h = ap (λ (x : State A S). place_at x n) h
   own start (step ∷ steps) end (mid, s, h) = by (at start step mid s) (own mid steps end h) (is_about n step) refl

@@ -4,7 +4,7 @@ ghost use Rattle.std.specs.FinMap as map;
 ghost use Rattle.amqp_session_types.specs.declared.channels.IncomingChannel.{IncomingChannel};
 ghost use Rattle.amqp_session_connection.specs.Steps.{RefusesSession};
 ghost use Rattle.amqp_endpoint_sessions.specs.State.{asked_channel_at, place_at};
-ghost use Rattle.amqp_endpoint_sessions.specs.Steps.{Steps, Accepts, Asks, GivesChannel, RefusesAccept, RefusesAsk};
+ghost use Rattle.amqp_endpoint_sessions.specs.Steps.{Step, Accepts, Asks, GivesChannel, RefusesAccept, RefusesAsk};
 
 use crate::place::{Place, Unbegun};
 use crate::sessions::{Sessions, forget, put};
@@ -18,7 +18,7 @@ impl<A: Drop, S: Drop> Sessions<A, S> {
     /// It is refused with `NotAllowed` where the channel reaches a session, and with `Memory`. Nothing changes then,
     /// and what was asked for is dropped.
     pub fn ask(&mut self, channel: IncomingChannel, session: A) -> Result<u64, ConnectionError>
-        ensures ok { IfOk result (λ number. Steps self.old (Asks number channel session) self.new) }
+        ensures ok { IfOk result (λ number. Step self.old (Asks number channel session) self.new) }
         ensures err { IfErr result (RefusesAsk self.old channel.0) }
         ensures kept { OnErr result (self.new ≡ self.old) }
     {
@@ -40,7 +40,7 @@ impl<A: Drop, S: Drop> Sessions<A, S> {
     /// with, and with `Memory`. Nothing changes then, and the session comes back.
     pub fn accept(&mut self, number: u64, session: S) -> Result<(OutgoingChannel, A), Unbegun<S>>
         ensures ok { IfOk result (λ given. (incoming : IncomingChannel)
-            × Steps self.old (Accepts number incoming given.1 given.0 session) self.new) }
+            × Step self.old (Accepts number incoming given.1 given.0 session) self.new) }
         ensures err { IfErr result (λ refused.
             RefusesAccept self.old number refused.error × (refused.session ≡ session)) }
         ensures kept { OnErr result (self.new ≡ self.old) }

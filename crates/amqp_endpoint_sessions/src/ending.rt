@@ -4,7 +4,7 @@ ghost use Rattle.std.specs.FinMap as map;
 ghost use Rattle.amqp_session_performatives.specs.declared.end.End.{End};
 ghost use Rattle.amqp_endpoint_sessions.specs.State.{asked_on, channel_at, ended_place, is_complete, live_channel_at};
 ghost use Rattle.amqp_endpoint_sessions.specs.State.{place_at, routed};
-ghost use Rattle.amqp_endpoint_sessions.specs.Steps.{Steps, EndAnswered, EndSent, EndTold, Finished, GivesBack};
+ghost use Rattle.amqp_endpoint_sessions.specs.Steps.{Step, EndAnswered, EndSent, EndTold, Finished, GivesBack};
 ghost use Rattle.amqp_endpoint_sessions.specs.Steps.{TakesChannelBack, TakesEnd};
 
 use crate::place::{PeerEnd, Place};
@@ -105,7 +105,7 @@ impl<A: Drop, S: Drop> Sessions<A, S> {
     /// The session to which the channel was led is over: its channels come back.
     fn end_routed(&mut self, number: u64, channel: IncomingChannel, end: &End) -> Place<A, S>
         requires { routed self.old channel.0 ≡ Some number }
-        ensures { Steps self.old (TakesEnd number channel end.now result) self.new }
+        ensures { Step self.old (TakesEnd number channel end.now result) self.new }
     {
         let Some(outgoing) = self.outgoing_channel(number) else {
             unreachable!()
@@ -118,7 +118,7 @@ impl<A: Drop, S: Drop> Sessions<A, S> {
     fn end_asked(&mut self, number: u64, channel: IncomingChannel) -> Place<A, S>
         requires not_led { routed self.old channel.0 ≡ None }
         requires asked { asked_on self.old channel.0 ≡ Some number }
-        ensures { (end : End) → Steps self.old (TakesEnd number channel end result) self.new }
+        ensures { (end : End) → Step self.old (TakesEnd number channel end result) self.new }
     {
         forget(&mut self.asked, channel);
         self.put_ended(number)

@@ -1,6 +1,6 @@
 //! The sessions of an endpoint by their numbers, on the connection that gives them channels (part 2, 2.5.1).
 //!
-//! What a call does says `Steps` in specs/Steps.antt.
+//! What a call does says `Step` in specs/Steps.antt.
 #![tactic(auto)]
 
 mod asking;

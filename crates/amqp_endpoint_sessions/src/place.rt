@@ -1,3 +1,4 @@
+//! Where a session stands with its endpoint.
 ghost use Rattle.std.specs.Prelude.{◌≡◌, IsSome, Some};
 ghost use Rattle.std.specs.Borrow.{Lends};
 ghost use types.Logic.{sem};

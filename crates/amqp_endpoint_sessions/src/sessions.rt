@@ -1,3 +1,4 @@
+//! The sessions of an endpoint by their numbers, on its connection.
 ghost use Rattle.std.specs.Prelude.{◌≡◌, ◌<◌, Ok, length, slice_get, slice_set, IfOk, IfErr, OnErr, OnSome, IfNone};
 ghost use Rattle.std.specs.Prelude.{option_copied};
 ghost use Rattle.std.specs.Option.{option_copied_mut};
@@ -8,7 +9,7 @@ ghost use Rattle.amqp_session_connection.specs.Steps.{RefusesSession};
 ghost use Rattle.amqp_session_connection.specs.Steps as connection_steps;
 ghost use Rattle.amqp_endpoint_sessions.specs.State.{fresh, asked_at, asked_on, live_at, place_at, reached, routed};
 ghost use Rattle.amqp_endpoint_sessions.specs.Lends.{lends_asked, lends_connection, lends_live};
-ghost use Rattle.amqp_endpoint_sessions.specs.Steps.{Steps, Begins, TakesBegin};
+ghost use Rattle.amqp_endpoint_sessions.specs.Steps.{Step, Begins, TakesBegin};
 
 use crate::place::{Place, Unbegun};
 use amqp_session_connection::{Connection, Routes};
@@ -171,7 +172,7 @@ impl<A: Drop, S: Drop> Sessions<A, S> {
     /// It is refused with what that is refused with, and with `Memory`. The session comes back then.
     pub fn begin(&mut self, session: S) -> Result<u64, Unbegun<S>>
         ensures ok { IfOk result (λ number.
-            Steps self.old (Begins number (record { 0 = self.old.connection.offered }) session) self.new) }
+            Step self.old (Begins number (record { 0 = self.old.connection.offered }) session) self.new) }
         ensures err { IfErr result (λ refused.
             RefusesSession self.old.connection refused.error × (refused.session ≡ session)) }
         ensures kept { OnErr result (self.new ≡ self.old) }
@@ -195,7 +196,7 @@ impl<A: Drop, S: Drop> Sessions<A, S> {
         begin: &Begin,
     ) -> Result<u64, ConnectionError>
         ensures ok { IfOk result (λ number.
-            Steps self.old (TakesBegin number channel begin.now) self.new) }
+            Step self.old (TakesBegin number channel begin.now) self.new) }
         ensures err { IfErr result (λ e.
             connection_steps.RefusesBegin self.old.connection begin.now e × (self.new ≡ self.old)) }
     {
@@ -209,7 +210,7 @@ fn room_for_session<A: Drop, S: Drop>(
     places: &mut Vec<Place<A, S>>,
 ) -> Result<(u64, OutgoingChannel), BeginError>
     ensures ok { IfOk result (λ given.
-        connection_steps.Steps connection.old (connection_steps.AllocatesSession given.0 (Ok given.1)) connection.new
+        connection_steps.Step connection.old (connection_steps.AllocatesSession given.0 (Ok given.1)) connection.new
         × (given.0 ≡ length places.old.items)
         × (given.1 ≡ record { 0 = connection.old.offered })
         × (vec_len places.new < vec_capacity places.new)) }

@@ -8,8 +8,8 @@ use Rattle.amqp_session_types.specs.declared.refusals.TryEndError.{TryEndError}
 use Rattle.amqp_session_performatives.specs.declared.session_frame.SessionFrame.{SessionFrame}
 use Rattle.amqp_session_core.specs.Relay.{Relations}
 use Rattle.amqp_endpoint_links.specs.declared.asking.AskingSession.{AskingSession}
-use Rattle.amqp_endpoint_links.specs.History.{AskingHistory, AskingStep}
-use Rattle.amqp_endpoint_sessions.specs.Steps.{ChangesLive, EndTold, Steps}
+use Rattle.amqp_endpoint_links.specs.History.{AskingHistory, AskingAct}
+use Rattle.amqp_endpoint_sessions.specs.Steps.{ChangesLive, EndTold, Step}
 use Rattle.amqp_endpoint_conversation.specs.declared.conversation.Conversation.{Conversation}
 use Rattle.amqp_endpoint_model.specs.State.{fits, frame_of}
 use Rattle.amqp_endpoint_fitting.specs.Handed.{AllAskingEndFit, AllAskingHand, AllAskingSendFit}
@@ -22,8 +22,8 @@ use Rattle.amqp_endpoint_talk.proofs.Places.{changes_live, tells_end}
 
 module _ {R A T D : Type 0} (gives : Relations R A T D) where
   pub changed-goes : (limit number : ℕ) (old new : Conversation R) (before after : Box (AskingSession R))
-      (steps : List (AskingStep R A T D)) (frames out : List SessionFrame)
-      → Steps old.sessions (ChangesLive number before after) new.sessions
+      (steps : List (AskingAct R A T D)) (frames out : List SessionFrame)
+      → Step old.sessions (ChangesLive number before after) new.sessions
       → AskingHistory gives before.value steps after.value → AnswersPlain gives
       → AllAskingSendFit ((((before.value).session).fields).channel).0 limit steps → AllAskingEndFit limit steps
       → AllAskingHand steps frames → All IsRead frames → Goes limit old new out (out ++ frames)
@@ -43,7 +43,7 @@ module _ {R A T D : Type 0} (gives : Relations R A T D) where
 
 module _ {R : Type 0} where
   pub changed-rests : (number : ℕ) (old new : Conversation R) (before after : Box (AskingSession R))
-      (out out_new : List SessionFrame) → Steps old.sessions (ChangesLive number before after) new.sessions
+      (out out_new : List SessionFrame) → Step old.sessions (ChangesLive number before after) new.sessions
       → Rests old new out out_new
   changed-rests number old new before after out out_new stepped =
       record {

@@ -10,10 +10,10 @@ use Rattle.amqp_session_performatives.specs.declared.session_frame.SessionFrame.
 use Rattle.amqp_session_core.specs.History.{frames_in}
 use Rattle.amqp_session_core.specs.Relay.{Relations}
 use Rattle.amqp_session_core.specs.State.{State}
-use Rattle.amqp_session_core.specs.Steps.{Step, Steps, TakesBegin, TellsFlow}
+use Rattle.amqp_session_core.specs.Steps.{Act, Step, TakesBegin, TellsFlow}
 use Rattle.amqp_endpoint_links.specs.declared.asking.AskingSession.{AskingSession}
 use Rattle.amqp_endpoint_links.specs.declared.hearing.LinkPerformative.{LinkPerformative}
-use Rattle.amqp_endpoint_links.specs.History.{AskingHistory, AskingStep}
+use Rattle.amqp_endpoint_links.specs.History.{AskingHistory, AskingAct}
 use Rattle.amqp_endpoint_fitting.specs.Fits.{FrameFits, QueuesFit}
 use Rattle.amqp_endpoint_fitting.specs.Handed.{AllAskingEndFit, AllAskingHand, AllAskingSendFit, RepliesFit, SendsFit}
 use Rattle.amqp_endpoint_fitting.specs.Read.{IsRead}
@@ -49,20 +49,20 @@ module _ {R A T D : Type 0} (gives : Relations R A T D) where
 
 module _ {R A T D : Type 0} (gives : Relations R A T D) (limit : ℕ) where
   -- a step of a session
-  one-waits : (old new : State R) (step : Step R A T D) → Steps gives old step new
+  one-waits : (old new : State R) (step : Act R A T D) → Step gives old step new
       → SendsFit ((old.fields).channel).0 limit step → FitsIn limit old → FitsIn limit new
   one-waits old new step does sends fits =
       on-channel limit old new (step-channel gives step old new does)
       (record { each = step-waits gives ((old.fields).channel).0 limit step old new does sends fits.each })
 
-  one-leaves : (old new : State R) (step : Step R A T D) → Steps gives old step new
+  one-leaves : (old new : State R) (step : Act R A T D) → Step gives old step new
       → SendsFit ((old.fields).channel).0 limit step → FitsIn limit old → 512 ≤ limit → All IsRead (frames_in step)
       → All (FrameFits limit) (frames_in step)
   one-leaves old new step does sends fits least read =
       step-hands gives limit step old new least does sends fits.each read
 
   -- what its owner does in it
-  pub change-waits : (old new : AskingSession R) (steps : List (AskingStep R A T D)) → AskingHistory gives old steps new
+  pub change-waits : (old new : AskingSession R) (steps : List (AskingAct R A T D)) → AskingHistory gives old steps new
       → AnswersPlain gives → AllAskingSendFit (((old.session).fields).channel).0 limit steps → FitsIn limit old.session
       → FitsIn limit new.session
   change-waits old new steps history plain sends fits =
@@ -73,7 +73,7 @@ module _ {R A T D : Type 0} (gives : Relations R A T D) (limit : ℕ) where
             sends fits.each;
       })
 
-  pub change-leaves : (old new : AskingSession R) (steps : List (AskingStep R A T D)) (frames : List SessionFrame)
+  pub change-leaves : (old new : AskingSession R) (steps : List (AskingAct R A T D)) (frames : List SessionFrame)
       → AskingHistory gives old steps new → AnswersPlain gives
       → AllAskingSendFit (((old.session).fields).channel).0 limit steps → AllAskingEndFit limit steps
       → FitsIn limit old.session → AllAskingHand steps frames → All IsRead frames → All (FitsAbove limit) frames
@@ -102,7 +102,7 @@ module _ {R A T D : Type 0} (gives : Relations R A T D) (limit : ℕ) where
   pub begins-so : (channel : IncomingChannel) (begin : Begin)
       → BeginsSo gives (FitsIn limit) (FitsAbove limit) channel begin
   begins-so channel begin before after out out_new t fits =
-      let step : Step R A T D = TakesBegin channel begin t.base t.left t.frames in (
+      let step : Act R A T D = TakesBegin channel begin t.base t.left t.frames in (
         one-waits before after step t.stepped tt fits,
         λ reads.
             all-above limit t.frames (λ least. one-leaves before after step t.stepped tt fits least reads),
@@ -111,7 +111,7 @@ module _ {R A T D : Type 0} (gives : Relations R A T D) (limit : ℕ) where
   -- the own Flow
   pub tells-so : TellsSo gives (FitsIn limit) (FitsAbove limit)
   tells-so before after frame does fits =
-      let step : Step R A T D = TellsFlow frame in (
+      let step : Act R A T D = TellsFlow frame in (
         one-waits before after step does tt fits,
         λ read least.
             All-head (FrameFits limit) frame []

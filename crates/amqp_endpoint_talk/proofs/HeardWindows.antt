@@ -21,13 +21,13 @@ use Rattle.amqp_session_core.specs.declared.relay.TransferAnswer.{TransferAnswer
 use Rattle.amqp_session_core.specs.History.{History}
 use Rattle.amqp_session_core.specs.Relay.{Relations}
 use Rattle.amqp_session_core.specs.State.{State, leads}
-use Rattle.amqp_session_core.specs.Steps.{Step, Steps, TakesAttach, TakesDetach, TakesDisposition, TakesTransfer}
+use Rattle.amqp_session_core.specs.Steps.{Act, Step, TakesAttach, TakesDetach, TakesDisposition, TakesTransfer}
 use Rattle.amqp_session_core.specs.Told.{FlowTaken}
 use Rattle.amqp_endpoint_asked.specs.Asked.{is_asked}
 use Rattle.amqp_endpoint_asked.specs.AskedSession.{session_part}
 use Rattle.amqp_endpoint_links.specs.Asking.{FlowAt, FlowInSession}
 use Rattle.amqp_endpoint_links.specs.Hearing.{Hears}
-use Rattle.amqp_endpoint_links.specs.History.{AreHearing, AskingHistory, AskingStep, AtMostOne, IsAttach}
+use Rattle.amqp_endpoint_links.specs.History.{AreHearing, AskingHistory, AskingAct, AtMostOne, IsAttach}
 use Rattle.amqp_endpoint_links.specs.History.{IsDetach, IsDoneBy, IsHearing}
 use Rattle.amqp_endpoint_links.specs.declared.asking.AskingSession.{AskingSession}
 use Rattle.amqp_endpoint_links.specs.declared.hearing.LinkPerformative.{LinkPerformative}
@@ -44,60 +44,60 @@ module _ {R A T D : Type 0} (gives : Relations R A T D) where
   Same old new = counted new.outgoing ≡ counted old.outgoing
 
   attach-same : (handle : ℕ) (attach : Attach) (told : Result A RelayError) (old new : State R)
-      → Steps gives old (TakesAttach handle attach told) new → Same old new
+      → Step gives old (TakesAttach handle attach told) new → Same old new
   attach-same handle attach told old new s =
       sym (step-keeps gives (TakesAttach handle attach told) old new tt s).counts
 
   detach-same : (handle : ℕ) (detach : Detach) (told : Result D RelayError) (old new : State R)
-      → Steps gives old (TakesDetach handle detach told) new → Same old new
+      → Step gives old (TakesDetach handle detach told) new → Same old new
   detach-same handle detach told old new s =
       sym (step-keeps gives (TakesDetach handle detach told) old new tt s).counts
 
   transfer-same : (handle : ℕ) (transfer : Transfer) (payload : List ℕ) (told : Result (TransferAnswer T) RelayError)
       (due : Option SessionFrame) (old new : State R)
-      → Steps gives old (TakesTransfer handle transfer payload told due) new → Same old new
+      → Step gives old (TakesTransfer handle transfer payload told due) new → Same old new
   transfer-same handle transfer payload (Ok told) due old new s = ap (λ (t : State R). counted t.outgoing) s.3
   transfer-same handle transfer payload (Err e) due old new s = ap (λ (t : State R). counted t.outgoing) s.3
 
   -- one step at most is done, and it is such
-  one-same : (Is : Step R A T D → Type 0)
-      → ((step : Step R A T D) (old new : State R) → Is step → Steps gives old step new → Same old new)
-      → (steps : List (Step R A T D)) (old new : State R) → AtMostOne Is steps → History gives old steps new
+  one-same : (Is : Act R A T D → Type 0)
+      → ((step : Act R A T D) (old new : State R) → Is step → Step gives old step new → Same old new)
+      → (steps : List (Act R A T D)) (old new : State R) → AtMostOne Is steps → History gives old steps new
       → Same old new
   one-same Is by [] old new are same = ap (λ (t : State R). counted t.outgoing) same
   one-same Is by (step ∷ []) old new are (mid, stepped, same) =
       ap (λ (t : State R). counted t.outgoing) same ∙ by step old mid are stepped
   one-same Is by (step ∷ next ∷ steps) old new are h = absurd are
 
-  step-same : (it : LinkPerformative) (step : AskingStep R A T D) (old new : AskingSession R) → IsHearing it step
+  step-same : (it : LinkPerformative) (step : AskingAct R A T D) (old new : AskingSession R) → IsHearing it step
       → ((flow : Flow) → it ≢ said.Flow flow) → (w : Within gives step old new) → Same old.session new.session
   step-same (said.Attach attach named) step old new (result, is) other w =
       one-same (IsAttach attach named)
       (λ s a b i stepped.
-      attach-same (i.handle).0 attach i.told a b (subst (λ (x : Step R A T D). Steps gives a x b) i.is stepped))
+      attach-same (i.handle).0 attach i.told a b (subst (λ (x : Act R A T D). Step gives a x b) i.is stepped))
       w.steps old.session new.session
-      (subst (λ (x : AskingStep R A T D). IsDoneBy x w.steps) is w.are) w.run
+      (subst (λ (x : AskingAct R A T D). IsDoneBy x w.steps) is w.are) w.run
   step-same (said.Flow flow) step old new is other w = absurd (other flow refl)
   step-same (said.Transfer transfer payload) step old new (handle, told, due, is) other w =
       let done : w.steps ≡ TakesTransfer handle transfer payload told due ∷ [] =
-      subst (λ (x : AskingStep R A T D). IsDoneBy x w.steps) is w.are in
-      let run = subst (λ (ss : List (Step R A T D)). History gives old.session ss new.session) done w.run in
+      subst (λ (x : AskingAct R A T D). IsDoneBy x w.steps) is w.are in
+      let run = subst (λ (ss : List (Act R A T D)). History gives old.session ss new.session) done w.run in
       ap (λ (t : State R). counted t.outgoing) (run.2)
       ∙ transfer-same handle transfer payload told due old.session run.0 run.1
   step-same (said.Disposition disposition) step old new (walk, echoes, is) other w =
       let done : w.steps ≡ TakesDisposition disposition walk echoes ∷ [] =
-      subst (λ (x : AskingStep R A T D). IsDoneBy x w.steps) is w.are in
-      let run = subst (λ (ss : List (Step R A T D)). History gives old.session ss new.session) done w.run in
+      subst (λ (x : AskingAct R A T D). IsDoneBy x w.steps) is w.are in
+      let run = subst (λ (ss : List (Act R A T D)). History gives old.session ss new.session) done w.run in
       ap (λ (t : State R). counted t.outgoing) (run.2)
       ∙ sym (step-keeps gives (TakesDisposition disposition walk echoes) old.session run.0 tt run.1).counts
   step-same (said.Detach detach) step old new (result, is) other w =
       one-same (IsDetach detach)
       (λ s a b i stepped.
-      detach-same i.handle detach i.told a b (subst (λ (x : Step R A T D). Steps gives a x b) i.is stepped))
+      detach-same i.handle detach i.told a b (subst (λ (x : Act R A T D). Step gives a x b) i.is stepped))
       w.steps old.session new.session
-      (subst (λ (x : AskingStep R A T D). IsDoneBy x w.steps) is w.are) w.run
+      (subst (λ (x : AskingAct R A T D). IsDoneBy x w.steps) is w.are) w.run
 
-  heard-same : (it : LinkPerformative) (steps : List (AskingStep R A T D)) (old new : AskingSession R)
+  heard-same : (it : LinkPerformative) (steps : List (AskingAct R A T D)) (old new : AskingSession R)
       → AreHearing it steps → ((flow : Flow) → it ≢ said.Flow flow) → AskingHistory gives old steps new
       → Same old.session new.session
   heard-same it [] old new are other same = ap (λ (t : AskingSession R). counted t.session.outgoing) same

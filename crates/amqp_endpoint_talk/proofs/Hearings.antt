@@ -27,7 +27,7 @@ use Rattle.amqp_endpoint_links.specs.Hearing.{Hears, HearsFlow}
 use Rattle.amqp_endpoint_sessions.specs.declared.place.Place.{Place}
 use Rattle.amqp_endpoint_sessions.specs.declared.place.Place.TheVariants as place
 use Rattle.amqp_endpoint_sessions.specs.State.{asked_at, live_at, live_of, reached}
-use Rattle.amqp_endpoint_sessions.specs.Steps.{Steps, TakesBegin, TakesEnd}
+use Rattle.amqp_endpoint_sessions.specs.Steps.{Step, TakesBegin, TakesEnd}
 use Rattle.amqp_endpoint_conversation.specs.declared.beginning.BeginHeard.{BeginHeard}
 use Rattle.amqp_endpoint_conversation.specs.declared.beginning.BeginHeard.TheVariants as begun
 use Rattle.amqp_endpoint_conversation.specs.declared.beginning.BeginRefusal.{BeginRefusal}
@@ -201,7 +201,7 @@ module _ {R A T D : Type 0} (gives : Relations R A T D) (P : State R → Type 0)
   -- the peer's Begin
   module _ (channel : IncomingChannel) (begin : Begin) (begins : BeginsSo channel begin) where
     led : (old : Conversation R) (new : Sessions R) (number : ℕ) (out out_new : List SessionFrame)
-        → Steps old.sessions (TakesBegin number channel begin) new → out_new ≡ out
+        → Step old.sessions (TakesBegin number channel begin) new → out_new ≡ out
         → Hands P F old.sessions new out out_new
     led old new number out out_new stepped same =
         none-handed P F old.sessions new out out_new
@@ -242,7 +242,7 @@ module _ {R A T D : Type 0} (gives : Relations R A T D) (P : State R → Type 0)
   module _ (channel : IncomingChannel) (end : End) (replies : EndsSo) where
     end-heard : (old new : Conversation R) (number : ℕ) (stood : Place (Box AskedSession) (Box (AskingSession R)))
         (ended : Option (Box (AskingSession R))) (out out_new : List SessionFrame)
-        → Steps old.sessions (TakesEnd number channel end stood) new.sessions → EndReply stood ended out out_new
+        → Step old.sessions (TakesEnd number channel end stood) new.sessions → EndReply stood ended out out_new
         → Handed old new out out_new
     end-heard old new number (place.Live outgoing session) ended out out_new stepped reply =
         record {

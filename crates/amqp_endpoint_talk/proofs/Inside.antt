@@ -14,7 +14,7 @@ use Rattle.amqp_session_core.specs.Frames.{Left, behind_frame, frames_behind, fr
 use Rattle.amqp_session_core.specs.History.{History}
 use Rattle.amqp_session_core.specs.Relay.{Relations}
 use Rattle.amqp_session_core.specs.State.{State}
-use Rattle.amqp_session_core.specs.Steps.{Changes, SendsBehind, Step, Steps, at_once}
+use Rattle.amqp_session_core.specs.Steps.{Changes, SendsBehind, Act, Step, at_once}
 use Rattle.amqp_session_core.specs.declared.batch.BehindFrame.{BehindFrame}
 use Rattle.amqp_session_core.specs.declared.batch.BehindFrame.TheVariants as behind
 use Rattle.amqp_session_core.specs.declared.fields.SessionFields.{SessionFields}
@@ -108,19 +108,19 @@ module _ (f : SessionFields) where
 
 module _ {R A T D : Type 0} where
   -- what is handed out by two lists of steps
-  pub handed-both : (first later : List (Step R A T D))
+  pub handed-both : (first later : List (Act R A T D))
       → handed_of (first ++ later) ≡ handed_of first ++ handed_of later
   handed-both [] later = refl
   handed-both (step ∷ first) later =
       ap (λ (fs : List SessionFrame). handed step ++ fs) (handed-both first later)
       ∙ sym (append_assoc (handed step) (handed_of first) (handed_of later))
 
-  still-both : (first later : List (Step R A T D)) → SetNoWindow first → SetNoWindow later
+  still-both : (first later : List (Act R A T D)) → SetNoWindow first → SetNoWindow later
       → SetNoWindow (first ++ later)
   still-both [] later none still = still
   still-both (step ∷ first) later (one, others) still = (one, still-both first later others still)
 
-  pub accepted-both : (first later : List (Step R A T D))
+  pub accepted-both : (first later : List (Act R A T D))
       → accepted_of (first ++ later) ≡ accepted_of first ++ accepted_of later
   accepted-both [] later = refl
   accepted-both (step ∷ first) later =
@@ -131,7 +131,7 @@ module _ {R A T D : Type 0} (gives : Relations R A T D) where
   abbrev channel_of : State R → ℕ
   channel_of s = ((s.fields).channel).0
 
-  pub history-both : (first later : List (Step R A T D)) (old mid new : State R) → History gives old first mid
+  pub history-both : (first later : List (Act R A T D)) (old mid new : State R) → History gives old first mid
       → History gives mid later new → History gives old (first ++ later) new
   history-both [] later old mid new same others = subst (λ (s : State R). History gives s later new) same others
   history-both (step ∷ first) later old mid new (s, stepped, before) others =
@@ -142,8 +142,8 @@ module _ {R A T D : Type 0} (gives : Relations R A T D) where
   none-inside old new is = record { steps = []; history = is; still = tt; accepts = refl; says = refl; on = tt }
 
   -- a step, and what is done behind it
-  pub step-inside : {accepted : Batches} (old mid new : State R) (step : Step R A T D) (frames : List SessionFrame)
-      → Steps gives old step mid → SetsNoWindow step → AreOn (channel_of old) (handed step)
+  pub step-inside : {accepted : Batches} (old mid new : State R) (step : Act R A T D) (frames : List SessionFrame)
+      → Step gives old step mid → SetsNoWindow step → AreOn (channel_of old) (handed step)
       → AcceptsInside gives accepted mid frames new
       → AcceptsInside gives (accepted_in step ++ accepted) old (handed step ++ frames) new
   step-inside old mid new step frames stepped still on d =
@@ -162,7 +162,7 @@ module _ {R A T D : Type 0} (gives : Relations R A T D) where
       }
 
   -- one step alone
-  pub one-inside : (old new : State R) (step : Step R A T D) → Steps gives old step new → SetsNoWindow step
+  pub one-inside : (old new : State R) (step : Act R A T D) → Step gives old step new → SetsNoWindow step
       → AreOn (channel_of old) (handed step) → AcceptsInside gives (accepted_in step) old (handed step) new
   one-inside old new step stepped still on =
       record {
@@ -223,7 +223,7 @@ module _ {R A T D : Type 0} (gives : Relations R A T D) where
   -- a Flow or a Detach of a link leaves at once, or waits
   pub said-inside : (old new : State R) (handle : OutputHandle) (frame : BehindFrame) (left : Option BehindFrame)
       (answer : Option SessionFrame) (frames : List SessionFrame)
-      → Steps gives old (SendsBehind handle frame left answer) new → frames ≡ option_to_list answer
+      → Step gives old (SendsBehind handle frame left answer) new → frames ≡ option_to_list answer
       → DoneInside gives old frames new
   said-inside old new handle frame left answer frames sent are =
       same-inside old new (option_to_list answer) frames are
@@ -233,7 +233,7 @@ module _ {R A T D : Type 0} (gives : Relations R A T D) where
 
   -- a link is changed before
   pub changed-inside : {accepted : Batches} (old mid new : State R) (handle : ℕ) (stood stands : R)
-      (frames : List SessionFrame) → Steps gives old (Changes handle stood stands) mid
+      (frames : List SessionFrame) → Step gives old (Changes handle stood stands) mid
       → AcceptsInside gives accepted mid frames new → AcceptsInside gives accepted old frames new
   changed-inside old mid new handle stood stands frames changed d =
       step-inside old mid new (Changes handle stood stands) frames changed tt tt d

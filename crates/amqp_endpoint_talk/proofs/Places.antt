@@ -14,7 +14,8 @@ use Rattle.amqp_endpoint_sessions.specs.declared.place.PeerEnd.TheVariants.{Miss
 use Rattle.amqp_endpoint_sessions.specs.declared.place.Place.{Place}
 use Rattle.amqp_endpoint_sessions.specs.declared.place.Place.TheVariants.{Asked, Live, Ending, Over}
 use Rattle.amqp_endpoint_sessions.specs.State.{State, ended_place, live_of, told_place, with_asked, with_live}
-use Rattle.amqp_endpoint_sessions.specs.Steps.{Steps, Accepts, Asks, Begins, ChangesAsked, ChangesLive, EndTold, Ends, GivesChannel, TakesBegin, TakesChannelBack, TakesEnd}
+use Rattle.amqp_endpoint_sessions.specs.Steps.{Step, Accepts, Asks, Begins, ChangesAsked, ChangesLive, EndTold, Ends}
+use Rattle.amqp_endpoint_sessions.specs.Steps.{GivesChannel, TakesBegin, TakesChannelBack, TakesEnd}
 use Rattle.amqp_endpoint_model.specs.Relay.{StandsStill}
 
 -- a connection that is as another was stands still, and so on
@@ -143,7 +144,7 @@ module _ {A S : Type 0} (P : S → Type 0) where
       placed old new places is keeps (still-same old.connection new.connection same)
 
   pub begins : (old new : State A S) (number : ℕ) (channel : OutgoingChannel) (session : S) → P session
-      → Steps old (Begins number channel session) new → Keeps old new
+      → Step old (Begins number channel session) new → Keeps old new
   begins old new number channel session holds s =
       placed old new (old.places ++ Live channel session ∷ []) (ap (λ (x : State A S). x.places) s.2)
       (λ all. push old.places (Live channel session) all (λ other live. subst P (same_Some _ _ live) holds))
@@ -154,21 +155,21 @@ module _ {A S : Type 0} (P : S → Type 0) where
 
   pub accepts : (old new : State A S) (number : ℕ) (incoming : IncomingChannel) (asked : A)
       (outgoing : OutgoingChannel) (session : S) → P session
-      → Steps old (Accepts number incoming asked outgoing session) new → Keeps old new
+      → Step old (Accepts number incoming asked outgoing session) new → Keeps old new
   accepts old new number incoming asked outgoing session holds s =
       placed old new (slice_set old.places number (Live outgoing session)) (ap (λ (x : State A S). x.places) s.2)
       (λ all. put old.places number (Live outgoing session) all (λ other live. subst P (same_Some _ _ live) holds))
       (channel-given old.connection new.connection incoming number outgoing s.1)
 
   pub asks : (old new : State A S) (number : ℕ) (channel : IncomingChannel) (asked : A)
-      → Steps old (Asks number channel asked) new → Keeps old new
+      → Step old (Asks number channel asked) new → Keeps old new
   asks old new number channel asked s =
       moved old new (old.places ++ Asked channel asked ∷ []) (ap (λ (x : State A S). x.places) s.2)
       (ap (λ (x : State A S). x.connection) s.2)
       (λ all. push old.places (Asked channel asked) all (λ session live. absurd (none-some _ live)))
 
   pub takes_begin : (old new : State A S) (number : ℕ) (channel : IncomingChannel) (begin : Begin)
-      → Steps old (TakesBegin number channel begin) new → Keeps old new
+      → Step old (TakesBegin number channel begin) new → Keeps old new
   takes_begin old new number channel begin s =
       placed old new old.places (ap (λ (x : State A S). x.places) s.1) (λ all. all)
       (record {
@@ -177,14 +178,14 @@ module _ {A S : Type 0} (P : S → Type 0) where
       })
 
   pub ends : (old new : State A S) (number : ℕ) (channel : OutgoingChannel) (session : S)
-      → Steps old (Ends number channel session) new → Keeps old new
+      → Step old (Ends number channel session) new → Keeps old new
   ends old new number channel session s =
       moved old new (slice_set old.places number (Ending channel)) (ap (λ (x : State A S). x.places) s.1)
       (ap (λ (x : State A S). x.connection) s.1)
       (λ all. put old.places number (Ending channel) all (λ other live. absurd (none-some _ live)))
 
   pub changes_asked : (old new : State A S) (number : ℕ) (before after : A)
-      → Steps old (ChangesAsked number before after) new → Keeps old new
+      → Step old (ChangesAsked number before after) new → Keeps old new
   changes_asked old new number before after s =
       let stood = slice_index_or old.places number (Over Missing false) in
       moved old new (slice_set old.places number (with_asked stood after)) (ap (λ (x : State A S). x.places) s.1)
@@ -193,7 +194,7 @@ module _ {A S : Type 0} (P : S → Type 0) where
       (asked-changed stood after (stands old.places number all)))
 
   pub changes_live : (old new : State A S) (number : ℕ) (before after : S)
-      → Steps old (ChangesLive number before after) new → (P before → P after) → Keeps old new
+      → Step old (ChangesLive number before after) new → (P before → P after) → Keeps old new
   changes_live old new number before after s keeps =
       let stood = slice_index_or old.places number (Over Missing false) in
       moved old new (slice_set old.places number (with_live stood after)) (ap (λ (x : State A S). x.places) s.1)
@@ -201,7 +202,7 @@ module _ {A S : Type 0} (P : S → Type 0) where
       (λ all. put old.places number (with_live stood after) all (changed stood after (keeps (all number before s.0))))
 
   pub takes_end : (old new : State A S) (number : ℕ) (channel : IncomingChannel) (end : End) (stood : Place A S)
-      → Steps old (TakesEnd number channel end stood) new → Keeps old new
+      → Step old (TakesEnd number channel end stood) new → Keeps old new
   takes_end old new number channel end (Asked c a) s =
       moved old new (slice_set old.places number (ended_place (Asked c a))) (ap (λ (x : State A S). x.places) (s.2).1)
       (ap (λ (x : State A S). x.connection) (s.2).1)

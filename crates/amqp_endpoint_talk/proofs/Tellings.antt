@@ -5,7 +5,7 @@ use Rattle.std.proofs.lemmas.List.Elements.{All-head}
 use Rattle.amqp_session_performatives.specs.declared.session_frame.SessionFrame.{SessionFrame}
 use Rattle.amqp_session_core.specs.Relay.{Relations}
 use Rattle.amqp_session_core.specs.State.{State}
-use Rattle.amqp_session_core.specs.Steps.{Steps, TellsFlow}
+use Rattle.amqp_session_core.specs.Steps.{Step, TellsFlow}
 use Rattle.amqp_endpoint_links.specs.declared.asking.AskingSession.{AskingSession}
 use Rattle.amqp_endpoint_sessions.specs.State.{live_at}
 use Rattle.amqp_endpoint_conversation.specs.declared.conversation.Conversation.{Conversation}
@@ -18,7 +18,7 @@ module _ {R A T D : Type 0} (gives : Relations R A T D) (P : State R → Type 0)
   -- a session that tells its state keeps it, and so it is of its Flow
   abbrev pub TellsSo : Type 0
   TellsSo =
-      (before after : State R) (frame : SessionFrame) → Steps gives before (TellsFlow frame) after → P before
+      (before after : State R) (frame : SessionFrame) → Step gives before (TellsFlow frame) after → P before
       → P after × (IsRead frame → F frame)
 
   module _ (old new : Conversation R) (number : ℕ) (out out_new : List SessionFrame) (tells : TellsSo) where

@@ -24,11 +24,11 @@ use Rattle.amqp_session_core.specs.Frames.{Left, behind_frame, frames_behind, fr
 use Rattle.amqp_session_core.specs.History.{History}
 use Rattle.amqp_session_core.specs.Relay.{Relations}
 use Rattle.amqp_session_core.specs.State.{State}
-use Rattle.amqp_session_core.specs.Steps.{Step, Stays, SendsBegin, TakesBegin}
+use Rattle.amqp_session_core.specs.Steps.{Act, Stays, SendsBegin, TakesBegin}
 use Rattle.amqp_session_core.specs.Steps.{SendsEnd, TakesEnd, TakesAttach, TakesFlow}
 use Rattle.amqp_session_core.specs.Steps.{SetsWindow, TakesTransfer, TakesDisposition, TakesDetach, SendsBehind}
 use Rattle.amqp_session_core.specs.Steps.{SendsTransfers, SendsDisposition, TellsFlow, Allocates, Deallocates, Reserves}
-use Rattle.amqp_session_core.specs.Steps.{Changes, Steps, Reply, NoReply, OfSession, OfLink, Replies, reply_frames}
+use Rattle.amqp_session_core.specs.Steps.{Changes, Step, Reply, NoReply, OfSession, OfLink, Replies, reply_frames}
 use Rattle.amqp_session_core.specs.Steps.{SendsDispositionStep, with_table}
 use Rattle.amqp_endpoint_fitting.specs.Handed.{handed, handed_of}
 use Rattle.amqp_endpoint_talk.specs.Inside.{AcceptsInside, Batches, SetNoWindow, SetsNoWindow, is_transfer}
@@ -191,7 +191,7 @@ module _ {R A T D : Type 0} (gives : Relations R A T D) where
   disposition-counts false old new d numbers (none, same) = ap (λ (s : State R). counted s.outgoing) same
 
   -- a step by which the window stays
-  pub step-keeps : (step : Step R A T D) (old new : State R) → SetsNoWindow step → Steps gives old step new
+  pub step-keeps : (step : Act R A T D) (old new : State R) → SetsNoWindow step → Step gives old step new
       → Keeps (counted old.outgoing) (went (handed step)) (counted new.outgoing)
   step-keeps Stays old new still s = keeps-still _ _ (ap (λ t. counted t.outgoing) s)
   step-keeps (SendsBegin frame) old new still s =
@@ -240,7 +240,7 @@ module _ {R A T D : Type 0} (gives : Relations R A T D) where
   step-keeps (Reserves count) old new still s = keeps-still _ _ (ap counted s.0)
   step-keeps (Changes handle before after) old new still s = keeps-still _ _ (ap (λ t. counted t.outgoing) s.1)
 
-  history-keeps : (steps : List (Step R A T D)) (old new : State R) → SetNoWindow steps → History gives old steps new
+  history-keeps : (steps : List (Act R A T D)) (old new : State R) → SetNoWindow steps → History gives old steps new
       → Keeps (counted old.outgoing) (went (handed_of steps)) (counted new.outgoing)
   history-keeps [] old new still same = keeps-still _ _ (ap (λ (s : State R). counted s.outgoing) same)
   history-keeps (step ∷ steps) old new (one, rest) (mid, stepped, more) =
@@ -260,7 +260,7 @@ module _ {R A T D : Type 0} (gives : Relations R A T D) where
 
   -- the peer's Begin is taken
   pub begin-keeps : (channel : IncomingChannel) (begin : Begin) (base : ℕ) (left : Left) (frames : List SessionFrame)
-      (old new : State R) → Steps gives old (TakesBegin channel begin base left frames) new
+      (old new : State R) → Step gives old (TakesBegin channel begin base left frames) new
       → Keeps (counted old.outgoing) (Came (frame_body.Begin begin) ∷ went frames) (counted new.outgoing)
   begin-keeps channel begin base left frames old new (to, base_is, (leaves, held), frames_are, taken, becomes) =
       let opened : ℕ → Sending = λ b. with_window old.outgoing b begin.incoming_window in
@@ -297,7 +297,7 @@ module _ {R A T D : Type 0} (gives : Relations R A T D) where
 
   -- a Flow is
   pub flow-keeps : (flow : Flow) (told : _) (reply : Reply) (base : ℕ) (left : Left) (frames : List SessionFrame)
-      (old new : State R) → Steps gives old (TakesFlow flow told reply base left frames) new
+      (old new : State R) → Step gives old (TakesFlow flow told reply base left frames) new
       → Keeps (counted old.outgoing) (Came (frame_body.Flow flow) ∷ went frames) (counted new.outgoing)
   flow-keeps flow told reply base left frames old new s =
       let c : Count = told_by (frame_body.Flow flow) (counted old.outgoing) in
@@ -313,7 +313,7 @@ module _ {R A T D : Type 0} (gives : Relations R A T D) where
       record { each = all.each; counts = all.counts }
 
   -- or its window is set
-  pub set-keeps : (flow : Flow) (base : ℕ) (old new : State R) → Steps gives old (SetsWindow flow base) new
+  pub set-keeps : (flow : Flow) (base : ℕ) (old new : State R) → Step gives old (SetsWindow flow base) new
       → Keeps (counted old.outgoing) (Came (frame_body.Flow flow) ∷ []) (counted new.outgoing)
   set-keeps flow base old new (leads, is, becomes) =
       record {

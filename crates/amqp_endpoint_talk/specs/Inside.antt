@@ -8,7 +8,7 @@ use Rattle.amqp_session_core.specs.Batch.{Transfers}
 use Rattle.amqp_session_core.specs.History.{History}
 use Rattle.amqp_session_core.specs.Relay.{Relations}
 use Rattle.amqp_session_core.specs.State.{State}
-use Rattle.amqp_session_core.specs.Steps.{SendsTransfers, SetsWindow, Step, TakesBegin, TakesFlow}
+use Rattle.amqp_session_core.specs.Steps.{SendsTransfers, SetsWindow, Act, TakesBegin, TakesFlow}
 use Rattle.amqp_endpoint_fitting.specs.Handed.{handed_of}
 
 abbrev pub is_transfer : SessionFrameBody → Bool
@@ -47,13 +47,13 @@ AreOn channel (frame ∷ frames) = (frame.channel ≡ channel) × IsPlain frame.
 
 module _ {R A T D : Type 0} where
   -- a step by which the peer's window stays as it is
-  abbrev pub SetsNoWindow : Step R A T D → Type 0
+  abbrev pub SetsNoWindow : Act R A T D → Type 0
   SetsNoWindow (TakesBegin channel begin base left frames) = ⊥
   SetsNoWindow (TakesFlow flow told reply base left frames) = ⊥
   SetsNoWindow (SetsWindow flow base) = ⊥
   SetsNoWindow step = Unit {0}
 
-  abbrev pub SetNoWindow : List (Step R A T D) → Type 0
+  abbrev pub SetNoWindow : List (Act R A T D) → Type 0
   SetNoWindow [] = Unit {0}
   SetNoWindow (step ∷ steps) = SetsNoWindow step × SetNoWindow steps
 
@@ -62,11 +62,11 @@ abbrev pub Batches : Type 0
 Batches = List (ℕ × Transfers)
 
 module _ {R A T D : Type 0} where
-  abbrev pub accepted_in : Step R A T D → Batches
+  abbrev pub accepted_in : Act R A T D → Batches
   accepted_in (SendsTransfers handle batch left frames) = (handle.0, batch) ∷ []
   accepted_in step = []
 
-  abbrev pub accepted_of : List (Step R A T D) → Batches
+  abbrev pub accepted_of : List (Act R A T D) → Batches
   accepted_of [] = []
   accepted_of (step ∷ steps) = accepted_in step ++ accepted_of steps
 
@@ -75,7 +75,7 @@ module _ {R A T D : Type 0} (gives : Relations R A T D) where
   -- What is handed out is on its channel, and what links say among it is said by these steps
   pub record AcceptsInside (accepted : Batches) (old : State R) (frames : List SessionFrame) (new : State R) : Type 0
     where
-      pub steps : List (Step R A T D)
+      pub steps : List (Act R A T D)
       pub history : History gives old steps new
       pub still : SetNoWindow steps
       pub accepts : accepted_of steps ≡ accepted

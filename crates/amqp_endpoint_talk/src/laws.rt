@@ -12,11 +12,11 @@ ghost use Rattle.amqp_session_frames.specs.declared.frame.FrameBody.TheVariants 
 ghost use Rattle.amqp_session_performatives.specs.declared.flow.Flow.{Flow};
 ghost use Rattle.amqp_session_performatives.specs.declared.link_flow.LinkFlow.{LinkFlow};
 ghost use Rattle.amqp_endpoint_asked.specs.declared.session.AskedSession.{AskedSession};
-ghost use Rattle.amqp_endpoint_links.specs.History.{AskingHistory, AskingStep};
+ghost use Rattle.amqp_endpoint_links.specs.History.{AskingHistory, AskingAct};
 ghost use Rattle.amqp_endpoint_links.specs.declared.asking.AskingSession.{AskingSession};
 ghost use Rattle.amqp_endpoint_sessions.specs.declared.place.Place.{Place};
 ghost use Rattle.amqp_endpoint_sessions.specs.State.{live_at};
-ghost use Rattle.amqp_endpoint_sessions.specs.Steps.{ChangesLive, EndSent, EndTold, Finished, Steps};
+ghost use Rattle.amqp_endpoint_sessions.specs.Steps.{ChangesLive, EndSent, EndTold, Finished, Step};
 ghost use Rattle.amqp_session_performatives.specs.declared.session_frame.SessionFrame.{SessionFrame};
 ghost use Rattle.amqp_endpoint_conversation.specs.declared.conversation.Conversation.{Conversation};
 ghost use Rattle.amqp_endpoint_conversation.specs.Beginning.{AcceptsHere, BeginAnswered, BeginsHere, Sessions};
@@ -59,14 +59,15 @@ pub fn calls_go_on<R: LinkRelay>()
 /// them.
 pub fn a_session_changed_goes_on<R: LinkRelay>()
     ensures goes { (limit number : ℕ) (old new : Conversation R) (before after : Box (AskingSession R))
-        (steps : List (AskingStep R R.Attached R.Transferred R.Detached)) (frames out : List SessionFrame) →
-        Steps old.sessions (ChangesLive number before after) new.sessions →
+        (steps : List (AskingAct R R.Attached R.Transferred R.Detached))
+        (frames out : List SessionFrame) →
+        Step old.sessions (ChangesLive number before after) new.sessions →
         AskingHistory R.gives before.value steps after.value → AnswersPlain R.gives →
         AllAskingSendFit before.value.session.fields.channel.0 limit steps → AllAskingEndFit limit steps →
         AllAskingHand steps frames → All IsRead frames → Goes limit old new out (out ++ frames) }
     ensures rests { (number : ℕ) (old new : Conversation R) (before after : Box (AskingSession R))
         (out out_new : List SessionFrame) →
-        Steps old.sessions (ChangesLive number before after) new.sessions → Rests old new out out_new }
+        Step old.sessions (ChangesLive number before after) new.sessions → Rests old new out out_new }
 {}
 
 /// What a call does is the same whatever was handed out before: its relation holds of its own frames where nothing was.
@@ -138,14 +139,15 @@ pub fn transfers_keep_to_the_window<R: LinkRelay>()
         AcceptsInside R.gives accepted old frames new →
         Keeps (counted old.outgoing) (went frames) (counted new.outgoing) }
     ensures opened { (channel : IncomingChannel) (begin : Begin) (base : ℕ) (left : Left) (frames : List SessionFrame)
-        (old new : State R) → session.Steps R.gives old (session.TakesBegin channel begin base left frames) new →
+        (old new : State R) → session.Step R.gives old
+        (session.TakesBegin channel begin base left frames) new →
         Keeps (counted old.outgoing) (Came (body.Begin begin) ∷ went frames) (counted new.outgoing) }
     ensures told { (flow : Flow) (link : Option (ℕ × Result (Option LinkFlow) RelayError)) (reply : session.Reply)
         (base : ℕ) (left : Left) (frames : List SessionFrame) (old new : State R) →
-        session.Steps R.gives old (session.TakesFlow flow link reply base left frames) new →
+        session.Step R.gives old (session.TakesFlow flow link reply base left frames) new →
         Keeps (counted old.outgoing) (Came (body.Flow flow) ∷ went frames) (counted new.outgoing) }
     ensures set { (flow : Flow) (base : ℕ) (old new : State R) →
-        session.Steps R.gives old (session.SetsWindow flow base) new →
+        session.Step R.gives old (session.SetsWindow flow base) new →
         Keeps (counted old.outgoing) (Came (body.Flow flow) ∷ []) (counted new.outgoing) }
     ensures heard { (it : LinkPerformative)
         (told : Result (PerformativeTaken R.Attached R.Transferred R.Detached) SessionError)

@@ -7,7 +7,8 @@ use Rattle.amqp_session_performatives.specs.declared.attach.Attach.{Attach}
 use Rattle.amqp_session_performatives.specs.declared.detach.Detach.{Detach}
 use Rattle.amqp_session_performatives.specs.declared.link_flow.LinkFlow.{LinkFlow}
 use Rattle.amqp_session_performatives.specs.declared.transfer.Transfer.{Transfer}
-use Rattle.amqp_session_core.specs.Relay.{LinkSteps, OwnerKeeps, StepKeeps, Attaches, Flows, Transfers, Disposes, Detaches, SendsBatch, SendsFrame, SendsDisposition, Changes}
+use Rattle.amqp_session_core.specs.Relay.{LinkStep, OwnerKeeps, StepKeeps, Attaches, Flows, Transfers, Disposes}
+use Rattle.amqp_session_core.specs.Relay.{Detaches, SendsBatch, SendsFrame, SendsDisposition, Changes}
 use Rattle.amqp_session_core.specs.declared.relay.RelayError.{RelayError}
 use Rattle.amqp_session_core.specs.declared.relay.RelayError.TheVariants.{UnattachedHandle, TransferFrameToSender, Memory}
 use Rattle.amqp_session_core.specs.declared.relay.TransferAnswer.{TransferAnswer}
@@ -24,20 +25,22 @@ use Rattle.amqp_link_sender.specs.Dispositions.{disposed}
 use Rattle.amqp_link_sender.specs.Sending.{Sending, flowed}
 use Rattle.amqp_link_sender.specs.declared.ending.DetachRefusal.TheVariants as refusal
 use Rattle.amqp_link_base.specs.declared.detached.Detached.{Detached}
-use Rattle.amqp_link.specs.History.{SenderHistory, SenderStep, SenderSteps, TakesItsAttach, TakesFlow, TakesDisposition, TakesItsDetach}
-use Rattle.amqp_link.specs.Owner.{EndHistory, EndStep, Owns, change_of, changes_in, changes_of, end_gives, is_owners, owned}
+use Rattle.amqp_link.specs.History.{SenderHistory, SenderAct, SenderStep, TakesItsAttach, TakesFlow, TakesDisposition}
+use Rattle.amqp_link.specs.History.{TakesItsDetach}
+use Rattle.amqp_link.specs.Owner.{EndHistory, EndAct, Owns, change_of, changes_in, changes_of, end_gives, is_owners}
+use Rattle.amqp_link.specs.Owner.{owned}
 
 -- a sending link with a history behind it, in which its owner does these things
-abbrev Own : Sending → End → List SenderStep → Type 0
+abbrev Own : Sending → End → List SenderAct → Type 0
 Own start mid did =
-    (after : Sending) × (own : List SenderStep) × (mid ≡ Sender after)
+    (after : Sending) × (own : List SenderAct) × (mid ≡ Sender after)
     × SenderHistory start own after × (owned own ≡ did)
 
 stays : (s : Sending) (mid : End) → mid ≡ Sender s → Own s mid []
 stays s mid is = (s, [], is, refl, refl)
 
-does : (s after : Sending) (mid : End) (step : SenderStep) (did : List SenderStep) → owned (step ∷ []) ≡ did
-    → mid ≡ Sender after → SenderSteps s step after → Own s mid did
+does : (s after : Sending) (mid : End) (step : SenderAct) (did : List SenderAct) → owned (step ∷ []) ≡ did
+    → mid ≡ Sender after → SenderStep s step after → Own s mid did
 does s after mid step did part is steps = (after, step ∷ [], is, (after, steps, refl), part)
 
 attached : (s : Sending) (attach : Attach) (answer : Result AttachTold RelayError) (mid : End)
@@ -93,7 +96,7 @@ changed : (s : Sending) (before after mid : End) → Sender s ≡ before → mid
     → Own s mid (change_of before after owns)
 changed s (Sender b) (Sender a) mid was is owns =
     let same : b ≡ s = cc in
-    let P : Sending → Type 0 = λ x. SenderSteps x owns.step a in
+    let P : Sending → Type 0 = λ x. SenderStep x owns.step a in
     does s a mid owns.step (owns.step ∷ [])
     (ap (λ (b : Bool). (if b then owns.step ∷ [] else []) ++ []) owns.owned) is (subst P same owns.steps)
 changed s (Sender b) (Receiver r) mid was is owns = absurd owns
@@ -101,7 +104,7 @@ changed s (Receiver b) (Sender a) mid was is owns = absurd owns
 changed s (Receiver b) (Receiver r) mid was is owns = absurd cc
 
 -- one step
-one : (s : Sending) (mid : End) (step : EndStep) → LinkSteps end_gives (Sender s) step mid
+one : (s : Sending) (mid : End) (step : EndAct) → LinkStep end_gives (Sender s) step mid
     → (keeps : StepKeeps Owns step) → Own s mid (changes_in step keeps)
 one s mid (Attaches attach answer) h keeps = attached s attach answer mid h
 one s mid (Flows flow answer) h keeps = flows (standing_of s.base.local_state) s flow answer mid h
@@ -115,18 +118,18 @@ one s mid (SendsDisposition d) h keeps = stays s mid h
 one s mid (Changes before after) (was, is) keeps = changed s before after mid was is keeps
 
 -- one history behind another
-joined : (start mid end : Sending) (xs ys : List SenderStep) → SenderHistory start xs mid → SenderHistory mid ys end
+joined : (start mid end : Sending) (xs ys : List SenderAct) → SenderHistory start xs mid → SenderHistory mid ys end
     → SenderHistory start (xs ++ ys) end
 joined start mid end [] ys first second = let P : Sending → Type 0 = λ x. SenderHistory x ys end in subst P first second
 joined start mid end (x ∷ xs) ys (next, steps, rest) second = (next, steps, joined next mid end xs ys rest second)
 
-owned-append : (xs ys : List SenderStep) → owned (xs ++ ys) ≡ owned xs ++ owned ys
+owned-append : (xs ys : List SenderAct) → owned (xs ++ ys) ≡ owned xs ++ owned ys
 owned-append [] ys = refl
 owned-append (x ∷ xs) ys =
-    let first : List SenderStep = if is_owners x then x ∷ [] else [] in
-    ap (λ (l : List SenderStep). first ++ l) (owned-append xs ys) ∙ sym (append_assoc first (owned xs) (owned ys))
+    let first : List SenderAct = if is_owners x then x ∷ [] else [] in
+    ap (λ (l : List SenderAct). first ++ l) (owned-append xs ys) ∙ sym (append_assoc first (owned xs) (owned ys))
 
-behind : (start : Sending) (mid end : End) (steps : List EndStep) (did later : List SenderStep) → Own start mid did
+behind : (start : Sending) (mid end : End) (steps : List EndAct) (did later : List SenderAct) → Own start mid did
     → EndHistory mid steps end → ((s : Sending) → EndHistory (Sender s) steps end → Own s end later)
     → Own start end (did ++ later)
 behind start mid end steps did later (after, own, is, history, part) others go =
@@ -140,11 +143,11 @@ behind start mid end steps did later (after, own, is, history, part) others go =
       is,
       joined start after last own more history rest,
       owned-append own more
-          ∙ ap (λ (l : List SenderStep). l ++ owned more) part
-          ∙ ap (λ (l : List SenderStep). did ++ l) others,
+          ∙ ap (λ (l : List SenderAct). l ++ owned more) part
+          ∙ ap (λ (l : List SenderAct). did ++ l) others,
     )
 
-pub has_history : (start : Sending) (end : End) (steps : List EndStep) → EndHistory (Sender start) steps end
+pub has_history : (start : Sending) (end : End) (steps : List EndAct) → EndHistory (Sender start) steps end
     → (keeps : OwnerKeeps Owns steps) → Own start end (changes_of steps keeps)
 has_history start end [] is keeps = stays start end is
 has_history start end (step ∷ steps) (mid, first, others) (keep, keeps) =

@@ -24,7 +24,9 @@ use Rattle.amqp_link_sender.specs.Sends.{sent}
 use Rattle.amqp_link_sender.specs.declared.attaching.AttachAnswer.{AttachAnswer}
 use Rattle.amqp_link_sender.specs.declared.ending.DetachRefusal.{DetachRefusal}
 use Rattle.amqp_link_base.specs.declared.detached.Detached.{Detached}
-use Rattle.amqp_link.specs.History.{SenderStep, SenderSteps, TakesItsAttach, TakesFlow, TakesDisposition, TakesItsDetach, MakesRoom, Sends, SendsOn, SendsAttach, SendsAttachAnew, SendsDetach, Breaks, Takes, Sets, sent_by, taken_by, tag_of, key_of}
+use Rattle.amqp_link.specs.History.{SenderAct, SenderStep, TakesItsAttach, TakesFlow, TakesDisposition}
+use Rattle.amqp_link.specs.History.{TakesItsDetach, MakesRoom, Sends, SendsOn, SendsAttach, SendsAttachAnew}
+use Rattle.amqp_link.specs.History.{SendsDetach, Breaks, Takes, Sets, sent_by, taken_by, tag_of, key_of}
 use Rattle.amqp_link.specs.Times.{once_if, times, times_in}
 use Rattle.amqp_link.proofs.Counting.{total, in-append, total-disposed, total-exchanged, total-failed}
 
@@ -82,7 +84,7 @@ module _ (tag : List ℕ) where
   of-taken new (Some e) = omega arith
 
   -- one step
-  pub counted : (old new : Sending) (step : SenderStep) → SenderSteps old step new
+  pub counted : (old new : Sending) (step : SenderAct) → SenderStep old step new
       → of new + times tag (taken_by step) ≡ of old + times tag (sent_by step)
   counted old new (TakesItsAttach attach answer) taken =
       omega (arith, attach_moved (took_attach old.base attach) old new attach answer taken)

@@ -20,46 +20,46 @@ use Rattle.amqp_link_sender.specs.declared.attaching.AttachAnswer.{AttachAnswer}
 use Rattle.amqp_link_sender.specs.declared.ending.DetachRefusal.{DetachRefusal}
 use Rattle.amqp_link_base.specs.declared.detached.Detached.{Detached}
 
-pub data SenderStep : Type 0 where
+pub data SenderAct : Type 0 where
   -- frames of the receiver, and what is answered to them
-  TakesItsAttach : (attach : Attach) (answer : Result AttachAnswer AllocError) → SenderStep
-  TakesFlow : (flow : LinkFlow) → SenderStep
-  TakesDisposition : (tag : List ℕ) (settled : Bool) (state : Option DeliveryState) → SenderStep
-  TakesItsDetach : (closed : Bool) (error : Option Error) (answer : Result Detached DetachRefusal) → SenderStep
+  TakesItsAttach : (attach : Attach) (answer : Result AttachAnswer AllocError) → SenderAct
+  TakesFlow : (flow : LinkFlow) → SenderAct
+  TakesDisposition : (tag : List ℕ) (settled : Bool) (state : Option DeliveryState) → SenderAct
+  TakesItsDetach : (closed : Bool) (error : Option Error) (answer : Result Detached DetachRefusal) → SenderAct
   -- room is made for messages
-  MakesRoom : (count : ℕ) → SenderStep
+  MakesRoom : (count : ℕ) → SenderAct
   -- a message is sent, which is open from then on or goes settled
-  Sends : (entry : Option Open) → SenderStep
+  Sends : (entry : Option Open) → SenderAct
   -- one that is open is sent on
-  SendsOn : SenderStep
-  SendsAttach : (incomplete : Bool) (answer : Result (Unit {0}) IllegalState) → SenderStep
-  SendsAttachAnew : (answer : Result (Unit {0}) IllegalState) → SenderStep
-  SendsDetach : (closed : Bool) (answer : Result (Unit {0}) IllegalState) → SenderStep
+  SendsOn : SenderAct
+  SendsAttach : (incomplete : Bool) (answer : Result (Unit {0}) IllegalState) → SenderAct
+  SendsAttachAnew : (answer : Result (Unit {0}) IllegalState) → SenderAct
+  SendsDetach : (closed : Bool) (answer : Result (Unit {0}) IllegalState) → SenderAct
   -- the connection or the session is over
-  Breaks : SenderStep
+  Breaks : SenderAct
   -- the owner takes what became of a message
-  Takes : (taken : Option (List ℕ × Resolution)) → SenderStep
+  Takes : (taken : Option (List ℕ × Resolution)) → SenderAct
   -- the own handle or the properties change
-  Sets : (handle : Option OutputHandle) (properties : Option Properties) → SenderStep
+  Sets : (handle : Option OutputHandle) (properties : Option Properties) → SenderAct
 
 -- the link before and behind
-abbrev pub SenderSteps : Sending → SenderStep → Sending → Type 0
-SenderSteps old (TakesItsAttach attach answer) new = TakesAttach old attach answer new
-SenderSteps old (TakesFlow flow) new = new ≡ flowed old flow
-SenderSteps old (TakesDisposition tag settled state) new = new ≡ disposed old tag settled state
-SenderSteps old (TakesItsDetach closed error answer) new = TakesDetach (detach_taken old closed error) old answer new
-SenderSteps old (MakesRoom count) new =
+abbrev pub SenderStep : Sending → SenderAct → Sending → Type 0
+SenderStep old (TakesItsAttach attach answer) new = TakesAttach old attach answer new
+SenderStep old (TakesFlow flow) new = new ≡ flowed old flow
+SenderStep old (TakesDisposition tag settled state) new = new ≡ disposed old tag settled state
+SenderStep old (TakesItsDetach closed error answer) new = TakesDetach (detach_taken old closed error) old answer new
+SenderStep old (MakesRoom count) new =
     new ≡ record old { messages = record old.messages { room = max old.messages.room count } }
-SenderSteps old (Sends entry) new = new ≡ sent old entry
-SenderSteps old SendsOn new = new ≡ sent_on old
-SenderSteps old (SendsAttach incomplete answer) new = MovesLink (attach_sent old incomplete) old answer new
-SenderSteps old (SendsAttachAnew answer) new = MovesLink (attach_sent_anew old) old answer new
-SenderSteps old (SendsDetach closed answer) new = MovesLink (detach_sent old closed) old answer new
-SenderSteps old Breaks new = new ≡ broken old
-SenderSteps old (Takes taken) new =
+SenderStep old (Sends entry) new = new ≡ sent old entry
+SenderStep old SendsOn new = new ≡ sent_on old
+SenderStep old (SendsAttach incomplete answer) new = MovesLink (attach_sent old incomplete) old answer new
+SenderStep old (SendsAttachAnew answer) new = MovesLink (attach_sent_anew old) old answer new
+SenderStep old (SendsDetach closed answer) new = MovesLink (detach_sent old closed) old answer new
+SenderStep old Breaks new = new ≡ broken old
+SenderStep old (Takes taken) new =
     old
     ≡ record new { messages = record new.messages { resolved = option_to_list taken ++ new.messages.resolved } }
-SenderSteps old (Sets handle properties) new =
+SenderStep old (Sets handle properties) new =
     new
     ≡ record old {
       base = record old.base { output_handle = handle };
@@ -67,9 +67,9 @@ SenderSteps old (Sets handle properties) new =
     }
 
 -- the links around a list of steps
-abbrev pub SenderHistory : Sending → List SenderStep → Sending → Type 0
+abbrev pub SenderHistory : Sending → List SenderAct → Sending → Type 0
 SenderHistory start [] end = end ≡ start
-SenderHistory start (step ∷ steps) end = (mid : Sending) × SenderSteps start step mid × SenderHistory mid steps end
+SenderHistory start (step ∷ steps) end = (mid : Sending) × SenderStep start step mid × SenderHistory mid steps end
 
 abbrev pub tag_of : Option Open → List (List ℕ)
 tag_of None = []
@@ -80,19 +80,19 @@ key_of None = []
 key_of (Some e) = e.0 ∷ []
 
 -- the tag of a message that a step sends unsettled
-abbrev pub sent_by : SenderStep → List (List ℕ)
+abbrev pub sent_by : SenderAct → List (List ℕ)
 sent_by (Sends entry) = tag_of entry
 sent_by step = []
 
-abbrev pub sent_in : List SenderStep → List (List ℕ)
+abbrev pub sent_in : List SenderAct → List (List ℕ)
 sent_in [] = []
 sent_in (step ∷ steps) = sent_by step ++ sent_in steps
 
 -- the tag of a message of which the owner takes what became of it
-abbrev pub taken_by : SenderStep → List (List ℕ)
+abbrev pub taken_by : SenderAct → List (List ℕ)
 taken_by (Takes taken) = key_of taken
 taken_by step = []
 
-abbrev pub taken_in : List SenderStep → List (List ℕ)
+abbrev pub taken_in : List SenderAct → List (List ℕ)
 taken_in [] = []
 taken_in (step ∷ steps) = taken_by step ++ taken_in steps

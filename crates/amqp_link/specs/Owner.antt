@@ -4,7 +4,7 @@ use Rattle.amqp_session_types.specs.declared.handles.OutputHandle.{OutputHandle}
 use Rattle.amqp_session_states.specs.declared.delivery_state.DeliveryState.{DeliveryState}
 use Rattle.amqp_link_base.specs.declared.base.IllegalState.{IllegalState}
 use Rattle.amqp_link_flow.specs.Flows.{draining}
-use Rattle.amqp_session_core.specs.Relay.{Changes, LinkHistory, LinkStep, OwnerKeeps, Relations, StepKeeps}
+use Rattle.amqp_session_core.specs.Relay.{Changes, LinkHistory, LinkAct, OwnerKeeps, Relations, StepKeeps}
 use Rattle.amqp_link_receiving.specs.declared.answer.Told.{Told}
 use Rattle.amqp_link_base.specs.declared.detached.Detached.{Detached}
 use Rattle.amqp_link_ends.specs.Gives.{attaches, flows, transfers, disposes, detaches}
@@ -18,22 +18,22 @@ use Rattle.amqp_link_receiver.specs.Ending as receiver_ending
 use Rattle.amqp_link_receiver.specs.Flowing.{credited, with_flow}
 use Rattle.amqp_link_receiver.specs.State.{MovesLink, ReceiverState}
 use Rattle.amqp_link_sender.specs.Sending.{Sending}
-use Rattle.amqp_link.specs.History.{SenderStep, SenderSteps, TakesItsAttach, TakesFlow, TakesDisposition}
+use Rattle.amqp_link.specs.History.{SenderAct, SenderStep, TakesItsAttach, TakesFlow, TakesDisposition}
 use Rattle.amqp_link.specs.History.{TakesItsDetach}
 
 -- what an end of a link does, as its session sees it
-abbrev pub EndStep : Type 0
-EndStep = LinkStep End AttachTold Told Detached
+abbrev pub EndAct : Type 0
+EndAct = LinkAct End AttachTold Told Detached
 
 abbrev pub end_gives : Relations End AttachTold Told Detached
 end_gives =
     record { attaches = attaches; flows = flows; transfers = transfers; disposes = disposes; detaches = detaches }
 
-abbrev pub EndHistory : End → List EndStep → End → Type 0
+abbrev pub EndHistory : End → List EndAct → End → Type 0
 EndHistory start steps end = LinkHistory end_gives start steps end
 
 -- a step that isn't a frame of the receiver is the owner's
-abbrev pub is_owners : SenderStep → Bool
+abbrev pub is_owners : SenderAct → Bool
 is_owners (TakesItsAttach attach answer) = false
 is_owners (TakesFlow flow) = false
 is_owners (TakesDisposition tag settled state) = false
@@ -42,9 +42,9 @@ is_owners step = true
 
 -- the owner of a sending link does one thing
 pub record OwnsSender (old new : Sending) : Type 0 where
-  pub step : SenderStep
+  pub step : SenderAct
   pub owned : is_owners step ≡ true
-  pub steps : SenderSteps old step new
+  pub steps : SenderStep old step new
 
 pub data ReceiverCall : Type 0 where
   -- so much credit is given
@@ -85,22 +85,22 @@ Owns (Receiver r) (Receiver t) = OwnsReceiver r t
 Owns old new = ⊥
 
 -- what an owner's change comes to, of a link that sends
-abbrev pub change_of : (before after : End) → Owns before after → List SenderStep
+abbrev pub change_of : (before after : End) → Owns before after → List SenderAct
 change_of (Sender s) (Sender t) owns = owns.step ∷ []
 change_of (Sender s) (Receiver t) owns = []
 change_of (Receiver r) (Sender t) owns = []
 change_of (Receiver r) (Receiver t) owns = []
 
-abbrev pub changes_in : (step : EndStep) → StepKeeps Owns step → List SenderStep
+abbrev pub changes_in : (step : EndAct) → StepKeeps Owns step → List SenderAct
 changes_in (Changes before after) keeps = change_of before after keeps
 changes_in step keeps = []
 
 -- what all of an owner's changes come to
-abbrev pub changes_of : (steps : List EndStep) → OwnerKeeps Owns steps → List SenderStep
+abbrev pub changes_of : (steps : List EndAct) → OwnerKeeps Owns steps → List SenderAct
 changes_of [] keeps = []
 changes_of (step ∷ steps) keeps = changes_in step keeps.0 ++ changes_of steps keeps.1
 
 -- those of a link's steps that are its owner's
-abbrev pub owned : List SenderStep → List SenderStep
+abbrev pub owned : List SenderAct → List SenderAct
 owned [] = []
 owned (step ∷ steps) = (if is_owners step then step ∷ [] else []) ++ owned steps

@@ -5,7 +5,9 @@ use Rattle.amqp_session_types.specs.declared.handles.OutputHandle.{OutputHandle}
 use Rattle.amqp_session_performatives.specs.declared.link_flow.LinkFlow.{LinkFlow}
 use Rattle.amqp_link_flow.specs.declared.inner.LinkFlowStateInner.{LinkFlowStateInner}
 use Rattle.amqp_link_flow.specs.Flows.{sender_flowed, sender_answer, receiver_flowed, receiver_answer, consumed, granted, draining, shown, StandsAt, credit_limit, ahead}
-use Rattle.amqp_link_flow.specs.World.{FromSender, Message, Tells, World, Act, Sends, Grants, Drains, SenderTells, ReceiverTells, SenderTakes, ReceiverTakes, begun, behind, Shows, SenderTakesOf, ReceiverTakesOf, Steps, Runs}
+use Rattle.amqp_link_flow.specs.World.{FromSender, Message, Tells, World, Act, Sends, Grants, Drains, SenderTells}
+use Rattle.amqp_link_flow.specs.World.{ReceiverTells, SenderTakes, ReceiverTakes, begun, behind, Shows, SenderTakesOf}
+use Rattle.amqp_link_flow.specs.World.{ReceiverTakesOf, Step, Runs}
 use Rattle.amqp_link_flow.proofs.Ends.{sender-takes, sender-drained, receiver-keeps, consumed-keeps, limit-moves}
 
 -- what is on its way to the receiver leads it from one count to another
@@ -294,7 +296,7 @@ receiver-takes-of w h [] handle new e s = subst (λ (n : World). Moved w h n) (s
 receiver-takes-of w h (Message ∷ later) handle new e s = subst (λ (n : World). Moved w h n) (sym s.1) (message-taken w h later e)
 receiver-takes-of w h (Tells flow ∷ later) handle new e s = subst (λ (n : World). Moved w h n) (sym s) (receiver-flowed w h flow later handle e)
 
-step-moves : (old new : World) (act : Act) → Steps old act new → (h : Holds old) → Moved old h new
+step-moves : (old new : World) (act : Act) → Step old act new → (h : Holds old) → Moved old h new
 step-moves old new Sends s h = subst (λ (w : World). Moved old h w) (sym s.1) (sends old h s.0)
 step-moves old new (Grants credit) s h = subst (λ (w : World). Moved old h w) (sym s.2) (grants old h credit s.0 s.1)
 step-moves old new Drains s h = subst (λ (w : World). Moved old h w) (sym s) (drains old h)
@@ -317,7 +319,8 @@ never-refused sender receiver acts end fits run later e =
     message-left end (runs-hold (begun sender receiver) end acts run (begun-holds sender receiver fits)) later e
 
 pub moves-on : (sender receiver : LinkFlowStateInner) (acts : List Act) (old new : World) (act : Act) → sender.delivery_count < 2 ^ 32 → Runs (begun sender receiver) acts old
-    → Steps old act new → (ahead (credit_limit new.receiver) (credit_limit old.receiver) < 2 ^ 31) × (ahead (credit_limit new.sender) (credit_limit old.sender) < 2 ^ 31)
+    → Step old act new → (ahead (credit_limit new.receiver) (credit_limit old.receiver) < 2 ^ 31)
+    × (ahead (credit_limit new.sender) (credit_limit old.sender) < 2 ^ 31)
 moves-on sender receiver acts old new act fits run step =
     let h = runs-hold (begun sender receiver) old acts run (begun-holds sender receiver fits) in
     let m = step-moves old new act step h in (

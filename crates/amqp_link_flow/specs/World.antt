@@ -79,22 +79,22 @@ ReceiverTakesOf (Tells flow ∷ later) handle old new =
     }
 
 -- a sender sends where it has credit, and a receiver takes no credit back and gives less than 2^31
-abbrev pub Steps : World → Act → World → Type 0
-Steps old Sends new =
+abbrev pub Step : World → Act → World → Type 0
+Step old Sends new =
     (1 ≤ old.sender.link_credit)
     × (new ≡ record old { sender = consumed old.sender 1; to_receiver = old.to_receiver ++ Message ∷ [] })
-Steps old (Grants credit) new =
+Step old (Grants credit) new =
     (old.receiver.link_credit ≤ credit) × (credit < 2 ^ 31)
     × (new ≡ record old { receiver = granted old.receiver credit })
-Steps old Drains new = new ≡ record old { receiver = draining old.receiver }
-Steps old (SenderTells flow) new =
+Step old Drains new = new ≡ record old { receiver = draining old.receiver }
+Step old (SenderTells flow) new =
     Shows old.sender flow × (new ≡ record old { to_receiver = old.to_receiver ++ Tells flow ∷ [] })
-Steps old (ReceiverTells flow) new =
+Step old (ReceiverTells flow) new =
     Shows old.receiver flow × (new ≡ record old { to_sender = old.to_sender ++ flow ∷ [] })
-Steps old (SenderTakes handle) new = SenderTakesOf old.to_sender handle old new
-Steps old (ReceiverTakes handle) new = ReceiverTakesOf old.to_receiver handle old new
+Step old (SenderTakes handle) new = SenderTakesOf old.to_sender handle old new
+Step old (ReceiverTakes handle) new = ReceiverTakesOf old.to_receiver handle old new
 
 -- one thing after the other
 abbrev pub Runs : World → List Act → World → Type 0
 Runs start [] end = end ≡ start
-Runs start (act ∷ acts) end = (mid : World) × Steps start act mid × Runs mid acts end
+Runs start (act ∷ acts) end = (mid : World) × Step start act mid × Runs mid acts end

@@ -4,7 +4,7 @@ ghost use Rattle.std.specs.Prelude.{◌≡◌, ℕ, ◌+◌, ◌%◌, ◌^◌, �
 ghost use Rattle.amqp_session_performatives.specs.declared.link_flow.LinkFlow.{LinkFlow};
 ghost use Rattle.amqp_link_flow.specs.declared.inner.LinkFlowStateInner.{LinkFlowStateInner};
 ghost use Rattle.amqp_link_flow.specs.Flows.{ahead, StandsAt, credit_limit, sender_flowed, receiver_flowed, consumed};
-ghost use Rattle.amqp_link_flow.specs.World.{World, Act, FromSender, Message, begun, Steps, Runs};
+ghost use Rattle.amqp_link_flow.specs.World.{World, Act, FromSender, Message, begun, Step, Runs};
 
 /// By a Flow that reaches at least as far as the sender has come, the sender's limit becomes its receiver's: the Flow
 /// is of a receiver that has counted `theirs` and gives `credit`.
@@ -60,7 +60,7 @@ pub fn no_message_is_refused()
 /// stays.
 pub fn limits_move_on()
     ensures { (sender receiver : LinkFlowStateInner) (acts : List Act) (old new : World) (act : Act) →
-        sender.delivery_count < 2 ^ 32 → Runs (begun sender receiver) acts old → Steps old act new →
+        sender.delivery_count < 2 ^ 32 → Runs (begun sender receiver) acts old → Step old act new →
         (ahead (credit_limit new.receiver) (credit_limit old.receiver) < 2 ^ 31)
         × (ahead (credit_limit new.sender) (credit_limit old.sender) < 2 ^ 31) }
 {}

@@ -13,20 +13,20 @@ use std::alloc::{AllocError, Global};
 /// A delivery that is coming in, with its bytes as they are kept (part 2, 2.6.14).
 #[derive(Drop)]
 pub struct Incoming<P> {
-    /// Its number, as its first transfer told it.
-    pub delivery_id: u32,
     /// What the link calls it, as its first transfer told it.
     pub delivery_tag: DeliveryTag,
+    /// Its number, as its first transfer told it.
+    pub delivery_id: u32,
     /// How the message is encoded, once a transfer told it.
     pub message_format: Option<u32>,
     /// Whether a transfer said that the sender has settled it.
     pub settled: bool,
     /// How the receiver is to settle it, as its first transfer told it.
     pub rcv_settle_mode: Option<ReceiverSettleMode>,
-    /// The bytes of the message that have come.
-    pub payload: P,
     /// Whether the message was received whole in an earlier attachment: what comes of it again is passed over.
     pub joins: bool,
+    /// The bytes of the message that have come.
+    pub payload: P,
 }
 
 impl Incoming<Gathered> {

@@ -8,7 +8,10 @@ use Rattle.amqp_session_types.specs.declared.refusals.BeginError.TheVariants as 
 use Rattle.amqp_session_connection.specs.declared.state.ConnectionState.{ConnectionState}
 use Rattle.amqp_session_connection.specs.declared.state.ConnectionState.TheVariants.{Start}
 use Rattle.amqp_session_connection.specs.State.{State}
-use Rattle.amqp_session_connection.specs.Steps.{Step, Steps, History, DeallocateSession, SetsStopReason, SendsHeader, TakesHeader, SendsOpen, TakesOpen, SendsClose, TakesClose, SendsBegin, SendsEnd, AllocatesSession, DeallocatesSession, TakesBegin, AcceptsRoute, TakesEnd, FindsSession}
+use Rattle.amqp_session_connection.specs.Steps.{Act, Step, History, DeallocateSession, SetsStopReason, SendsHeader}
+use Rattle.amqp_session_connection.specs.Steps.{TakesHeader, SendsOpen, TakesOpen, SendsClose, TakesClose, SendsBegin}
+use Rattle.amqp_session_connection.specs.Steps.{SendsEnd, AllocatesSession, DeallocatesSession, TakesBegin}
+use Rattle.amqp_session_connection.specs.Steps.{AcceptsRoute, TakesEnd, FindsSession}
 use Rattle.amqp_session_connection.specs.Table.{after_send_header, after_incoming_header, after_incoming_open, after_send_close, after_incoming_close}
 use Rattle.amqp_session_connection.specs.Told.{row, is_illegal, moved, state_after}
 use Rattle.amqp_session_connection.proofs.Histories.{last_step}
@@ -25,7 +28,8 @@ deallocated : (old new : State) (channel : ℕ) (session : Option ℕ) → Deall
 deallocated old new channel None s = ap (λ (s : State). s.local_state) s
 deallocated old new channel (Some session) s = ap (λ (s : State). s.local_state) s
 
-pub step_moves : (step : Step) (old new : State) → Steps old step new → moved step (Some old.local_state) ≡ Some new.local_state
+pub step_moves : (step : Act) (old new : State) → Step old step new
+    → moved step (Some old.local_state) ≡ Some new.local_state
 step_moves (SetsStopReason reason) old new s = kept old new (ap (λ (s : State). s.local_state) s)
 step_moves (SendsHeader (Err e)) old new s = same old new s.2
 step_moves (SendsHeader (Ok x)) old new s = s.0
@@ -52,7 +56,8 @@ step_moves (TakesEnd channel ending (Err e)) old new s = same old new s.2
 step_moves (TakesEnd channel ending (Ok session)) old new s = kept old new (ap (λ (s : State). s.local_state) s.1)
 step_moves (FindsSession channel answer) old new s = same old new s.1
 
-pub history_follows : (steps : List Step) (start end : State) → History start steps end → state_after (Some start.local_state) steps ≡ Some end.local_state
+pub history_follows : (steps : List Act) (start end : State) → History start steps end
+    → state_after (Some start.local_state) steps ≡ Some end.local_state
 history_follows [] start end run = same start end run
 history_follows (step ∷ steps) start end run =
     ap (λ (o : Option ConnectionState). state_after o steps) (step_moves step start run.0 run.1) ∙ history_follows steps run.0 end run.2
@@ -69,7 +74,8 @@ present (Some state) s = (λ e. absurd cc, λ e. absurd (none-some _ (sym e)))
 illegal : (next : Option ConnectionState) → next ≡ None → (true ≡ true) ↔ (next ≡ None)
 illegal next e = (λ _. e, λ _. refl)
 
-illegal_exactly : (step : Step) (old new : State) → Steps old step new → IsTrue (is_illegal step) ↔ (row step old.local_state ≡ None)
+illegal_exactly : (step : Act) (old new : State) → Step old step new
+    → IsTrue (is_illegal step) ↔ (row step old.local_state ≡ None)
 illegal_exactly (SetsStopReason reason) old new s = legal false _ refl refl
 illegal_exactly (SendsHeader (Err e)) old new s = subst (λ e. IsTrue (is_illegal (SendsHeader (Err e))) ↔ (after_send_header old.local_state ≡ None)) (sym s.0) (illegal _ s.1)
 illegal_exactly (SendsHeader (Ok x)) old new s = legal false _ refl s.0
@@ -113,7 +119,8 @@ illegal_exactly (TakesEnd channel ending (Err e)) old new s = subst (λ e. IsTru
 illegal_exactly (TakesEnd channel ending (Ok session)) old new s = legal false _ refl refl
 illegal_exactly (FindsSession channel answer) old new s = legal false _ refl refl
 
-pub refused_by_table : (start end : State) (steps : List Step) (step : Step) (state : ConnectionState) → History start (steps ++ step ∷ []) end
+pub refused_by_table : (start end : State) (steps : List Act) (step : Act) (state : ConnectionState)
+    → History start (steps ++ step ∷ []) end
     → state_after (Some start.local_state) steps ≡ Some state → IsTrue (is_illegal step) ↔ (row step state ≡ None)
 refused_by_table start end steps step state run is =
     let l = last_step steps step start end run in

@@ -7,7 +7,10 @@ use Rattle.amqp_session_frames.specs.declared.frame.FrameBody.{FrameBody}
 use Rattle.amqp_session_connection.specs.declared.state.ConnectionState.{ConnectionState}
 use Rattle.amqp_session_connection.specs.declared.state.ConnectionState.TheVariants.{Start, HeaderReceived, HeaderSent, HeaderExchange, OpenPipe, OpenClosePipe, OpenReceived, OpenSent, ClosePipe, Opened, CloseReceived, CloseSent, Discarding, End}
 use Rattle.amqp_session_connection.specs.State.{State}
-use Rattle.amqp_session_connection.specs.Steps.{Step, Steps, History, SetsStopReason, SendsHeader, TakesHeader, SendsOpen, TakesOpen, SendsClose, TakesClose, SendsBegin, SendsEnd, AllocatesSession, DeallocatesSession, TakesBegin, AcceptsRoute, TakesEnd, FindsSession}
+use Rattle.amqp_session_connection.specs.Steps.{Act, Step, History, SetsStopReason, SendsHeader, TakesHeader}
+use Rattle.amqp_session_connection.specs.Steps.{SendsOpen, TakesOpen, SendsClose, TakesClose, SendsBegin, SendsEnd}
+use Rattle.amqp_session_connection.specs.Steps.{AllocatesSession, DeallocatesSession, TakesBegin, AcceptsRoute}
+use Rattle.amqp_session_connection.specs.Steps.{TakesEnd, FindsSession}
 use Rattle.amqp_session_connection.specs.Told.{frame_of, frames_out, says_open, says_close}
 use Rattle.amqp_session_connection.proofs.Following.{step_moves}
 use Rattle.amqp_session_connection.proofs.States.{opens_left, closes_left, Spends, send_header_moves, incoming_header_moves, send_open_moves, incoming_open_moves, send_close_moves, incoming_close_moves}
@@ -32,7 +35,8 @@ stayed old new frames a b e =
 none : (old new : State) → Spends 0 0 old.local_state new.local_state → Within old.local_state [] new.local_state
 none old new s = record { opens = omega (arith, s.opened); closes = omega (arith, s.closed) }
 
-step_within : (step : Step) (old new : State) → Steps old step new → Within old.local_state (frame_of step) new.local_state
+step_within : (step : Act) (old new : State) → Step old step new
+    → Within old.local_state (frame_of step) new.local_state
 step_within (SetsStopReason reason) old new s = stayed old new [] refl refl (step_moves (SetsStopReason reason) old new s)
 step_within (SendsHeader (Err e)) old new s = stayed old new [] refl refl (step_moves (SendsHeader (Err e)) old new s)
 step_within (SendsHeader (Ok x)) old new s = none old new (send_header_moves old.local_state new.local_state s.0)
@@ -65,7 +69,8 @@ step_within (TakesEnd channel ending (Err e)) old new s = stayed old new [] refl
 step_within (TakesEnd channel ending (Ok session)) old new s = stayed old new [] refl refl (step_moves (TakesEnd channel ending (Ok session)) old new s)
 step_within (FindsSession channel answer) old new s = stayed old new [] refl refl (step_moves (FindsSession channel answer) old new s)
 
-history_within : (steps : List Step) (start end : State) → History start steps end → Within start.local_state (frames_out steps) end.local_state
+history_within : (steps : List Act) (start end : State) → History start steps end
+    → Within start.local_state (frames_out steps) end.local_state
 history_within [] start end run = stayed start end [] refl refl (ap (λ (s : State). Some s.local_state) (sym run))
 history_within (step ∷ steps) start end run =
     let first = step_within step start run.0 run.1 in
@@ -91,8 +96,9 @@ one_at_most CloseSent = (omega arith, omega arith)
 one_at_most Discarding = (omega arith, omega arith)
 one_at_most End = (omega arith, omega arith)
 
-pub one_open : (start end : State) (steps : List Step) → History start steps end → many says_open (frames_out steps) ≤ 1
+pub one_open : (start end : State) (steps : List Act) → History start steps end → many says_open (frames_out steps) ≤ 1
 one_open start end steps run = omega (arith, (history_within steps start end run).opens, (one_at_most start.local_state).0)
 
-pub one_close : (start end : State) (steps : List Step) → History start steps end → many says_close (frames_out steps) ≤ 1
+pub one_close : (start end : State) (steps : List Act) → History start steps end
+    → many says_close (frames_out steps) ≤ 1
 one_close start end steps run = omega (arith, (history_within steps start end run).closes, (one_at_most start.local_state).1)

@@ -18,7 +18,10 @@ use Rattle.amqp_session_performatives.specs.declared.open.Open.{Open}
 use Rattle.amqp_session_performatives.specs.declared.begin.Begin.{Begin}
 use Rattle.amqp_session_connection.specs.declared.state.ConnectionState.{ConnectionState}
 use Rattle.amqp_session_connection.specs.State.{State, Table, fresh, highest_channel}
-use Rattle.amqp_session_connection.specs.Steps.{Step, Steps, History, DeallocateSession, named_session, SetsStopReason, SendsHeader, TakesHeader, SendsOpen, TakesOpen, SendsClose, TakesClose, SendsBegin, SendsEnd, AllocatesSession, DeallocatesSession, TakesBegin, AcceptsRoute, TakesEnd, FindsSession}
+use Rattle.amqp_session_connection.specs.Steps.{Act, Step, History, DeallocateSession, named_session, SetsStopReason}
+use Rattle.amqp_session_connection.specs.Steps.{SendsHeader, TakesHeader, SendsOpen, TakesOpen, SendsClose}
+use Rattle.amqp_session_connection.specs.Steps.{TakesClose, SendsBegin, SendsEnd, AllocatesSession}
+use Rattle.amqp_session_connection.specs.Steps.{DeallocatesSession, TakesBegin, AcceptsRoute, TakesEnd, FindsSession}
 use Rattle.amqp_session_connection.specs.Told.{without, still_live, live_after, learned, peer_channel_max}
 use Rattle.amqp_session_connection.proofs.Histories.{last_step}
 use Rattle.amqp_session_connection.proofs.States.{is_settled, send_header_moves, incoming_header_moves, send_open_moves, send_close_moves, incoming_close_moves, open_comes_first, begun_settled}
@@ -134,7 +137,8 @@ module _ (opening : Open) (peer : Option ℕ) (live : List (ℕ × ℕ)) where
         settled = inr none;
       }
 
-  step_lives : (step : Step) (old new : State) → Steps old step new → Lives opening peer live old → Lives opening (learned step peer) (still_live step live) new
+  step_lives : (step : Act) (old new : State) → Step old step new → Lives opening peer live old
+      → Lives opening (learned step peer) (still_live step live) new
   step_lives (SetsStopReason reason) old new s w = still old new s refl refl refl refl w
   step_lives (SendsHeader (Err e)) old new s w = same old new s.2 w
   step_lives (SendsHeader (Ok x)) old new s w = kept old new s.1 refl refl refl (send_header_moves old.local_state new.local_state s.0).settled w
@@ -161,14 +165,16 @@ module _ (opening : Open) (peer : Option ℕ) (live : List (ℕ × ℕ)) where
   step_lives (TakesEnd channel ending (Ok session)) old new s w = still old new s.1 refl refl refl refl w
   step_lives (FindsSession channel answer) old new s w = same old new s.1 w
 
-history_lives : (opening : Open) (peer : Option ℕ) (live : List (ℕ × ℕ)) (steps : List Step) (start end : State) → History start steps end → Lives opening peer live start
+history_lives : (opening : Open) (peer : Option ℕ) (live : List (ℕ × ℕ)) (steps : List Act) (start end : State)
+    → History start steps end → Lives opening peer live start
     → Lives opening (peer_channel_max peer steps) (live_after live steps) end
 history_lives opening peer live [] start end run w = same opening peer live start end run w
 history_lives opening peer live (step ∷ steps) start end run w =
     history_lives opening (learned step peer) (still_live step live) steps run.0 end run.2 (step_lives opening peer live step start run.0 run.1 w)
 
 module _ (state : ConnectionState) (opening : Open) where
-  lives : (end : State) (steps : List Step) → History (fresh state opening) steps end → Lives opening (peer_channel_max None steps) (live_after [] steps) end
+  lives : (end : State) (steps : List Act) → History (fresh state opening) steps end
+      → Lives opening (peer_channel_max None steps) (live_after [] steps) end
   lives end steps run =
       history_lives opening None [] steps (fresh state opening) end run (record {
         own = refl;
@@ -179,16 +185,19 @@ module _ (state : ConnectionState) (opening : Open) where
         settled = inr refl;
       })
 
-  pub live_apart : (end : State) (steps : List Step) → History (fresh state opening) steps end → IsDistinct nat_eq (keys_of (live_after [] steps))
+  pub live_apart : (end : State) (steps : List Act) → History (fresh state opening) steps end
+      → IsDistinct nat_eq (keys_of (live_after [] steps))
   live_apart end steps run = (lives end steps run).apart
 
-  pub live_within : (end : State) (steps : List Step) → History (fresh state opening) steps end → Below (highest_channel opening.channel_max (peer_channel_max None steps)) (live_after [] steps)
+  pub live_within : (end : State) (steps : List Act) → History (fresh state opening) steps end
+      → Below (highest_channel opening.channel_max (peer_channel_max None steps)) (live_after [] steps)
   live_within end steps run = (lives end steps run).within
 
-  pub live_allowed : (end : State) (steps : List Step) (peer : ℕ) → History (fresh state opening) steps end → peer_channel_max None steps ≡ Some peer → Below (min opening.channel_max peer) (live_after [] steps)
+  pub live_allowed : (end : State) (steps : List Act) (peer : ℕ) → History (fresh state opening) steps end
+      → peer_channel_max None steps ≡ Some peer → Below (min opening.channel_max peer) (live_after [] steps)
   live_allowed end steps peer run is = subst (λ (o : Option ℕ). Below (highest_channel opening.channel_max o) (live_after [] steps)) is (live_within end steps run)
 
-  module _ (end : State) (steps : List Step) (channel : IncomingChannel) (beginning : Begin) (named : ℕ) where
+  module _ (end : State) (steps : List Act) (channel : IncomingChannel) (beginning : Begin) (named : ℕ) where
     pub reached : (session : ℕ) → History (fresh state opening) (steps ++ TakesBegin channel beginning (Ok session) ∷ []) end → beginning.remote_channel ≡ Some named → lookup (nat_eq named) (live_after [] steps) ≡ Some session
     reached session run names =
         let l = last_step steps (TakesBegin channel beginning (Ok session)) (fresh state opening) end run in

@@ -3,7 +3,10 @@ use Rattle.std.proofs.Common.{◌≡◌, ℕ, List, [], ◌∷◌, Option, Some,
 use Rattle.std.specs.FinMap as map
 use Rattle.amqp_session_types.specs.declared.refusals.ConnectionStopReason.{ConnectionStopReason}
 use Rattle.amqp_session_connection.specs.State.{State}
-use Rattle.amqp_session_connection.specs.Steps.{Step, Steps, History, DeallocateSession, SetsStopReason, SendsHeader, TakesHeader, SendsOpen, TakesOpen, SendsClose, TakesClose, SendsBegin, SendsEnd, AllocatesSession, DeallocatesSession, TakesBegin, AcceptsRoute, TakesEnd, FindsSession}
+use Rattle.amqp_session_connection.specs.Steps.{Act, Step, History, DeallocateSession, SetsStopReason, SendsHeader}
+use Rattle.amqp_session_connection.specs.Steps.{TakesHeader, SendsOpen, TakesOpen, SendsClose, TakesClose, SendsBegin}
+use Rattle.amqp_session_connection.specs.Steps.{SendsEnd, AllocatesSession, DeallocatesSession, TakesBegin}
+use Rattle.amqp_session_connection.specs.Steps.{AcceptsRoute, TakesEnd, FindsSession}
 use Rattle.amqp_session_connection.specs.Told.{reasoned, first_given}
 
 abbrev reason : State → Option ConnectionStopReason
@@ -13,7 +16,7 @@ deallocated : (old new : State) (channel : ℕ) (session : Option ℕ) → Deall
 deallocated old new channel None s = ap reason s
 deallocated old new channel (Some session) s = ap reason s
 
-step_reasons : (step : Step) (old new : State) → Steps old step new → new.stop_reason ≡ reasoned step old.stop_reason
+step_reasons : (step : Act) (old new : State) → Step old step new → new.stop_reason ≡ reasoned step old.stop_reason
 step_reasons (SetsStopReason given) old new s = ap reason s
 step_reasons (SendsHeader (Err e)) old new s = ap reason s.2
 step_reasons (SendsHeader (Ok x)) old new s = ap reason s.1
@@ -40,17 +43,18 @@ step_reasons (TakesEnd channel ending (Err e)) old new s = ap reason s.2
 step_reasons (TakesEnd channel ending (Ok session)) old new s = ap reason s.1
 step_reasons (FindsSession channel answer) old new s = ap reason s.1
 
-pub history_reasons : (steps : List Step) (start end : State) → History start steps end → end.stop_reason ≡ first_given start.stop_reason steps
+pub history_reasons : (steps : List Act) (start end : State) → History start steps end
+    → end.stop_reason ≡ first_given start.stop_reason steps
 history_reasons [] start end run = ap reason run
 history_reasons (step ∷ steps) start end run =
     history_reasons steps run.0 end run.2 ∙ ap (λ (o : Option ConnectionStopReason). first_given o steps) (step_reasons step start run.0 run.1)
 
 -- where there is a reason, no call changes it
-stays : (steps : List Step) (given : ConnectionStopReason) → first_given (Some given) steps ≡ Some given
+stays : (steps : List Act) (given : ConnectionStopReason) → first_given (Some given) steps ≡ Some given
 stays [] given = refl
 stays (step ∷ steps) given = ap (λ (o : Option ConnectionStopReason). first_given o steps) (one step) ∙ stays steps given
   where
-    one : (step : Step) → reasoned step (Some given) ≡ Some given
+    one : (step : Act) → reasoned step (Some given) ≡ Some given
     one (SetsStopReason later) = refl
     one (SendsHeader answer) = refl
     one (TakesHeader answer) = refl
@@ -67,5 +71,6 @@ stays (step ∷ steps) given = ap (λ (o : Option ConnectionStopReason). first_g
     one (TakesEnd channel ending answer) = refl
     one (FindsSession channel answer) = refl
 
-pub first_stays : (start end : State) (steps : List Step) (given : ConnectionStopReason) → start.stop_reason ≡ Some given → History start steps end → end.stop_reason ≡ Some given
+pub first_stays : (start end : State) (steps : List Act) (given : ConnectionStopReason)
+    → start.stop_reason ≡ Some given → History start steps end → end.stop_reason ≡ Some given
 first_stays start end steps given is run = history_reasons steps start end run ∙ ap (λ (o : Option ConnectionStopReason). first_given o steps) is ∙ stays steps given

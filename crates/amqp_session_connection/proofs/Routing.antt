@@ -8,7 +8,10 @@ use Rattle.amqp_session_performatives.specs.declared.open.Open.{Open}
 use Rattle.amqp_session_performatives.specs.declared.end.End.{End}
 use Rattle.amqp_session_connection.specs.declared.state.ConnectionState.{ConnectionState}
 use Rattle.amqp_session_connection.specs.State.{State, fresh}
-use Rattle.amqp_session_connection.specs.Steps.{Step, Steps, History, DeallocateSession, SetsStopReason, SendsHeader, TakesHeader, SendsOpen, TakesOpen, SendsClose, TakesClose, SendsBegin, SendsEnd, AllocatesSession, DeallocatesSession, TakesBegin, AcceptsRoute, TakesEnd, FindsSession}
+use Rattle.amqp_session_connection.specs.Steps.{Act, Step, History, DeallocateSession, SetsStopReason, SendsHeader}
+use Rattle.amqp_session_connection.specs.Steps.{TakesHeader, SendsOpen, TakesOpen, SendsClose, TakesClose, SendsBegin}
+use Rattle.amqp_session_connection.specs.Steps.{SendsEnd, AllocatesSession, DeallocatesSession, TakesBegin}
+use Rattle.amqp_session_connection.specs.Steps.{AcceptsRoute, TakesEnd, FindsSession}
 use Rattle.amqp_session_connection.specs.Told.{rerouted, routed}
 use Rattle.amqp_session_connection.proofs.Histories.{last_step}
 use Rattle.amqp_session_connection.proofs.Tables.{get-put, get-take, get-none}
@@ -21,7 +24,7 @@ module _ (q : ℕ) where
   deallocated old new channel None s = ap at s
   deallocated old new channel (Some session) s = ap at s
 
-  step_routes : (step : Step) (old new : State) → Steps old step new → at new ≡ rerouted q step (at old)
+  step_routes : (step : Act) (old new : State) → Step old step new → at new ≡ rerouted q step (at old)
   step_routes (SetsStopReason given) old new s = ap at s
   step_routes (SendsHeader (Err e)) old new s = ap at s.2
   step_routes (SendsHeader (Ok x)) old new s = ap at s.1
@@ -48,15 +51,16 @@ module _ (q : ℕ) where
   step_routes (TakesEnd channel ending (Ok session)) old new s = ap at s.1 ∙ get-take old.routes channel.0 q
   step_routes (FindsSession channel answer) old new s = ap at s.1
 
-  history_routes : (steps : List Step) (start end : State) → History start steps end → at end ≡ routed q (at start) steps
+  history_routes : (steps : List Act) (start end : State) → History start steps end → at end ≡ routed q (at start) steps
   history_routes [] start end run = ap at run
   history_routes (step ∷ steps) start end run =
       history_routes steps run.0 end run.2 ∙ ap (λ (o : Option ℕ). routed q o steps) (step_routes step start run.0 run.1)
 
-  from_fresh : (state : ConnectionState) (opening : Open) (steps : List Step) (end : State) → History (fresh state opening) steps end → at end ≡ routed q None steps
+  from_fresh : (state : ConnectionState) (opening : Open) (steps : List Act) (end : State)
+      → History (fresh state opening) steps end → at end ≡ routed q None steps
   from_fresh state opening steps end run = history_routes steps (fresh state opening) end run ∙ ap (λ (o : Option ℕ). routed q o steps) (get-none q)
 
-module _ (state : ConnectionState) (opening : Open) (end : State) (steps : List Step) (channel : IncomingChannel) where
+module _ (state : ConnectionState) (opening : Open) (end : State) (steps : List Act) (channel : IncomingChannel) where
   pub found : (answer : Option ℕ) → History (fresh state opening) (steps ++ FindsSession channel answer ∷ []) end → answer ≡ routed channel.0 None steps
   found answer run =
       let l = last_step steps (FindsSession channel answer) (fresh state opening) end run in

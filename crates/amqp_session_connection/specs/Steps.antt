@@ -30,22 +30,22 @@ use Rattle.amqp_session_connection.specs.Table.{after_incoming_open, after_send_
 use Rattle.amqp_session_connection.specs.Table.{refusal_of_begin}
 
 -- a call with what it was given, and what it answered
-pub data Step : Type 0 where
-  SetsStopReason : (reason : ConnectionStopReason) → Step
-  SendsHeader : (answer : Result ⊤ ConnectionError) → Step
-  TakesHeader : (answer : Result ⊤ ConnectionError) → Step
-  SendsOpen : (answer : Result Frame OpenError) → Step
-  TakesOpen : (channel : IncomingChannel) (opening : Open) (answer : Result ⊤ OpenError) → Step
-  SendsClose : (error : Option Error) (answer : Result Frame ConnectionError) → Step
-  TakesClose : (channel : IncomingChannel) (closing : Close) (answer : Result ⊤ ConnectionError) → Step
-  SendsBegin : (channel : OutgoingChannel) (beginning : Begin) (answer : Frame) → Step
-  SendsEnd : (channel : OutgoingChannel) (ending : End) (answer : Frame) → Step
-  AllocatesSession : (session : ℕ) (answer : Result OutgoingChannel BeginError) → Step
-  DeallocatesSession : (channel : OutgoingChannel) → Step
-  TakesBegin : (channel : IncomingChannel) (beginning : Begin) (answer : Result ℕ ConnectionError) → Step
-  AcceptsRoute : (channel : IncomingChannel) (session : ℕ) (answer : Result ⊤ AllocError) → Step
-  TakesEnd : (channel : IncomingChannel) (ending : End) (answer : Result ℕ ConnectionError) → Step
-  FindsSession : (channel : IncomingChannel) (answer : Option ℕ) → Step
+pub data Act : Type 0 where
+  SetsStopReason : (reason : ConnectionStopReason) → Act
+  SendsHeader : (answer : Result ⊤ ConnectionError) → Act
+  TakesHeader : (answer : Result ⊤ ConnectionError) → Act
+  SendsOpen : (answer : Result Frame OpenError) → Act
+  TakesOpen : (channel : IncomingChannel) (opening : Open) (answer : Result ⊤ OpenError) → Act
+  SendsClose : (error : Option Error) (answer : Result Frame ConnectionError) → Act
+  TakesClose : (channel : IncomingChannel) (closing : Close) (answer : Result ⊤ ConnectionError) → Act
+  SendsBegin : (channel : OutgoingChannel) (beginning : Begin) (answer : Frame) → Act
+  SendsEnd : (channel : OutgoingChannel) (ending : End) (answer : Frame) → Act
+  AllocatesSession : (session : ℕ) (answer : Result OutgoingChannel BeginError) → Act
+  DeallocatesSession : (channel : OutgoingChannel) → Act
+  TakesBegin : (channel : IncomingChannel) (beginning : Begin) (answer : Result ℕ ConnectionError) → Act
+  AcceptsRoute : (channel : IncomingChannel) (session : ℕ) (answer : Result ⊤ AllocError) → Act
+  TakesEnd : (channel : IncomingChannel) (ending : End) (answer : Result ℕ ConnectionError) → Act
+  FindsSession : (channel : IncomingChannel) (answer : Option ℕ) → Act
 
 -- a frame of this body, on this channel
 abbrev pub frame_on : ℕ → FrameBody → Frame
@@ -173,24 +173,24 @@ TakeEnd old channel (Ok session) new =
     (map.get old.routes channel ≡ Some session) × (new ≡ record old { routes = map.remove old.routes channel })
 
 -- the states around a call
-abbrev pub Steps : State → Step → State → Type 0
-Steps old (SetsStopReason reason) new = SetStopReason old reason new
-Steps old (SendsHeader answer) new = SendHeader old answer new
-Steps old (TakesHeader answer) new = TakeHeader old answer new
-Steps old (SendsOpen answer) new = SendOpen old answer new
-Steps old (TakesOpen channel opening answer) new = TakeOpen old opening answer new
-Steps old (SendsClose error answer) new = SendClose old error answer new
-Steps old (TakesClose channel closing answer) new = TakeClose old answer new
-Steps old (SendsBegin channel beginning frame) new = (frame ≡ frame_on channel.0 (body.Begin beginning)) × (new ≡ old)
-Steps old (SendsEnd channel ending frame) new = (frame ≡ frame_on channel.0 (body.End ending)) × (new ≡ old)
-Steps old (AllocatesSession session answer) new = AllocateSession old session answer new
-Steps old (DeallocatesSession channel) new = DeallocateSession old channel.0 (map.get old.live channel.0) new
-Steps old (TakesBegin channel beginning answer) new = TakeBegin old channel.0 beginning answer new
-Steps old (AcceptsRoute channel session answer) new = AcceptRoute old channel.0 session answer new
-Steps old (TakesEnd channel ending answer) new = TakeEnd old channel.0 answer new
-Steps old (FindsSession channel answer) new = (answer ≡ map.get old.routes channel.0) × (new ≡ old)
+abbrev pub Step : State → Act → State → Type 0
+Step old (SetsStopReason reason) new = SetStopReason old reason new
+Step old (SendsHeader answer) new = SendHeader old answer new
+Step old (TakesHeader answer) new = TakeHeader old answer new
+Step old (SendsOpen answer) new = SendOpen old answer new
+Step old (TakesOpen channel opening answer) new = TakeOpen old opening answer new
+Step old (SendsClose error answer) new = SendClose old error answer new
+Step old (TakesClose channel closing answer) new = TakeClose old answer new
+Step old (SendsBegin channel beginning frame) new = (frame ≡ frame_on channel.0 (body.Begin beginning)) × (new ≡ old)
+Step old (SendsEnd channel ending frame) new = (frame ≡ frame_on channel.0 (body.End ending)) × (new ≡ old)
+Step old (AllocatesSession session answer) new = AllocateSession old session answer new
+Step old (DeallocatesSession channel) new = DeallocateSession old channel.0 (map.get old.live channel.0) new
+Step old (TakesBegin channel beginning answer) new = TakeBegin old channel.0 beginning answer new
+Step old (AcceptsRoute channel session answer) new = AcceptRoute old channel.0 session answer new
+Step old (TakesEnd channel ending answer) new = TakeEnd old channel.0 answer new
+Step old (FindsSession channel answer) new = (answer ≡ map.get old.routes channel.0) × (new ≡ old)
 
 -- the states around a list of calls
-abbrev pub History : State → List Step → State → Type 0
+abbrev pub History : State → List Act → State → Type 0
 History start [] end = end ≡ start
-History start (step ∷ steps) end = (mid : State) × Steps start step mid × History mid steps end
+History start (step ∷ steps) end = (mid : State) × Step start step mid × History mid steps end

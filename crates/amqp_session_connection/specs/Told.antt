@@ -9,7 +9,7 @@ use Rattle.amqp_session_frames.specs.declared.frame.Frame.{Frame}
 use Rattle.amqp_session_frames.specs.declared.frame.FrameBody.{FrameBody}
 use Rattle.amqp_session_frames.specs.declared.frame.FrameBody.TheVariants as body
 use Rattle.amqp_session_connection.specs.declared.state.ConnectionState.{ConnectionState}
-use Rattle.amqp_session_connection.specs.Steps.{Step, SetsStopReason, SendsHeader, TakesHeader, SendsOpen, TakesOpen}
+use Rattle.amqp_session_connection.specs.Steps.{Act, SetsStopReason, SendsHeader, TakesHeader, SendsOpen, TakesOpen}
 use Rattle.amqp_session_connection.specs.Steps.{SendsClose, TakesClose, SendsBegin, SendsEnd, AllocatesSession}
 use Rattle.amqp_session_connection.specs.Steps.{DeallocatesSession, TakesBegin, AcceptsRoute, TakesEnd, first_reason}
 use Rattle.amqp_session_connection.specs.Table.{after_send_header, after_incoming_header, after_send_open}
@@ -17,7 +17,7 @@ use Rattle.amqp_session_connection.specs.Table.{after_incoming_open, after_send_
 
 -- the state that the table has behind a call, whatever the call answered: only a header, an Open and a Close move it
 -- (part 2, 2.4.6)
-abbrev pub row : Step → ConnectionState → Option ConnectionState
+abbrev pub row : Act → ConnectionState → Option ConnectionState
 row (SendsHeader answer) state = after_send_header state
 row (TakesHeader answer) state = after_incoming_header state
 row (SendsOpen answer) state = after_send_open state
@@ -27,7 +27,7 @@ row (TakesClose channel closing answer) state = after_incoming_close state
 row step state = Some state
 
 -- a header, an Open or a Close that was refused
-abbrev pub is_refused : Step → Bool
+abbrev pub is_refused : Act → Bool
 is_refused (SendsHeader (Err e)) = true
 is_refused (TakesHeader (Err e)) = true
 is_refused (SendsOpen (Err e)) = true
@@ -37,7 +37,7 @@ is_refused (TakesClose channel closing (Err e)) = true
 is_refused step = false
 
 -- a call that answered IllegalState
-abbrev pub is_illegal : Step → Bool
+abbrev pub is_illegal : Act → Bool
 is_illegal (SendsHeader (Err IllegalState)) = true
 is_illegal (TakesHeader (Err IllegalState)) = true
 is_illegal (SendsOpen (Err IllegalStateOfOpen)) = true
@@ -50,18 +50,18 @@ is_illegal (TakesEnd channel ending (Err IllegalState)) = true
 is_illegal step = false
 
 -- the state behind one more call: the table's, where the call was accepted
-abbrev pub moved : Step → Option ConnectionState → Option ConnectionState
+abbrev pub moved : Act → Option ConnectionState → Option ConnectionState
 moved step None = None
 moved step (Some state) = if is_refused step then Some state else row step state
 
 -- the state behind these calls, by the table
-abbrev pub state_after : Option ConnectionState → List Step → Option ConnectionState
+abbrev pub state_after : Option ConnectionState → List Act → Option ConnectionState
 state_after state [] = state
 state_after state (step ∷ steps) = state_after (moved step state) steps
 
 -- the session to which the peer's channel is routed behind one more call: a Begin or a route that is accepted on it
 -- sets that, and an End that is accepted on it takes it away
-abbrev pub rerouted : ℕ → Step → Option ℕ → Option ℕ
+abbrev pub rerouted : ℕ → Act → Option ℕ → Option ℕ
 rerouted channel (TakesBegin c beginning (Ok session)) before = if channel == c.0 then Some session else before
 rerouted channel (AcceptsRoute c session (Ok x)) before = if channel == c.0 then Some session else before
 rerouted channel (TakesEnd c ending (Ok session)) before = if channel == c.0 then None else before
@@ -69,7 +69,7 @@ rerouted channel step before = before
 
 -- the session of the last Begin (or route) that was accepted on the peer's channel, if no End was accepted on it since;
 -- where there was none of them, what was before
-abbrev pub routed : ℕ → Option ℕ → List Step → Option ℕ
+abbrev pub routed : ℕ → Option ℕ → List Act → Option ℕ
 routed channel before [] = before
 routed channel before (step ∷ steps) = routed channel (rerouted channel step before) steps
 
@@ -78,38 +78,38 @@ abbrev pub without : ℕ → List (ℕ × ℕ) → List (ℕ × ℕ)
 without channel sessions = filter (λ s. not (channel == s.0)) sessions
 
 -- the live sessions behind one more call, each with its outgoing channel
-abbrev pub still_live : Step → List (ℕ × ℕ) → List (ℕ × ℕ)
+abbrev pub still_live : Act → List (ℕ × ℕ) → List (ℕ × ℕ)
 still_live (AllocatesSession session (Ok channel)) live = (channel.0, session) ∷ live
 still_live (DeallocatesSession channel) live = without channel.0 live
 still_live step live = live
 
 -- the live sessions behind these calls: those that a channel was given to that was not taken back since
-abbrev pub live_after : List (ℕ × ℕ) → List Step → List (ℕ × ℕ)
+abbrev pub live_after : List (ℕ × ℕ) → List Act → List (ℕ × ℕ)
 live_after live [] = live
 live_after live (step ∷ steps) = live_after (still_live step live) steps
 
 -- the channel-max of the peer's Open, where the call took it
-abbrev pub learned : Step → Option ℕ → Option ℕ
+abbrev pub learned : Act → Option ℕ → Option ℕ
 learned (TakesOpen channel opening (Ok x)) before = Some opening.channel_max
 learned step before = before
 
 -- the channel-max of the last Open of the peer that was taken, if one was
-abbrev pub peer_channel_max : Option ℕ → List Step → Option ℕ
+abbrev pub peer_channel_max : Option ℕ → List Act → Option ℕ
 peer_channel_max before [] = before
 peer_channel_max before (step ∷ steps) = peer_channel_max (learned step before) steps
 
 -- the reason behind one more call
-abbrev pub reasoned : Step → Option ConnectionStopReason → Option ConnectionStopReason
+abbrev pub reasoned : Act → Option ConnectionStopReason → Option ConnectionStopReason
 reasoned (SetsStopReason reason) before = first_reason before reason
 reasoned step before = before
 
 -- the first stop reason that was given; what was before, where there was one
-abbrev pub first_given : Option ConnectionStopReason → List Step → Option ConnectionStopReason
+abbrev pub first_given : Option ConnectionStopReason → List Act → Option ConnectionStopReason
 first_given before [] = before
 first_given before (step ∷ steps) = first_given (reasoned step before) steps
 
 -- the frame that a call handed out
-abbrev pub frame_of : Step → List Frame
+abbrev pub frame_of : Act → List Frame
 frame_of (SendsOpen (Ok frame)) = frame ∷ []
 frame_of (SendsClose error (Ok frame)) = frame ∷ []
 frame_of (SendsBegin channel beginning frame) = frame ∷ []
@@ -117,7 +117,7 @@ frame_of (SendsEnd channel ending frame) = frame ∷ []
 frame_of step = []
 
 -- the frames that were handed out
-abbrev pub frames_out : List Step → List Frame
+abbrev pub frames_out : List Act → List Frame
 frames_out [] = []
 frames_out (step ∷ steps) = frame_of step ++ frames_out steps
 
@@ -129,8 +129,8 @@ abbrev pub says_close : FrameBody → Bool
 says_close (body.Close closing) = true
 says_close other = false
 
-abbrev pub opens_out : List Step → List Frame
+abbrev pub opens_out : List Act → List Frame
 opens_out steps = filter (λ f. says_open f.body) (frames_out steps)
 
-abbrev pub closes_out : List Step → List Frame
+abbrev pub closes_out : List Act → List Frame
 closes_out steps = filter (λ f. says_close f.body) (frames_out steps)

@@ -1,9 +1,10 @@
+//! A connection, and its calls.
 ghost use Rattle.std.specs.Prelude.{◌≡◌, IsSome, IfOk, IfErr, option_copied};
 ghost use Rattle.std.specs.FinMap as map;
 ghost use Rattle.amqp_session_connection.specs.State.{fresh, channel_limit};
 ghost use Rattle.amqp_session_connection.specs.Steps.{Offers, RefusesChannel};
 ghost use Rattle.amqp_session_connection.specs.declared.state.ConnectionState.TheVariants.{Start};
-ghost use Rattle.amqp_session_connection.specs.Steps.{Steps, SetsStopReason, SendsHeader, TakesHeader, SendsOpen};
+ghost use Rattle.amqp_session_connection.specs.Steps.{Step, SetsStopReason, SendsHeader, TakesHeader, SendsOpen};
 ghost use Rattle.amqp_session_connection.specs.Steps.{TakesOpen, SendsClose, TakesClose, SendsBegin, SendsEnd};
 ghost use Rattle.amqp_session_connection.specs.Steps.{AllocatesSession, DeallocatesSession, TakesBegin, AcceptsRoute};
 ghost use Rattle.amqp_session_connection.specs.Steps.{TakesEnd, FindsSession};
@@ -113,7 +114,7 @@ impl Connection {
 
     /// Notes why the connection stopped. Where a reason was noted before, that one stays.
     pub fn set_connection_stop_reason(&mut self, reason: ConnectionStopReason)
-        ensures step { Steps self.old (SetsStopReason reason) self.new }
+        ensures step { Step self.old (SetsStopReason reason) self.new }
     {
         if self.stop_reason.is_none() {
             self.stop_reason = Some(reason);
@@ -123,7 +124,7 @@ impl Connection {
     /// Notes that the own protocol header is sent, and moves the state on (part 2, 2.2, 2.4.6). It is refused with
     /// `IllegalState` where the state allows none, and nothing changes then.
     pub fn send_header(&mut self) -> Result<(), ConnectionError>
-        ensures step { Steps self.old (SendsHeader result) self.new }
+        ensures step { Step self.old (SendsHeader result) self.new }
     {
         let Some(next) = self.local_state.after_send_header() else {
             return Err(ConnectionError::IllegalState);
@@ -135,7 +136,7 @@ impl Connection {
     /// Takes the peer's protocol header, which the caller found to be the right one, and moves the state on (part 2,
     /// 2.2, 2.4.6). It is refused with `IllegalState` where the state allows none, and nothing changes then.
     pub fn on_incoming_header(&mut self) -> Result<(), ConnectionError>
-        ensures step { Steps self.old (TakesHeader result) self.new }
+        ensures step { Step self.old (TakesHeader result) self.new }
     {
         let Some(next) = self.local_state.after_incoming_header() else {
             return Err(ConnectionError::IllegalState);
@@ -148,7 +149,7 @@ impl Connection {
     /// `IllegalState` where the state allows none, and with `Memory` where the Open could not be copied; the
     /// connection is as before then.
     pub fn send_open(&mut self) -> Result<Frame, OpenError>
-        ensures step { Steps self.old (SendsOpen result) self.new }
+        ensures step { Step self.old (SendsOpen result) self.new }
     {
         let Some(next) = self.local_state.after_send_open() else {
             return Err(OpenError::IllegalState);
@@ -165,7 +166,7 @@ impl Connection {
         channel: IncomingChannel,
         remote_open: &Open,
     ) -> Result<(), OpenError>
-        ensures step { Steps self.old (TakesOpen channel remote_open.now result) self.new }
+        ensures step { Step self.old (TakesOpen channel remote_open.now result) self.new }
     {
         let Some(next) = self.local_state.after_incoming_open() else {
             return Err(OpenError::IllegalState);
@@ -182,7 +183,7 @@ impl Connection {
         &mut self,
         error: Option<definitions::Error>,
     ) -> Result<Frame, ConnectionError>
-        ensures step { Steps self.old (SendsClose error result) self.new }
+        ensures step { Step self.old (SendsClose error result) self.new }
     {
         let Some(next) = self.local_state.after_send_close(error.is_some()) else {
             return Err(ConnectionError::IllegalState);
@@ -199,7 +200,7 @@ impl Connection {
         channel: IncomingChannel,
         close: &Close,
     ) -> Result<(), ConnectionError>
-        ensures step { Steps self.old (TakesClose channel close.now result) self.new }
+        ensures step { Step self.old (TakesClose channel close.now result) self.new }
     {
         let Some(next) = self.local_state.after_incoming_close() else {
             return Err(ConnectionError::IllegalState);
@@ -210,14 +211,14 @@ impl Connection {
 
     /// The frame of a Begin on an outgoing channel (part 2, 2.7.2). The state isn't looked at, and nothing changes.
     pub fn on_outgoing_begin(&self, channel: OutgoingChannel, begin: Begin) -> Frame
-        ensures step { Steps self.now (SendsBegin channel begin result) self.now }
+        ensures step { Step self.now (SendsBegin channel begin result) self.now }
     {
         Frame::new(channel.0, FrameBody::Begin(begin))
     }
 
     /// The frame of an End on an outgoing channel (part 2, 2.7.8). The state isn't looked at, and nothing changes.
     pub fn on_outgoing_end(&self, channel: OutgoingChannel, end: End) -> Frame
-        ensures step { Steps self.now (SendsEnd channel end result) self.now }
+        ensures step { Step self.now (SendsEnd channel end result) self.now }
     {
         Frame::new(channel.0, FrameBody::End(end))
     }
@@ -248,7 +249,7 @@ impl Connection {
     /// `ConnectionStopped` where a Close was sent or came, with `LocalChannelMaxReached` where the vacant channel that
     /// is offered is above the own channel-max or the peer's (part 2, 2.7.1), and with `Memory` where there is none.
     pub fn allocate_session(&mut self, session: u64) -> Result<OutgoingChannel, BeginError>
-        ensures step { Steps self.old (AllocatesSession session result) self.new }
+        ensures step { Step self.old (AllocatesSession session result) self.new }
     {
         let channel = self.offered_channel()?;
         self.sessions.insert(session)?;
@@ -258,7 +259,7 @@ impl Connection {
     /// Takes an outgoing channel back from its session and offers it to the next one (part 2, 2.5.2). Where no live
     /// session has it nothing changes. Routes to the session stay.
     pub fn deallocate_session(&mut self, channel: OutgoingChannel)
-        ensures step { Steps self.old (DeallocatesSession channel) self.new }
+        ensures step { Step self.old (DeallocatesSession channel) self.new }
         ensures offered { IsSome (map.get self.old.live channel.0) → self.new.offered ≡ channel.0 }
     {
         self.sessions.remove(channel.0);
@@ -276,7 +277,7 @@ impl Connection {
         channel: IncomingChannel,
         begin: &Begin,
     ) -> Result<u64, ConnectionError>
-        ensures step { Steps self.old (TakesBegin channel begin.now result) self.new }
+        ensures step { Step self.old (TakesBegin channel begin.now result) self.new }
     {
         let Some(remote_channel) = begin.remote_channel else {
             return Err(ConnectionError::NotImplemented);
@@ -296,7 +297,7 @@ impl Connection {
         channel: IncomingChannel,
         session: u64,
     ) -> Result<(), AllocError>
-        ensures step { Steps self.old (AcceptsRoute channel session result) self.new }
+        ensures step { Step self.old (AcceptsRoute channel session result) self.new }
     {
         self.routes.insert(channel.0, session)
     }
@@ -308,7 +309,7 @@ impl Connection {
         channel: IncomingChannel,
         end: &End,
     ) -> Result<u64, ConnectionError>
-        ensures step { Steps self.old (TakesEnd channel end.now result) self.new }
+        ensures step { Step self.old (TakesEnd channel end.now result) self.new }
     {
         let Some(session) = self.routes.remove(channel.0) else {
             return Err(ConnectionError::NotFound);
@@ -318,7 +319,7 @@ impl Connection {
 
     /// The number of the session to which the peer's frames on a channel go, or None where it has no route.
     pub fn session_tx_by_incoming_channel(&self, channel: IncomingChannel) -> Option<u64>
-        ensures step { Steps self.now (FindsSession channel result) self.now }
+        ensures step { Step self.now (FindsSession channel result) self.now }
     {
         self.routes.get(channel.0)
     }

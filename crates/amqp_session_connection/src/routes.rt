@@ -1,3 +1,4 @@
+//! The sessions by their peer's channels.
 ghost use Rattle.std.specs.Prelude.{◌≡◌, OnOk, OnErr, OnSome, IfNone};
 ghost use Rattle.std.specs.FinMap as map;
 

@@ -1,3 +1,4 @@
+//! The sessions by their outgoing channels.
 ghost use Rattle.std.specs.Prelude.{◌≡◌, None, IsSome, OnOk, OnErr, IfOk};
 ghost use Rattle.std.specs.FinMap as map;
 

@@ -1,3 +1,4 @@
+//! The states of a connection.
 ghost use Rattle.std.specs.Prelude.{◌≡◌};
 ghost use Rattle.amqp_session_connection.specs.Table.{after_send_header, after_incoming_header, after_send_open};
 ghost use Rattle.amqp_session_connection.specs.Table.{after_incoming_open, after_send_close, after_incoming_close};

@@ -127,7 +127,7 @@ leaves-bare h [] old new run bare = subst (λ (s : Side). Bare h s) (sym run) ba
 leaves-bare h (sent ∷ more) old new run bare = leaves-bare h more run.0 new run.2 (sends-bare h old run.0 sent run.1 bare)
 
 -- nothing is accepted for the handle
-abbrev pub IsApart : ℕ → history.Step TransferFrame BehindFrame → Type 0
+abbrev pub IsApart : ℕ → history.Act TransferFrame BehindFrame → Type 0
 IsApart h (history.Accepts handle batch left) = handle.0 ≢ h
 IsApart h step = Unit {0}
 
@@ -148,7 +148,8 @@ joined-bare h k batch qs n none =
       | inr p ↦ ap (λ (b : Bool). if b then batch else []) p.0
     ]
 
-pub bare-step : (h : ℕ) (step : history.Step TransferFrame BehindFrame) (old new : Side) → history.Steps old step new → IsApart h step → Bare h old → Bare h new
+pub bare-step : (h : ℕ) (step : history.Act TransferFrame BehindFrame) (old new : Side) → history.Step old step new
+    → IsApart h step → Bare h old → Bare h new
 bare-step h (history.TakesWindow base width left) old new s apart bare = leaves-bare h left (sending.with_window old base width) new s.0 (record { waits = bare.waits; sent = bare.sent })
 bare-step h (history.SetsWindow base width) old new s apart bare = subst (λ (x : Side). Bare h x) (sym s) (record { waits = bare.waits; sent = bare.sent })
 bare-step h (history.Accepts handle [] left) old new s apart bare = subst (λ (x : Side). Bare h x) (sym s.1) bare
@@ -168,10 +169,11 @@ bare-step h (history.Forgets handle) old new s apart bare =
     subst (λ (x : Side). Bare h x) (sym s.1) (record { waits = bare.waits; sent = unless-others old.unsettled new.unsettled handle.0 h s.0 bare.sent })
 bare-step h history.Fails old new s apart bare = subst (λ (x : Side). Bare h x) (sym s) bare
 
-abbrev pub AreApart : ℕ → List (history.Step TransferFrame BehindFrame) → Type 0
+abbrev pub AreApart : ℕ → List (history.Act TransferFrame BehindFrame) → Type 0
 AreApart h [] = Unit {0}
 AreApart h (step ∷ steps) = IsApart h step × AreApart h steps
 
-pub bare-steps : (h : ℕ) (steps : List (history.Step TransferFrame BehindFrame)) (old new : Side) → history.History old steps new → AreApart h steps → Bare h old → Bare h new
+pub bare-steps : (h : ℕ) (steps : List (history.Act TransferFrame BehindFrame)) (old new : Side)
+    → history.History old steps new → AreApart h steps → Bare h old → Bare h new
 bare-steps h [] old new run apart bare = subst (λ (x : Side). Bare h x) (sym run) bare
 bare-steps h (step ∷ steps) old new run apart bare = bare-steps h steps run.0 new run.2 apart.1 (bare-step h step old run.0 run.1 apart.0 bare)

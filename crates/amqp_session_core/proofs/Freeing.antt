@@ -22,7 +22,11 @@ use Rattle.amqp_session_core.specs.declared.relay.Registration.TheVariants.{Unch
 use Rattle.amqp_session_core.specs.Echoes.{Reach, ReachesAt, Walks, opposite, settled_by, without}
 use Rattle.amqp_session_core.specs.Relay.{Relations}
 use Rattle.amqp_session_core.specs.State.{State, StepsAt, link_at}
-use Rattle.amqp_session_core.specs.Steps.{Step, Stays, SendsBegin, TakesBegin, SendsEnd, TakesEnd, TakesAttach, TakesFlow, SetsWindow, TakesTransfer, TakesDisposition, TakesDetach, SendsBehind, SendsTransfers, SendsDisposition, TellsFlow, Allocates, Deallocates, Reserves, Changes, Steps, Reply, NoReply, OfSession, OfLink, FlowAt, SendsDispositionStep, registers, table_of, with_table}
+use Rattle.amqp_session_core.specs.Steps.{Act, Stays, SendsBegin, TakesBegin, SendsEnd, TakesEnd, TakesAttach}
+use Rattle.amqp_session_core.specs.Steps.{TakesFlow, SetsWindow, TakesTransfer, TakesDisposition, TakesDetach}
+use Rattle.amqp_session_core.specs.Steps.{SendsBehind, SendsTransfers, SendsDisposition, TellsFlow, Allocates}
+use Rattle.amqp_session_core.specs.Steps.{Deallocates, Reserves, Changes, Step, Reply, NoReply, OfSession, OfLink}
+use Rattle.amqp_session_core.specs.Steps.{FlowAt, SendsDispositionStep, registers, table_of, with_table}
 use Rattle.amqp_session_core.specs.Tables.{RouteTable}
 use Rattle.amqp_session_core.specs.History.{History, sending_in, settles, settles_as, own_settles_as, reply_steps}
 use Rattle.amqp_session_core.specs.Vacant.{AreOfOthers, IsVacant, gives_handle, is_given}
@@ -80,8 +84,8 @@ reply-apart h OfSession base width left = (tt, tt)
 reply-apart h (OfLink handle flow later) base width left = (tt, (tt, tt))
 
 module _ {R A T D : Type 0} (gives : Relations R A T D) where
-  abbrev Does : State R → Step R A T D → State R → Type 0
-  Does = Steps gives
+  abbrev Does : State R → Act R A T D → State R → Type 0
+  Does = Step gives
 
   vacant-flow : (h : ℕ) (old : List (Option R)) (routes : RouteTable) (flow : Flow) (named : Option Handle) (told : Option (ℕ × Result (Option LinkFlow) RelayError)) (new : List (Option R))
       → FlowAt gives old routes flow named told new → slice_index_or old h None ≡ None → slice_index_or new h None ≡ None
@@ -158,7 +162,8 @@ module _ {R A T D : Type 0} (gives : Relations R A T D) where
       by true = refl
       by false = none
 
-  lacks-step : (h : ℕ) (step : Step R A T D) (old new : State R) → Does old step new → gives_handle h step ≡ false → Lacks h old → Lacks h new
+  lacks-step : (h : ℕ) (step : Act R A T D) (old new : State R) → Does old step new → gives_handle h step ≡ false
+      → Lacks h old → Lacks h new
   lacks-step h Stays old new s g lacks = as-it-was h new old s lacks
   lacks-step h (SendsBegin frame) old new s g lacks = as-it-was h new _ s.2 (record { link = lacks.link; received = lacks.received })
   lacks-step h (TakesBegin channel begin base left frames) old new s g lacks = as-it-was h new _ s.5 (record { link = lacks.link; received = lacks.received })
@@ -195,7 +200,8 @@ module _ {R A T D : Type 0} (gives : Relations R A T D) where
       (vacant-set h handle x old.links new.links (live-apart h handle before old.links s.0 lacks.link) (ap (λ (y : State R). y.links) s.1) lacks.link) lacks
 
   -- what is accepted is of a link that lives
-  step-apart : (h : ℕ) (step : Step R A T D) (old new : State R) → Does old step new → link_at old h ≡ None → AreApart h (sending_in step)
+  step-apart : (h : ℕ) (step : Act R A T D) (old new : State R) → Does old step new → link_at old h ≡ None
+      → AreApart h (sending_in step)
   step-apart h Stays old new s none = tt
   step-apart h (SendsBegin frame) old new s none = tt
   step-apart h (TakesBegin channel begin base left frames) old new s none = (tt, tt)
@@ -216,7 +222,8 @@ module _ {R A T D : Type 0} (gives : Relations R A T D) where
   step-apart h (Reserves count) old new s none = (tt, tt)
   step-apart h (Changes handle before after) old new s none = tt
 
-  vacant-step : (h : ℕ) (step : Step R A T D) (old new : State R) → Does old step new → gives_handle h step ≡ false → IsVacant old h → IsVacant new h
+  vacant-step : (h : ℕ) (step : Act R A T D) (old new : State R) → Does old step new → gives_handle h step ≡ false
+      → IsVacant old h → IsVacant new h
   vacant-step h step old new s g vacant =
       let lacks : Lacks h new = lacks-step h step old new s g (record { link = vacant.link; received = vacant.received }) in
       let bare : Bare h new.outgoing =
@@ -227,7 +234,8 @@ module _ {R A T D : Type 0} (gives : Relations R A T D) where
   neither true c e = absurd cc
   neither false c e = (refl, e)
 
-  vacant-on : (h : ℕ) (steps : List (Step R A T D)) (start end : State R) → History gives start steps end → is_given h steps ≡ false → IsVacant start h → IsVacant end h
+  vacant-on : (h : ℕ) (steps : List (Act R A T D)) (start end : State R) → History gives start steps end
+      → is_given h steps ≡ false → IsVacant start h → IsVacant end h
   vacant-on h [] start end run g vacant = subst (λ (s : State R). IsVacant s h) (sym run) vacant
   vacant-on h (step ∷ steps) start end run g vacant =
       let apart = neither (gives_handle h step) (is_given h steps) g in
@@ -254,7 +262,7 @@ module _ {R A T D : Type 0} (gives : Relations R A T D) where
         received = λ number delivery is. of-another h _ delivery (sym (s.3 number) ∙ is);
       }
 
-  pub stays-vacant : (start end : State R) (handle : ℕ) (steps later : List (Step R A T D))
+  pub stays-vacant : (start end : State R) (handle : ℕ) (steps later : List (Act R A T D))
       → History gives start (steps ++ Deallocates handle ∷ later) end → is_given handle later ≡ false → IsVacant end handle
   stays-vacant start end handle steps later run g =
       let parts = parted gives steps (Deallocates handle ∷ later) start end run in

@@ -13,9 +13,14 @@ use Rattle.amqp_session_performatives.specs.declared.link_flow.LinkFlow.{LinkFlo
 use Rattle.amqp_session_unsettled.specs.Table.{Table}
 use Rattle.amqp_session_core.specs.declared.relay.RelayError.{RelayError}
 use Rattle.amqp_session_core.specs.Echoes.{Reach, ReachesAt, Walks, opposite}
-use Rattle.amqp_session_core.specs.Relay.{Relations, LinkStep, LinkSteps, LinkHistory, Attaches, Flows, Transfers, Disposes, Detaches, SendsBatch, SendsFrame, Changes as ChangesIt}
+use Rattle.amqp_session_core.specs.Relay.{Relations, LinkAct, LinkStep, LinkHistory, Attaches, Flows, Transfers}
+use Rattle.amqp_session_core.specs.Relay.{Disposes, Detaches, SendsBatch, SendsFrame, Changes as ChangesIt}
 use Rattle.amqp_session_core.specs.State.{State, StepsAt, link_at}
-use Rattle.amqp_session_core.specs.Steps.{Step, Stays, SendsBegin, TakesBegin, SendsEnd, TakesEnd, TakesAttach, TakesFlow, SetsWindow, TakesTransfer, TakesDisposition, TakesDetach, SendsBehind, SendsTransfers, SendsDisposition, TellsFlow, Allocates, Deallocates, Reserves, Changes, Steps, FlowAt, SendsDispositionStep, with_table, told_to_link}
+use Rattle.amqp_session_core.specs.Steps.{Act, Stays, SendsBegin, TakesBegin, SendsEnd, TakesEnd, TakesAttach}
+use Rattle.amqp_session_core.specs.Steps.{TakesFlow, SetsWindow, TakesTransfer, TakesDisposition, TakesDetach}
+use Rattle.amqp_session_core.specs.Steps.{SendsBehind, SendsTransfers, SendsDisposition, TellsFlow, Allocates}
+use Rattle.amqp_session_core.specs.Steps.{Deallocates, Reserves, Changes, Step, FlowAt, SendsDispositionStep}
+use Rattle.amqp_session_core.specs.Steps.{with_table, told_to_link}
 use Rattle.amqp_session_core.specs.Tables.{RouteTable}
 use Rattle.amqp_session_core.specs.History.{History, at_link, flow_told, told_to, reached_by, own_in, own_of, frees, is_freed}
 
@@ -30,22 +35,23 @@ neither true c e = absurd cc
 neither false c e = (refl, e)
 
 module _ {R A T D : Type 0} (gives : Relations R A T D) where
-  abbrev Takes : R → LinkStep R A T D → R → Type 0
-  Takes = LinkSteps gives
+  abbrev Takes : R → LinkAct R A T D → R → Type 0
+  Takes = LinkStep gives
 
-  abbrev Runs : R → List (LinkStep R A T D) → R → Type 0
+  abbrev Runs : R → List (LinkAct R A T D) → R → Type 0
   Runs = LinkHistory gives
 
-  abbrev Does : State R → Step R A T D → State R → Type 0
-  Does = Steps gives
+  abbrev Does : State R → Act R A T D → State R → Type 0
+  Does = Step gives
 
   -- a history of one link among the others
-  pub record Own (link : ℕ) (old : R) (steps : List (LinkStep R A T D)) (links : List (Option R)) : Type 0 where
+  pub record Own (link : ℕ) (old : R) (steps : List (LinkAct R A T D)) (links : List (Option R)) : Type 0 where
     pub new : R
     pub stands : slice_index_or links link None ≡ Some new
     pub run : Runs old steps new
 
-  runs-on : (steps more : List (LinkStep R A T D)) (start mid end : R) → Runs start steps mid → Runs mid more end → Runs start (steps ++ more) end
+  runs-on : (steps more : List (LinkAct R A T D)) (start mid end : R) → Runs start steps mid → Runs mid more end
+      → Runs start (steps ++ more) end
   runs-on [] more start mid end run then_run = subst (λ (x : R). Runs x more end) run then_run
   runs-on (step ∷ steps) more start mid end run then_run = (run.0, run.1, runs-on steps more run.0 mid end run.2 then_run)
 
@@ -54,7 +60,8 @@ module _ {R A T D : Type 0} (gives : Relations R A T D) where
   spared link r old new same has = record { new = r; stands = ap (λ (ls : List (Option R)). slice_index_or ls link None) same ∙ has; run = refl }
 
   -- a link at some handle takes a step: this one, or another
-  set-at : (link handle : ℕ) (r x : R) (step : LinkStep R A T D) (old new : List (Option R)) → new ≡ slice_set old handle (Some x) → (handle ≡ link → Takes r step x)
+  set-at : (link handle : ℕ) (r x : R) (step : LinkAct R A T D) (old new : List (Option R))
+      → new ≡ slice_set old handle (Some x) → (handle ≡ link → Takes r step x)
       → slice_index_or old link None ≡ Some r → Own link r (at_link link handle (step ∷ [])) new
   set-at link handle r x step old new becomes takes has =
       elim (eqb_tells handle link) [
@@ -77,7 +84,8 @@ module _ {R A T D : Type 0} (gives : Relations R A T D) where
             })
       ]
 
-  own-at : (link handle : ℕ) (r : R) (step : LinkStep R A T D) (old new : List (Option R)) → StepsAt (λ before after. Takes before step after) old handle new
+  own-at : (link handle : ℕ) (r : R) (step : LinkAct R A T D) (old new : List (Option R))
+      → StepsAt (λ before after. Takes before step after) old handle new
       → slice_index_or old link None ≡ Some r → Own link r (at_link link handle (step ∷ [])) new
   own-at link handle r step old new at has =
       set-at link handle r at.after step old new at.others
@@ -88,7 +96,7 @@ module _ {R A T D : Type 0} (gives : Relations R A T D) where
       has
 
   -- the link stays as it is, and this is in its history
-  at-rest : (link handle : ℕ) (r : R) (step : LinkStep R A T D) (links : List (Option R))
+  at-rest : (link handle : ℕ) (r : R) (step : LinkAct R A T D) (links : List (Option R))
       → ((x : R) → x ≡ r → Takes r step x) → Own link r [] links → Own link r (at_link link handle (step ∷ [])) links
   at-rest link handle r step links stays own = by (handle == link)
     where
@@ -152,7 +160,8 @@ module _ {R A T D : Type 0} (gives : Relations R A T D) where
   own-sent link r false old d numbers new s has = still link r old new old s.1 refl has
   own-sent link r true old d numbers new s has = still link r old new _ s.1 (table-kept (opposite d.role) _ old) has
 
-  own-step : (link : ℕ) (r : R) (step : Step R A T D) (old new : State R) → Does old step new → frees link step ≡ false → link_at old link ≡ Some r → Own link r (own_in link step) new.links
+  own-step : (link : ℕ) (r : R) (step : Act R A T D) (old new : State R) → Does old step new → frees link step ≡ false
+      → link_at old link ≡ Some r → Own link r (own_in link step) new.links
   own-step link r Stays old new s f has = still link r old new old s refl has
   own-step link r (SendsBegin frame) old new s f has = still link r old new _ s.2 refl has
   own-step link r (TakesBegin channel begin base left frames) old new s f has = still link r old new _ s.5 refl has
@@ -187,7 +196,7 @@ module _ {R A T D : Type 0} (gives : Relations R A T D) where
       (here, refl))
       has
 
-  pub own-history : (link : ℕ) (r : R) (steps : List (Step R A T D)) (start end : State R)
+  pub own-history : (link : ℕ) (r : R) (steps : List (Act R A T D)) (start end : State R)
       → History gives start steps end → is_freed link steps ≡ false → link_at start link ≡ Some r
       → Own link r (own_of link steps) end.links
   own-history link r [] start end run f has = still link r start end start run refl has

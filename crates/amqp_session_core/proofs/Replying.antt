@@ -50,7 +50,8 @@ module _ (fields : SessionFields) (old new : Sending) (out out_new : List Sessio
   of-link left = subst (λ r. IsReplyOf r (OfLink handle flow left)) (sym is) (refl, refl)
 
   -- a link's answer leaves at once
-  pub replied-at-once : (frame : BehindFrame) (said : SessionFrame) → sending_history.Steps old (sending_history.Follows handle (behind.Flow flow) (Some frame)) new
+  pub replied-at-once : (frame : BehindFrame) (said : SessionFrame)
+      → sending_history.Step old (sending_history.Follows handle (behind.Flow flow) (Some frame)) new
       → said ≡ behind_frame fields old.next_outgoing_id frame → out_new ≡ out ++ said ∷ [] → Replied fields old out result true new out_new
   replied-at-once frame said step says added =
       record {
@@ -62,7 +63,8 @@ module _ (fields : SessionFields) (old new : Sending) (out out_new : List Sessio
       }
 
   -- a link's answer waits
-  pub replied-later : sending_history.Steps old (sending_history.Follows handle (behind.Flow flow) None) new → out_new ≡ out → Replied fields old out result false new out_new
+  pub replied-later : sending_history.Step old (sending_history.Follows handle (behind.Flow flow) None) new
+      → out_new ≡ out → Replied fields old out result false new out_new
   replied-later step same =
       record {
         reply = OfLink handle flow None;

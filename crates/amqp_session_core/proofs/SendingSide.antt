@@ -11,14 +11,18 @@ use Rattle.amqp_session_core.specs.declared.batch.BehindFrame.{BehindFrame}
 use Rattle.amqp_session_core.specs.Echoes.{opposite, without}
 use Rattle.amqp_session_core.specs.Relay.{Relations}
 use Rattle.amqp_session_core.specs.State.{State}
-use Rattle.amqp_session_core.specs.Steps.{Step, Steps, Reply, NoReply, OfSession, OfLink, Replies, SendsDispositionStep, table_of, with_table, Stays, SendsBegin, TakesBegin, SendsEnd, TakesEnd, TakesAttach, TakesFlow, SetsWindow, TakesTransfer, TakesDisposition, TakesDetach, SendsBehind, SendsTransfers, SendsDisposition, TellsFlow, Allocates, Deallocates, Reserves, Changes}
+use Rattle.amqp_session_core.specs.Steps.{Act, Step, Reply, NoReply, OfSession, OfLink, Replies, SendsDispositionStep}
+use Rattle.amqp_session_core.specs.Steps.{table_of, with_table, Stays, SendsBegin, TakesBegin, SendsEnd, TakesEnd}
+use Rattle.amqp_session_core.specs.Steps.{TakesAttach, TakesFlow, SetsWindow, TakesTransfer, TakesDisposition}
+use Rattle.amqp_session_core.specs.Steps.{TakesDetach, SendsBehind, SendsTransfers, SendsDisposition, TellsFlow}
+use Rattle.amqp_session_core.specs.Steps.{Allocates, Deallocates, Reserves, Changes}
 use Rattle.amqp_session_core.specs.History.{History, settles, settles_as, own_settles_as, reply_steps, sending_in, sending_of}
 
 abbrev Side : Type 0
 Side = sending_state.State TransferFrame BehindFrame
 
 abbrev Sending : Type 0
-Sending = sending.Step TransferFrame BehindFrame
+Sending = sending.Act TransferFrame BehindFrame
 
 sends-on : (steps more : List Sending) (start mid end : Side) → sending.History start steps mid → sending.History mid more end → sending.History start (steps ++ more) end
 sends-on [] more start mid end run then_run = subst (λ (s : Side). sending.History s more end) run then_run
@@ -35,8 +39,8 @@ replied OfSession old new is = is
 replied (OfLink handle flow left) old new step = (new, step, refl)
 
 module _ {R A T D : Type 0} (gives : Relations R A T D) where
-  abbrev Does : State R → Step R A T D → State R → Type 0
-  Does = Steps gives
+  abbrev Does : State R → Act R A T D → State R → Type 0
+  Does = Step gives
 
   same : (old new s : State R) → new ≡ s → s.outgoing ≡ old.outgoing → new.outgoing ≡ old.outgoing
   same old new s is e = ap (λ (x : State R). x.outgoing) is ∙ e
@@ -64,7 +68,8 @@ module _ {R A T D : Type 0} (gives : Relations R A T D) where
       subst (λ (steps : List Sending). sending.History old.outgoing steps new.outgoing) (sym (ap (own_settles_as d.role) s.0 ∙ none-settled d.role)) (same old new old s.1 refl)
   sent true old d numbers new s = own-settled-as d.role old new numbers s.1
 
-  pub step-sends : (step : Step R A T D) (old new : State R) → Does old step new → sending.History old.outgoing (sending_in step) new.outgoing
+  pub step-sends : (step : Act R A T D) (old new : State R) → Does old step new
+      → sending.History old.outgoing (sending_in step) new.outgoing
   step-sends Stays old new s = same old new old s refl
   step-sends (SendsBegin frame) old new s = same old new _ s.2 refl
   step-sends (TakesBegin channel begin base left frames) old new s = (new.outgoing, s.2, refl)
@@ -90,7 +95,7 @@ module _ {R A T D : Type 0} (gives : Relations R A T D) where
   step-sends (Reserves count) old new s = (new.outgoing, s.0, refl)
   step-sends (Changes handle before after) old new s = same old new _ s.1 refl
 
-  pub history-sends : (steps : List (Step R A T D)) (start end : State R) → History gives start steps end
+  pub history-sends : (steps : List (Act R A T D)) (start end : State R) → History gives start steps end
       → sending.History start.outgoing (sending_of steps) end.outgoing
   history-sends [] start end run = ap (λ (x : State R). x.outgoing) run
   history-sends (step ∷ steps) start end run =

@@ -14,7 +14,11 @@ use Rattle.amqp_session_core.specs.Echoes.{opposite}
 use Rattle.amqp_session_core.specs.Frames.{Left, session_flow, behind_frame, frames_behind, frames_sent, frames_left}
 use Rattle.amqp_session_core.specs.Relay.{Relations}
 use Rattle.amqp_session_core.specs.State.{State}
-use Rattle.amqp_session_core.specs.Steps.{Step, Steps, Counts, Reply, NoReply, OfSession, OfLink, SendsDispositionStep, with_table, next_behind, reply_frames, at_once, Stays, SendsBegin, TakesBegin, SendsEnd, TakesEnd, TakesAttach, TakesFlow, SetsWindow, TakesTransfer, TakesDisposition, TakesDetach, SendsBehind, SendsTransfers, SendsDisposition, TellsFlow, Allocates, Deallocates, Reserves, Changes}
+use Rattle.amqp_session_core.specs.Steps.{Act, Step, Counts, Reply, NoReply, OfSession, OfLink, SendsDispositionStep}
+use Rattle.amqp_session_core.specs.Steps.{with_table, next_behind, reply_frames, at_once, Stays, SendsBegin}
+use Rattle.amqp_session_core.specs.Steps.{TakesBegin, SendsEnd, TakesEnd, TakesAttach, TakesFlow, SetsWindow}
+use Rattle.amqp_session_core.specs.Steps.{TakesTransfer, TakesDisposition, TakesDetach, SendsBehind, SendsTransfers}
+use Rattle.amqp_session_core.specs.Steps.{SendsDisposition, TellsFlow, Allocates, Deallocates, Reserves, Changes}
 use Rattle.amqp_session_core.specs.History.{History, AllTellNext, EachTellsNext, frames_in, next_in}
 
 -- so do frames and more behind them
@@ -54,8 +58,8 @@ module _ (f : SessionFields) where
   told-if false number = tt
 
 module _ {R A T D : Type 0} (gives : Relations R A T D) where
-  abbrev Does : State R → Step R A T D → State R → Type 0
-  Does = Steps gives
+  abbrev Does : State R → Act R A T D → State R → Type 0
+  Does = Step gives
 
   -- the session knows the number and the window behind a call, and the call's Flows tell them
   pub record Tells (next : Option ℕ) (window : ℕ) (frames : List SessionFrame) (new : State R) : Type 0 where
@@ -93,7 +97,7 @@ module _ {R A T D : Type 0} (gives : Relations R A T D) where
         (ap (λ (x : SessionFields). x.incoming_window) c.next ∙ width)
         (subst (λ (o : Option SessionFrame). Tell new.fields (option_to_list o)) (sym c.told) (told-if new.fields (nat_le (old.fields).incoming_window (2 * (old.taken + 1))) _))
 
-    step-tells : (step : Step R A T D) → Does old step new → Tells (next_in next step) window (frames_in step) new
+    step-tells : (step : Act R A T D) → Does old step new → Tells (next_in next step) window (frames_in step) new
     step-tells Stays s = still old [] s refl tt
     step-tells (SendsBegin frame) s = still _ [] s.2 refl tt
     step-tells (TakesBegin channel begin base left frames) s =
@@ -126,7 +130,7 @@ module _ {R A T D : Type 0} (gives : Relations R A T D) where
     step-tells (Reserves count) s = still _ [] s.1 refl tt
     step-tells (Changes handle before after) s = still _ [] s.1 refl tt
 
-  pub history-tells : (next : Option ℕ) (window : ℕ) (steps : List (Step R A T D)) (start end : State R)
+  pub history-tells : (next : Option ℕ) (window : ℕ) (steps : List (Act R A T D)) (start end : State R)
       → (start.fields).next_incoming_id ≡ next → (start.fields).incoming_window ≡ window
       → History gives start steps end → EachTellsNext next window steps
   history-tells next window [] start end number width run = tt

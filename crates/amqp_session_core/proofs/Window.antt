@@ -13,12 +13,16 @@ use Rattle.amqp_session_core.specs.Echoes.{opposite}
 use Rattle.amqp_session_core.specs.Frames.{has_flow, session_flow}
 use Rattle.amqp_session_core.specs.Relay.{Relations}
 use Rattle.amqp_session_core.specs.State.{State}
-use Rattle.amqp_session_core.specs.Steps.{Step, Steps, Counts, SendsDispositionStep, with_table, taken_behind, Stays, SendsBegin, TakesBegin, SendsEnd, TakesEnd, TakesAttach, TakesFlow, SetsWindow, TakesTransfer, TakesDisposition, TakesDetach, SendsBehind, SendsTransfers, SendsDisposition, TellsFlow, Allocates, Deallocates, Reserves, Changes}
+use Rattle.amqp_session_core.specs.Steps.{Act, Step, Counts, SendsDispositionStep, with_table, taken_behind, Stays}
+use Rattle.amqp_session_core.specs.Steps.{SendsBegin, TakesBegin, SendsEnd, TakesEnd, TakesAttach, TakesFlow}
+use Rattle.amqp_session_core.specs.Steps.{SetsWindow, TakesTransfer, TakesDisposition, TakesDetach, SendsBehind}
+use Rattle.amqp_session_core.specs.Steps.{SendsTransfers, SendsDisposition, TellsFlow, Allocates, Deallocates}
+use Rattle.amqp_session_core.specs.Steps.{Reserves, Changes}
 use Rattle.amqp_session_core.specs.History.{History, frames_in, taken_in, taken_since}
 
 module _ {R A T D : Type 0} (gives : Relations R A T D) where
-  abbrev Does : State R → Step R A T D → State R → Type 0
-  Does = Steps gives
+  abbrev Does : State R → Act R A T D → State R → Type 0
+  Does = Step gives
 
   -- what a call leaves of the own window
   pub record Used (old : State R) (frames : List SessionFrame) (more : ℕ) (new : State R) : Type 0 where
@@ -70,7 +74,8 @@ module _ {R A T D : Type 0} (gives : Relations R A T D) where
   sent-used false old d numbers new s = unused old new old [] s.1 refl refl
   sent-used true old d numbers new s = tabled (opposite d.role) old new _ old s.1 refl refl
 
-  step-used : (step : Step R A T D) (old new : State R) → Does old step new → Used old (frames_in step) (taken_in step) new
+  step-used : (step : Act R A T D) (old new : State R) → Does old step new
+      → Used old (frames_in step) (taken_in step) new
   step-used Stays old new s = unused old new old [] s refl refl
   step-used (SendsBegin frame) old new s = unused old new _ [] s.2 refl refl
   step-used (TakesBegin channel begin base left frames) old new s = unused old new _ frames s.5 refl s.4
@@ -96,7 +101,7 @@ module _ {R A T D : Type 0} (gives : Relations R A T D) where
   step-used (Changes handle before after) old new s = unused old new _ [] s.1 refl refl
 
   -- the count is kept, and stays below half of the window
-  pub history-used : (steps : List (Step R A T D)) (start end : State R) → History gives start steps end
+  pub history-used : (steps : List (Act R A T D)) (start end : State R) → History gives start steps end
       → 2 * start.taken < (start.fields).incoming_window → 2 * taken_since start.taken steps < (start.fields).incoming_window
   history-used [] start end run some = some
   history-used (step ∷ steps) start end run some =

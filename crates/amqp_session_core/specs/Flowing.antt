@@ -101,11 +101,11 @@ SameRefusal (Ok answer) result = IsOk result
 SameRefusal (Err e) result = result ≡ Err e
 
 -- a window was taken, and what left was handed out
-pub record HandsOut (fields : SessionFields) (step : Left → sending_history.Step TransferFrame BehindFrame)
+pub record HandsOut (fields : SessionFields) (step : Left → sending_history.Act TransferFrame BehindFrame)
     (old : Sending) (out : List SessionFrame) (flows : Bool) (new : Sending) (out_new : List SessionFrame) : Type 0
   where
     pub left : Left
-    pub window : sending_history.Steps old (step left) new
+    pub window : sending_history.Step old (step left) new
     pub added : out_new ≡ out ++ frames_left fields left
     pub flows_is : flows ≡ has_flow (frames_left fields left)
 

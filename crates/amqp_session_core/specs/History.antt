@@ -17,18 +17,18 @@ use Rattle.amqp_session_core.specs.declared.batch.BehindFrame.TheVariants as beh
 use Rattle.amqp_session_core.specs.declared.relay.RelayError.{RelayError}
 use Rattle.amqp_session_core.specs.Echoes.{Reach, settled_by}
 use Rattle.amqp_session_core.specs.Frames.{has_flow}
-use Rattle.amqp_session_core.specs.Relay.{Relations, LinkStep, Attaches, Flows, Transfers, Disposes, Detaches}
+use Rattle.amqp_session_core.specs.Relay.{Relations, LinkAct, Attaches, Flows, Transfers, Disposes, Detaches}
 use Rattle.amqp_session_core.specs.Relay.{SendsBatch, SendsFrame, SendsDisposition as SendsItsDisposition}
 use Rattle.amqp_session_core.specs.Relay.{Changes as ChangesIt}
 use Rattle.amqp_session_core.specs.State.{State}
-use Rattle.amqp_session_core.specs.Steps.{Step, Stays, SendsBegin, TakesBegin, SendsEnd, TakesEnd, TakesAttach}
+use Rattle.amqp_session_core.specs.Steps.{Act, Stays, SendsBegin, TakesBegin, SendsEnd, TakesEnd, TakesAttach}
 use Rattle.amqp_session_core.specs.Steps.{TakesFlow, SetsWindow, TakesTransfer, TakesDisposition, TakesDetach}
 use Rattle.amqp_session_core.specs.Steps.{SendsBehind, SendsTransfers, SendsDisposition, TellsFlow, Allocates}
-use Rattle.amqp_session_core.specs.Steps.{Deallocates, Reserves, Changes, Steps, Reply, NoReply, OfSession, OfLink}
+use Rattle.amqp_session_core.specs.Steps.{Deallocates, Reserves, Changes, Step, Reply, NoReply, OfSession, OfLink}
 use Rattle.amqp_session_core.specs.Steps.{told_to_link, next_behind}
 
 abbrev Sending : Type 0
-Sending = sending.Step TransferFrame BehindFrame
+Sending = sending.Act TransferFrame BehindFrame
 
 -- these deliveries are settled
 abbrev pub settles : List ℕ → List Sending
@@ -60,19 +60,19 @@ AllTellNext next window (frame ∷ frames) = TellsNext next window frame.body ×
 
 module _ {R A T D : Type 0} where
   -- a Flow for a link
-  abbrev pub flow_told : Flow → Option Handle → Result (Option LinkFlow) RelayError → List (LinkStep R A T D)
+  abbrev pub flow_told : Flow → Option Handle → Result (Option LinkFlow) RelayError → List (LinkAct R A T D)
   flow_told flow None told = []
   flow_told flow (Some handle) told = Flows (told_to_link flow handle) told ∷ []
 
-  abbrev pub at_link : ℕ → ℕ → List (LinkStep R A T D) → List (LinkStep R A T D)
+  abbrev pub at_link : ℕ → ℕ → List (LinkAct R A T D) → List (LinkAct R A T D)
   at_link link handle steps = if handle == link then steps else []
 
-  abbrev pub told_to : ℕ → Flow → Option (ℕ × Result (Option LinkFlow) RelayError) → List (LinkStep R A T D)
+  abbrev pub told_to : ℕ → Flow → Option (ℕ × Result (Option LinkFlow) RelayError) → List (LinkAct R A T D)
   told_to link flow None = []
   told_to link flow (Some told) = at_link link told.0 (flow_told flow flow.handle told.1)
 
   -- the deliveries of a link that a disposition reached
-  abbrev pub reached_by : ℕ → Disposition → List Reach → List (LinkStep R A T D)
+  abbrev pub reached_by : ℕ → Disposition → List Reach → List (LinkAct R A T D)
   reached_by link d [] = []
   reached_by link d (r ∷ walk) =
       (if r.live then at_link link r.handle (Disposes r.tag d.role d.settled d.state r.echo ∷ []) else [])
@@ -80,7 +80,7 @@ module _ {R A T D : Type 0} where
 
 module _ {R A T D : Type 0} where
   -- what a call does on the sending side
-  abbrev pub sending_in : Step R A T D → List Sending
+  abbrev pub sending_in : Act R A T D → List Sending
   sending_in Stays = []
   sending_in (SendsBegin frame) = []
   sending_in (TakesBegin channel begin base left frames) = sending.TakesWindow base begin.incoming_window left ∷ []
@@ -102,12 +102,12 @@ module _ {R A T D : Type 0} where
   sending_in (Reserves count) = sending.Reserves count ∷ []
   sending_in (Changes handle before after) = []
 
-  abbrev pub sending_of : List (Step R A T D) → List Sending
+  abbrev pub sending_of : List (Act R A T D) → List Sending
   sending_of [] = []
   sending_of (step ∷ steps) = sending_in step ++ sending_of steps
 
   -- what a call does to the link with an own handle, and what is sent for it
-  abbrev pub own_in : ℕ → Step R A T D → List (LinkStep R A T D)
+  abbrev pub own_in : ℕ → Act R A T D → List (LinkAct R A T D)
   own_in link Stays = []
   own_in link (SendsBegin frame) = []
   own_in link (TakesBegin channel begin base left frames) = []
@@ -129,31 +129,31 @@ module _ {R A T D : Type 0} where
   own_in link (Reserves count) = []
   own_in link (Changes handle before after) = at_link link handle (ChangesIt before after ∷ [])
 
-  abbrev pub own_of : ℕ → List (Step R A T D) → List (LinkStep R A T D)
+  abbrev pub own_of : ℕ → List (Act R A T D) → List (LinkAct R A T D)
   own_of link [] = []
   own_of link (step ∷ steps) = own_in link step ++ own_of link steps
 
   -- where a link's owner changes it, the change keeps a relation
-  abbrev pub CallKeeps : (R → R → Type 0) → Step R A T D → Type 0
+  abbrev pub CallKeeps : (R → R → Type 0) → Act R A T D → Type 0
   CallKeeps keeps (Changes handle before after) = keeps before after
   CallKeeps keeps step = Unit {0}
 
   -- each change of a link by its owner does
-  abbrev pub OwnersKeep : (R → R → Type 0) → List (Step R A T D) → Type 0
+  abbrev pub OwnersKeep : (R → R → Type 0) → List (Act R A T D) → Type 0
   OwnersKeep keeps [] = Unit {0}
   OwnersKeep keeps (step ∷ steps) = CallKeeps keeps step × OwnersKeep keeps steps
 
   -- the own handle is taken back
-  abbrev pub frees : ℕ → Step R A T D → Bool
+  abbrev pub frees : ℕ → Act R A T D → Bool
   frees link (Deallocates handle) = handle == link
   frees link step = false
 
-  abbrev pub is_freed : ℕ → List (Step R A T D) → Bool
+  abbrev pub is_freed : ℕ → List (Act R A T D) → Bool
   is_freed link [] = false
   is_freed link (step ∷ steps) = if frees link step then true else is_freed link steps
 
   -- the frames that a call hands out
-  abbrev pub frames_in : Step R A T D → List SessionFrame
+  abbrev pub frames_in : Act R A T D → List SessionFrame
   frames_in (TakesBegin channel begin base left frames) = frames
   frames_in (TakesFlow flow told reply base left frames) = frames
   frames_in (TakesTransfer handle transfer payload told flow) = option_to_list flow
@@ -163,17 +163,17 @@ module _ {R A T D : Type 0} where
   frames_in step = []
 
   -- a transfer is taken
-  abbrev pub taken_in : Step R A T D → ℕ
+  abbrev pub taken_in : Act R A T D → ℕ
   taken_in (TakesTransfer handle transfer payload (Ok told) flow) = 1
   taken_in step = 0
 
   -- how many transfers were taken since a Flow left
-  abbrev pub taken_since : ℕ → List (Step R A T D) → ℕ
+  abbrev pub taken_since : ℕ → List (Act R A T D) → ℕ
   taken_since count [] = count
   taken_since count (step ∷ steps) = taken_since (if has_flow (frames_in step) then 0 else count + taken_in step) steps
 
   -- the number of the peer's next transfer, by its Begin, its Flows and what was taken since (part 2, 2.5.6)
-  abbrev pub next_in : Option ℕ → Step R A T D → Option ℕ
+  abbrev pub next_in : Option ℕ → Act R A T D → Option ℕ
   next_in next (TakesBegin channel begin base left frames) = Some begin.next_outgoing_id
   next_in next (TakesFlow flow told reply base left frames) = Some flow.next_outgoing_id
   next_in next (SetsWindow flow base) = Some flow.next_outgoing_id
@@ -181,13 +181,13 @@ module _ {R A T D : Type 0} where
   next_in next step = next
 
   -- so does each Flow that left, with the number of then
-  abbrev pub EachTellsNext : Option ℕ → ℕ → List (Step R A T D) → Type 0
+  abbrev pub EachTellsNext : Option ℕ → ℕ → List (Act R A T D) → Type 0
   EachTellsNext next window [] = Unit {0}
   EachTellsNext next window (step ∷ steps) =
       AllTellNext (next_in next step) window (frames_in step) × EachTellsNext (next_in next step) window steps
 
 module _ {R A T D : Type 0} (gives : Relations R A T D) where
   -- the states around a list of calls
-  abbrev pub History : State R → List (Step R A T D) → State R → Type 0
+  abbrev pub History : State R → List (Act R A T D) → State R → Type 0
   History start [] end = end ≡ start
-  History start (step ∷ steps) end = (mid : State R) × Steps gives start step mid × History mid steps end
+  History start (step ∷ steps) end = (mid : State R) × Step gives start step mid × History mid steps end

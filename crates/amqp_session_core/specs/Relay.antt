@@ -34,47 +34,47 @@ pub record Relations (R A T D : Type 0) : Type 1 where
   pub detaches : R → Detach → Result D RelayError → R → Type 0
 
 -- a frame that a link takes, and what it tells of it; or what its owner does: sends for it, or changes it
-pub data LinkStep (R A T D : Type 0) : Type 0 where
-  Attaches : (attach : Attach) (told : Result A RelayError) → LinkStep R A T D
-  Flows : (flow : LinkFlow) (told : Result (Option LinkFlow) RelayError) → LinkStep R A T D
-  Transfers : (transfer : Transfer) (payload : List ℕ) (told : Result (TransferAnswer T) RelayError) → LinkStep R A T D
+pub data LinkAct (R A T D : Type 0) : Type 0 where
+  Attaches : (attach : Attach) (told : Result A RelayError) → LinkAct R A T D
+  Flows : (flow : LinkFlow) (told : Result (Option LinkFlow) RelayError) → LinkAct R A T D
+  Transfers : (transfer : Transfer) (payload : List ℕ) (told : Result (TransferAnswer T) RelayError) → LinkAct R A T D
   Disposes : (tag : List ℕ) (role : Role) (settled : Bool) (state : Option DeliveryState) (echo : Bool)
-      → LinkStep R A T D
-  Detaches : (detach : Detach) (told : Result D RelayError) → LinkStep R A T D
+      → LinkAct R A T D
+  Detaches : (detach : Detach) (told : Result D RelayError) → LinkAct R A T D
   -- transfers of the link are sent
-  SendsBatch : (batch : Batch) → LinkStep R A T D
+  SendsBatch : (batch : Batch) → LinkAct R A T D
   -- a Flow or a Detach of the link is sent
-  SendsFrame : (frame : BehindFrame) → LinkStep R A T D
+  SendsFrame : (frame : BehindFrame) → LinkAct R A T D
   -- a disposition of its session is sent, which may be of deliveries of any link (part 2, 2.7.6)
-  SendsDisposition : (disposition : Disposition) → LinkStep R A T D
+  SendsDisposition : (disposition : Disposition) → LinkAct R A T D
   -- the link before a change and behind it
-  Changes : (before after : R) → LinkStep R A T D
+  Changes : (before after : R) → LinkAct R A T D
 
 module _ {R A T D : Type 0} (gives : Relations R A T D) where
   -- the link before and behind
-  abbrev pub LinkSteps : R → LinkStep R A T D → R → Type 0
-  LinkSteps old (Attaches attach told) new = gives.attaches old attach told new
-  LinkSteps old (Flows flow told) new = gives.flows old flow told new
-  LinkSteps old (Transfers transfer payload told) new = gives.transfers old transfer payload told new
-  LinkSteps old (Disposes tag role settled state echo) new = gives.disposes old tag role settled state echo new
-  LinkSteps old (Detaches detach told) new = gives.detaches old detach told new
-  LinkSteps old (SendsBatch batch) new = new ≡ old
-  LinkSteps old (SendsFrame frame) new = new ≡ old
-  LinkSteps old (SendsDisposition disposition) new = new ≡ old
-  LinkSteps old (Changes before after) new = (old ≡ before) × (new ≡ after)
+  abbrev pub LinkStep : R → LinkAct R A T D → R → Type 0
+  LinkStep old (Attaches attach told) new = gives.attaches old attach told new
+  LinkStep old (Flows flow told) new = gives.flows old flow told new
+  LinkStep old (Transfers transfer payload told) new = gives.transfers old transfer payload told new
+  LinkStep old (Disposes tag role settled state echo) new = gives.disposes old tag role settled state echo new
+  LinkStep old (Detaches detach told) new = gives.detaches old detach told new
+  LinkStep old (SendsBatch batch) new = new ≡ old
+  LinkStep old (SendsFrame frame) new = new ≡ old
+  LinkStep old (SendsDisposition disposition) new = new ≡ old
+  LinkStep old (Changes before after) new = (old ≡ before) × (new ≡ after)
 
   -- the links around a list of steps
-  abbrev pub LinkHistory : R → List (LinkStep R A T D) → R → Type 0
+  abbrev pub LinkHistory : R → List (LinkAct R A T D) → R → Type 0
   LinkHistory start [] end = end ≡ start
-  LinkHistory start (step ∷ steps) end = (mid : R) × LinkSteps start step mid × LinkHistory mid steps end
+  LinkHistory start (step ∷ steps) end = (mid : R) × LinkStep start step mid × LinkHistory mid steps end
 
 module _ {R A T D : Type 0} (keeps : R → R → Type 0) where
   -- where the owner changes the link, the change keeps a relation
-  abbrev pub StepKeeps : LinkStep R A T D → Type 0
+  abbrev pub StepKeeps : LinkAct R A T D → Type 0
   StepKeeps (Changes before after) = keeps before after
   StepKeeps step = Unit {0}
 
   -- each of the owner's changes does
-  abbrev pub OwnerKeeps : List (LinkStep R A T D) → Type 0
+  abbrev pub OwnerKeeps : List (LinkAct R A T D) → Type 0
   OwnerKeeps [] = Unit {0}
   OwnerKeeps (step ∷ steps) = StepKeeps step × OwnerKeeps steps

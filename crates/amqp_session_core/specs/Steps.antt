@@ -47,42 +47,42 @@ pub data Reply : Type 0 where
   OfLink : (handle : OutputHandle) (flow : LinkFlow) (left : Option BehindFrame) → Reply
 
 -- a call, what it was given and answered, and what it handed out
-pub data Step (R A T D : Type 0) : Type 0 where
+pub data Act (R A T D : Type 0) : Type 0 where
   -- nothing changed
-  Stays : Step R A T D
-  SendsBegin : (frame : SessionFrame) → Step R A T D
+  Stays : Act R A T D
+  SendsBegin : (frame : SessionFrame) → Act R A T D
   TakesBegin : (channel : IncomingChannel) (begin : Begin) (base : ℕ) (left : Left) (frames : List SessionFrame)
-      → Step R A T D
-  SendsEnd : (error : Option Error) (frame : SessionFrame) → Step R A T D
-  TakesEnd : Step R A T D
+      → Act R A T D
+  SendsEnd : (error : Option Error) (frame : SessionFrame) → Act R A T D
+  TakesEnd : Act R A T D
   -- the link with this own handle takes an Attach
-  TakesAttach : (handle : ℕ) (attach : Attach) (told : Result A RelayError) → Step R A T D
+  TakesAttach : (handle : ℕ) (attach : Attach) (told : Result A RelayError) → Act R A T D
   -- a Flow is taken, by a link where one is told
   TakesFlow : (flow : Flow) (told : Option (ℕ × Result (Option LinkFlow) RelayError)) (reply : Reply) (base : ℕ)
-      (left : Left) (frames : List SessionFrame) → Step R A T D
+      (left : Left) (frames : List SessionFrame) → Act R A T D
   -- a Flow with the handle of no link: its window is set, and nothing leaves
-  SetsWindow : (flow : Flow) (base : ℕ) → Step R A T D
+  SetsWindow : (flow : Flow) (base : ℕ) → Act R A T D
   -- the link with this own handle takes a transfer
   TakesTransfer : (handle : ℕ) (transfer : Transfer) (payload : List ℕ) (told : Result (TransferAnswer T) RelayError)
-      (flow : Option SessionFrame) → Step R A T D
-  TakesDisposition : (disposition : Disposition) (walk : List Reach) (echoes : List Disposition) → Step R A T D
+      (flow : Option SessionFrame) → Act R A T D
+  TakesDisposition : (disposition : Disposition) (walk : List Reach) (echoes : List Disposition) → Act R A T D
   -- the link with this own handle takes a Detach
-  TakesDetach : (handle : ℕ) (detach : Detach) (told : Result D RelayError) → Step R A T D
+  TakesDetach : (handle : ℕ) (detach : Detach) (told : Result D RelayError) → Act R A T D
   -- a Flow or a Detach of a link leaves at once or waits
   SendsBehind : (handle : OutputHandle) (frame : BehindFrame) (left : Option BehindFrame) (answer : Option SessionFrame)
-      → Step R A T D
+      → Act R A T D
   -- transfers of a link are accepted
-  SendsTransfers : (handle : OutputHandle) (batch : Transfers) (left : Left) (frames : List SessionFrame) → Step R A T D
-  SendsDisposition : (disposition : Disposition) (settled : List ℕ) → Step R A T D
+  SendsTransfers : (handle : OutputHandle) (batch : Transfers) (left : Left) (frames : List SessionFrame) → Act R A T D
+  SendsDisposition : (disposition : Disposition) (settled : List ℕ) → Act R A T D
   -- the session tells its state
-  TellsFlow : (frame : SessionFrame) → Step R A T D
+  TellsFlow : (frame : SessionFrame) → Act R A T D
   -- a link gets an own handle, and is reached by the peer's handle where one is given
-  Allocates : (handle : ℕ) (link : R) (input : Option ℕ) → Step R A T D
-  Deallocates : (handle : ℕ) → Step R A T D
+  Allocates : (handle : ℕ) (link : R) (input : Option ℕ) → Act R A T D
+  Deallocates : (handle : ℕ) → Act R A T D
   -- room is made for transfers
-  Reserves : (count : ℕ) → Step R A T D
+  Reserves : (count : ℕ) → Act R A T D
   -- the owner of a link changed it
-  Changes : (handle : ℕ) (before after : R) → Step R A T D
+  Changes : (handle : ℕ) (before after : R) → Act R A T D
 
 -- a link's state that a Flow with this handle tells
 abbrev pub told_to_link : Flow → Handle → LinkFlow
@@ -121,7 +121,7 @@ abbrev pub Replies : sending.State TransferFrame BehindFrame → Reply → sendi
 Replies old NoReply new = new ≡ old
 Replies old OfSession new = new ≡ old
 Replies old (OfLink handle flow left) new =
-    sending_history.Steps old (sending_history.Follows handle (behind.Flow flow) left) new
+    sending_history.Step old (sending_history.Follows handle (behind.Flow flow) left) new
 
 -- which reply a Flow gets: a link's own, and where no link is meant and an echo is wanted, the session's (part 2,
 -- 2.7.4)
@@ -218,7 +218,7 @@ module _ {R A T D : Type 0} (gives : Relations R A T D) where
     pub mid : sending.State TransferFrame BehindFrame
     pub replied : Replies old.outgoing reply mid
     pub base_is : base ≡ sending.base_of old.outgoing flow.next_incoming_id
-    pub window : sending_history.Steps mid (sending_history.TakesWindow base flow.incoming_window left) new.outgoing
+    pub window : sending_history.Step mid (sending_history.TakesWindow base flow.incoming_window left) new.outgoing
     pub frames_are : frames ≡ reply_frames new.fields (old.outgoing).next_outgoing_id reply
         ++ frames_left new.fields left
     pub becomes :
@@ -273,7 +273,7 @@ module _ {R A T D : Type 0} (gives : Relations R A T D) where
   abbrev pub BehindStep : State R → OutputHandle → BehindFrame → Option BehindFrame → Option SessionFrame → State R
       → Type 0
   BehindStep old handle frame left answer new =
-      sending_history.Steps old.outgoing (sending_history.Follows handle frame left) new.outgoing
+      sending_history.Step old.outgoing (sending_history.Follows handle frame left) new.outgoing
       × (answer ≡ at_once old.fields (old.outgoing).next_outgoing_id left)
       × (new ≡ record old { taken = new.taken; outgoing = new.outgoing })
       × (new.taken ≡ taken_behind (option_to_list answer) old.taken)
@@ -299,50 +299,50 @@ module _ {R A T D : Type 0} (gives : Relations R A T D) where
       × (new ≡ record old { links = new.links; offered = new.offered; routes = map.insert old.routes input handle })
 
   -- the states around a call
-  abbrev pub Steps : State R → Step R A T D → State R → Type 0
-  Steps old Stays new = new ≡ old
-  Steps old (SendsBegin frame) new =
+  abbrev pub Step : State R → Act R A T D → State R → Type 0
+  Step old Stays new = new ≡ old
+  Step old (SendsBegin frame) new =
       (frame ≡ frame_of old.fields (body.Begin (own_begin old)))
       × (after_send_begin old.local_state ≡ Some new.local_state)
       × (new ≡ record old { local_state = new.local_state })
-  Steps old (TakesBegin channel begin base left frames) new =
+  Step old (TakesBegin channel begin base left frames) new =
       (after_incoming_begin old.local_state ≡ Some new.local_state)
       × (base ≡ (old.outgoing).next_outgoing_id)
-      × sending_history.Steps old.outgoing (sending_history.TakesWindow base begin.incoming_window left) new.outgoing
+      × sending_history.Step old.outgoing (sending_history.TakesWindow base begin.incoming_window left) new.outgoing
       × (frames ≡ frames_left new.fields left) × (new.taken ≡ taken_behind frames old.taken)
       × (new ≡ begun old channel begin new)
-  Steps old (SendsEnd error frame) new =
+  Step old (SendsEnd error frame) new =
       (frame ≡ frame_of old.fields (body.End (record { error = error })))
       × (after_send_end old.local_state ≡ Some new.local_state)
       × (new ≡ record old { local_state = new.local_state })
-  Steps old TakesEnd new =
+  Step old TakesEnd new =
       (after_incoming_end old.local_state ≡ Some new.local_state) × (new ≡ record old { local_state = new.local_state })
-  Steps old (TakesAttach handle attach told) new = AttachStep old handle attach told new
-  Steps old (TakesFlow flow told reply base left frames) new = FlowStep old flow told reply base left frames new
-  Steps old (SetsWindow flow base) new =
+  Step old (TakesAttach handle attach told) new = AttachStep old handle attach told new
+  Step old (TakesFlow flow told reply base left frames) new = FlowStep old flow told reply base left frames new
+  Step old (SetsWindow flow base) new =
       (leads old flow.handle ≡ false) × (base ≡ sending.base_of old.outgoing flow.next_incoming_id)
       × (new ≡ record old {
         fields = record old.fields { next_incoming_id = Some flow.next_outgoing_id };
         outgoing = sending.with_window old.outgoing base flow.incoming_window;
       })
-  Steps old (TakesTransfer handle transfer payload told flow) new =
+  Step old (TakesTransfer handle transfer payload told flow) new =
       TransferStep old handle transfer payload told flow new
-  Steps old (TakesDisposition d walk echoes) new = DispositionStep old d walk echoes new
-  Steps old (TakesDetach handle detach told) new = DetachStep old handle detach told new
-  Steps old (SendsBehind handle frame left answer) new = BehindStep old handle frame left answer new
-  Steps old (SendsTransfers handle batch left frames) new =
-      sending_history.Steps old.outgoing (sending_history.Accepts handle batch left) new.outgoing
+  Step old (TakesDisposition d walk echoes) new = DispositionStep old d walk echoes new
+  Step old (TakesDetach handle detach told) new = DetachStep old handle detach told new
+  Step old (SendsBehind handle frame left answer) new = BehindStep old handle frame left answer new
+  Step old (SendsTransfers handle batch left frames) new =
+      sending_history.Step old.outgoing (sending_history.Accepts handle batch left) new.outgoing
       × (frames ≡ frames_left old.fields left)
       × (new ≡ record old { taken = taken_behind frames old.taken; outgoing = new.outgoing })
       × IsSome (link_at old handle.0)
-  Steps old (SendsDisposition d numbers) new = SendsDispositionStep d.settled old d numbers new
-  Steps old (TellsFlow frame) new =
+  Step old (SendsDisposition d numbers) new = SendsDispositionStep d.settled old d numbers new
+  Step old (TellsFlow frame) new =
       (frame ≡ session_flow old.fields (old.outgoing).next_outgoing_id) × (new ≡ record old { taken = 0 })
-  Steps old (Allocates handle link input) new = AllocateStep old handle link input new
-  Steps old (Deallocates handle) new =
+  Step old (Allocates handle link input) new = AllocateStep old handle link input new
+  Step old (Deallocates handle) new =
       ((other : ℕ) → link_at new other ≡ (if other == handle then None else link_at old other))
       × ((input : ℕ) → map.get new.routes input ≡ unless_to handle (map.get old.routes input))
-      × sending_history.Steps old.outgoing (sending_history.Forgets (record { 0 = handle })) new.outgoing
+      × sending_history.Step old.outgoing (sending_history.Forgets (record { 0 = handle })) new.outgoing
       × ((number : ℕ) → map.get new.received number ≡ unless_of handle (map.get old.received number))
       × (new ≡ record old {
         links = new.links;
@@ -352,9 +352,9 @@ module _ {R A T D : Type 0} (gives : Relations R A T D) where
         received = new.received;
       })
       × (units_of handle (old.outgoing).queues ≡ [])
-  Steps old (Reserves count) new =
-      sending_history.Steps old.outgoing (sending_history.Reserves count) new.outgoing
+  Step old (Reserves count) new =
+      sending_history.Step old.outgoing (sending_history.Reserves count) new.outgoing
       × (new ≡ record old { outgoing = new.outgoing })
-  Steps old (Changes handle before after) new =
+  Step old (Changes handle before after) new =
       (link_at old handle ≡ Some before)
       × (new ≡ record old { links = slice_set old.links handle (Some after) })

@@ -29,7 +29,7 @@ use Rattle.amqp_session_core.specs.Echoes.{Reach}
 use Rattle.amqp_session_core.specs.Frames.{Left, frame_of}
 use Rattle.amqp_session_core.specs.Relay.{Relations, session_error}
 use Rattle.amqp_session_core.specs.State.{State, link_at, reached}
-use Rattle.amqp_session_core.specs.Steps.{Step, Steps, Reply, TakesBegin, TakesAttach, SendsBehind, SendsTransfers}
+use Rattle.amqp_session_core.specs.Steps.{Act, Step, Reply, TakesBegin, TakesAttach, SendsBehind, SendsTransfers}
 use Rattle.amqp_session_core.specs.Steps.{TakesFlow, SetsWindow, TakesTransfer, TakesDisposition, TakesDetach}
 use Rattle.amqp_session_core.specs.Steps.{SendsDisposition, Deallocates}
 
@@ -42,11 +42,11 @@ flow_answer (Some handle) (Some (h, Ok flow)) answer = IsOk answer
 flow_answer (Some handle) (Some (h, Err e)) answer = (e ≢ relay.Memory) × (answer ≡ Err (session_error e))
 
 module _ {R A T D : Type 0} (gives : Relations R A T D) where
-  abbrev Does : State R → Step R A T D → State R → Type 0
-  Does = Steps gives
+  abbrev Does : State R → Act R A T D → State R → Type 0
+  Does = Step gives
 
   -- the link refused it: the session has the link's reason, which isn't want of memory
-  pub record LinkRefuses {X : Type 0} (step : Result X RelayError → Step R A T D) (old : State R) (e : SessionError)
+  pub record LinkRefuses {X : Type 0} (step : Result X RelayError → Act R A T D) (old : State R) (e : SessionError)
       (new : State R) : Type 0 where
     pub reason : RelayError
     pub other : reason ≢ relay.Memory

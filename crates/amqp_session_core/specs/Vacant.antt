@@ -5,7 +5,7 @@ use Rattle.amqp_session_unsettled.specs.Table.{Table}
 use Rattle.amqp_session_unsettled.specs.declared.delivery.Delivery.{Delivery}
 use Rattle.amqp_session_outgoing.specs.Queues.{units_of}
 use Rattle.amqp_session_core.specs.State.{State, link_at}
-use Rattle.amqp_session_core.specs.Steps.{Step, Allocates}
+use Rattle.amqp_session_core.specs.Steps.{Act, Allocates}
 
 -- these deliveries are of other links
 abbrev pub AreOfOthers : ℕ → Table → Type 0
@@ -21,10 +21,10 @@ pub record IsVacant {R : Type 0} (s : State R) (handle : ℕ) : Type 0 where
 
 module _ {R A T D : Type 0} where
   -- a link gets the handle
-  abbrev pub gives_handle : ℕ → Step R A T D → Bool
+  abbrev pub gives_handle : ℕ → Act R A T D → Bool
   gives_handle handle (Allocates given link input) = given == handle
   gives_handle handle step = false
 
-  abbrev pub is_given : ℕ → List (Step R A T D) → Bool
+  abbrev pub is_given : ℕ → List (Act R A T D) → Bool
   is_given handle [] = false
   is_given handle (step ∷ steps) = if gives_handle handle step then true else is_given handle steps

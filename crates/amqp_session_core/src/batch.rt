@@ -1,3 +1,4 @@
+//! The transfers that a link hands to its session at once.
 ghost use Rattle.std.specs.Prelude.{◌≡◌, [], ◌∷◌, ◌++◌, length, OnOk, OnErr, IfOk, IsTrue, ◌↔◌};
 ghost use Rattle.amqp_session_core.specs.Batch.{first_of, continuation_of, first_part, whole_of, is_flow, IsWhole};
 

@@ -1,8 +1,9 @@
+//! A session begins and ends.
 ghost use Rattle.std.specs.Prelude.{◌≡◌, ◌+◌, ◌≤◌, None, IfOk, IfErr, OnOk, OnErr};
 ghost use Rattle.std.specs.VecDeque.{deque_len, deque_capacity};
 ghost use Rattle.amqp_session_outgoing.specs.Queues.{frames_in};
 ghost use Rattle.amqp_session_core.specs.Refusals.{RefusesBegin};
-ghost use Rattle.amqp_session_core.specs.Steps.{Steps, SendsBegin, SendsEnd, TakesEnd, own_begin};
+ghost use Rattle.amqp_session_core.specs.Steps.{Step, SendsBegin, SendsEnd, TakesEnd, own_begin};
 ghost use Rattle.amqp_session_core.specs.Table.{after_send_begin, after_incoming_begin, after_send_end};
 ghost use Rattle.amqp_session_core.specs.Table.{after_incoming_end};
 ghost use Rattle.amqp_session_core.specs.Told.{BeginTaken};
@@ -22,7 +23,7 @@ impl<R: LinkRelay> Session<R> {
     /// names the peer's channel. It takes no memory. It is refused with `IllegalState` where the state allows none,
     /// and nothing changes then.
     pub fn send_begin(&mut self, alloc: Global) -> Result<SessionFrame, BeginError>
-        ensures ok { IfOk result (λ frame. Steps R.gives self.old (SendsBegin frame) self.new) }
+        ensures ok { IfOk result (λ frame. Step R.gives self.old (SendsBegin frame) self.new) }
         ensures err { IfErr result (λ e. (e ≡ BeginError.IllegalState)
             × (after_send_begin self.old.local_state ≡ None)) }
         ensures kept { OnErr result (self.new ≡ self.old) }
@@ -97,7 +98,7 @@ impl<R: LinkRelay> Session<R> {
         &mut self,
         error: Option<definitions::Error>,
     ) -> Result<SessionFrame, SessionError>
-        ensures ok { IfOk result (λ frame. Steps R.gives self.old (SendsEnd error frame) self.new) }
+        ensures ok { IfOk result (λ frame. Step R.gives self.old (SendsEnd error frame) self.new) }
         ensures err { IfErr result (λ e. (e ≡ SessionError.IllegalState)
             × (after_send_end self.old.local_state ≡ None)) }
         ensures kept { OnErr result (self.new ≡ self.old) }
@@ -112,7 +113,7 @@ impl<R: LinkRelay> Session<R> {
     /// Takes the peer's End, and moves the state on (part 2, 2.5.2). It is refused with `IllegalState` where the state
     /// allows none, and nothing changes then.
     pub fn on_incoming_end(&mut self) -> Result<(), SessionError>
-        ensures ok { OnOk result (Steps R.gives self.old TakesEnd self.new) }
+        ensures ok { OnOk result (Step R.gives self.old TakesEnd self.new) }
         ensures err { IfErr result (λ e. (e ≡ SessionError.IllegalState)
             × (after_incoming_end self.old.local_state ≡ None)) }
         ensures kept { OnErr result (self.new ≡ self.old) }

@@ -1,3 +1,4 @@
+//! What a session tells of itself.
 ghost use Rattle.std.specs.Prelude.{◌≡◌, Some, None};
 ghost use Rattle.amqp_session_core.specs.Frames.{frame_of, session_flow, link_flow};
 

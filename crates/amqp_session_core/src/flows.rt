@@ -1,3 +1,4 @@
+//! A Flow of the peer, and its answer.
 ghost use Rattle.std.specs.Prelude.{◌≡◌, ◌≢◌, ◌+◌, ◌≤◌, ◌<◌, [], Err, Ok, OnOk, OnErr, IfErr, Result, Option, IsTrue};
 ghost use Rattle.std.specs.Prelude.{true, false};
 ghost use Rattle.std.specs.VecDeque.{deque_len, deque_capacity};

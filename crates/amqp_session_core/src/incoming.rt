@@ -1,3 +1,4 @@
+//! An Attach, a transfer and a Detach of the peer.
 ghost use Rattle.std.specs.Prelude.{◌≡◌, ◌≢◌, ℕ, ◌+◌, ◌*◌, ◌<◌, ◌⊎◌, Err, Ok, Some, None, IfOk, IfErr, OnOk, OnErr};
 ghost use Rattle.std.specs.Prelude.{IsSome, slice_index_or, nat_le, if◌then◌else◌};
 ghost use Rattle.std.specs.FinMap as map;

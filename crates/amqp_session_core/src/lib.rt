@@ -1,7 +1,7 @@
 //! A session of AMQP 1.0 over links of any type (part 2, 2.5): what a link is to its session (`LinkRelay`), and a
 //! session (`Session`) that is proved once for every such link.
 //!
-//! What a call does says `Steps` in specs/Steps.antt. Laws of whole histories of calls are in `laws`.
+//! What a call does says `Step` in specs/Steps.antt. Laws of whole histories of calls are in `laws`.
 #![tactic(auto)]
 
 mod accessors;

@@ -2,7 +2,7 @@
 ghost use Rattle.std.specs.Prelude.{◌≡◌, ◌≢◌, ℕ, ◌<◌, ◌≤◌, ◌==◌, if◌then◌else◌, Some, None, option_map, IfOk, OnOk};
 ghost use Rattle.std.specs.Prelude.{IfErr, OnErr, IsSome};
 ghost use Rattle.amqp_session_core.specs.State.{live_in};
-ghost use Rattle.amqp_session_core.specs.Steps.{Steps, Allocates};
+ghost use Rattle.amqp_session_core.specs.Steps.{Step, Allocates};
 ghost use Rattle.amqp_session_core.specs.Told.{Deallocated};
 ghost use Rattle.std.specs.FinMap as map;
 ghost use Rattle.slab.specs.Slab.{HasRoomFor};
@@ -31,7 +31,7 @@ impl<R: LinkRelay> Session<R> {
     /// peer's handle-max (part 2, 2.7.2), and with `Memory` where there is none. The link comes back then.
     pub fn allocate_link(&mut self, link: R) -> Result<OutputHandle, Unallocated<R>>
         ensures ok { IfOk result (λ handle.
-            Steps R.gives self.old (Allocates handle.0 link None) self.new) }
+            Step R.gives self.old (Allocates handle.0 link None) self.new) }
         ensures err { IfErr result
             (λ refused. RefusesLink self.old None refused.error × (refused.link ≡ link)) }
         ensures kept { OnErr result (self.new ≡ self.old) }
@@ -57,7 +57,7 @@ impl<R: LinkRelay> Session<R> {
     ) -> Result<OutputHandle, Unallocated<R>>
         ensures ok { IfOk result
             (λ handle.
-            Steps R.gives self.old (Allocates handle.0 link (Some input_handle.0)) self.new) }
+            Step R.gives self.old (Allocates handle.0 link (Some input_handle.0)) self.new) }
         ensures err { IfErr result
             (λ refused.
             RefusesLink self.old (Some input_handle.0) refused.error

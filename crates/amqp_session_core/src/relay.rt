@@ -1,3 +1,4 @@
+//! What a session asks of its links.
 ghost use Rattle.std.specs.Prelude.{◌≡◌};
 ghost use Rattle.amqp_session_core.specs.Relay.{session_error};
 

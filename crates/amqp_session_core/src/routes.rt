@@ -1,3 +1,4 @@
+//! The links by their peer's handles.
 ghost use Rattle.std.specs.Prelude.{◌≡◌, ℕ, Some, OnOk, OnErr, not, ◌==◌};
 ghost use Rattle.std.specs.FinMap as map;
 ghost use Rattle.amqp_session_core.specs.Tables.{is_to, leads, unless_to};

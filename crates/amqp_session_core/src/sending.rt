@@ -1,3 +1,4 @@
+//! What a session's links send: Attach, Flow, transfers and Detach.
 ghost use Rattle.std.specs.Prelude.{◌≡◌, ◌≢◌, ◌+◌, ◌-◌, ◌*◌, ◌≤◌, ◌<◌, [], Err, IfOk, IfErr, IfSome, IfNone, OnOk};
 ghost use Rattle.std.specs.Prelude.{OnErr, length};
 ghost use Rattle.std.specs.VecDeque.{deque_len, deque_capacity};
@@ -7,7 +8,7 @@ ghost use Rattle.amqp_session_core.specs.declared.batch.BehindFrame.TheVariants 
 ghost use Rattle.amqp_session_core.specs.Frames.{frame_of};
 ghost use Rattle.amqp_session_core.specs.Refusals.{RefusesReach, RefusesTransfers, refusal};
 ghost use Rattle.amqp_session_core.specs.State.{link_at};
-ghost use Rattle.amqp_session_core.specs.Steps.{Steps, Reserves, TellsFlow};
+ghost use Rattle.amqp_session_core.specs.Steps.{Step, Reserves, TellsFlow};
 ghost use Rattle.amqp_session_core.specs.Told.{BehindSent, TransfersSent};
 
 use crate::batch::{Batch, BehindFrame};
@@ -190,7 +191,7 @@ impl<R: LinkRelay> Session<R> {
         out: &mut VecDeque<SessionFrame>,
         count: usize,
     ) -> Result<(), SessionError>
-        ensures ok { OnOk result (Steps R.gives self.old (Reserves count) self.new) }
+        ensures ok { OnOk result (Step R.gives self.old (Reserves count) self.new) }
         ensures room { OnOk result (deque_len out.new +
             (frames_in (self.new.outgoing).queues + (self.new.outgoing).room) ≤ deque_capacity out.new) }
         ensures err { IfErr result (λ e. e ≡ SessionError.Memory) }
@@ -209,7 +210,7 @@ impl<R: LinkRelay> Session<R> {
     pub fn maybe_outgoing_session_flow(&mut self) -> Option<SessionFrame>
         ensures some { IfSome result (λ frame.
             ((self.old.fields).incoming_window ≤ 2 * self.old.taken)
-            × Steps R.gives self.old (TellsFlow frame) self.new) }
+            × Step R.gives self.old (TellsFlow frame) self.new) }
         ensures none { IfNone result ((2 * self.old.taken < (self.old.fields).incoming_window)
             × (self.new ≡ self.old)) }
     {

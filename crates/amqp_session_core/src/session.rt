@@ -1,3 +1,4 @@
+//! A session over links of one type.
 ghost use Rattle.std.specs.Prelude.{◌≡◌};
 ghost use Rattle.amqp_session_core.specs.State.{fresh};
 

@@ -1,3 +1,4 @@
+//! The states of a session.
 ghost use Rattle.std.specs.Prelude.{◌≡◌};
 ghost use Rattle.amqp_session_core.specs.Table.{after_send_begin, after_incoming_begin, after_send_end};
 ghost use Rattle.amqp_session_core.specs.Table.{after_incoming_end};

@@ -1,3 +1,4 @@
+//! Frames are read.
 ghost use Rattle.std.specs.Prelude.{◌≡◌, IfErr, IfOk};
 ghost use Rattle.amqp_session_frames.specs.Body.{BodyRefused, Performed, PerformativeRefused};
 ghost use Rattle.amqp_session_frames.specs.Text.{BodyText, FrameText, NotRead};

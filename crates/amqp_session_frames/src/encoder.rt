@@ -1,3 +1,4 @@
+//! Frames are written.
 ghost use Rattle.std.specs.Int.{to_be_bytes, w16};
 ghost use Rattle.std.specs.Prelude.{[], ◌∷◌, ◌+◌, ◌++◌, ◌<◌, ◌≡◌, ◌≤◌, ℕ, All, IfErr, IfOk, List, OnOk, length, true};
 ghost use Rattle.std.specs.Prelude.{false};

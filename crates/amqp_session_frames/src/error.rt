@@ -1,3 +1,4 @@
+//! Why a frame was not written or not read.
 ghost use Rattle.std.specs.Prelude.{◌≡◌};
 ghost use Rattle.amqp_session_frames.specs.declared.error.Error.TheVariants.{Memory};
 

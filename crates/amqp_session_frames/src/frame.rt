@@ -1,3 +1,4 @@
+//! A frame and its body.
 ghost use Rattle.std.specs.Prelude.{◌≡◌, Some};
 ghost use Rattle.amqp_session_frames.specs.Text.{IsBehind, payload_of, performative_of};
 ghost use Rattle.amqp_session_frames.specs.declared.frame.FrameBody.TheVariants.{Empty};

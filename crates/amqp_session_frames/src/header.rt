@@ -1,3 +1,4 @@
+//! The header of a frame.
 ghost use Rattle.std.specs.Prelude.{◌≡◌, ◌≤◌, length, true, false, IfOk, IfErr};
 ghost use Rattle.amqp_session_frames.specs.Header.{HasHeader, HeaderRefused};
 ghost use Rattle.amqp_session_frames.specs.Text.{IsOtherType};

@@ -1,3 +1,4 @@
+//! A part of a transfer that is divided over several frames.
 ghost use Rattle.amqp_session_performatives.specs.Transfer.{transfer_item};
 ghost use Rattle.amqp_session_frames.specs.Parts.{saying};
 

@@ -1,3 +1,4 @@
+//! A piece of what is sent of a frame: its head and its payload.
 ghost use Rattle.std.specs.Prelude.{◌≡◌, ◌++◌, length, OnOk, OnErr};
 ghost use Rattle.amqp_session_frames.specs.Piece.{head_bytes};
 

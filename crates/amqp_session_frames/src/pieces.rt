@@ -1,3 +1,4 @@
+//! The pieces that a frame is sent as.
 ghost use Rattle.std.specs.Prelude.{◌≡◌, ◌∷◌, [], take, drop};
 
 use crate::piece::Piece;

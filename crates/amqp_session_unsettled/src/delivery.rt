@@ -1,3 +1,4 @@
+//! A delivery that isn't settled yet.
 use amqp_session_types::{DeliveryTag, OutputHandle};
 
 /// A delivery that isn't settled yet (part 2, 2.6.12).

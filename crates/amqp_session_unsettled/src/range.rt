@@ -1,3 +1,4 @@
+//! The numbers that a disposition names.
 ghost use Rattle.std.specs.Prelude.{◌≡◌, ℕ, ◌+◌, ◌<◌, ◌≤◌, ◌^◌, ◌%◌, ◌↔◌, IsTrue};
 ghost use Rattle.amqp_session_unsettled.specs.Range.{range_of, count_of, Names, ahead};
 

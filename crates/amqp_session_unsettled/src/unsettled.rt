@@ -1,3 +1,4 @@
+//! The unsettled deliveries of a session by their numbers.
 ghost use Rattle.std.specs.Prelude.{◌≡◌, ℕ, ◌+◌, ◌-◌, ◌<◌, ◌≤◌, ◌==◌, ◌^◌, ◌↔◌, not, IsTrue, IfOk, OnOk, OnErr, IsOk};
 ghost use Rattle.std.specs.Prelude.{max, option_copied};
 ghost use Rattle.std.specs.FinMap as map;

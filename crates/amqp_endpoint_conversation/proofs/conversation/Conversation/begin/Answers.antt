@@ -5,7 +5,7 @@ use Rattle.amqp_session_types.specs.declared.refusals.BeginError.{BeginError}
 use Rattle.amqp_session_performatives.specs.declared.session_frame.SessionFrame.{SessionFrame}
 use Rattle.amqp_endpoint_links.specs.declared.asking.AskingSession.{AskingSession}
 use Rattle.amqp_endpoint_links.specs.Beginning.{Begun}
-use Rattle.amqp_endpoint_sessions.specs.Steps.{Steps, Begins}
+use Rattle.amqp_endpoint_sessions.specs.Steps.{Step, Begins}
 use Rattle.amqp_session_connection.specs.State as channels
 use Rattle.amqp_endpoint_conversation.specs.Beginning.{BeginsHere}
 use Rattle.amqp_endpoint_conversation.proofs.Answering.{answered, numbered}
@@ -26,7 +26,7 @@ returns-clause-ok g c =
     numbered channel old.sessions.connection.offered
     (c.in_ok-channel.ensures.ok.2 ∙ ap (λ (s : channels.State). s.offered) c.connection.ensures) in
     answered (λ (number : ℕ). BeginsHere g.R.LinkRelay.gives old out number new out_new)
-    (λ (number : ℕ). Steps old.sessions (Begins number (record { 0 = old.sessions.connection.offered }) session)
+    (λ (number : ℕ). Step old.sessions (Begins number (record { 0 = old.sessions.connection.offered }) session)
     new.sessions
     × (new ≡ record old { sessions = new.sessions }))
     (out_new ≡ c.reserve.new.self.items ++ frame ∷ [])
@@ -40,13 +40,13 @@ returns-clause-ok g c =
           (subst (λ (f : SessionFrame). Begun g.R.LinkRelay.gives channel first window f c.begin-begun.result.0)
           (sym c.in_ok-session.ensures.1) c.begin-begun.ensures);
       stepped =
-          subst (λ (ch : OutgoingChannel). Steps old.sessions (Begins number ch session) new.sessions) (sym offered)
+          subst (λ (ch : OutgoingChannel). Step old.sessions (Begins number ch session) new.sessions) (sym offered)
           entered.0;
       rest = entered.1;
       queued = queued ∙ ap (λ (fs : List SessionFrame). fs ++ frame ∷ []) c.reserve.ensures.items;
     })
     c.queue_if.result
-    (subst (λ (r : Result ℕ BeginError). IfOk r (λ number. Steps old.sessions
+    (subst (λ (r : Result ℕ BeginError). IfOk r (λ number. Step old.sessions
     (Begins number (record { 0 = old.sessions.connection.offered }) session) new.sessions
     × (new ≡ record old { sessions = new.sessions }))) (sym c.queue_if.ensures.answer) c.enter-entered.ensures.ok)
     c.queue_if.ensures.queued
