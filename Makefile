@@ -4,6 +4,9 @@ SCENARIO ?= examples/open_close.scenario
 # The lines that `trace` and `try-trace` answer.
 TRACE ?= examples/connection.trace
 
+# How many crates the gate proves side by side.
+JOBS ?= $(shell nproc)
+
 # How many random scripts `soak` runs, or which, as 21-40, and how many steps each has.
 SEEDS ?= 20
 STEPS ?= 200
@@ -28,9 +31,10 @@ try-trace:
 	@echo "This run is tried only: nothing is proved." >&2
 	@cd crates/amqp_trace && rt try < "$(abspath $(TRACE))"
 
-# Every proof, edit that must fail, test and program, from nothing.
+# Every proof, edit that must fail, test and program, from nothing: `rt ci`, which asks each library once for what is below
+# it. A crate is proved on each processor; without RT_JOBS rt counts twice the memory that these crates take.
 test:
-	rt ci
+	RT_JOBS=$(JOBS) tools/rt_once ci
 
 # The same, and then what it took of a processor, by crate and kind.
 time:
@@ -49,6 +53,6 @@ bench:
 memory:
 	@tools/refuse_memory "$(SCENARIO)"
 
-# Runs random scripts of two endpoints, and judges what they print. Both programs are built once, and nothing is proved.
+# Runs random scripts of two endpoints, and of one, and judges what they print. Both programs are built once, and nothing is proved.
 soak:
 	@tools/soak "$(SEEDS)" "$(STEPS)"
