@@ -74,7 +74,7 @@ fn counted<P: WriteParts>(parts: &P) -> Result<u128, Error>
 {
     let mut s = Serializer::new(Counter::new());
     parts.put(&mut s)?;
-    Ok(s.writer.count())
+    Ok(s.into_inner().count())
 }
 
 /// The canonical texts of parts, joined. Counts first, so that it takes memory once.

@@ -20,7 +20,7 @@ impl WriteBody for Raw {
 
     #[tactic(auto, using(crate::proofs::Listing::listing, crate::proofs::Keeping::keeping))]
     fn put<W: Sink>(&self, s: &mut Serializer<W>) -> Result<(), Error> {
-        s.writer.put(self.0.as_slice())?;
+        s.put(self.0.as_slice())?;
         Ok(())
     }
 

@@ -25,10 +25,10 @@ pub(crate) fn read_described<T: Deserialize, R: Read>(
     ensures refused { Unless R.faulty result
         (Refuses (described_as code name.now T.take) de.old.element (at_of R.rest de.old)) }
 {
-    let outer = de.element;
+    let outer = de.element();
     de.described()?;
     read_descriptor(alloc, de, code, name)?;
     let value = T::read(alloc, de)?;
-    de.element = outer;
+    de.set_element(outer);
     Ok(value)
 }

@@ -59,10 +59,10 @@ pub(crate) fn read_composite<C: Composite + Drop, R: Read>(
     ensures refused { Unless R.faulty result
         (Refuses (record_taken code name.now C.takes) de.old.element (at_of R.rest de.old)) }
 {
-    let outer = de.element;
+    let outer = de.element();
     de.described()?;
     read_descriptor(alloc, de, code, name)?;
     let value = C::read_fields(alloc, de)?;
-    de.element = outer;
+    de.set_element(outer);
     Ok(value)
 }

@@ -111,7 +111,7 @@ impl Deserialize for TargetArchetype {
 
     #[tactic(auto, using(crate::proofs::Archetypes::archetypes))]
     fn read<R: Read>(alloc: Global, de: &mut Deserializer<R>) -> Result<TargetArchetype, Error> {
-        if de.element.is_some() {
+        if de.element().is_some() {
             return Ok(TargetArchetype::Target(Target::read(alloc, de)?));
         }
         let value = <RawValue as Deserialize>::read(alloc, de)?;

@@ -83,9 +83,9 @@ fn read_sized<F: ReadFields + Drop, R: Read>(
     ensures refused { Unless R.faulty result
         (RefusesSized (fields_taken F.takes) count size None (at_of R.rest de.old)) }
 {
-    let start = de.pos;
+    let start = de.pos();
     let fields = F::read(alloc, de, count)?;
-    if de.pos - start != size {
+    if de.pos() - start != size {
         return Err(Error::InvalidLength);
     }
     Ok(fields)
@@ -107,11 +107,11 @@ pub fn read_choice<C: Choice + Drop, R: Read>(
     ensures refused { Unless R.faulty result
         (Refuses (choice_taken C.table) de.old.element (at_of R.rest de.old)) }
 {
-    let outer = de.element;
+    let outer = de.element();
     de.described()?;
     let code = read_code::<C, R>(alloc, de)?;
     let value = C::read_fields(alloc, de, code)?;
-    de.element = outer;
+    de.set_element(outer);
     Ok(value)
 }
 

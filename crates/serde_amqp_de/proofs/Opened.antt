@@ -10,8 +10,7 @@ use Rattle.serde_amqp_item.specs.Kind.{kind_of, raw_kind}
 use Rattle.serde_amqp_item.proofs.Forms.{all_same}
 use Rattle.serde_amqp_item.proofs.PairRows.{pair_items}
 use Rattle.serde_amqp_de.specs.declared.content.Content.{Content}
-use Rattle.serde_amqp_de.specs.declared.deserializer.Deserializer.{Deserializer}
-use Rattle.serde_amqp_de.specs.Reads.{At, Moves, Head, Reads, Refuses, Took, Opens, at_of}
+use Rattle.serde_amqp_de.specs.Reads.{Reading, At, Moves, Head, Reads, Refuses, Took, Opens, at_of}
 use Rattle.serde_amqp_de.specs.Maps.{pairs_in, map_in, map_taken, RefusesPairs}
 use Rattle.serde_amqp_de.specs.Takes.{list_taken}
 use Rattle.serde_amqp_de.specs.Apart.{leads_split}
@@ -177,11 +176,11 @@ took_next rest take y c d t element l end outer = record {
 }
 
 -- a head was read, and the place where the items end
-pub opened : {R : Type 0} (rest : R → List ℕ) (shape : Shape) (j k : Option ℕ) (old : At) (head : Result (ℕ × ℕ) Error) (left end : ℕ) (mid now : Deserializer R) (c : Content R)
+pub opened : {R : Type 0} (rest : R → List ℕ) (shape : Shape) (j k : Option ℕ) (old : At) (head : Result (ℕ × ℕ) Error) (left end : ℕ) (mid now : Reading R) (c : Content R)
     → ((n size : ℕ) → head ≡ Ok (n, size) → Begun shape j k old (at_of rest mid) n (Some size)) → (size : ℕ) × (head ≡ Ok (left, size)) × (end ≡ mid.pos + size) → now ≡ mid
     → at_of rest c.de.now ≡ at_of rest now → c.left ≡ left → c.end ≡ Some end → c.outer ≡ k → c.de.now.element ≡ j → HasRead rest shape j k old [] c
 opened {R} rest shape j k old head left end mid now c begun b same at lefts ends outer element =
-    none_read rest shape j k old (at_of rest mid) left (Some b.0) c (begun left b.0 b.1) (sym (at ∙ ap (λ (d : Deserializer R). at_of rest d) same)) lefts (ends ∙ ap (λ (n : ℕ). Some n) b.2) outer element
+    none_read rest shape j k old (at_of rest mid) left (Some b.0) c (begun left b.0 b.1) (sym (at ∙ ap (λ (d : Reading R). at_of rest d) same)) lefts (ends ∙ ap (λ (n : ℕ). Some n) b.2) outer element
 
 pub ruleset opening = (took_next)
 
@@ -192,7 +191,7 @@ passed_on faulty r e P same h = rw same at h
 pub ruleset bounding = (passed_on, named_passed)
 
 -- what the end of the whole says
-pub ended : {R : Type 0} (rest : R → List ℕ) (shape : Shape) (r : Result (Unit {0}) Error) (c : Content R) (d : Deserializer R)
+pub ended : {R : Type 0} (rest : R → List ℕ) (shape : Shape) (r : Result (Unit {0}) Error) (c : Content R) (d : Reading R)
     → OnOk r ((c.left ≡ 0) × AtEnd c.end c.de.now.pos × (at_of rest d ≡ at_of rest c.de.now) × (d.element ≡ c.outer))
     → OnOk r ((j k : Option ℕ) (old : At) (xs : List Item) → HasRead rest shape j k old xs c → Reads k old (at_of rest d) (whole shape (items_of xs)) × (d.element ≡ k))
 ended rest shape (Ok u) c d e = λ j k old xs h. (all_read rest shape j k old (at_of rest d) xs c h e.0 e.1 e.2, e.3 ∙ h.outer_is)

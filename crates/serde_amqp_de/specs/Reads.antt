@@ -6,7 +6,12 @@ use Rattle.serde_amqp_item.specs.Item.{Item, Items, item_count}
 use Rattle.serde_amqp_item.specs.Wire.{Wire, Leads, Width, field, room, IsSized, IsElementCode, code_of, Forms}
 use Rattle.serde_amqp_item.specs.Wire.{IsCapped, IsStrict}
 use Rattle.serde_amqp_item.specs.Kind.{kind_of, raw_kind}
-use Rattle.serde_amqp_de.specs.declared.deserializer.Deserializer.{Deserializer}
+
+-- a reader, the constructor that an element of an array inherits, and how many bytes were read
+pub record Reading (R : Type 0) : Type 0 where
+  pub reader : R
+  pub element : Option ℕ
+  pub pos : ℕ
 
 -- the bytes that are left, and how many were read
 pub record At : Type 0 where
@@ -70,7 +75,7 @@ pub record Took (take : Item → Option Item) (k : Option ℕ) (old new : At) (y
   pub reads : Reads k old new item
   pub taken : take item ≡ Some y
 
-abbrev pub at_of : {R : Type 0} → (R → List ℕ) → Deserializer R → At
+abbrev pub at_of : {R : Type 0} → (R → List ℕ) → Reading R → At
 at_of rest d = record { rest = rest d.reader; pos = d.pos }
 
 -- a size and a count were read
@@ -129,5 +134,5 @@ pub record RefusesSized (taking : Items → Option (List Item)) (count size : �
       → item_count xs ≡ count → length front ≡ size → taking xs ≡ None
 
 -- a reader that has failed has nothing left
-abbrev pub HasFailed : {R : Type 0} → (R → List ℕ) → Deserializer R → Type 0
+abbrev pub HasFailed : {R : Type 0} → (R → List ℕ) → Reading R → Type 0
 HasFailed rest d = (rest d.reader ≡ []) × (d.element ≡ None)

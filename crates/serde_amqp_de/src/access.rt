@@ -44,10 +44,10 @@ impl<R: Read> Deserializer<R> {
         ensures named { Named R.faulty result
             (Names list_kind self.old.element (R.rest self.old.reader)) }
     {
-        let outer = self.element;
+        let outer = self.element();
         let head = self.list_head();
         let (left, end) = self.bounded(head)?;
-        self.element = None;
+        self.set_element(None);
         Ok(ListAccess {
             content: Content {
                 de: self,
@@ -77,14 +77,14 @@ impl<R: Read> Deserializer<R> {
             (NamesCount SequenceLengthMismatch len list_kind self.old.element
             (R.rest self.old.reader)) }
     {
-        let outer = self.element;
+        let outer = self.element();
         let head = self.list_head();
         let (left, end) = self.bounded(head)?;
         if left != len {
             self.fail();
             return Err(Error::SequenceLengthMismatch);
         }
-        self.element = None;
+        self.set_element(None);
         Ok(ListAccess {
             content: Content {
                 de: self,
@@ -159,7 +159,7 @@ impl<R: Read> Deserializer<R> {
         ensures named { Named R.faulty result
             (Names array_kind self.old.element (R.rest self.old.reader)) }
     {
-        let outer = self.element;
+        let outer = self.element();
         let head = self.array_head();
         let (left, end) = self.bounded(head)?;
         Ok(ArrayAccess {
@@ -237,10 +237,10 @@ impl<R: Read> Deserializer<R> {
         ensures named { Named R.faulty result
             (Names map_kind self.old.element (R.rest self.old.reader)) }
     {
-        let outer = self.element;
+        let outer = self.element();
         let head = self.map_head();
         let (left, end) = self.bounded(head)?;
-        self.element = None;
+        self.set_element(None);
         Ok(MapAccess {
             content: Content {
                 de: self,
@@ -378,14 +378,14 @@ impl<R: Read> Deserializer<R> {
         ensures named { Named R.faulty result
             (NamesCount InvalidLength 2 map_kind self.old.element (R.rest self.old.reader)) }
     {
-        let outer = self.element;
+        let outer = self.element();
         let head = self.map_head();
         let (left, end) = self.bounded(head)?;
         if left != 2 {
             self.fail();
             return Err(Error::InvalidLength);
         }
-        self.element = None;
+        self.set_element(None);
         Ok(VariantAccess {
             content: Content {
                 de: self,
@@ -489,7 +489,7 @@ impl<R: Read> Deserializer<R> {
         ensures named { Named R.faulty result
             (Names described_kind self.old.element (R.rest self.old.reader)) }
     {
-        let outer = self.element;
+        let outer = self.element();
         match self.described() {
             Ok(()) => Ok(DescribedAccess {
                 content: Content {

@@ -21,15 +21,25 @@ use crate::short::Kept;
 use serde_amqp_item::{EncodingCodes, Error, MAX_ARRAY_COUNT, code_of};
 use serde_amqp_read::Read;
 use std::alloc::Global;
+use std::marker::Model;
 
 /// Reads values from a reader.
+///
+/// A clause sees the `reader`, the constructor that an element of an array inherits (part 1, section 1.2) as
+/// `element`, and how many bytes were read as `pos`.
 #[derive(Debug, Drop)]
 pub struct Deserializer<R> {
-    pub reader: R,
-    /// The constructor that an element of an array inherits (part 1, section 1.2).
-    pub element: Option<u8>,
-    /// How many bytes were read.
-    pub pos: usize,
+    pub(crate) reader: R,
+    pub(crate) element: Option<u8>,
+    pub(crate) pos: usize,
+}
+
+impl<R> Model for Deserializer<R> {
+    ghost use Rattle.serde_amqp_de.specs.Reads.{Reading};
+
+    ghost Value = { Reading R };
+
+    ghost view = { λ d. record { reader = d.reader; element = d.element; pos = d.pos } };
 }
 
 impl<R: Read> Deserializer<R> {
@@ -50,6 +60,30 @@ impl<R: Read> Deserializer<R> {
         ensures { R.rest result ≡ R.rest self.reader }
     {
         self.reader
+    }
+
+    /// The constructor that the next value inherits as an element of an array, if it does (part 1, section 1.2).
+    #[inline(always)]
+    pub fn element(&self) -> Option<u8>
+        ensures { result ≡ self.now.element }
+    {
+        self.element
+    }
+
+    /// From here on values inherit this constructor, or none.
+    #[inline(always)]
+    pub fn set_element(&mut self, element: Option<u8>)
+        ensures { self.new ≡ record self.old { element = element } }
+    {
+        self.element = element;
+    }
+
+    /// How many bytes were read.
+    #[inline(always)]
+    pub fn pos(&self) -> usize
+        ensures { result ≡ self.now.pos }
+    {
+        self.pos
     }
 
     /// From here on the reader has failed: each later call is refused.
@@ -448,7 +482,7 @@ impl<R: Read> Deserializer<R> {
     {
         match self.code()? {
             EncodingCodes::DescribedType => {
-                self.element = None;
+                self.set_element(None);
                 Ok(())
             }
             _ => Err(self.refuse(Error::InvalidFormatCode)),
@@ -580,7 +614,7 @@ impl<R: Read> Deserializer<R> {
                     return Ok((0, 0));
                 }
                 let element = self.element_code(count as usize)?;
-                self.element = Some(element);
+                self.set_element(Some(element));
                 Ok((count as usize, size as usize - 2))
             }
             EncodingCodes::Array32 => {
@@ -592,7 +626,7 @@ impl<R: Read> Deserializer<R> {
                     return Err(self.refuse(Error::InvalidLength));
                 }
                 let element = self.element_code(count as usize)?;
-                self.element = Some(element);
+                self.set_element(Some(element));
                 Ok((count as usize, size as usize - 5))
             }
             _ => Err(self.refuse(Error::InvalidFormatCode)),

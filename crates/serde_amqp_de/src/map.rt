@@ -101,9 +101,9 @@ fn read_sized_pairs<K: Deserialize + Drop, V: Deserialize + Drop, R: Read>(
     ensures refused { Unless R.faulty result
         (RefusesSizedPairs K.take V.take count size (at_of R.rest de.old)) }
 {
-    let start = de.pos;
+    let start = de.pos();
     let pairs = read_pairs(alloc, de, count)?;
-    if de.pos - start != size {
+    if de.pos() - start != size {
         return Err(Error::InvalidLength);
     }
     Ok(pairs)
@@ -125,10 +125,10 @@ pub fn read_map<K: Deserialize + Drop, V: Deserialize + Drop, R: Read>(
     ensures refused { Unless R.faulty result
         (Refuses (pairs_taken K.take V.take) de.old.element (at_of R.rest de.old)) }
 {
-    let outer = de.element;
+    let outer = de.element();
     let (count, size) = de.map_head()?;
-    de.element = None;
+    de.set_element(None);
     let pairs = read_sized_pairs(alloc, de, count / 2, size)?;
-    de.element = outer;
+    de.set_element(outer);
     Ok(pairs)
 }

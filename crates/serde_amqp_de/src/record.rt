@@ -155,13 +155,13 @@ pub fn read_record<F: ReadFields + Drop, R: Read>(
     ensures refused { Unless R.faulty result
         (Refuses (record_taken code name.now F.takes) de.old.element (at_of R.rest de.old)) }
 {
-    let outer = de.element;
+    let outer = de.element();
     de.described()?;
     read_descriptor(alloc, de, code, name)?;
     let (count, size) = de.list_head()?;
-    de.element = None;
+    de.set_element(None);
     let fields = read_fields::<F, R>(alloc, de, count, size)?;
-    de.element = outer;
+    de.set_element(outer);
     Ok(fields)
 }
 
@@ -178,9 +178,9 @@ fn read_fields<F: ReadFields + Drop, R: Read>(
     ensures refused { Unless R.faulty result
         (RefusesSized (fields_taken F.takes) count size None (at_of R.rest de.old)) }
 {
-    let start = de.pos;
+    let start = de.pos();
     let fields = F::read(alloc, de, count)?;
-    if de.pos - start != size {
+    if de.pos() - start != size {
         return Err(Error::InvalidLength);
     }
     Ok(fields)

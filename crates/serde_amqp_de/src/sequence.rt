@@ -49,9 +49,9 @@ fn read_sized<T: Deserialize + Drop, R: Read>(
     ensures refused { Unless R.faulty result
         (RefusesSized (each_taken T.take) count size de.old.element (at_of R.rest de.old)) }
 {
-    let start = de.pos;
+    let start = de.pos();
     let values = read_items(alloc, de, count)?;
-    if de.pos - start != size {
+    if de.pos() - start != size {
         return Err(Error::InvalidLength);
     }
     Ok(values)
@@ -72,11 +72,11 @@ pub fn read_list<T: Deserialize + Drop, R: Read>(
     ensures refused { Unless R.faulty result
         (Refuses (items_taken T.take) de.old.element (at_of R.rest de.old)) }
 {
-    let outer = de.element;
+    let outer = de.element();
     let (count, size) = de.list_head()?;
-    de.element = None;
+    de.set_element(None);
     let values = read_sized(alloc, de, count, size)?;
-    de.element = outer;
+    de.set_element(outer);
     Ok(values)
 }
 
@@ -95,10 +95,10 @@ pub fn read_array<T: Deserialize + Drop, R: Read>(
     ensures refused { Unless R.faulty result
         (Refuses (elements_taken T.take) de.old.element (at_of R.rest de.old)) }
 {
-    let outer = de.element;
+    let outer = de.element();
     let (count, size) = de.array_head()?;
     let values = read_sized(alloc, de, count, size)?;
-    de.element = outer;
+    de.set_element(outer);
     Ok(values)
 }
 

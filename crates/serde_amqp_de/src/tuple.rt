@@ -69,9 +69,9 @@ fn read_sized_parts<P: ReadParts + Drop, R: Read>(
     ensures refused { Unless R.faulty result
         (RefusesSized (row_taken P.takes) (length P.takes) size None (at_of R.rest de.old)) }
 {
-    let start = de.pos;
+    let start = de.pos();
     let parts = P::read(alloc, de)?;
-    if de.pos - start != size {
+    if de.pos() - start != size {
         return Err(Error::InvalidLength);
     }
     Ok(parts)
@@ -91,14 +91,14 @@ fn read_parts<P: ReadParts + Drop, R: Read>(
     ensures refused { Unless R.faulty result
         (Refuses (tuple_taken P.takes) de.old.element (at_of R.rest de.old)) }
 {
-    let outer = de.element;
+    let outer = de.element();
     let (count, size) = de.list_head()?;
     if count != parts {
         return Err(Error::SequenceLengthMismatch);
     }
-    de.element = None;
+    de.set_element(None);
     let values = read_sized_parts::<P, R>(alloc, de, size)?;
-    de.element = outer;
+    de.set_element(outer);
     Ok(values)
 }
 

@@ -7,7 +7,6 @@ use Rattle.serde_amqp_item.specs.Canon.{counted_text, counted_wide, ◌>>=◌}
 use Rattle.serde_amqp_item.specs.declared.error.Error.{Error}
 use Rattle.serde_amqp_item.specs.declared.error.Error.TheVariants.{Memory}
 use Rattle.serde_amqp_ser.specs.Written.{Written, capped, extended}
-use Rattle.serde_amqp_ser.specs.declared.serializer.Serializer.{Serializer}
 use Rattle.serde_amqp_ser.specs.declared.place.IsArrayElement.{IsArrayElement}
 use Rattle.serde_amqp_ser.specs.declared.place.IsArrayElement.TheVariants.{False, FirstElement, OtherElement}
 
@@ -21,8 +20,13 @@ pub record State : Type 0 where
   pub written : Written
   pub place : Place
 
+-- what a serializer writes to, and where the next value is written
+pub record Writing (W : Type 0) : Type 0 where
+  pub writer : W
+  pub element : IsArrayElement
+
 -- the state of a serializer, by what its sink holds
-abbrev pub state_of : {W : Type 0} → (W → Written) → Serializer W → State
+abbrev pub state_of : {W : Type 0} → (W → Written) → Writing W → State
 state_of written s = record { written = written s.writer; place = place_of s.element }
 
 -- the state of a serializer over these bytes

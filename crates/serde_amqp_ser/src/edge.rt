@@ -20,7 +20,7 @@ fn counted<T: Serialize>(value: &T) -> Result<u128, Error>
 {
     let mut s = Serializer::new(Counter::new());
     value.serialize(&mut s)?;
-    Ok(s.writer.count())
+    Ok(s.into_inner().count())
 }
 
 /// How many bytes the canonical text of a value has, counted without memory. Refuses a value that has

@@ -1,5 +1,6 @@
 //! The serializer and the values that hold no others.
-ghost use Rattle.std.specs.Prelude.{◌≡◌, ◌≤◌, ◌∷◌, [], ℕ, ◌+◌, List, ◌++◌, length, Some, None, OnOk, OnErr};
+ghost use Rattle.std.specs.Prelude.{◌≡◌, ◌≤◌, ◌∷◌, [], ℕ, ◌+◌, List, ◌++◌, length, Some, None, OnOk, OnErr, IfErr};
+ghost use Rattle.std.specs.Prelude.{true};
 ghost use Rattle.serde_amqp_item.specs.Item.{scalar, null, boolean, ushort, uint, ulong, string, symbol};
 ghost use Rattle.serde_amqp_item.specs.Canon.{settled};
 ghost use Rattle.serde_amqp_ser.specs.Written.{Written, extended, inside, Keeps};
@@ -11,15 +12,24 @@ use crate::opened::Opened;
 use crate::place::IsArrayElement;
 use crate::sink::Sink;
 use serde_amqp_item::Error;
+use std::marker::Model;
 
 /// Writes values, one behind the other. A value that is refused leaves all as before: what is written next
 /// stands where it was to be.
+///
+/// A clause sees what it writes to, `writer`, and where the next value is written, `element`.
 #[derive(Debug, Drop)]
 pub struct Serializer<W> {
-    /// Where it writes to.
-    pub writer: W,
-    /// Where the next value is written.
-    pub element: IsArrayElement,
+    pub(crate) writer: W,
+    pub(crate) element: IsArrayElement,
+}
+
+impl<W> Model for Serializer<W> {
+    ghost use Rattle.serde_amqp_ser.specs.Puts.{Writing};
+
+    ghost Value = { Writing W };
+
+    ghost view = { λ s. record { writer = s.writer; element = s.element } };
 }
 
 impl<W: Sink> Serializer<W> {
@@ -32,6 +42,41 @@ impl<W: Sink> Serializer<W> {
             writer,
             element: IsArrayElement::False,
         }
+    }
+
+    /// A serializer whose next value is written at this place, as an element of an array or outside of arrays.
+    pub fn at(writer: W, element: IsArrayElement) -> Serializer<W>
+        ensures writer { result.writer ≡ writer }
+        ensures element { result.element ≡ element }
+    {
+        Serializer { writer, element }
+    }
+
+    /// What it writes to.
+    pub fn writer(&self) -> &W
+        ensures { result.now ≡ self.now.writer }
+    {
+        &self.writer
+    }
+
+    /// Where the next value is written.
+    #[inline(always)]
+    pub fn element(&self) -> IsArrayElement
+        ensures { result ≡ self.now.element }
+    {
+        self.element
+    }
+
+    /// Writes bytes as they are, which is no value: the next one is written at the same place, behind them.
+    #[inline(always)]
+    pub fn put(&mut self, bytes: &[u8]) -> Result<(), Error>
+        ensures ok { OnOk result (W.written self.new.writer
+            ≡ extended (W.written self.old.writer) bytes.now) }
+        ensures err { OnErr result (W.written self.new.writer ≡ W.written self.old.writer) }
+        ensures element { self.new.element ≡ self.old.element }
+        ensures memory { IfErr result (λ e. (e ≡ Error.Memory) × (W.takes_memory ≡ true)) }
+    {
+        self.writer.put(bytes)
     }
 
     /// What it wrote to.

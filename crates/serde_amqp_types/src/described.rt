@@ -81,8 +81,8 @@ fn put_described<T: Serialize, W: Sink>(
         (described (descriptor_item whole.now.descriptor) (T.item whole.now.value))) }
     ensures memory { WantsMemory W.takes_memory result }
 {
-    if let IsArrayElement::False = s.element {
-        s.writer.put(&[0x00])?;
+    if let IsArrayElement::False = s.element() {
+        s.put(&[0x00])?;
         whole.descriptor.serialize(s)?;
         return whole.value.serialize(s);
     }
@@ -125,11 +125,11 @@ impl<T: Deserialize + Drop> Deserialize for Described<T> {
 
     #[tactic(auto, using(crate::proofs::Descriptions::descriptions))]
     fn read<R: Read>(alloc: Global, de: &mut Deserializer<R>) -> Result<Described<T>, Error> {
-        let outer = de.element;
+        let outer = de.element();
         de.described()?;
         let descriptor = Descriptor::read(alloc, de)?;
         let value = T::read(alloc, de)?;
-        de.element = outer;
+        de.set_element(outer);
         Ok(Described { descriptor, value })
     }
 

@@ -46,10 +46,7 @@ fn written(rt: HostRuntime) -> Result<(), Error> {
     let mut s = Serializer::new(Vec::new(alloc));
     serialize_record(&mut s, 36, &(None::<bool>, ()))?;
     assert_eq!(rt; s.into_inner().as_slice(), [0, 0x53, 36, 0x45].as_slice());
-    let mut s = Serializer {
-        writer: Vec::new(alloc),
-        element: IsArrayElement::FirstElement,
-    };
+    let mut s = Serializer::at(Vec::new(alloc), IsArrayElement::FirstElement);
     assert_eq!(rt; serialize_record(&mut s, 36, &()), Err(Error::InvalidValue));
     Ok(())
 }

@@ -101,9 +101,9 @@ fn a_serializer_that_refuses(rt: HostRuntime) -> Result<(), Error> {
     let list = vec![in alloc; array]?;
     let mut s = Serializer::new(Vec::from_slice(alloc, &[7, 8])?);
     assert_eq!(rt; s.write_value(&list), Err(Error::InvalidValue));
-    assert_eq!(rt; s.writer.as_slice(), [7, 8].as_slice());
+    assert_eq!(rt; s.writer().as_slice(), [7, 8].as_slice());
     s.write_value(&256u32)?;
-    assert_eq!(rt; s.writer.as_slice(), [7, 8, 0x70, 0, 0, 1, 0].as_slice());
+    assert_eq!(rt; s.writer().as_slice(), [7, 8, 0x70, 0, 0, 1, 0].as_slice());
     Ok(())
 }
 

@@ -20,7 +20,8 @@ returns-in_err-value-clause-refused g c =
     carried g.R.Read.faulty _ c.in_err-value.field-0.0 _ _ c.from_residual-in_err-value.ensures.1 (composite_refused c.args.code c.args.name.now g.C.Composite.takes _ _ _ _ c.in_ok-described.ensures.ok took) c.in_err-value.ensures.refused
 
 pub returns-clause-ok : goal.returns-clause-ok
-returns-clause-ok g c =
+returns-clause-ok g c = rw c.set_element.ensures (
     let plain = c.in_ok-described.ensures.element in
     let took = rw plain at c.in_ok-read_descriptor.ensures.ok in
     composite_took c.args.code c.args.name.now g.C.Composite.takes _ _ _ _ _ _ c.in_ok-described.ensures.ok took c.in_ok-value.ensures.ok
+    )

@@ -24,11 +24,12 @@ returns-in_err-fields-clause-refused g c =
     let plain = c.in_ok-described.ensures.element in
     let still = c.in_ok-read_descriptor.ensures.element ∙ plain in
     let took = rw plain at c.in_ok-read_descriptor.ensures.ok in
-    carried g.R.Read.faulty _ c.in_err-fields.field-0.0 _ _ c.from_residual-in_err-fields.ensures.1 (fields_refused c.args.code c.args.name.now g.F.ReadFields.takes _ _ _ _ _ _ _ c.in_ok-described.ensures.ok took (rw still at c.in_ok-count.ensures.ok)) c.in_err-fields.ensures.refused
+    carried g.R.Read.faulty _ c.in_err-fields.field-0.0 _ _ c.from_residual-in_err-fields.ensures.1 (fields_refused c.args.code c.args.name.now g.F.ReadFields.takes _ _ _ _ _ _ _ c.in_ok-described.ensures.ok took (rw still at c.in_ok-count.ensures.ok)) (rw c.set_element.ensures at c.in_err-fields.ensures.refused)
 
 pub returns-clause-ok : goal.returns-clause-ok
-returns-clause-ok g c =
+returns-clause-ok g c = rw c.set_element-2.ensures (
     let plain = c.in_ok-described.ensures.element in
     let still = c.in_ok-read_descriptor.ensures.element ∙ plain in
     let took = rw plain at c.in_ok-read_descriptor.ensures.ok in
-    record_took c.args.code c.args.name.now g.F.ReadFields.takes _ _ _ _ _ _ _ _ _ c.in_ok-described.ensures.ok took (rw still at c.in_ok-count.ensures.ok) c.in_ok-fields.ensures.ok
+    record_took c.args.code c.args.name.now g.F.ReadFields.takes _ _ _ _ _ _ _ _ _ c.in_ok-described.ensures.ok took (rw still at c.in_ok-count.ensures.ok) (rw c.set_element.ensures at c.in_ok-fields.ensures.ok)
+    )

@@ -9,4 +9,5 @@ pub returns-in_err-values-clause-refused : goal.returns-in_err-values-clause-ref
 returns-in_err-values-clause-refused g c = carried g.R.Read.faulty _ c.in_err-values.field-0.0 _ _ c.from_residual-in_err-values.ensures.1 (array_refused g.T.Deserialize.take _ _ _ _ _ _ c.in_ok-count.ensures.ok) c.in_err-values.ensures.refused
 
 pub returns-clause-ok : goal.returns-clause-ok
-returns-clause-ok g c = array_took g.T.Deserialize.take _ _ _ _ _ _ _ _ c.in_ok-count.ensures.ok c.in_ok-values.ensures.ok
+returns-clause-ok g c =
+    rw c.set_element.ensures (array_took g.T.Deserialize.take _ _ _ _ _ _ _ _ c.in_ok-count.ensures.ok c.in_ok-values.ensures.ok)

@@ -38,14 +38,16 @@ returns-in_err-element-in-Array32-clause-refused g c =
     (λ n. no_elements32 c.args.self.now.element (at_of g.R.Read.rest c.args.self.now) (at_of g.R.Read.rest c.code.new.self) (at_of g.R.Read.rest c.count32.new.self) c.in_ok-size-in-Array32.size c.in_ok-size-in-Array32.count h n (omega (arith, c.if-size-lt5.false))) c.in_err-element-in-Array32.ensures.refused
 
 pub returns-in_ok-element-in-Array8-clause-ok : goal.returns-in_ok-element-in-Array8-clause-ok
-returns-in_ok-element-in-Array8-clause-ok g c =
+returns-in_ok-element-in-Array8-clause-ok g c = rw c.set_element.ensures (
     let h = counted8 c.args.self.now.element (at_of g.R.Read.rest c.args.self.now) (at_of g.R.Read.rest c.code.new.self) (at_of g.R.Read.rest c.count8.new.self) c.in_ok-size-in-Array8.size c.in_ok-size-in-Array8.count (rw c.in-Array8.is at c.in_ok-code.ensures.ok) c.in_ok-size-in-Array8.ensures.ok in
     array8 c.args.self.now.element (at_of g.R.Read.rest c.args.self.now) (at_of g.R.Read.rest c.code.new.self) (at_of g.R.Read.rest c.count8.new.self) (at_of g.R.Read.rest c.element_code.new.self) c.in_ok-size-in-Array8.size c.in_ok-size-in-Array8.count c.in_ok-element-in-Array8.element _ h c.in_ok-element-in-Array8.ensures.ok c.in_ok-element-in-Array8.ensures.plain (omega (arith, c.if-size-lt1.false, c.if-size-eq1.false))
+    )
 
 pub returns-in_ok-element-in-Array32-clause-ok : goal.returns-in_ok-element-in-Array32-clause-ok
-returns-in_ok-element-in-Array32-clause-ok g c =
+returns-in_ok-element-in-Array32-clause-ok g c = rw c.set_element-in-Array32.ensures (
     let h = counted32 c.args.self.now.element (at_of g.R.Read.rest c.args.self.now) (at_of g.R.Read.rest c.code.new.self) (at_of g.R.Read.rest c.count32.new.self) c.in_ok-size-in-Array32.size c.in_ok-size-in-Array32.count (rw c.in-Array32.is at c.in_ok-code.ensures.ok) c.in_ok-size-in-Array32.ensures.ok in
     array32 c.args.self.now.element (at_of g.R.Read.rest c.args.self.now) (at_of g.R.Read.rest c.code.new.self) (at_of g.R.Read.rest c.count32.new.self) (at_of g.R.Read.rest c.element_code-in-Array32.new.self) c.in_ok-size-in-Array32.size c.in_ok-size-in-Array32.count c.in_ok-element-in-Array32.element _ h c.in_ok-element-in-Array32.ensures.ok c.in_ok-element-in-Array32.ensures.plain (omega (arith, c.if-size-lt5.false)) (omega (arith, c.if-count-gt-MAX_ARRAY_COUNT.false))
+    )
 
 pub returns-in_err-code-clause-refused : goal.returns-in_err-code-clause-refused
 returns-in_err-code-clause-refused g c = carried g.R.Read.faulty _ c.in_err-code.field-0.0 _ _ c.from_residual.ensures.1 (no_head_refuses _ _ _) c.in_err-code.ensures.refused

@@ -10,7 +10,7 @@ pub returns-in_err-code-clause-named : goal.returns-in_err-code-clause-named
 returns-in_err-code-clause-named g c = names_on g.R.Read.faulty _ described_kind _ _ _ c.from_residual.ensures.1 (c.in_err-code.ensures.named described_kind)
 
 pub returns-in-DescribedType-clause-ok : goal.returns-in-DescribedType-clause-ok
-returns-in-DescribedType-clause-ok g c = rw c.in-DescribedType.is at c.in_ok-code.ensures.ok
+returns-in-DescribedType-clause-ok g c = rw c.set_element.ensures (rw c.in-DescribedType.is at c.in_ok-code.ensures.ok)
 
 pub returns-in_default-clause-refused : goal.returns-in_default-clause-refused
 returns-in_default-clause-refused g c = refusal_as g.R.Read.faulty _ _ _ c.refuse.ensures.same (wrong_described _ _ _ _ c.in_ok-code.ensures.ok c.in_default.not-DescribedType)

@@ -14,7 +14,7 @@ returns g c =
         failed = tt;
         same_reference = refl;
         begun = opened g.R.Read.rest an_array c.bounded.new.self.element k old c.array_head-head.result c.in_ok-left.left c.in_ok-left.end c.array_head-head.new.self c.bounded.new.self _
-            (λ n size e. begun_array c.bounded.new.self.element k old (at_of g.R.Read.rest c.array_head-head.new.self) n size (subst (λ (i : Option ℕ). Opens array i k old (at_of g.R.Read.rest c.array_head-head.new.self) n size) (sym (ap (λ d. d.element) c.in_ok-left.ensures.same)) (rw e at c.array_head-head.ensures.ok))) c.in_ok-left.ensures.ok c.in_ok-left.ensures.same refl refl refl refl refl;
+            (λ n size e. begun_array c.bounded.new.self.element k old (at_of g.R.Read.rest c.array_head-head.new.self) n size (subst (λ (i : Option ℕ). Opens array i k old (at_of g.R.Read.rest c.array_head-head.new.self) n size) (sym (ap (λ d. d.element) c.in_ok-left.ensures.same)) (rw e at c.array_head-head.ensures.ok))) c.in_ok-left.ensures.ok c.in_ok-left.ensures.same refl refl refl c.element-outer.ensures refl;
         refused = tt;
         named = tt;
       },

@@ -13,7 +13,7 @@ returns-in-Ok g c =
       record {
         failed = tt;
         same_reference = refl;
-        begun = none_read g.R.Read.rest a_described_value None k old mid 2 None _ (begun_described k old mid c.in-Ok.ensures.ok) refl refl refl refl c.in-Ok.ensures.element;
+        begun = none_read g.R.Read.rest a_described_value None k old mid 2 None _ (begun_described k old mid c.in-Ok.ensures.ok) refl refl refl c.element-outer.ensures c.in-Ok.ensures.element;
         left = refl;
         refused = tt;
         named = tt;

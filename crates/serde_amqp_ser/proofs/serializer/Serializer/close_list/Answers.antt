@@ -14,7 +14,7 @@ returns-clause-refused g c = λ w xs e s n.
     only_where c.close_counted.result _ _ (list_stuck w (place_of c.args.self.now.element) xs t.0 t.1) (rw (← n) at r)
 
 pub returns-in_err-close-clause-refused : goal.returns-in_err-close-clause-refused
-returns-in_err-close-clause-refused g c = λ w xs e s n.
+returns-in_err-close-clause-refused g c = rw (← c.self.view_is) λ w xs e s n.
     let p = err_from_is_err_and c.from_residual.result c.from_residual.ensures.1 in
     let t = listed_text (inside g.W.Sink.begins w) _ xs e in
     rw (p.1, p.2) (closing _ g.W.Sink.begins w _ t.0 c.args.start _ c.in_err-close.ensures.refused t.2 s)

@@ -30,21 +30,24 @@ loop-item-preserved g c =
     }
 
 pub returns-clause-ok : goal.returns-clause-ok
-returns-clause-ok g c =
+returns-clause-ok g c = rw (← c.self.view_is) (
     let all : take c.loop-item.item-index c.args.items.now ≡ c.args.items.now = take_all c.loop-item.item-index c.args.items.now c.loop-item-test.false in
-    let whole = subst (λ xs. listed (inside g.W.Sink.begins (g.W.Sink.written c.args.self.now.writer)) (items_of (map g.T.Serialize.item xs)) ≡ Some (g.W.Sink.written c.loop-item.self.writer)) all c.loop-item.invariant.behind in
+    let whole = subst (λ xs. listed (inside g.W.Sink.begins (g.W.Sink.written c.self.inside.writer)) (items_of (map g.T.Serialize.item xs)) ≡ Some (g.W.Sink.written c.self-2.inside.writer)) all (rw (← c.self.view_is, ← c.self-2.view_is) at c.loop-item.invariant.behind) in
     let count : item_count (items_of (map g.T.Serialize.item c.args.items.now)) ≡ length c.args.items.now = item_count-items_of (map g.T.Serialize.item c.args.items.now) ∙ length-map c.args.items.now g.T.Serialize.item in
     on_ok_weaker c.close_list.result
-    (λ f. f (g.W.Sink.written c.args.self.now.writer) (items_of (map g.T.Serialize.item c.args.items.now)) whole (sym c.open-start.ensures.start) count)
+    (λ f. f (g.W.Sink.written c.self.inside.writer) (items_of (map g.T.Serialize.item c.args.items.now)) whole (sym c.open-start.ensures.start) count)
     c.close_list.ensures.ok
+    )
 
 pub returns-clause-kept : goal.returns-clause-kept
-returns-clause-kept g c =
-    c.close_list.ensures.kept (g.W.Sink.written c.args.self.now.writer) (items_of (map g.T.Serialize.item (take c.loop-item.item-index c.args.items.now))) c.loop-item.invariant.behind (sym c.open-start.ensures.start)
+returns-clause-kept g c = rw (← c.self.view_is) (
+    c.close_list.ensures.kept (g.W.Sink.written c.self.inside.writer) (items_of (map g.T.Serialize.item (take c.loop-item.item-index c.args.items.now))) (rw (← c.self.view_is, ← c.self-2.view_is) at c.loop-item.invariant.behind) (sym c.open-start.ensures.start)
+    )
 
 pub returns-clause-refused : goal.returns-clause-refused
-returns-clause-refused g c =
+returns-clause-refused g c = rw (← c.self.view_is) (
     let all : take c.loop-item.item-index c.args.items.now ≡ c.args.items.now = take_all c.loop-item.item-index c.args.items.now c.loop-item-test.false in
-    let whole = subst (λ xs. listed (inside g.W.Sink.begins (g.W.Sink.written c.args.self.now.writer)) (items_of (map g.T.Serialize.item xs)) ≡ Some (g.W.Sink.written c.loop-item.self.writer)) all c.loop-item.invariant.behind in
+    let whole = subst (λ xs. listed (inside g.W.Sink.begins (g.W.Sink.written c.self.inside.writer)) (items_of (map g.T.Serialize.item xs)) ≡ Some (g.W.Sink.written c.self-2.inside.writer)) all (rw (← c.self.view_is, ← c.self-2.view_is) at c.loop-item.invariant.behind) in
     let count : item_count (items_of (map g.T.Serialize.item c.args.items.now)) ≡ length c.args.items.now = item_count-items_of (map g.T.Serialize.item c.args.items.now) ∙ length-map c.args.items.now g.T.Serialize.item in
-    c.close_list.ensures.refused (g.W.Sink.written c.args.self.now.writer) (items_of (map g.T.Serialize.item c.args.items.now)) whole (sym c.open-start.ensures.start) count
+    c.close_list.ensures.refused (g.W.Sink.written c.self.inside.writer) (items_of (map g.T.Serialize.item c.args.items.now)) whole (sym c.open-start.ensures.start) count
+    )
