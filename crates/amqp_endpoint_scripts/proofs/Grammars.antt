@@ -11,11 +11,16 @@ use Rattle.amqp_endpoint_world.specs.declared.step.Step.TheVariants as world
 use Rattle.amqp_endpoint_world.specs.WorldState.{other}
 use Rattle.amqp_endpoint_world.specs.WorldStep.{is_the_worlds}
 use Rattle.amqp_endpoint_scripts.specs.declared.statement.Statement.{Statement}
-use Rattle.amqp_endpoint_scripts.specs.declared.statement.Statement.TheVariants.{One, Two, Settings as SettingsAre, Call as CallAt, Move, Break}
-use Rattle.amqp_endpoint_scripts.specs.Script.{Line, Given, OneScript, TwoScript, Reading, nothing, unreadable, of_one, of_two, statement, given_none, given_on, one_step, two_call, two_step, one_before, two_before, one_steps, two_steps, one_given, behind_one, steps_with, other_given, behind_given, two_given, behind_two, form_then, reading_of, script_lines}
-use Rattle.amqp_endpoint_scripts.specs.Grammar.{statements, Head, heads_said, OfOne, OfTwo, calls_said, step_said, steps_said}
-use Rattle.amqp_endpoint_scripts.specs.Grammar.{IsOfTwo, AllOfTwo, SaysScript, IsFirstUnreadable, IsGiven, Means}
-use Rattle.amqp_endpoint_scripts.specs.Grammar.{FollowsGrammar}
+use Rattle.amqp_endpoint_scripts.specs.declared.statement.Statement.TheVariants.{One, Two, Settings as SettingsAre}
+use Rattle.amqp_endpoint_scripts.specs.declared.statement.Statement.TheVariants.{Call as CallAt, Move, Break}
+use Rattle.amqp_endpoint_scripts.specs.Script.{Line, Given, OneScript, TwoScript, Reading, nothing, unreadable, of_one}
+use Rattle.amqp_endpoint_scripts.specs.Script.{of_two, statement, given_none, given_on, one_step, two_call, two_step}
+use Rattle.amqp_endpoint_scripts.specs.Script.{one_before, two_before, one_steps, two_steps, one_given, behind_one}
+use Rattle.amqp_endpoint_scripts.specs.Script.{steps_with, other_given, behind_given, two_given, behind_two, form_then}
+use Rattle.amqp_endpoint_scripts.specs.Script.{reading_of, script_lines}
+use Rattle.amqp_endpoint_scripts.specs.Grammar.{statements, Head, heads_said, OfOne, OfTwo, calls_said, step_said}
+use Rattle.amqp_endpoint_scripts.specs.Grammar.{steps_said, IsOfTwo, AllOfTwo, SaysScript, IsFirstUnreadable, IsGiven}
+use Rattle.amqp_endpoint_scripts.specs.Grammar.{Means, FollowsGrammar}
 
 abbrev Said : Type 0
 Said = List (Option Statement)

@@ -1,5 +1,6 @@
 -- What is printed of no steps.
-use Rattle.std.proofs.Common.{◌≡◌, ◌⊎◌, inl, inr, ℕ, List, [], ◌∷◌, ◌++◌, length, map, refl, sym, ◌∙◌, ap, append-nil, arith}
+use Rattle.std.proofs.Common.{◌≡◌, ◌⊎◌, inl, inr, ℕ, List, [], ◌∷◌, ◌++◌, length, map, refl, sym, ◌∙◌, ap, append-nil}
+use Rattle.std.proofs.Common.{arith}
 use Rattle.amqp_endpoint_model.specs.declared.answer.Reply.{Reply}
 use Rattle.amqp_endpoint_model.specs.Said.{told}
 use Rattle.amqp_endpoint_world.specs.declared.reply.WorldReply.{WorldReply}

@@ -9,8 +9,10 @@ use Rattle.amqp_endpoint_world.specs.declared.step.Step.{Step}
 use Rattle.amqp_endpoint_world.specs.declared.step.Step.TheVariants as world
 use Rattle.amqp_endpoint_world.specs.WorldStep.{is_the_worlds}
 use Rattle.amqp_endpoint_scripts.specs.declared.statement.Statement.{Statement}
-use Rattle.amqp_endpoint_scripts.specs.declared.statement.Statement.TheVariants.{One, Two, Settings as SettingsAre, Call as CallAt, Move, Break}
-use Rattle.amqp_endpoint_scripts.specs.Script.{Line, Given, OneScript, TwoScript, Reading, nothing, unreadable, of_one, of_two, statement, default_settings, script_lines, reading}
+use Rattle.amqp_endpoint_scripts.specs.declared.statement.Statement.TheVariants.{One, Two, Settings as SettingsAre}
+use Rattle.amqp_endpoint_scripts.specs.declared.statement.Statement.TheVariants.{Call as CallAt, Move, Break}
+use Rattle.amqp_endpoint_scripts.specs.Script.{Line, Given, OneScript, TwoScript, Reading, nothing, unreadable, of_one}
+use Rattle.amqp_endpoint_scripts.specs.Script.{of_two, statement, default_settings, script_lines, reading}
 
 -- what each line says
 abbrev pub statements : List Line → List (Option Statement)

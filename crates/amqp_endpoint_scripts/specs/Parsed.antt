@@ -5,7 +5,8 @@ use Rattle.amqp_endpoint_scripts.specs.declared.script.OneScript.{OneScript as S
 use Rattle.amqp_endpoint_scripts.specs.declared.script.TwoScript.{TwoScript as ScriptOfTwo}
 use Rattle.amqp_endpoint_scripts.specs.declared.script.Parsed.{Parsed}
 use Rattle.amqp_endpoint_scripts.specs.declared.script.Parsed.TheVariants.{Nothing, Unreadable, One, Two}
-use Rattle.amqp_endpoint_scripts.specs.Script.{Line, Given, OneScript, TwoScript, Reading, nothing, unreadable, of_one, of_two}
+use Rattle.amqp_endpoint_scripts.specs.Script.{Line, Given, OneScript, TwoScript, Reading, nothing, unreadable, of_one}
+use Rattle.amqp_endpoint_scripts.specs.Script.{of_two}
 
 abbrev pub line_of : NumberedLine → Line
 line_of l = record { number = l.number; text = l.text.now }

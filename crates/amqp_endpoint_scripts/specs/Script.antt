@@ -24,7 +24,8 @@ use Rattle.amqp_endpoint_scripts.specs.Digits.{number_under}
 use Rattle.amqp_endpoint_scripts.specs.MessageWords.{settled_of, settling_of, state_of}
 use Rattle.amqp_endpoint_scripts.specs.Terms.{receiver_settings, sender_settings}
 use Rattle.amqp_endpoint_scripts.specs.declared.statement.Statement.{Statement}
-use Rattle.amqp_endpoint_scripts.specs.declared.statement.Statement.TheVariants.{One, Two, Settings as SettingsAre, Call as CallAt, Move, Break}
+use Rattle.amqp_endpoint_scripts.specs.declared.statement.Statement.TheVariants.{One, Two, Settings as SettingsAre}
+use Rattle.amqp_endpoint_scripts.specs.declared.statement.Statement.TheVariants.{Call as CallAt, Move, Break}
 
 -- the parts of a text, between the bytes of this kind
 abbrev pub parts_at : ℕ → List ℕ → List (List ℕ)

@@ -6,9 +6,9 @@ ghost use Rattle.amqp_endpoint_model.specs.declared.event.Event.TheVariants as e
 ghost use Rattle.amqp_endpoint_world.specs.WorldSaid.{did_said, feed_said, world_told};
 ghost use Rattle.amqp_endpoint_world.specs.WorldState.{other};
 ghost use Rattle.amqp_endpoint_scripts.specs.Printed.{bytes_text, closed_word, event_text, events_text, exchange_word};
-ghost use Rattle.amqp_endpoint_scripts.specs.Printed.{fault_text, hex_word, of_line, ok_text, outcome_word, printed, role_word};
-ghost use Rattle.amqp_endpoint_scripts.specs.Printed.{settled_word, step_text, tag_text, turn_text, two_numbers, world_printed};
-ghost use Rattle.amqp_endpoint_scripts.specs.Printed.{world_text};
+ghost use Rattle.amqp_endpoint_scripts.specs.Printed.{fault_text, hex_word, of_line, ok_text, outcome_word, printed};
+ghost use Rattle.amqp_endpoint_scripts.specs.Printed.{role_word, settled_word, step_text, tag_text, turn_text};
+ghost use Rattle.amqp_endpoint_scripts.specs.Printed.{two_numbers, world_printed, world_text};
 
 use crate::script::letter;
 use amqp_endpoint_model::{

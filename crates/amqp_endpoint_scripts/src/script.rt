@@ -1,6 +1,8 @@
 //! A script as it is read: its settings and its steps.
 ghost use Rattle.std.specs.Prelude.{◌≡◌, map, IfOk};
-ghost use Rattle.amqp_endpoint_scripts.specs.Script.{behind_given, behind_one, behind_two, default_settings, form_then, given_none, is_skipped, letter, lines_from, one_step, one_steps, parts_at, reading, statement, two_call, two_step, two_steps};
+ghost use Rattle.amqp_endpoint_scripts.specs.Script.{behind_given, behind_one, behind_two, default_settings, form_then};
+ghost use Rattle.amqp_endpoint_scripts.specs.Script.{given_none, is_skipped, letter, lines_from, one_step, one_steps};
+ghost use Rattle.amqp_endpoint_scripts.specs.Script.{parts_at, reading, statement, two_call, two_step, two_steps};
 ghost use Rattle.amqp_endpoint_scripts.specs.Parsed.{given_of, line_of, parsed};
 ghost use Rattle.amqp_endpoint_world.specs.WorldStep.{is_the_worlds};
 ghost use Rattle.amqp_endpoint_world.specs.declared.step.End.TheVariants.{A, B};

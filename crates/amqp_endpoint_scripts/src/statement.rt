@@ -4,8 +4,8 @@ ghost use Rattle.std.specs.List.{list_any};
 ghost use Rattle.amqp_endpoint_scripts.specs.Digits.{number_under};
 ghost use Rattle.amqp_endpoint_scripts.specs.Script.{bytes_of, call_at, call_of, call_with, call_with_three, count_of};
 ghost use Rattle.amqp_endpoint_scripts.specs.Script.{disposal_of, end_of, grant_of, move_from, parts_at, receiver_at};
-ghost use Rattle.amqp_endpoint_scripts.specs.Script.{send_of, sender_at, settings_at, settings_of, statement, three_said};
-ghost use Rattle.amqp_endpoint_scripts.specs.Script.{word_said, words_said};
+ghost use Rattle.amqp_endpoint_scripts.specs.Script.{send_of, sender_at, settings_at, settings_of, statement};
+ghost use Rattle.amqp_endpoint_scripts.specs.Script.{three_said, word_said, words_said};
 
 use crate::messages::{read_settled, read_settling, read_state};
 use crate::terms::{read_receiver_settings, read_sender_settings};
