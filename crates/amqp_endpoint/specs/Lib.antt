@@ -1,11 +1,4 @@
-pub mod Digits
-pub mod Grammar
-pub mod MessageWords
-pub mod Parsed
 pub mod Performed
-pub mod Printed
-pub mod Script
-pub mod Terms
 pub use Rattle.amqp_endpoint_core.specs.Messages
 pub use Rattle.amqp_endpoint_linked.specs.Attaching
 pub use Rattle.amqp_endpoint_linked.specs.Calling
@@ -19,5 +12,12 @@ pub use Rattle.amqp_endpoint_model.specs.Relay
 pub use Rattle.amqp_endpoint_model.specs.Said
 pub use Rattle.amqp_endpoint_model.specs.State
 pub use Rattle.amqp_endpoint_model.specs.Step
+pub use Rattle.amqp_endpoint_scripts.specs.Digits
+pub use Rattle.amqp_endpoint_scripts.specs.Grammar
+pub use Rattle.amqp_endpoint_scripts.specs.MessageWords
+pub use Rattle.amqp_endpoint_scripts.specs.Parsed
+pub use Rattle.amqp_endpoint_scripts.specs.Printed
+pub use Rattle.amqp_endpoint_scripts.specs.Script
+pub use Rattle.amqp_endpoint_scripts.specs.Terms
 pub use Rattle.amqp_link_message.specs.Message
 pub use Rattle.amqp_link_message.specs.Payload

@@ -12,8 +12,9 @@ use Rattle.amqp_endpoint_linked.specs.Does.{linked}
 use Rattle.amqp_endpoint_world.specs.WorldSaid.{WorldTold}
 use Rattle.amqp_endpoint_world.specs.WorldState.{IsNewWorld, WorldState}
 use Rattle.amqp_endpoint_world.specs.WorldStep.{WorldRun}
-use Rattle.amqp_endpoint.specs.Script.{Given, OneScript, TwoScript, Reading, nothing, unreadable, of_one, of_two, reading}
-use Rattle.amqp_endpoint.specs.Printed.{printed, world_printed, line_end}
+use Rattle.amqp_endpoint_scripts.specs.Script.{Given, OneScript, TwoScript, Reading, nothing, unreadable, of_one}
+use Rattle.amqp_endpoint_scripts.specs.Script.{of_two, reading}
+use Rattle.amqp_endpoint_scripts.specs.Printed.{printed, world_printed, line_end}
 
 -- the endpoint of these settings may answer the steps so, and that is printed
 pub record Plays (script : OneScript) (output : List ℕ) : Type 0 where

@@ -2,26 +2,21 @@
 ghost use Rattle.std.specs.Prelude.{◌≡◌, ◌≢◌, ◌≤◌, ◌++◌, ℕ, List, IfOk, IfErr, OnOk, codes, decimal, string_bytes};
 ghost use Rattle.std.specs.Io.KnownBytes.{Appends, Consumes, IsAtEnd};
 ghost use Rattle.amqp_endpoint.specs.declared.scenario.ScenarioError.TheVariants.{Memory, Write as WriteRefused};
-ghost use Rattle.amqp_endpoint.specs.Grammar.{FollowsGrammar};
 ghost use Rattle.amqp_endpoint.specs.Performed.{comes_to, one_comes_to, two_comes_to};
-ghost use Rattle.amqp_endpoint.specs.Parsed.{one_of, two_of};
-ghost use Rattle.amqp_endpoint.specs.Printed.{line_end};
+ghost use Rattle.amqp_endpoint_scripts.specs.Parsed.{one_of, two_of};
+ghost use Rattle.amqp_endpoint_scripts.specs.Printed.{line_end};
 ghost use Rattle.amqp_endpoint_model.specs.Numbers.{number};
 ghost use Rattle.amqp_endpoint_model.specs.Step.{refusal_of_settings};
 ghost use Rattle.amqp_endpoint_model.specs.declared.error.EndpointError.TheVariants.{Memory as NoMemory};
 
-mod messages;
-mod printing;
-mod script;
-mod statement;
-mod terms;
-
 use amqp_endpoint_core::play;
 use amqp_endpoint_linked::LinkedSessions;
 use amqp_endpoint_model::{EndpointError, Settings};
+pub use amqp_endpoint_scripts::follows_grammar;
+use amqp_endpoint_scripts::{
+    Given, OneScript, Parsed, TwoScript, parse, print_replies, print_world,
+};
 use amqp_endpoint_world::world;
-use printing::{print_replies, print_world};
-use script::{Given, OneScript, Parsed, TwoScript, parse};
 use std::alloc::{AllocError, Global};
 use std::io;
 use std::io::{ErrorKind, Read, Write};
@@ -267,11 +262,3 @@ fn refused_on(alloc: Global, line: usize, error: &EndpointError) -> Result<Outco
         status: 1,
     })
 }
-
-/// A script is the line `one`, at most one settings line of the end `a`, and steps of it; or the line `two`, at most
-/// one settings line of each end, and steps of both. The line that is told to be unreadable is the first one up to
-/// which the lines can begin such a script, and with which they can't.
-#[tactic(auto, using(crate::proofs::Grammars::follows_grammar))]
-pub fn follows_grammar()
-    ensures { FollowsGrammar }
-{}

@@ -6,9 +6,9 @@ use Rattle.amqp_endpoint_model.specs.Said.{told}
 use Rattle.amqp_endpoint_model.specs.State.{fresh}
 use Rattle.amqp_endpoint_model.specs.History.{Run}
 use Rattle.amqp_endpoint_linked.specs.Does.{linked}
-use Rattle.amqp_endpoint.specs.Parsed.{one_of}
+use Rattle.amqp_endpoint_scripts.specs.Parsed.{one_of}
 use Rattle.amqp_endpoint.specs.Performed.{one_with}
-use Rattle.amqp_endpoint.specs.Printed.{printed}
+use Rattle.amqp_endpoint_scripts.specs.Printed.{printed}
 use Rattle.amqp_endpoint.proofs.scenario.perform_one.Goals as goal
 
 pub returns-in-Ok-clause-output : goal.returns-in-Ok-clause-output

@@ -6,9 +6,9 @@ use Rattle.amqp_endpoint_world.specs.declared.reply.WorldReply.{WorldReply}
 use Rattle.amqp_endpoint_world.specs.declared.step.Step.{Step}
 use Rattle.amqp_endpoint_world.specs.WorldSaid.{world_told}
 use Rattle.amqp_endpoint_world.specs.WorldStep.{WorldRun}
-use Rattle.amqp_endpoint.specs.Parsed.{two_of}
+use Rattle.amqp_endpoint_scripts.specs.Parsed.{two_of}
 use Rattle.amqp_endpoint.specs.Performed.{two_with}
-use Rattle.amqp_endpoint.specs.Printed.{world_printed}
+use Rattle.amqp_endpoint_scripts.specs.Printed.{world_printed}
 use Rattle.amqp_endpoint.proofs.scenario.perform_two.Goals as goal
 
 pub returns-in-Ok-clause-output : goal.returns-in-Ok-clause-output

@@ -1,5 +1,0 @@
-use Rattle.std.proofs.Common.{rules, sym}
-use Rattle.amqp_endpoint.proofs.scenario.printing.print_bytes.Goals as goal
-
-pub returns : goal.returns
-returns c = rw (sym c.in_ok-word.ensures) (search rules)
