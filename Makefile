@@ -15,21 +15,21 @@ STEPS ?= 200
 
 # Proves and builds the program, runs the script with it and prints each step and what the endpoint answers.
 run:
-	@cd crates/amqp_scenario && ../../tools/with_steps "$(abspath $(SCENARIO))" rt run
+	@cd crates/amqp_scenario && ../../tools/with_steps "$(abspath $(SCENARIO))" ../../tools/rt_once run
 
 # The same without any proof. It takes one to two minutes.
 try:
 	@echo "This run is tried only: nothing is proved." >&2
-	@cd crates/amqp_scenario && ../../tools/with_steps "$(abspath $(SCENARIO))" rt try
+	@cd crates/amqp_scenario && ../../tools/with_steps "$(abspath $(SCENARIO))" ../../tools/rt_once try
 
 # Proves and builds amqp-trace, and prints what it says of the lines.
 trace:
-	@cd crates/amqp_trace && rt run < "$(abspath $(TRACE))"
+	@cd crates/amqp_trace && ../../tools/rt_once run < "$(abspath $(TRACE))"
 
 # The same without any proof. It takes one to two minutes.
 try-trace:
 	@echo "This run is tried only: nothing is proved." >&2
-	@cd crates/amqp_trace && rt try < "$(abspath $(TRACE))"
+	@cd crates/amqp_trace && ../../tools/rt_once try < "$(abspath $(TRACE))"
 
 # Every proof, edit that must fail, test and program, from nothing: `rt ci`, which asks each library once for what is below
 # it. A crate is proved on each processor; without RT_JOBS rt counts twice the memory that these crates take.
