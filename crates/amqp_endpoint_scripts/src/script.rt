@@ -267,10 +267,10 @@ fn read_calls(alloc: Global, given: Given, lines: &[NumberedLine<'_>]) -> Result
     let mut numbers = Vec::new(alloc);
     let mut calls = Vec::new(alloc);
     for line in lines {
+        numbers.push(line.number)?;
         let Some(call) = one_step(read_line(alloc, line.text)?) else {
             return Ok(Parsed::Unreadable(line.number));
         };
-        numbers.push(line.number)?;
         calls.push(call)?;
     }
     Ok(Parsed::One(OneScript {
@@ -293,10 +293,10 @@ fn read_steps(
     let mut numbers = Vec::new(alloc);
     let mut steps = Vec::new(alloc);
     for line in lines {
+        numbers.push(line.number)?;
         let Some(step) = two_step(read_line(alloc, line.text)?) else {
             return Ok(Parsed::Unreadable(line.number));
         };
-        numbers.push(line.number)?;
         steps.push(step)?;
     }
     Ok(Parsed::Two(TwoScript {

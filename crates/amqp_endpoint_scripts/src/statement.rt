@@ -6,6 +6,7 @@ ghost use Rattle.amqp_endpoint_scripts.specs.Script.{bytes_of, call_at, call_of,
 ghost use Rattle.amqp_endpoint_scripts.specs.Script.{disposal_of, end_of, grant_of, move_from, parts_at, receiver_at};
 ghost use Rattle.amqp_endpoint_scripts.specs.Script.{send_of, sender_at, settings_at, settings_of, statement};
 ghost use Rattle.amqp_endpoint_scripts.specs.Script.{three_said, word_said, words_said};
+ghost use Rattle.amqp_endpoint_scripts.specs.Terms.{sender_settings};
 
 use crate::messages::{read_settled, read_settling, read_state};
 use crate::terms::{read_receiver_settings, read_sender_settings};
@@ -70,22 +71,18 @@ fn read_words(alloc: Global, words: &[&str]) -> Result<Option<Statement>, AllocE
         [end, verb] => Ok(call_at(read_end(end), call_named(verb))),
         [first, second, third] => read_three(alloc, first, second, third),
         [end, verb, link, credit] => Ok(call_at(read_end(end), read_grant(verb, link, credit))),
-        [end, verb, number, second, third] => {
-            let call = read_with_three(alloc, verb, number, second, third)?;
-            Ok(call_at(read_end(end), call))
-        }
+        [end, verb, number, second, third] => read_five(alloc, end, verb, number, second, third),
         [end, verb, link, message, state, settled] => {
-            let call = read_disposal(verb, link, message, state, settled);
-            Ok(call_at(read_end(end), call))
+            Ok(call_at(
+                read_end(end),
+                read_disposal(verb, link, message, state, settled),
+            ))
         }
         [verb, end, container, limit, channels, window, first] if *verb == "settings" => {
-            let settings = read_settings(alloc, container, limit, channels, window, first)?;
-            Ok(settings_at(read_end(end), settings))
+            read_settings_line(alloc, end, container, limit, channels, window, first)
         }
         [end, verb, session, name, count, sending, receiving] => {
-            let settings = read_sender_settings(alloc, name, count, sending, receiving)?;
-            let call = sender_at(verb, read_u64(session), settings);
-            Ok(call_at(read_end(end), call))
+            read_sender(alloc, end, verb, session, name, count, sending, receiving)
         }
         _ => Ok(None),
     }
@@ -117,6 +114,59 @@ fn read_three(
     }
     let call = read_call(alloc, second, third)?;
     Ok(call_at(read_end(first), call))
+}
+
+/// A call of an end that a word names with three behind it.
+fn read_five(
+    alloc: Global,
+    end: &str,
+    verb: &str,
+    number: &str,
+    second: &str,
+    third: &str,
+) -> Result<Option<Statement>, AllocError>
+    ensures { IfOk result (λ s. s
+        ≡ call_at (end_of end.now) (call_with_three verb.now number.now second.now third.now)) }
+{
+    let call = read_with_three(alloc, verb, number, second, third)?;
+    Ok(call_at(read_end(end), call))
+}
+
+/// What an end is made with.
+fn read_settings_line(
+    alloc: Global,
+    end: &str,
+    container: &str,
+    limit: &str,
+    channels: &str,
+    window: &str,
+    first: &str,
+) -> Result<Option<Statement>, AllocError>
+    ensures { IfOk result (λ s. s ≡ settings_at (end_of end.now)
+        (settings_of container.now limit.now channels.now window.now first.now)) }
+{
+    let settings = read_settings(alloc, container, limit, channels, window, first)?;
+    Ok(settings_at(read_end(end), settings))
+}
+
+/// A link attaches as a sender at an end: its session and its settings.
+fn read_sender(
+    alloc: Global,
+    end: &str,
+    verb: &str,
+    session: &str,
+    name: &str,
+    count: &str,
+    sending: &str,
+    receiving: &str,
+) -> Result<Option<Statement>, AllocError>
+    ensures { IfOk result (λ s. s ≡ call_at (end_of end.now)
+        (sender_at verb.now (number_under (2 ^ 64) session.now)
+        (sender_settings name.now count.now sending.now receiving.now))) }
+{
+    let settings = read_sender_settings(alloc, name, count, sending, receiving)?;
+    let call = sender_at(verb, read_u64(session), settings);
+    Ok(call_at(read_end(end), call))
 }
 
 /// The end that a word names.
