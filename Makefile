@@ -4,8 +4,8 @@ SCENARIO ?= examples/open_close.scenario
 # The lines that `trace` and `try-trace` answer.
 TRACE ?= examples/connection.trace
 
-# How many crates the gate proves side by side.
-JOBS ?= $(shell nproc)
+# How many crates the gate proves side by side: one on each processor, and one for each 6 GiB of memory.
+JOBS ?= $(shell awk -v most=$$(nproc) '/MemTotal/ { n = int($$2 / 6291456); print n < 1 ? 1 : n < most ? n : most }' /proc/meminfo)
 
 # How many random scripts `soak` runs, or which, as 21-40, and how many steps each has.
 SEEDS ?= 20
@@ -32,7 +32,7 @@ try-trace:
 	@cd crates/amqp_trace && ../../tools/rt_once try < "$(abspath $(TRACE))"
 
 # Every proof, edit that must fail, test and program, from nothing: `rt ci`, which asks each library once for what is below
-# it. A crate is proved on each processor; without RT_JOBS rt counts twice the memory that these crates take.
+# it. Without RT_JOBS rt counts twice the memory that these crates take, and leaves processors idle.
 test:
 	RT_JOBS=$(JOBS) tools/rt_once ci
 
