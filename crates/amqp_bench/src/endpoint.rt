@@ -2,7 +2,7 @@
 //! links attach and are detached, or between which messages go.
 ghost use Rattle.std.specs.Prelude.{◌<◌};
 
-use crate::links::{attach_and_detach, begin_and_end};
+use crate::links::{attach_and_detach, begin_and_end, open};
 use crate::messages::send_and_receive;
 use amqp_endpoint::{Endpoint, EndpointError, Event, Fed, Settings, Text};
 use std::alloc::Global;
@@ -25,36 +25,44 @@ const EMPTY: &[u8] = b"\x00\x00\x00\x08\x02\x00\x00\x00";
 const BLOCK_FRAMES: usize = 8192;
 
 /// Work to be counted.
-#[derive(Debug, Clone, Copy)]
-pub enum Work {
+#[derive(Clone, Copy)]
+pub(crate) enum Work {
     /// So many blocks of Empty frames are fed in pieces of so many bytes.
     Frames {
+        /// How many blocks.
         blocks: u32,
+        /// The bytes of each piece.
         piece: usize,
     },
     /// So many connections are opened and closed.
     OpenClose {
+        /// How many.
         count: u32,
     },
     /// So many sessions begin between two endpoints, and then they end.
     Sessions {
+        /// How many.
         count: u16,
     },
     /// So many links attach in a session of two endpoints, and then they are detached.
     Links {
+        /// How many.
         count: u32,
     },
-    /// So many messages of so many bytes go from one endpoint to another, each settled or each disposed of there.
+    /// So many messages go from one endpoint to another, each settled or each disposed of there.
     Messages {
+        /// Whether they are settled.
         settled: bool,
+        /// The bytes of each.
         size: u32,
+        /// How many.
         count: u32,
     },
 }
 
 /// What an endpoint found in the bytes that it was fed.
-#[derive(Debug, Clone, Copy)]
-pub struct Found {
+#[derive(Clone, Copy)]
+pub(crate) struct Found {
     opened: u64,
     closed: u64,
     faults: u64,
@@ -75,7 +83,8 @@ impl fmt::Display for Found {
 }
 
 impl Found {
-    pub(crate) fn note(&mut self, fed: &Fed) {
+    /// Counts what a feed answered.
+    fn note(&mut self, fed: &Fed) {
         self.events = self.events.saturating_add(fed.events.len() as u64);
         for event in fed.events.iter() {
             match event {
@@ -135,35 +144,126 @@ impl Work {
             faults: 0,
             events: 0,
         };
+        for _ in 0..self.connections() {
+            self.run_once(alloc, &mut found)?;
+        }
+        Ok(found)
+    }
+
+    /// How many connections there are, one after the other.
+    fn connections(self) -> u32 {
         match self {
-            Work::Frames { blocks, piece } => feed_frames(alloc, blocks, piece, &mut found)?,
-            Work::OpenClose { count } => {
-                for _ in 0..count {
-                    open_and_close(alloc, &mut found)?;
-                }
-            }
-            Work::Sessions { count } => begin_and_end(alloc, count, &mut found)?,
-            Work::Links { count } => attach_and_detach(alloc, count, &mut found)?,
+            Work::OpenClose { count } => count,
+            _ => 1,
+        }
+    }
+
+    /// Does the work of one connection.
+    fn run_once(self, alloc: Global, found: &mut Found) -> Result<(), EndpointError> {
+        match self {
+            Work::Frames { .. } | Work::OpenClose { .. } => self.run_alone(alloc, found),
+            _ => self.run_between(alloc, found),
+        }
+    }
+
+    /// Does the work of an endpoint whose peer is played by bytes.
+    fn run_alone(self, alloc: Global, found: &mut Found) -> Result<(), EndpointError> {
+        match endpoint(alloc, 255) {
+            Ok(mut endpoint) => self.run_with(alloc, &mut endpoint, found),
+            Err(error) => Err(error),
+        }
+    }
+
+    /// Does the work of an endpoint that is not connected.
+    fn run_with(
+        self,
+        alloc: Global,
+        endpoint: &mut Endpoint,
+        found: &mut Found,
+    ) -> Result<(), EndpointError> {
+        connect(endpoint, found)?;
+        match self {
+            Work::Frames { blocks, piece } => feed_frames(alloc, endpoint, blocks, piece, found),
+            _ => close(endpoint, found),
+        }
+    }
+
+    /// Does the work of two endpoints.
+    fn run_between(self, alloc: Global, found: &mut Found) -> Result<(), EndpointError> {
+        match endpoint(alloc, u16::MAX) {
+            Ok(mut a) => self.run_from(alloc, &mut a, found),
+            Err(error) => Err(error),
+        }
+    }
+
+    /// Does the work of this endpoint and another.
+    fn run_from(
+        self,
+        alloc: Global,
+        a: &mut Endpoint,
+        found: &mut Found,
+    ) -> Result<(), EndpointError> {
+        match endpoint(alloc, u16::MAX) {
+            Ok(mut b) => self.run_both(alloc, a, &mut b, found),
+            Err(error) => Err(error),
+        }
+    }
+
+    /// Does the work of these two endpoints, which are not connected.
+    fn run_both(
+        self,
+        alloc: Global,
+        a: &mut Endpoint,
+        b: &mut Endpoint,
+        found: &mut Found,
+    ) -> Result<(), EndpointError> {
+        open(a, b, found)?;
+        match self {
+            Work::Sessions { count } => begin_and_end(a, b, count, found),
+            Work::Links { count } => attach_and_detach(alloc, a, b, count, found),
             Work::Messages {
                 settled,
                 size,
                 count,
-            } => send_and_receive(alloc, settled, size, count, &mut found)?,
+            } => send_and_receive(alloc, a, b, settled, size, count, found),
+            _ => Ok(()),
         }
-        Ok(found)
     }
 }
 
+/// An endpoint that takes channels up to this one.
+fn endpoint(alloc: Global, channel_max: u16) -> Result<Endpoint, EndpointError> {
+    let container_id = String::from_str(alloc, "a")?;
+    Endpoint::new(
+        alloc,
+        Settings {
+            container_id: Text::new(container_id),
+            max_frame_size: 65_536,
+            channel_max,
+            incoming_window: 2048,
+            idle_time_out: None,
+            first_transfer_number: 0,
+        },
+    )
+}
+
+/// Feeds bytes, and counts what was found in them.
+pub(crate) fn feed(endpoint: &mut Endpoint, bytes: &[u8], found: &mut Found) {
+    let fed = endpoint.feed(bytes);
+    found.note(&fed);
+}
+
+/// Feeds so many blocks of Empty frames, in pieces of so many bytes.
 fn feed_frames(
     alloc: Global,
+    endpoint: &mut Endpoint,
     blocks: u32,
     piece: usize,
     found: &mut Found,
 ) -> Result<(), EndpointError> {
     let block = block_of_frames(alloc)?;
-    let mut endpoint = opened(alloc, found)?;
     for _ in 0..blocks {
-        feed_block(&mut endpoint, block.as_slice(), piece.max(1), found);
+        feed_block(endpoint, block.as_slice(), piece.max(1), found);
     }
     Ok(())
 }
@@ -180,48 +280,24 @@ fn feed_block(endpoint: &mut Endpoint, block: &[u8], piece: usize, found: &mut F
     requires { 0 < piece }
 {
     for bytes in block.chunks(piece) {
-        found.note(&endpoint.feed(bytes));
+        feed(endpoint, bytes, found);
     }
 }
 
-/// An endpoint behind both headers and both Open frames.
-fn opened(alloc: Global, found: &mut Found) -> Result<Endpoint, EndpointError> {
-    let mut endpoint = Endpoint::new(alloc, settings(alloc, 255)?)?;
-    exchange(&mut endpoint, found)?;
-    Ok(endpoint)
-}
-
-/// An endpoint that takes channels up to this one.
-pub(crate) fn settings(alloc: Global, channel_max: u16) -> Result<Settings, EndpointError> {
-    Ok(Settings {
-        container_id: Text::new(String::from_str(alloc, "a")?),
-        max_frame_size: 65_536,
-        channel_max,
-        incoming_window: 2048,
-        idle_time_out: None,
-        first_transfer_number: 0,
-    })
-}
-
 /// Both headers and both Open frames go.
-fn exchange(endpoint: &mut Endpoint, found: &mut Found) -> Result<(), EndpointError> {
+fn connect(endpoint: &mut Endpoint, found: &mut Found) -> Result<(), EndpointError> {
     endpoint.connect()?;
-    found.note(&endpoint.feed(HEADER));
-    found.note(&endpoint.feed(OPEN));
+    feed(endpoint, HEADER, found);
+    feed(endpoint, OPEN, found);
     let _header = endpoint.pull()?;
     let _open = endpoint.pull()?;
     Ok(())
-}
-
-fn open_and_close(alloc: Global, found: &mut Found) -> Result<(), EndpointError> {
-    let mut endpoint = opened(alloc, found)?;
-    close(&mut endpoint, found)
 }
 
 /// Both Close frames go.
 fn close(endpoint: &mut Endpoint, found: &mut Found) -> Result<(), EndpointError> {
     endpoint.close()?;
     let _close = endpoint.pull()?;
-    found.note(&endpoint.feed(CLOSE));
+    feed(endpoint, CLOSE, found);
     Ok(())
 }

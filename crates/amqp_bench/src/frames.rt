@@ -1,13 +1,13 @@
 //! Frames that are read, or read and written.
 mod texts;
 
-use amqp_session_frames::{Error, FrameDecoder, FrameEncoder, Pieces};
+use amqp_session_frames::{Error, Frame, FrameDecoder, FrameEncoder, Pieces};
 use bytes::Bytes;
 use std::alloc::{AllocError, Global};
 
 /// What is done with a frame.
-#[derive(Debug, Clone, Copy)]
-pub enum Way {
+#[derive(Clone, Copy)]
+enum Way {
     /// It is read from its bytes.
     Decode,
     /// It is read and written again.
@@ -15,35 +15,32 @@ pub enum Way {
 }
 
 /// The frames that there are.
-#[derive(Debug, Clone, Copy)]
-pub enum Kind {
-    /// A first transfer with a payload.
-    Transfer,
-    /// A flow of a link.
-    Flow,
-    /// A disposition of eight deliveries.
-    Disposition,
+#[derive(Clone, Copy)]
+pub(crate) enum Kind {
+    /// A Begin without capabilities and properties.
+    Begin,
     /// An attach with a source and a target in which each field is set.
     Attach,
+    /// An attach whose source and target have an address alone.
+    Link,
+    /// A flow of a link.
+    Flow,
+    /// A first transfer with a payload.
+    Transfer,
+    /// A disposition of eight deliveries.
+    Disposition,
+    /// A detach that closes a link.
+    Detach,
 }
 
 /// Work to be counted.
-#[derive(Debug, Clone, Copy)]
-pub struct Work {
+#[derive(Clone, Copy)]
+pub(crate) struct Work {
     way: Way,
     kind: Kind,
     payload: usize,
     limit: usize,
     times: u32,
-}
-
-/// How many bytes the pieces have together.
-fn length_of(pieces: &Pieces) -> u64 {
-    let mut bytes = pieces.first().len() as u64;
-    for piece in pieces.others() {
-        bytes = bytes.saturating_add(piece.len() as u64);
-    }
-    bytes
 }
 
 fn way_of(name: &str) -> Option<Way> {
@@ -56,10 +53,13 @@ fn way_of(name: &str) -> Option<Way> {
 
 fn kind_of(name: &str) -> Option<Kind> {
     match name {
-        "transfer" => Some(Kind::Transfer),
-        "flow" => Some(Kind::Flow),
-        "disposition" => Some(Kind::Disposition),
+        "begin" => Some(Kind::Begin),
         "attach" => Some(Kind::Attach),
+        "link" => Some(Kind::Link),
+        "flow" => Some(Kind::Flow),
+        "transfer" => Some(Kind::Transfer),
+        "disposition" => Some(Kind::Disposition),
+        "detach" => Some(Kind::Detach),
         _ => None,
     }
 }
@@ -83,17 +83,28 @@ impl Work {
     /// Does the work, and says how many bytes were read or written.
     pub(crate) fn run(self, alloc: Global) -> Result<u64, Error> {
         let text = self.text(alloc)?;
-        let decoder = FrameDecoder::new();
-        let encoder = FrameEncoder::new(self.limit.max(4));
         let mut bytes = 0u64;
         for _ in 0..self.times {
-            let frame = decoder.decode(alloc, text.clone()?)?;
             bytes = bytes.saturating_add(text.len() as u64);
-            if let Way::Both = self.way {
-                bytes = bytes.saturating_add(length_of(&encoder.encode(alloc, &frame)?));
-            }
+            bytes = bytes.saturating_add(self.once(alloc, text.clone()?)?);
         }
         Ok(bytes)
+    }
+
+    /// Reads a frame, and says how many bytes of it were written.
+    fn once(self, alloc: Global, text: Bytes) -> Result<u64, Error> {
+        match FrameDecoder::new().decode(alloc, text) {
+            Ok(frame) => self.written(alloc, &frame),
+            Err(error) => Err(error),
+        }
+    }
+
+    /// Writes a frame where it is to be written, and says how many bytes that are.
+    fn written(self, alloc: Global, frame: &Frame) -> Result<u64, Error> {
+        match self.way {
+            Way::Decode => Ok(0),
+            Way::Both => encoded(alloc, self.limit, frame),
+        }
     }
 
     /// The bytes of the frame, with its size in front.
@@ -112,4 +123,21 @@ impl Work {
         }
         Ok(Bytes::from_vec(text)?)
     }
+}
+
+/// Writes a frame in pieces of at most so many bytes, and says how many these have.
+fn encoded(alloc: Global, limit: usize, frame: &Frame) -> Result<u64, Error> {
+    match FrameEncoder::new(limit.max(4)).encode(alloc, frame) {
+        Ok(pieces) => Ok(length_of(&pieces)),
+        Err(error) => Err(error),
+    }
+}
+
+/// How many bytes the pieces have together.
+fn length_of(pieces: &Pieces) -> u64 {
+    let mut bytes = pieces.first().len() as u64;
+    for piece in pieces.others() {
+        bytes = bytes.saturating_add(piece.len() as u64);
+    }
+    bytes
 }

@@ -1,10 +1,10 @@
 //! Two endpoints, and the bytes between them: their sessions begin and end, their links attach and are detached.
-use crate::endpoint::{Found, settings};
+use crate::endpoint::{Found, feed};
+use crate::termini::{source, target};
 use amqp_endpoint::{
-    Endpoint, EndpointError, IncomingChannel, LinkSettings, ReceiverSettleMode, SenderSettleMode,
-    Source, Target, TargetArchetype, TerminusDurability, TerminusExpiryPolicy, Text,
+    Attaching, Endpoint, EndpointError, IncomingChannel, LinkSettings, ReceiverSettleMode,
+    SenderSettleMode, TargetArchetype, Text,
 };
-use serde_amqp_types::Array;
 use std::alloc::Global;
 
 /// All that an end has queued is fed to the other.
@@ -15,7 +15,7 @@ pub(crate) fn move_all(
 ) -> Result<(), EndpointError> {
     for _ in 0..from.queued() {
         if let Some(bytes) = from.pull()? {
-            found.note(&to.feed(bytes.as_slice()));
+            feed(to, bytes.as_slice(), found);
         }
     }
     Ok(())
@@ -45,17 +45,6 @@ pub(crate) fn open(
 
 /// So many sessions begin at one end and are accepted at the other, and then they end.
 pub(crate) fn begin_and_end(
-    alloc: Global,
-    count: u16,
-    found: &mut Found,
-) -> Result<(), EndpointError> {
-    let mut a = Endpoint::new(alloc, settings(alloc, u16::MAX)?)?;
-    let mut b = Endpoint::new(alloc, settings(alloc, u16::MAX)?)?;
-    open(&mut a, &mut b, found)?;
-    sessions(&mut a, &mut b, count, found)
-}
-
-fn sessions(
     a: &mut Endpoint,
     b: &mut Endpoint,
     count: u16,
@@ -87,25 +76,14 @@ pub(crate) fn begin(
 /// So many links attach in a session, sending at one end and receiving at the other, and then they are detached.
 pub(crate) fn attach_and_detach(
     alloc: Global,
-    count: u32,
-    found: &mut Found,
-) -> Result<(), EndpointError> {
-    let mut a = Endpoint::new(alloc, settings(alloc, u16::MAX)?)?;
-    let mut b = Endpoint::new(alloc, settings(alloc, u16::MAX)?)?;
-    open(&mut a, &mut b, found)?;
-    begin(&mut a, &mut b, 0, found)?;
-    links(alloc, &mut a, &mut b, count, found)
-}
-
-fn links(
-    alloc: Global,
     a: &mut Endpoint,
     b: &mut Endpoint,
     count: u32,
     found: &mut Found,
 ) -> Result<(), EndpointError> {
+    begin(a, b, 0, found)?;
     for number in 0..count {
-        attach(a, b, &link(alloc, number)?, found)?;
+        attach(alloc, a, b, number, found)?;
     }
     for link in 0..count {
         a.detach(u64::from(link))?;
@@ -114,23 +92,45 @@ fn links(
     Ok(())
 }
 
-/// A link attaches in the first session of both ends.
+/// A link with this number as its name attaches in the first session of both ends.
 pub(crate) fn attach(
+    alloc: Global,
+    a: &mut Endpoint,
+    b: &mut Endpoint,
+    number: u32,
+    found: &mut Found,
+) -> Result<(), EndpointError> {
+    match link(alloc, number) {
+        Ok(link) => attach_as(a, b, &link, found),
+        Err(error) => Err(error),
+    }
+}
+
+fn attach_as(
     a: &mut Endpoint,
     b: &mut Endpoint,
     link: &LinkSettings,
     found: &mut Found,
 ) -> Result<(), EndpointError> {
-    let _attaching = a.attach_sender(0, link)?;
+    done(a.attach_sender(0, link))?;
     move_all(a, b, found)?;
-    let _attaching = b.attach_receiver(0, link)?;
+    done(b.attach_receiver(0, link))?;
     move_all(b, a, found)
 }
 
+/// Whether it was done: the answer is dropped.
+fn done(attaching: Result<Attaching, EndpointError>) -> Result<(), EndpointError> {
+    match attaching {
+        Ok(_) => Ok(()),
+        Err(error) => Err(error),
+    }
+}
+
 /// A link with this number as its name.
-pub(crate) fn link(alloc: Global, number: u32) -> Result<LinkSettings, EndpointError> {
+fn link(alloc: Global, number: u32) -> Result<LinkSettings, EndpointError> {
+    let name = format!(in alloc; "{number}")?;
     Ok(LinkSettings {
-        name: Text::new(format!(in alloc; "{number}")?),
+        name: Text::new(name),
         source: Some(source(alloc)),
         target: Some(TargetArchetype::Target(target(alloc))),
         snd_settle_mode: SenderSettleMode::Mixed,
@@ -138,34 +138,4 @@ pub(crate) fn link(alloc: Global, number: u32) -> Result<LinkSettings, EndpointE
         initial_delivery_count: 0,
         max_message_size: 0,
     })
-}
-
-/// A source of which no field is set (part 3, 3.5.3).
-fn source(alloc: Global) -> Source {
-    Source {
-        address: None,
-        durable: TerminusDurability::None,
-        expiry_policy: TerminusExpiryPolicy::SessionEnd,
-        timeout: 0,
-        dynamic: false,
-        dynamic_node_properties: None,
-        distribution_mode: None,
-        filter: None,
-        default_outcome: None,
-        outcomes: Array::new(alloc),
-        capabilities: Array::new(alloc),
-    }
-}
-
-/// A target of which no field is set (part 3, 3.5.4).
-fn target(alloc: Global) -> Target {
-    Target {
-        address: None,
-        durable: TerminusDurability::None,
-        expiry_policy: TerminusExpiryPolicy::SessionEnd,
-        timeout: 0,
-        dynamic: false,
-        dynamic_node_properties: None,
-        capabilities: Array::new(alloc),
-    }
 }

@@ -1,6 +1,6 @@
 //! Two endpoints, and the messages that one sends to the other.
-use crate::endpoint::{Found, settings};
-use crate::links::{attach, begin, exchange, link, move_all, open};
+use crate::endpoint::Found;
+use crate::links::{attach, begin, exchange, move_all};
 use amqp_endpoint::{Accepted, DeliveryState, Disposal, Endpoint, EndpointError, Sending};
 use bytes::Bytes;
 use std::alloc::Global;
@@ -11,21 +11,19 @@ const CREDIT: u64 = 1000;
 /// So many messages of so many bytes go from one end to the other, each settled, or each disposed of as accepted.
 pub(crate) fn send_and_receive(
     alloc: Global,
+    a: &mut Endpoint,
+    b: &mut Endpoint,
     settled: bool,
     size: u32,
     count: u32,
     found: &mut Found,
 ) -> Result<(), EndpointError> {
-    let mut a = Endpoint::new(alloc, settings(alloc, u16::MAX)?)?;
-    let mut b = Endpoint::new(alloc, settings(alloc, u16::MAX)?)?;
-    open(&mut a, &mut b, found)?;
-    begin(&mut a, &mut b, 0, found)?;
-    attach(&mut a, &mut b, &link(alloc, 0)?, found)?;
-    let message = message(alloc, settled, size)?;
-    for number in 0..count {
-        send(&mut a, &mut b, &message, u64::from(number), found)?;
+    begin(a, b, 0, found)?;
+    attach(alloc, a, b, 0, found)?;
+    match message(alloc, settled, size) {
+        Ok(message) => send_all(a, b, &message, count, found),
+        Err(error) => Err(error),
     }
-    Ok(())
 }
 
 /// A message of so many bytes.
@@ -36,6 +34,19 @@ fn message(alloc: Global, settled: bool, size: u32) -> Result<Sending, EndpointE
         message_format: 0,
         settled: Some(settled),
     })
+}
+
+fn send_all(
+    a: &mut Endpoint,
+    b: &mut Endpoint,
+    message: &Sending,
+    count: u32,
+    found: &mut Found,
+) -> Result<(), EndpointError> {
+    for number in 0..count {
+        send(a, b, message, u64::from(number), found)?;
+    }
+    Ok(())
 }
 
 /// A message goes from one end to the other, which has given credit for it.
@@ -50,19 +61,28 @@ fn send(
         let _left = b.grant(0, CREDIT as u32)?;
         move_all(b, a, found)?;
     }
-    let sent = a.send_raw(0, message)?;
+    let settled = is_settled(a, message)?;
     exchange(a, b, found)?;
-    if sent.outcome.is_none() {
-        b.dispose(0, number, &accepted())?;
-        move_all(b, a, found)?;
+    if settled {
+        return Ok(());
     }
-    Ok(())
+    accept(b, number)?;
+    move_all(b, a, found)
+}
+
+/// Sends a message, and says whether it went settled.
+fn is_settled(a: &mut Endpoint, message: &Sending) -> Result<bool, EndpointError> {
+    match a.send_raw(0, message) {
+        Ok(sent) => Ok(sent.outcome.is_some()),
+        Err(error) => Err(error),
+    }
 }
 
 /// A message is accepted, and settled as its link says.
-fn accepted() -> Disposal {
-    Disposal {
+fn accept(b: &mut Endpoint, number: u64) -> Result<(), EndpointError> {
+    let disposal = Disposal {
         state: DeliveryState::Accepted(Accepted {}),
         settled: None,
-    }
+    };
+    b.dispose(0, number, &disposal)
 }

@@ -1,16 +1,16 @@
 //! Transfers, turns and dispositions of a session.
 mod bench;
-mod frames;
+pub(crate) mod frames;
 mod link;
 
-use crate::sessions::bench::{Bench, Counts};
 use anyhow::Result;
+pub(crate) use bench::{Bench, Counts};
 use bytes::Bytes;
 use std::alloc::{AllocError, Global};
 
 /// How the peer disposes of unsettled deliveries.
-#[derive(Debug, Clone, Copy)]
-pub enum Way {
+#[derive(Clone, Copy)]
+pub(crate) enum Way {
     /// `left`: not at all.
     Left,
     /// `settled_all`: one disposition settles them all.
@@ -24,8 +24,8 @@ pub enum Way {
 }
 
 /// Work to be counted.
-#[derive(Debug, Clone, Copy)]
-pub enum Work {
+#[derive(Clone, Copy)]
+pub(crate) enum Work {
     /// `put_together COUNT`: deliveries are put together, without a session.
     PutTogether {
         /// How many.
@@ -40,7 +40,8 @@ pub enum Work {
         /// How many.
         count: u32,
     },
-    /// `turns LINKS COUNT`: links wait with a hundred deliveries each, and the window is opened for one transfer at a time.
+    /// `turns LINKS COUNT`: links wait with a hundred deliveries each, and the window is opened for one transfer at a
+    /// time.
     Turns {
         /// How many links wait.
         links: u32,

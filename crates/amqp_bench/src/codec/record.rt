@@ -12,7 +12,7 @@ use serde_amqp::{
 use std::alloc::Global;
 
 /// A composite with these fields, as pairs of the first and the others.
-#[derive(Debug, Drop)]
+#[derive(Drop)]
 pub struct Record<F>(pub F);
 
 /// The descriptor's code.

@@ -1,6 +1,9 @@
 //! The performatives of the frames that are read and written, as their canonical texts (part 2, 2.7).
 use crate::frames::Kind;
 
+/// A Begin that answers none, with windows of 2,048.
+const BEGIN: &[u8] = b"\x00\x53\x11\xc0\x0d\x04\x40\x43\x70\x00\x00\x08\x00\x70\x00\x00\x08\x00";
+
 /// The first transfer of the delivery 7, with a tag of eight bytes.
 const TRANSFER: &[u8] =
     b"\x00\x53\x14\xc0\x10\x05\x43\x52\x07\xa0\x08\x00\x00\x00\x00\x00\x00\x00\x00\x43\x42";
@@ -11,6 +14,14 @@ const FLOW: &[u8] =
 
 /// A disposition that accepts eight deliveries.
 const DISPOSITION: &[u8] = b"\x00\x53\x15\xc0\x0a\x05\x41\x43\x52\x07\x41\x00\x53\x24\x45";
+
+/// A detach that closes the link with handle 0.
+const DETACH: &[u8] = b"\x00\x53\x16\xc0\x03\x02\x43\x41";
+
+/// An attach of a sender whose source and target have an address alone: part 2, 2.7.3, and part 3, 3.5.3 and 3.5.4.
+const LINK: &[u8] = b"\x00\x53\x12\xc0\x28\x0a\xa1\x04link\x43\x42\x40\x40\
+    \x00\x53\x28\xc0\x08\x01\xa1\x05queue\x00\x53\x29\xc0\x08\x01\xa1\x05queue\
+    \x40\x40\x43";
 
 /// An attach with a source and a target in which each field is set: part 2, 2.7.3, and part 3, 3.5.3 and 3.5.4.
 const ATTACH: &[u8] = b"\x00\x53\x12\xd0\x00\x00\x01\x17\x00\x00\x00\x0e\
@@ -30,9 +41,12 @@ const ATTACH: &[u8] = b"\x00\x53\x12\xd0\x00\x00\x01\x17\x00\x00\x00\x0e\
 /// The performative of a frame.
 pub(crate) fn performative(kind: Kind) -> &'static [u8] {
     match kind {
-        Kind::Transfer => TRANSFER,
-        Kind::Flow => FLOW,
-        Kind::Disposition => DISPOSITION,
+        Kind::Begin => BEGIN,
         Kind::Attach => ATTACH,
+        Kind::Link => LINK,
+        Kind::Flow => FLOW,
+        Kind::Transfer => TRANSFER,
+        Kind::Disposition => DISPOSITION,
+        Kind::Detach => DETACH,
     }
 }

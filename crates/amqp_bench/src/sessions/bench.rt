@@ -2,7 +2,7 @@
 use crate::sessions::frames;
 use crate::sessions::link::PlainLink;
 use amqp_session_core::{Batch, Session, echoes};
-use amqp_session_performatives::SessionFrame;
+use amqp_session_performatives::{Disposition, SessionFrame};
 use amqp_session_types::{
     BeginError, IncomingChannel, OutgoingChannel, OutputHandle, SessionError,
 };
@@ -10,9 +10,12 @@ use bytes::Bytes;
 use std::alloc::{AllocError, Global};
 use std::collections::VecDeque;
 
+/// The most transfers that a session may say it takes (part 2, 2.8.10): no run uses it up.
+const WINDOW: u32 = 0x7fff_ffff;
+
 /// How many frames left, and how many dispositions go back.
-#[derive(Debug, Clone, Copy)]
-pub struct Counts {
+#[derive(Clone, Copy)]
+pub(crate) struct Counts {
     /// The frames that left.
     pub frames: u64,
     /// The dispositions that go back.
@@ -20,20 +23,31 @@ pub struct Counts {
 }
 
 /// A session with what its links hand to it and what it hands out.
-#[derive(Drop)]
-pub struct Bench {
-    session: Session<PlainLink>,
-    out: VecDeque<SessionFrame>,
+pub(crate) struct Bench {
+    pub session: Session<PlainLink>,
+    pub out: VecDeque<SessionFrame>,
     batch: Batch,
     payload: Bytes,
     counts: Counts,
+}
+
+impl Drop for Bench {
+    fn drop(self) {
+        let Bench {
+            session: _,
+            out: _,
+            batch: _,
+            payload: _,
+            counts: _,
+        } = self;
+    }
 }
 
 impl Bench {
     /// A session that has neither begun nor links, whose transfers all carry this payload.
     pub(crate) fn new(alloc: Global, payload: Bytes) -> Self {
         Bench {
-            session: Session::new(alloc, OutgoingChannel(0), 0, 2048),
+            session: Session::new(alloc, OutgoingChannel(0), 0, WINDOW),
             out: VecDeque::new(alloc),
             batch: Batch::new(alloc),
             payload,
@@ -51,10 +65,18 @@ impl Bench {
 
     /// Both Begins are exchanged: the peer takes so many transfers.
     pub(crate) fn begin(&mut self, alloc: Global, window: u32) -> Result<(), BeginError> {
-        let _ = self.session.send_begin(alloc)?;
+        self.send_begin(alloc)?;
         let begin = frames::begin(alloc, window);
         self.session
             .on_incoming_begin(&mut self.out, IncomingChannel(0), &begin)
+    }
+
+    /// The own Begin goes, and is dropped.
+    fn send_begin(&mut self, alloc: Global) -> Result<(), BeginError> {
+        match self.session.send_begin(alloc) {
+            Ok(_) => Ok(()),
+            Err(error) => Err(error),
+        }
     }
 
     /// A link gets a handle.
@@ -74,8 +96,31 @@ impl Bench {
         count: u32,
     ) -> Result<(), SessionError> {
         for _ in 0..count {
-            self.fill(alloc, settled)?;
+            let payload = self.payload.clone()?;
+            self.put(alloc, settled, payload)?;
         }
+        self.hand_over(alloc, handle)
+    }
+
+    /// Puts a delivery into the batch.
+    pub(crate) fn put(
+        &mut self,
+        alloc: Global,
+        settled: bool,
+        payload: Bytes,
+    ) -> Result<(), AllocError> {
+        match frames::transfer(alloc, settled) {
+            Ok(transfer) => self.batch.push_first(alloc, transfer, payload),
+            Err(error) => Err(error),
+        }
+    }
+
+    /// A link hands the deliveries of the batch to the session.
+    pub(crate) fn hand_over(
+        &mut self,
+        alloc: Global,
+        handle: OutputHandle,
+    ) -> Result<(), SessionError> {
         self.session
             .on_outgoing_transfer(alloc, &mut self.out, handle, &mut self.batch)
     }
@@ -106,8 +151,8 @@ impl Bench {
     /// So many deliveries are put together and dropped: the session has no part in it.
     pub(crate) fn put_together(&self, alloc: Global, count: u32) -> Result<(), AllocError> {
         for _ in 0..count {
-            let _transfer = frames::transfer(alloc, true)?;
             let _payload = self.payload.clone()?;
+            let _transfer = frames::transfer(alloc, true)?;
         }
         Ok(())
     }
@@ -130,9 +175,18 @@ impl Bench {
         settled: bool,
     ) -> Result<(), SessionError> {
         let disposition = frames::disposition(first, last, settled);
-        let room = self.session.reserve_disposition(alloc, &disposition)?;
-        let runs = self.session.on_incoming_disposition(&disposition, room);
-        let echoes = echoes(alloc, &disposition, &runs)?;
+        self.take_disposition(alloc, &disposition)
+    }
+
+    /// Takes a disposition of the peer, and counts those that go back.
+    pub(crate) fn take_disposition(
+        &mut self,
+        alloc: Global,
+        disposition: &Disposition,
+    ) -> Result<(), SessionError> {
+        let room = self.session.reserve_disposition(alloc, disposition)?;
+        let runs = self.session.on_incoming_disposition(disposition, room);
+        let echoes = echoes(alloc, disposition, &runs)?;
         self.counts.echoes = self.counts.echoes.saturating_add(echoes.len() as u64);
         Ok(())
     }
@@ -142,14 +196,6 @@ impl Bench {
         for number in 0..count {
             self.dispose(alloc, number, None, true)?;
         }
-        Ok(())
-    }
-
-    /// Puts a delivery into the batch.
-    fn fill(&mut self, alloc: Global, settled: bool) -> Result<(), SessionError> {
-        let transfer = frames::transfer(alloc, settled)?;
-        self.batch
-            .push_first(alloc, transfer, self.payload.clone()?)?;
         Ok(())
     }
 

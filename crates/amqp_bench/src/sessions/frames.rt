@@ -1,8 +1,9 @@
 //! What the peer sends, and what the links send.
-use amqp_session_performatives::{Begin, Disposition, Flow, Transfer};
-use amqp_session_states::{Accepted, DeliveryState};
-use amqp_session_types::{DeliveryTag, Handle, Role};
-use serde_amqp_types::Array;
+use crate::termini::{source, target};
+use amqp_session_performatives::{Attach, Begin, Detach, Disposition, Flow, LinkFlow, Transfer};
+use amqp_session_states::{Accepted, DeliveryState, TargetArchetype};
+use amqp_session_types::{DeliveryTag, Handle, ReceiverSettleMode, Role, SenderSettleMode};
+use serde_amqp_types::{Array, Text};
 use std::alloc::{AllocError, Global};
 
 /// The tag of each delivery.
@@ -66,5 +67,49 @@ pub(crate) fn disposition(first: u32, last: Option<u32>, settled: bool) -> Dispo
         settled,
         state: Some(DeliveryState::Accepted(Accepted {})),
         batchable: false,
+    }
+}
+
+/// The Attach of a link that has this role, whose source and target say nothing (part 2, 2.7.3). The session writes its
+/// handle.
+pub(crate) fn attach(alloc: Global, role: Role) -> Result<Attach, AllocError> {
+    let name = String::from_str(alloc, "link")?;
+    Ok(Attach {
+        name: Text::new(name),
+        handle: Handle(0),
+        role,
+        snd_settle_mode: SenderSettleMode::Mixed,
+        rcv_settle_mode: ReceiverSettleMode::First,
+        source: Some(source(alloc)),
+        target: Some(TargetArchetype::Target(target(alloc))),
+        unsettled: None,
+        incomplete_unsettled: false,
+        initial_delivery_count: Some(0),
+        max_message_size: None,
+        offered_capabilities: Array::new(alloc),
+        desired_capabilities: Array::new(alloc),
+        properties: None,
+    })
+}
+
+/// The Detach that closes a link (part 2, 2.7.7). The session writes its handle.
+pub(crate) fn detach() -> Detach {
+    Detach {
+        handle: Handle(0),
+        closed: true,
+        error: None,
+    }
+}
+
+/// What a Flow tells of a link that gives credit for 200 messages (part 2, 2.7.4). The session writes its handle.
+pub(crate) fn link_flow() -> LinkFlow {
+    LinkFlow {
+        handle: Handle(0),
+        delivery_count: Some(0),
+        link_credit: Some(200),
+        available: None,
+        drain: false,
+        echo: false,
+        properties: None,
     }
 }

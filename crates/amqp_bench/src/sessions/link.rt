@@ -7,8 +7,8 @@ use bytes::Bytes;
 use std::alloc::Global;
 
 /// A link that takes each frame and answers nothing, but for the dispositions, which it has echoed or not.
-#[derive(Debug, Drop)]
-pub struct PlainLink {
+#[derive(Drop)]
+pub(crate) struct PlainLink {
     /// Whether it has each disposition echoed.
     pub echo: bool,
 }
