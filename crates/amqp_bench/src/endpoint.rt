@@ -4,7 +4,8 @@ ghost use Rattle.std.specs.Prelude.{◌<◌};
 
 use crate::links::{attach_and_detach, begin_and_end, open};
 use crate::messages::send_and_receive;
-use amqp_endpoint::{Endpoint, EndpointError, Event, Fed, Settings, Text};
+use amqp_endpoint::{EndpointError, Event, Fed, SessionRelay, Settings, Text};
+use amqp_endpoint_core::Endpoint;
 use std::alloc::Global;
 use std::fmt;
 
@@ -60,9 +61,10 @@ pub(crate) enum Work {
     },
 }
 
-/// What an endpoint found in the bytes that it was fed.
-#[derive(Clone, Copy)]
+/// What an endpoint found in the bytes that it was fed, and the bytes that are under way to it.
+#[derive(Drop)]
 pub(crate) struct Found {
+    under_way: Vec<u8>,
     opened: u64,
     closed: u64,
     faults: u64,
@@ -83,6 +85,31 @@ impl fmt::Display for Found {
 }
 
 impl Found {
+    /// Nothing.
+    fn new(alloc: Global) -> Self {
+        Found {
+            under_way: Vec::new(alloc),
+            opened: 0,
+            closed: 0,
+            faults: 0,
+            events: 0,
+        }
+    }
+
+    /// Room for the next bytes that are under way, which is used again.
+    pub(crate) fn under_way(&mut self) -> &mut Vec<u8> {
+        self.under_way.clear();
+        &mut self.under_way
+    }
+
+    /// Feeds what is under way, and counts what was found in it.
+    pub(crate) fn feed<S: SessionRelay>(&mut self, endpoint: &mut Endpoint<S>) {
+        if !self.under_way.is_empty() {
+            let fed = endpoint.feed(self.under_way.as_slice());
+            self.note(&fed);
+        }
+    }
+
     /// Counts what a feed answered.
     fn note(&mut self, fed: &Fed) {
         self.events = self.events.saturating_add(fed.events.len() as u64);
@@ -137,15 +164,10 @@ impl Work {
     }
 
     /// Does the work.
-    pub(crate) fn run(self, alloc: Global) -> Result<Found, EndpointError> {
-        let mut found = Found {
-            opened: 0,
-            closed: 0,
-            faults: 0,
-            events: 0,
-        };
+    pub(crate) fn run<S: SessionRelay>(self, alloc: Global) -> Result<Found, EndpointError> {
+        let mut found = Found::new(alloc);
         for _ in 0..self.connections() {
-            self.run_once(alloc, &mut found)?;
+            self.run_once::<S>(alloc, &mut found)?;
         }
         Ok(found)
     }
@@ -159,26 +181,34 @@ impl Work {
     }
 
     /// Does the work of one connection.
-    fn run_once(self, alloc: Global, found: &mut Found) -> Result<(), EndpointError> {
+    fn run_once<S: SessionRelay>(
+        self,
+        alloc: Global,
+        found: &mut Found,
+    ) -> Result<(), EndpointError> {
         match self {
-            Work::Frames { .. } | Work::OpenClose { .. } => self.run_alone(alloc, found),
-            _ => self.run_between(alloc, found),
+            Work::Frames { .. } | Work::OpenClose { .. } => self.run_alone::<S>(alloc, found),
+            _ => self.run_between::<S>(alloc, found),
         }
     }
 
     /// Does the work of an endpoint whose peer is played by bytes.
-    fn run_alone(self, alloc: Global, found: &mut Found) -> Result<(), EndpointError> {
-        match endpoint(alloc, 255) {
+    fn run_alone<S: SessionRelay>(
+        self,
+        alloc: Global,
+        found: &mut Found,
+    ) -> Result<(), EndpointError> {
+        match endpoint::<S>(alloc, 255) {
             Ok(mut endpoint) => self.run_with(alloc, &mut endpoint, found),
             Err(error) => Err(error),
         }
     }
 
     /// Does the work of an endpoint that is not connected.
-    fn run_with(
+    fn run_with<S: SessionRelay>(
         self,
         alloc: Global,
-        endpoint: &mut Endpoint,
+        endpoint: &mut Endpoint<S>,
         found: &mut Found,
     ) -> Result<(), EndpointError> {
         connect(endpoint, found)?;
@@ -189,32 +219,36 @@ impl Work {
     }
 
     /// Does the work of two endpoints.
-    fn run_between(self, alloc: Global, found: &mut Found) -> Result<(), EndpointError> {
-        match endpoint(alloc, u16::MAX) {
+    fn run_between<S: SessionRelay>(
+        self,
+        alloc: Global,
+        found: &mut Found,
+    ) -> Result<(), EndpointError> {
+        match endpoint::<S>(alloc, u16::MAX) {
             Ok(mut a) => self.run_from(alloc, &mut a, found),
             Err(error) => Err(error),
         }
     }
 
     /// Does the work of this endpoint and another.
-    fn run_from(
+    fn run_from<S: SessionRelay>(
         self,
         alloc: Global,
-        a: &mut Endpoint,
+        a: &mut Endpoint<S>,
         found: &mut Found,
     ) -> Result<(), EndpointError> {
-        match endpoint(alloc, u16::MAX) {
+        match endpoint::<S>(alloc, u16::MAX) {
             Ok(mut b) => self.run_both(alloc, a, &mut b, found),
             Err(error) => Err(error),
         }
     }
 
     /// Does the work of these two endpoints, which are not connected.
-    fn run_both(
+    fn run_both<S: SessionRelay>(
         self,
         alloc: Global,
-        a: &mut Endpoint,
-        b: &mut Endpoint,
+        a: &mut Endpoint<S>,
+        b: &mut Endpoint<S>,
         found: &mut Found,
     ) -> Result<(), EndpointError> {
         open(a, b, found)?;
@@ -232,9 +266,12 @@ impl Work {
 }
 
 /// An endpoint that takes channels up to this one.
-fn endpoint(alloc: Global, channel_max: u16) -> Result<Endpoint, EndpointError> {
+fn endpoint<S: SessionRelay>(
+    alloc: Global,
+    channel_max: u16,
+) -> Result<Endpoint<S>, EndpointError> {
     let container_id = String::from_str(alloc, "a")?;
-    Endpoint::new(
+    Endpoint::<S>::new(
         alloc,
         Settings {
             container_id: Text::new(container_id),
@@ -248,15 +285,15 @@ fn endpoint(alloc: Global, channel_max: u16) -> Result<Endpoint, EndpointError> 
 }
 
 /// Feeds bytes, and counts what was found in them.
-pub(crate) fn feed(endpoint: &mut Endpoint, bytes: &[u8], found: &mut Found) {
+pub(crate) fn feed<S: SessionRelay>(endpoint: &mut Endpoint<S>, bytes: &[u8], found: &mut Found) {
     let fed = endpoint.feed(bytes);
     found.note(&fed);
 }
 
 /// Feeds so many blocks of Empty frames, in pieces of so many bytes.
-fn feed_frames(
+fn feed_frames<S: SessionRelay>(
     alloc: Global,
-    endpoint: &mut Endpoint,
+    endpoint: &mut Endpoint<S>,
     blocks: u32,
     piece: usize,
     found: &mut Found,
@@ -276,7 +313,12 @@ fn block_of_frames(alloc: Global) -> Result<Vec<u8>, EndpointError> {
     Ok(block)
 }
 
-fn feed_block(endpoint: &mut Endpoint, block: &[u8], piece: usize, found: &mut Found)
+fn feed_block<S: SessionRelay>(
+    endpoint: &mut Endpoint<S>,
+    block: &[u8],
+    piece: usize,
+    found: &mut Found,
+)
     requires { 0 < piece }
 {
     for bytes in block.chunks(piece) {
@@ -285,7 +327,10 @@ fn feed_block(endpoint: &mut Endpoint, block: &[u8], piece: usize, found: &mut F
 }
 
 /// Both headers and both Open frames go.
-fn connect(endpoint: &mut Endpoint, found: &mut Found) -> Result<(), EndpointError> {
+fn connect<S: SessionRelay>(
+    endpoint: &mut Endpoint<S>,
+    found: &mut Found,
+) -> Result<(), EndpointError> {
     endpoint.connect()?;
     feed(endpoint, HEADER, found);
     feed(endpoint, OPEN, found);
@@ -295,7 +340,10 @@ fn connect(endpoint: &mut Endpoint, found: &mut Found) -> Result<(), EndpointErr
 }
 
 /// Both Close frames go.
-fn close(endpoint: &mut Endpoint, found: &mut Found) -> Result<(), EndpointError> {
+fn close<S: SessionRelay>(
+    endpoint: &mut Endpoint<S>,
+    found: &mut Found,
+) -> Result<(), EndpointError> {
     endpoint.close()?;
     let _close = endpoint.pull()?;
     feed(endpoint, CLOSE, found);

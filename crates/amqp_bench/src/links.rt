@@ -1,30 +1,28 @@
 //! Two endpoints, and the bytes between them: their sessions begin and end, their links attach and are detached.
-use crate::endpoint::{Found, feed};
+use crate::endpoint::Found;
 use crate::termini::{source, target};
 use amqp_endpoint::{
-    Attaching, Endpoint, EndpointError, IncomingChannel, LinkSettings, ReceiverSettleMode,
-    SenderSettleMode, TargetArchetype, Text,
+    Attaching, EndpointError, IncomingChannel, LinkSettings, ReceiverSettleMode, SenderSettleMode,
+    SessionRelay, TargetArchetype, Text,
 };
+use amqp_endpoint_core::Endpoint;
 use std::alloc::Global;
 
-/// All that an end has queued is fed to the other.
-pub(crate) fn move_all(
-    from: &mut Endpoint,
-    to: &mut Endpoint,
+/// All that an end has queued is fed to the other, in one piece.
+pub(crate) fn move_all<S: SessionRelay>(
+    from: &mut Endpoint<S>,
+    to: &mut Endpoint<S>,
     found: &mut Found,
 ) -> Result<(), EndpointError> {
-    for _ in 0..from.queued() {
-        if let Some(bytes) = from.pull()? {
-            feed(to, bytes.as_slice(), found);
-        }
-    }
+    let _count = from.pull_into(found.under_way(), usize::MAX)?;
+    found.feed(to);
     Ok(())
 }
 
 /// Both ends send what they have queued, the first before the second.
-pub(crate) fn exchange(
-    first: &mut Endpoint,
-    second: &mut Endpoint,
+pub(crate) fn exchange<S: SessionRelay>(
+    first: &mut Endpoint<S>,
+    second: &mut Endpoint<S>,
     found: &mut Found,
 ) -> Result<(), EndpointError> {
     move_all(first, second, found)?;
@@ -32,9 +30,9 @@ pub(crate) fn exchange(
 }
 
 /// Both headers and both Open frames go.
-pub(crate) fn open(
-    a: &mut Endpoint,
-    b: &mut Endpoint,
+pub(crate) fn open<S: SessionRelay>(
+    a: &mut Endpoint<S>,
+    b: &mut Endpoint<S>,
     found: &mut Found,
 ) -> Result<(), EndpointError> {
     a.connect()?;
@@ -44,9 +42,9 @@ pub(crate) fn open(
 }
 
 /// So many sessions begin at one end and are accepted at the other, and then they end.
-pub(crate) fn begin_and_end(
-    a: &mut Endpoint,
-    b: &mut Endpoint,
+pub(crate) fn begin_and_end<S: SessionRelay>(
+    a: &mut Endpoint<S>,
+    b: &mut Endpoint<S>,
     count: u16,
     found: &mut Found,
 ) -> Result<(), EndpointError> {
@@ -61,9 +59,9 @@ pub(crate) fn begin_and_end(
 }
 
 /// A session begins at one end, whose channel is this, and is accepted at the other.
-pub(crate) fn begin(
-    a: &mut Endpoint,
-    b: &mut Endpoint,
+pub(crate) fn begin<S: SessionRelay>(
+    a: &mut Endpoint<S>,
+    b: &mut Endpoint<S>,
     channel: u16,
     found: &mut Found,
 ) -> Result<(), EndpointError> {
@@ -74,10 +72,10 @@ pub(crate) fn begin(
 }
 
 /// So many links attach in a session, sending at one end and receiving at the other, and then they are detached.
-pub(crate) fn attach_and_detach(
+pub(crate) fn attach_and_detach<S: SessionRelay>(
     alloc: Global,
-    a: &mut Endpoint,
-    b: &mut Endpoint,
+    a: &mut Endpoint<S>,
+    b: &mut Endpoint<S>,
     count: u32,
     found: &mut Found,
 ) -> Result<(), EndpointError> {
@@ -93,10 +91,10 @@ pub(crate) fn attach_and_detach(
 }
 
 /// A link with this number as its name attaches in the first session of both ends.
-pub(crate) fn attach(
+pub(crate) fn attach<S: SessionRelay>(
     alloc: Global,
-    a: &mut Endpoint,
-    b: &mut Endpoint,
+    a: &mut Endpoint<S>,
+    b: &mut Endpoint<S>,
     number: u32,
     found: &mut Found,
 ) -> Result<(), EndpointError> {
@@ -106,9 +104,9 @@ pub(crate) fn attach(
     }
 }
 
-fn attach_as(
-    a: &mut Endpoint,
-    b: &mut Endpoint,
+fn attach_as<S: SessionRelay>(
+    a: &mut Endpoint<S>,
+    b: &mut Endpoint<S>,
     link: &LinkSettings,
     found: &mut Found,
 ) -> Result<(), EndpointError> {

@@ -25,6 +25,7 @@ mod path;
 mod sessions;
 mod termini;
 
+use amqp_endpoint::LinkedSessions;
 use anyhow::{Context, Result};
 use std::alloc::Global;
 
@@ -80,6 +81,6 @@ fn session_found(alloc: Global, work: &str) -> Result<String> {
 
 fn endpoint_found(alloc: Global, work: &str) -> Result<String> {
     let work = endpoint::Work::parse(work).context("no work is named so")?;
-    let found = work.run(alloc)?;
+    let found = work.run::<LinkedSessions>(alloc)?;
     Ok(format!(in alloc; "{found}")?)
 }

@@ -1,7 +1,8 @@
 //! Two endpoints, and the messages that one sends to the other.
 use crate::endpoint::Found;
 use crate::links::{attach, begin, exchange, move_all};
-use amqp_endpoint::{Accepted, DeliveryState, Disposal, Endpoint, EndpointError, Sending};
+use amqp_endpoint::{Accepted, DeliveryState, Disposal, EndpointError, Sending, SessionRelay};
+use amqp_endpoint_core::Endpoint;
 use bytes::Bytes;
 use std::alloc::Global;
 
@@ -9,10 +10,10 @@ use std::alloc::Global;
 const CREDIT: u64 = 1000;
 
 /// So many messages of so many bytes go from one end to the other, each settled, or each disposed of as accepted.
-pub(crate) fn send_and_receive(
+pub(crate) fn send_and_receive<S: SessionRelay>(
     alloc: Global,
-    a: &mut Endpoint,
-    b: &mut Endpoint,
+    a: &mut Endpoint<S>,
+    b: &mut Endpoint<S>,
     settled: bool,
     size: u32,
     count: u32,
@@ -36,9 +37,9 @@ fn message(alloc: Global, settled: bool, size: u32) -> Result<Sending, EndpointE
     })
 }
 
-fn send_all(
-    a: &mut Endpoint,
-    b: &mut Endpoint,
+fn send_all<S: SessionRelay>(
+    a: &mut Endpoint<S>,
+    b: &mut Endpoint<S>,
     message: &Sending,
     count: u32,
     found: &mut Found,
@@ -50,9 +51,9 @@ fn send_all(
 }
 
 /// A message goes from one end to the other, which has given credit for it.
-fn send(
-    a: &mut Endpoint,
-    b: &mut Endpoint,
+fn send<S: SessionRelay>(
+    a: &mut Endpoint<S>,
+    b: &mut Endpoint<S>,
     message: &Sending,
     number: u64,
     found: &mut Found,
@@ -71,7 +72,10 @@ fn send(
 }
 
 /// Sends a message, and says whether it went settled.
-fn is_settled(a: &mut Endpoint, message: &Sending) -> Result<bool, EndpointError> {
+fn is_settled<S: SessionRelay>(
+    a: &mut Endpoint<S>,
+    message: &Sending,
+) -> Result<bool, EndpointError> {
     match a.send_raw(0, message) {
         Ok(sent) => Ok(sent.outcome.is_some()),
         Err(error) => Err(error),
@@ -79,7 +83,7 @@ fn is_settled(a: &mut Endpoint, message: &Sending) -> Result<bool, EndpointError
 }
 
 /// A message is accepted, and settled as its link says.
-fn accept(b: &mut Endpoint, number: u64) -> Result<(), EndpointError> {
+fn accept<S: SessionRelay>(b: &mut Endpoint<S>, number: u64) -> Result<(), EndpointError> {
     let disposal = Disposal {
         state: DeliveryState::Accepted(Accepted {}),
         settled: None,
