@@ -3,7 +3,7 @@
 ghost use Rattle.std.specs.Prelude.{◌<◌};
 
 use crate::links::{attach_and_detach, begin_and_end, open};
-use crate::messages::send_and_receive;
+use crate::messages::{send_and_receive, send_in_turn};
 use amqp_endpoint::{EndpointError, Event, Fed, SessionRelay, Settings, Text};
 use amqp_endpoint_core::Endpoint;
 use std::alloc::Global;
@@ -57,6 +57,13 @@ pub(crate) enum Work {
         /// The bytes of each.
         size: u32,
         /// How many.
+        count: u32,
+    },
+    /// So many settled messages of 100 bytes go over so many links in turn.
+    Turns {
+        /// How many links.
+        links: u32,
+        /// How many messages.
         count: u32,
     },
 }
@@ -149,6 +156,13 @@ impl Work {
             }),
             "settled" => Work::messages(true, numbers),
             "unsettled" => Work::messages(false, numbers),
+            "turns" => {
+                let (links, count) = numbers.split_once(' ')?;
+                Some(Work::Turns {
+                    links: links.parse().ok()?,
+                    count: count.parse().ok()?,
+                })
+            }
             _ => None,
         }
     }
@@ -260,6 +274,7 @@ impl Work {
                 size,
                 count,
             } => send_and_receive(alloc, a, b, settled, size, count, found),
+            Work::Turns { links, count } => send_in_turn(alloc, a, b, links, count, found),
             _ => Ok(()),
         }
     }

@@ -13,7 +13,8 @@
 //! - `endpoint`: `frames`, how many blocks of 8,192 Empty frames are fed, and the bytes of each piece; `open_close`,
 //!   and how many connections are opened and closed; or `sessions`, and how many begin and end between two endpoints;
 //!   or `links`, and how many attach there and are detached; or `settled` or `unsettled`, the bytes of a message, and
-//!   how many go from one end to the other, the latter disposed of there. What was found is printed.
+//!   how many go from one end to the other, the latter disposed of there; or `turns`, a number of links, and how many
+//!   settled messages of 100 bytes go over them in turn. What was found is printed.
 #![tactic(auto)]
 
 mod codec;

@@ -27,6 +27,52 @@ pub(crate) fn send_and_receive<S: SessionRelay>(
     }
 }
 
+/// So many settled messages of 100 bytes go over so many links in turn, for which there is credit.
+pub(crate) fn send_in_turn<S: SessionRelay>(
+    alloc: Global,
+    a: &mut Endpoint<S>,
+    b: &mut Endpoint<S>,
+    links: u32,
+    count: u32,
+    found: &mut Found,
+) -> Result<(), EndpointError> {
+    begin(a, b, 0, found)?;
+    for number in 0..links {
+        attach(alloc, a, b, number, found)?;
+        grant(a, b, number, found)?;
+    }
+    match message(alloc, true, 100) {
+        Ok(message) => send_each(a, b, links, &message, count, found),
+        Err(error) => Err(error),
+    }
+}
+
+/// A link gets credit.
+fn grant<S: SessionRelay>(
+    a: &mut Endpoint<S>,
+    b: &mut Endpoint<S>,
+    link: u32,
+    found: &mut Found,
+) -> Result<(), EndpointError> {
+    let _left = b.grant(u64::from(link), CREDIT as u32)?;
+    move_all(b, a, found)
+}
+
+fn send_each<S: SessionRelay>(
+    a: &mut Endpoint<S>,
+    b: &mut Endpoint<S>,
+    links: u32,
+    message: &Sending,
+    count: u32,
+    found: &mut Found,
+) -> Result<(), EndpointError> {
+    for number in 0..count {
+        let _settled = is_settled(a, number.checked_rem(links).unwrap_or(0), message)?;
+        exchange(a, b, found)?;
+    }
+    Ok(())
+}
+
 /// A message of so many bytes.
 fn message(alloc: Global, settled: bool, size: u32) -> Result<Sending, EndpointError> {
     let payload = vec![in alloc; 0; size as usize]?;
@@ -59,10 +105,9 @@ fn send<S: SessionRelay>(
     found: &mut Found,
 ) -> Result<(), EndpointError> {
     if number % CREDIT == 0 {
-        let _left = b.grant(0, CREDIT as u32)?;
-        move_all(b, a, found)?;
+        grant(a, b, 0, found)?;
     }
-    let settled = is_settled(a, message)?;
+    let settled = is_settled(a, 0, message)?;
     exchange(a, b, found)?;
     if settled {
         return Ok(());
@@ -71,12 +116,13 @@ fn send<S: SessionRelay>(
     move_all(b, a, found)
 }
 
-/// Sends a message, and says whether it went settled.
+/// Sends a message by a link, and says whether it went settled.
 fn is_settled<S: SessionRelay>(
     a: &mut Endpoint<S>,
+    link: u32,
     message: &Sending,
 ) -> Result<bool, EndpointError> {
-    match a.send_raw(0, message) {
+    match a.send_raw(u64::from(link), message) {
         Ok(sent) => Ok(sent.outcome.is_some()),
         Err(error) => Err(error),
     }
