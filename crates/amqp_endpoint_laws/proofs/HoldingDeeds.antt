@@ -27,7 +27,7 @@ use Rattle.amqp_link_base.specs.declared.detached.Detached.{Detached}
 use Rattle.amqp_link_ends.specs.declared.end.End.{End}
 use Rattle.amqp_link_sender.specs.declared.attaching.Attaching.{Attaching}
 use Rattle.amqp_link_types.specs.declared.link_error.LinkError.{LinkError}
-use Rattle.std.specs.Global.{Vec}
+use Rattle.smallvec.specs.SmallVec.{SmallVec}
 use Rattle.amqp_endpoint_attached.specs.Linked.{gives}
 use Rattle.amqp_endpoint_attached.specs.Links.{receiver_by, sender_by}
 use Rattle.amqp_endpoint_conversation.specs.Beginning.{AcceptsHere, BeginAnswered, BeginsHere, Leads, with_links}
@@ -169,7 +169,7 @@ flow-comes None frames old new links links_new l = talk-same old new l.0
 flow-comes (Some session) frames old new links links_new g =
     goes-on-stays _ old session new (λ a b l. leave-stay frames a links b links_new l) g
 
-disposition-comes : (o : Option (ℕ × Vec (ℕ × ℕ))) (limit : ℕ) (old mid new : Talk) (it : Disposition)
+disposition-comes : (o : Option (ℕ × SmallVec (ℕ × ℕ))) (limit : ℕ) (old mid new : Talk) (it : Disposition)
     (frames : List SessionFrame) (events : List Event) → disposing.Follows o limit old it mid frames events new
     → AllRest mid.sessions new.sessions
 disposition-comes (Some (session, runs)) limit old mid new it frames events d =

@@ -3,7 +3,7 @@ use Rattle.std.proofs.Common.{◌≡◌, ◌⊎◌, inl, inr, ℕ, suc, Bool, tr
 use Rattle.std.proofs.Common.{None, Ok, Err}
 use Rattle.std.proofs.Common.{arith, refl, ap, ◌∙◌}
 use Rattle.std.specs.Prelude.{Result}
-use Rattle.std.specs.Global.{Vec}
+use Rattle.smallvec.specs.SmallVec.{SmallVec}
 use Rattle.amqp_session_types.specs.declared.channels.IncomingChannel.{IncomingChannel}
 use Rattle.amqp_session_types.specs.declared.error.Error.{Error}
 use Rattle.amqp_session_types.specs.declared.handles.OutputHandle.{OutputHandle}
@@ -98,7 +98,7 @@ transfer-becomes (Some (session, took)) old mid new given it frames events given
 transfer-becomes None old mid new given it frames events given_new c =
     inl (told-unnumbered events [] c.untold refl, c.uncounted)
 
-disposition-follows : (runs : Option (ℕ × Vec (ℕ × ℕ))) (limit : ℕ) (old mid new : Talk) (it : Disposition)
+disposition-follows : (runs : Option (ℕ × SmallVec (ℕ × ℕ))) (limit : ℕ) (old mid new : Talk) (it : Disposition)
     (frames : List SessionFrame) (events : List Event)
     → disposing.Follows runs limit old it mid frames events new → Unnumbered events
 disposition-follows (Some (session, runs)) limit old mid new it frames events d =

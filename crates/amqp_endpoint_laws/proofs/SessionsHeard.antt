@@ -2,7 +2,8 @@
 use Rattle.std.proofs.Common.{◌≡◌, inl, inr, ℕ, Bool, true, false, List, [], Option, Some, None, Ok, Err}
 use Rattle.std.proofs.Common.{ap}
 use Rattle.std.specs.Prelude.{Result}
-use Rattle.std.specs.Global.{Box, Vec}
+use Rattle.std.specs.Global.{Box}
+use Rattle.smallvec.specs.SmallVec.{SmallVec}
 use Rattle.amqp_session_types.specs.declared.channels.IncomingChannel.{IncomingChannel}
 use Rattle.amqp_session_types.specs.declared.handles.OutputHandle.{OutputHandle}
 use Rattle.amqp_session_types.specs.declared.refusals.ConnectionError.{ConnectionError}
@@ -206,7 +207,7 @@ flow-lets-go None frames mid new links links_new l = talk-stays mid new l.0
 flow-lets-go (Some session) frames mid new links links_new g = in-session _ mid session new g
 
 -- the peer's Disposition and Detach
-disposition-follows : (runs : Option (ℕ × Vec (ℕ × ℕ))) (limit : ℕ) (old mid new : Talk) (it : Disposition)
+disposition-follows : (runs : Option (ℕ × SmallVec (ℕ × ℕ))) (limit : ℕ) (old mid new : Talk) (it : Disposition)
     (frames : List SessionFrame) (events : List Event)
     → disposing.Follows runs limit old it mid frames events new → TalkGoes mid new
 disposition-follows (Some (session, runs)) limit old mid new it frames events d = in-session _ mid session new d.done

@@ -3,7 +3,7 @@ use Rattle.std.proofs.Common.{◌≡◌, ◌≤◌, ◌<◌, inl, inr, ℕ, List
 use Rattle.std.proofs.Common.{length, drop, arith, refl, sym, ap, subst, ◌∙◌, append-nil}
 use Rattle.std.specs.Prelude.{◌^◌, is_some, slice_set}
 use Rattle.std.specs.Box.{with_value}
-use Rattle.std.specs.Global.{Vec}
+use Rattle.smallvec.specs.SmallVec.{SmallVec}
 use Rattle.std.proofs.lemmas.List.Elements.{All-nil}
 use Rattle.amqp_session_types.specs.declared.channels.IncomingChannel.{IncomingChannel}
 use Rattle.amqp_session_states.specs.declared.delivery_state.DeliveryState.{DeliveryState}
@@ -186,7 +186,7 @@ none-live (Some session) is there = absurd cc
 
 -- what was made ready serves
 module _ (limit : ℕ) (old : Talk) (channel : IncomingChannel) (out : List SessionFrame) (it back : Disposition)
-    (session : ℕ) (runs : Vec (ℕ × ℕ)) (mid : Talk) (out_mid : List SessionFrame)
+    (session : ℕ) (runs : SmallVec (ℕ × ℕ)) (mid : Talk) (out_mid : List SessionFrame)
     (t : Answered gives old out channel (said.Disposition it) (Ok (Live session (taken.Disposition back runs))) mid
     out_mid) where
   taken-there : IsTaken old channel out (said.Disposition it) session (taken.Disposition back runs) mid out_mid
@@ -243,11 +243,11 @@ module _ (limit : ℕ) (old : Talk) (channel : IncomingChannel) (out : List Sess
       serves limit old channel out it back session runs mid out_mid t ready p
   stands-so heard ready mid out_mid p t = tt
 
-  pub stands-for : (heard : LinkHeard) (took : Option (ℕ × Vec (ℕ × ℕ))) → took ≡ runs_of heard
+  pub stands-for : (heard : LinkHeard) (took : Option (ℕ × SmallVec (ℕ × ℕ))) → took ≡ runs_of heard
       → (ready : Option Ready) (mid : Talk) (out_mid : List SessionFrame) → Prepares limit old channel it ready
       → Answered gives old out channel (said.Disposition it) (Ok heard) mid out_mid → StandsFor limit mid took ready
   stands-for heard took is ready mid out_mid p t =
-      subst (λ (o : Option (ℕ × Vec (ℕ × ℕ))). StandsFor limit mid o ready) (sym is)
+      subst (λ (o : Option (ℕ × SmallVec (ℕ × ℕ))). StandsFor limit mid o ready) (sym is)
       (stands-so heard ready mid out_mid p t)
 
   follows : (heard : LinkHeard) (ready : Option Ready) (mid : Talk) (out_mid : List SessionFrame)
@@ -265,7 +265,7 @@ module _ (limit : ℕ) (old : Talk) (channel : IncomingChannel) (out : List Sess
       Tells (λ (frames : List SessionFrame) (events : List Event).
       HearsDisposition old links limit channel it frames events new links_new) out told out_new told_new
 
-  pub disposition-taken : (heard : LinkHeard) (took : Option (ℕ × Vec (ℕ × ℕ))) → took ≡ runs_of heard
+  pub disposition-taken : (heard : LinkHeard) (took : Option (ℕ × SmallVec (ℕ × ℕ))) → took ≡ runs_of heard
       → (ready : Option Ready) (mid : Talk) (out_mid : List SessionFrame) (links links_new : Links) (new : Talk)
       (told told_new : List Event) (out_new : List SessionFrame) → links_new ≡ links → out_mid ≡ out
       → Prepares limit old channel it ready
@@ -286,7 +286,7 @@ module _ (limit : ℕ) (old : Talk) (channel : IncomingChannel) (out : List Sess
                   (same ∙ sym (append-nil out)) t;
               follows =
                   follows heard ready mid out_mid d.frames d.events new p t
-                  (subst (λ (o : Option (ℕ × Vec (ℕ × ℕ))). DoneBy o ready mid d.frames d.events new) is d.is_so);
+                  (subst (λ (o : Option (ℕ × SmallVec (ℕ × ℕ))). DoneBy o ready mid d.frames d.events new) is d.is_so);
               same = stays;
             });
         queued = d.queued ∙ ap (λ (o : List SessionFrame). o ++ d.frames) same;
@@ -309,7 +309,7 @@ module _ (limit : ℕ) (old : Talk) (channel : IncomingChannel) (out : List Sess
 
 -- nothing comes of it
 module _ (mid : Talk) (out : List SessionFrame) (told : List Event) where
-  abbrev pub NothingSo : Option (ℕ × Vec (ℕ × ℕ)) → Option Ready → Type 0
+  abbrev pub NothingSo : Option (ℕ × SmallVec (ℕ × ℕ)) → Option Ready → Type 0
   NothingSo took ready =
       Tells (λ (frames : List SessionFrame) (events : List Event). DoneBy took ready mid frames events mid) out told out
       told
@@ -325,13 +325,13 @@ module _ (mid : Talk) (out : List SessionFrame) (told : List Event) where
       }
 
   -- where no session took it
-  pub none-took : (took : Option (ℕ × Vec (ℕ × ℕ))) (ready : Option Ready) → took ≡ None → NothingSo took ready
-  none-took took ready is = subst (λ (o : Option (ℕ × Vec (ℕ × ℕ))). NothingSo o ready) (sym is) rested
+  pub none-took : (took : Option (ℕ × SmallVec (ℕ × ℕ))) (ready : Option Ready) → took ≡ None → NothingSo took ready
+  none-took took ready is = subst (λ (o : Option (ℕ × SmallVec (ℕ × ℕ))). NothingSo o ready) (sym is) rested
 
-  unready : (took : Option (ℕ × Vec (ℕ × ℕ))) → NothingSo took None
+  unready : (took : Option (ℕ × SmallVec (ℕ × ℕ))) → NothingSo took None
   unready None = rested
   unready (Some (session, runs)) = rested
 
   -- or nothing was made ready
-  pub none-ready : (took : Option (ℕ × Vec (ℕ × ℕ))) (ready : Option Ready) → ready ≡ None → NothingSo took ready
+  pub none-ready : (took : Option (ℕ × SmallVec (ℕ × ℕ))) (ready : Option Ready) → ready ≡ None → NothingSo took ready
   none-ready took ready is = subst (NothingSo took) (sym is) (unready took)

@@ -1,6 +1,6 @@
 -- The peer's Disposition (part 2, 2.6.12, 2.7.6, 2.8.3).
 use Rattle.std.specs.Prelude.{◌≡◌, ◌≤◌, ◌⊎◌, ℕ, List, [], length, Option, Some, None, Ok, IsSome}
-use Rattle.std.specs.Global.{Vec}
+use Rattle.smallvec.specs.SmallVec.{SmallVec}
 use Rattle.amqp_session_types.specs.declared.channels.IncomingChannel.{IncomingChannel}
 use Rattle.amqp_session_states.specs.declared.delivery_state.DeliveryState.{DeliveryState}
 use Rattle.amqp_session_performatives.specs.declared.disposition.Disposition.{Disposition}
@@ -22,7 +22,7 @@ use Rattle.amqp_endpoint_link_hearing.specs.Saying.{Answers, FailsBySaid, LinkHe
 use Rattle.amqp_endpoint_link_hearing.specs.declared.disposing.Ready.{Ready}
 
 -- A session took a Disposition, and these runs of its deliveries are to be echoed.
-abbrev pub runs_of : LinkHeard → Option (ℕ × Vec (ℕ × ℕ))
+abbrev pub runs_of : LinkHeard → Option (ℕ × SmallVec (ℕ × ℕ))
 runs_of (Live session (taken.Disposition back runs)) = Some (session, runs)
 runs_of heard = None
 
@@ -54,8 +54,8 @@ pub record Rested (mid : Talk) (frames : List SessionFrame) (events : List Event
   pub stays : new ≡ mid
 
 -- What comes of it once it is heard: in a session that is ending nothing does.
-abbrev pub Follows : Option (ℕ × Vec (ℕ × ℕ)) → ℕ → Talk → Disposition → Talk → List SessionFrame → List Event → Talk
-    → Type 0
+abbrev pub Follows : Option (ℕ × SmallVec (ℕ × ℕ)) → ℕ → Talk → Disposition → Talk → List SessionFrame → List Event
+    → Talk → Type 0
 Follows (Some (session, runs)) limit old it mid frames events new =
     DoneIn limit old it session runs.items mid frames events new
 Follows None limit old it mid frames events new = Rested mid frames events new
@@ -105,12 +105,12 @@ pub record Serves (limit : ℕ) (mid : Talk) (session : ℕ) (runs : List (ℕ �
   pub copies : ServesFor (length runs) ready.echoes
   pub fits : EchoFits limit ready.echoes.state
 
-abbrev pub StandsFor : ℕ → Talk → Option (ℕ × Vec (ℕ × ℕ)) → Option Ready → Type 0
+abbrev pub StandsFor : ℕ → Talk → Option (ℕ × SmallVec (ℕ × ℕ)) → Option Ready → Type 0
 StandsFor limit mid (Some (session, runs)) (Some ready) = Serves limit mid session runs.items ready
 StandsFor limit mid took ready = Unit {0}
 
 -- What was made ready is done.
-abbrev pub DoneBy : Option (ℕ × Vec (ℕ × ℕ)) → Option Ready → Talk → List SessionFrame → List Event → Talk → Type 0
+abbrev pub DoneBy : Option (ℕ × SmallVec (ℕ × ℕ)) → Option Ready → Talk → List SessionFrame → List Event → Talk → Type 0
 DoneBy (Some (session, runs)) (Some ready) mid frames events new =
     GoesOn (TellsAndEchoes ready.reached.items ready.echoes.state runs.items frames events) mid session new
 DoneBy took ready mid frames events new = Rested mid frames events new

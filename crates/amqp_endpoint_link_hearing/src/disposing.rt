@@ -22,7 +22,7 @@ use amqp_endpoint_outcomes::{Echoes, make_echoes, reached_by, send_echoes, tell_
 use amqp_link_base::Detached;
 use amqp_link_ends::{AttachTold, LinkEnd};
 use amqp_link_receiving::Told;
-use amqp_session_core::Touched;
+use amqp_session_core::{DeliveryRuns, Touched};
 use amqp_session_performatives::{Disposition, SessionFrame};
 use amqp_session_types::IncomingChannel;
 use std::alloc::{AllocError, Global};
@@ -130,7 +130,7 @@ fn take_disposition(
 
 /// The session that took a Disposition that was heard, and the runs of deliveries that are to be echoed, if one took
 /// it.
-fn runs_of(heard: Heard<AttachTold, Told, Detached>) -> Option<(u64, Vec<(u32, u32)>)>
+fn runs_of(heard: Heard<AttachTold, Told, Detached>) -> Option<(u64, DeliveryRuns)>
     ensures { result ≡ runs_of heard }
 {
     match heard {
@@ -147,7 +147,7 @@ fn runs_of(heard: Heard<AttachTold, Told, Detached>) -> Option<(u64, Vec<(u32, u
 fn disposition_heard(
     talk: &mut Conversation<Numbered<LinkEnd>>,
     limit: u32,
-    took: Option<(u64, Vec<(u32, u32)>)>,
+    took: Option<(u64, DeliveryRuns)>,
     ready: Option<Ready>,
     out: &mut VecDeque<SessionFrame>,
     events: &mut Vec<Event>,
@@ -176,7 +176,7 @@ fn tell_and_echo(
     talk: &mut Conversation<Numbered<LinkEnd>>,
     _limit: u32,
     session: u64,
-    runs: Vec<(u32, u32)>,
+    runs: DeliveryRuns,
     ready: Ready,
     out: &mut VecDeque<SessionFrame>,
     events: &mut Vec<Event>,

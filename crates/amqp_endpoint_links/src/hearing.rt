@@ -8,7 +8,7 @@ ghost use Rattle.amqp_endpoint_links.specs.Hearing.{says_flow};
 
 use crate::asking::{AskingSession, AttachTaken, DetachTaken, NamedLink};
 use amqp_endpoint_asked::{AskRefusal, AskedSession};
-use amqp_session_core::{LinkRelay, TransferTaken};
+use amqp_session_core::{DeliveryRuns, LinkRelay, TransferTaken};
 use amqp_session_performatives::{Attach, Detach, Disposition, Flow, SessionFrame, Transfer};
 use amqp_session_types::{Boxed, SessionError};
 use bytes::Bytes;
@@ -41,7 +41,7 @@ pub enum PerformativeTaken<A, T, D> {
     Transfer(TransferTaken<T>),
     /// This disposition was taken. These runs of deliveries, each its first and its last number, are to be echoed: a
     /// disposition is to go back for each (`amqp_session_core::echoes`).
-    Disposition(Disposition, Vec<(u32, u32)>),
+    Disposition(Disposition, DeliveryRuns),
     /// A Detach was taken.
     Detach(DetachTaken<D>),
 }

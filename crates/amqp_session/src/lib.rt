@@ -4,9 +4,9 @@
 
 pub use amqp_session_connection::{Connection, ConnectionState};
 pub use amqp_session_core::{
-    Batch, BehindFrame, DispositionRoom, LinkOwner, LinkRelay, Links, OUTGOING_WINDOW,
-    Registration, RelayError, Session, SessionFields, SessionState, Touched, TransferAnswer,
-    TransferFrame, TransferTaken, Unallocated, echoes,
+    Batch, BehindFrame, DeliveryRuns, DispositionRoom, FewNumbers, LinkOwner, LinkRelay, Links,
+    OUTGOING_WINDOW, Registration, RelayError, Session, SessionFields, SessionState, StateCopies,
+    Touched, TransferAnswer, TransferFrame, TransferTaken, Unallocated, echoes,
 };
 pub use amqp_session_frames::{
     Error as FrameError, Frame, FrameBody, FrameDecoder, FrameEncoder, Piece, Pieces,

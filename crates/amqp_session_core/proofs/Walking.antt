@@ -2,7 +2,7 @@
 use Rattle.std.proofs.Common.{◌≡◌, ℕ, ◌+◌, ◌≤◌, ◌<◌, take, get_or, All, IfSome, Bool, true, false, List, [], ◌∷◌, ◌++◌, length, Option, Some, None, is_some, if◌then◌else◌, refl, sym, ap, subst, ◌∙◌, arith}
 use Rattle.std.specs.Prelude.{map, slice_index_or}
 use Rattle.std.proofs.lemmas.Bool.{false≢true}
-use Rattle.std.proofs.lemmas.List.{take_more, append-nil}
+use Rattle.std.proofs.lemmas.List.{take_more, append-nil, length-append}
 use Rattle.std.proofs.lemmas.List.Elements.{All-get_or}
 use Rattle.std.specs.FinMap as tables
 use Rattle.slab.specs.Slab.{Slab}
@@ -29,6 +29,9 @@ echoed-more (s ∷ walk) r =
 -- a number is among those that are echoed, or not
 pub one-more : (b : Bool) (n : ℕ) (old new : List ℕ) → b ≡ true → new ≡ old ++ n ∷ [] → new ≡ old ++ one_if b n
 one-more b n old new e is = is ∙ ap (λ (x : Bool). old ++ one_if x n) (sym e)
+
+pub one-longer : (n : ℕ) (old new : List ℕ) → new ≡ old ++ n ∷ [] → length new ≡ length old + 1
+one-longer n old new is = ap (λ (xs : List ℕ). length xs) is ∙ length-append old (n ∷ [])
 
 pub no-more : (b : Bool) (n : ℕ) (old new : List ℕ) → b ≡ false → new ≡ old → new ≡ old ++ one_if b n
 no-more b n old new e is = is ∙ sym (append-nil old) ∙ ap (λ (x : Bool). old ++ one_if x n) (sym e)

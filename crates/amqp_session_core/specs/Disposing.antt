@@ -1,6 +1,6 @@
 -- How a session takes a disposition, part by part.
 use Rattle.std.specs.Prelude.{◌≡◌, ℕ, ◌+◌, ◌%◌, ◌^◌, ◌==◌, List, [], ◌∷◌, Bool, false, Option, Some, None, All, IfSome}
-use Rattle.std.specs.Prelude.{map, length, ◌≤◌, vec_capacity, if◌then◌else◌, slice_index_or}
+use Rattle.std.specs.Prelude.{map, length, ◌≤◌, if◌then◌else◌, slice_index_or}
 use Rattle.std.specs.FinMap as tables
 use Rattle.amqp_session_types.specs.declared.modes.Role.{Role}
 use Rattle.amqp_session_states.specs.declared.delivery_state.DeliveryState.{DeliveryState}
@@ -43,9 +43,9 @@ pub record HasRoomFor (d : Disposition) (table : Table) (room : DispositionRoom)
   pub numbers : Touches (range_of d.first d.last) table room.numbers.items
   pub states : AreCopies d.state room.states.items (length room.numbers.items)
   pub echoed : room.echoed.items ≡ []
-  pub echoed_room : length room.numbers.items ≤ vec_capacity room.echoed
+  pub echoed_room : length room.numbers.items ≤ room.echoed.capacity
   pub runs : room.runs.items ≡ []
-  pub runs_room : length room.numbers.items ≤ vec_capacity room.runs
+  pub runs_room : length room.numbers.items ≤ room.runs.capacity
 
 -- a number goes on with the last run, or begins another
 abbrev pub behind_runs : List (ℕ × ℕ) → ℕ → List (ℕ × ℕ)

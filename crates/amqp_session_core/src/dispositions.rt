@@ -1,6 +1,7 @@
 //! How a session takes dispositions and sends them (part 2, 2.7.6).
 ghost use Rattle.std.specs.Prelude.{◌≡◌, ℕ, List, ◌≤◌, [], ◌<◌, length, map, All, IfOk, IfErr, IfSome, vec_len};
 ghost use Rattle.std.specs.Prelude.{vec_capacity, option_copied};
+ghost use Rattle.smallvec.specs.SmallVec.{small_vec_len};
 ghost use Rattle.amqp_session_core.specs.Echoes.{echo_of, opposite, runs_of, without};
 ghost use Rattle.amqp_session_core.specs.Disposing.{AreTouched, IsOfLink, each_number, HasRoomFor, Walked, AreCopies};
 ghost use Rattle.amqp_session_core.specs.Disposing.{behind_runs, deliveries_of, settled_own, ReachesOne};
@@ -20,6 +21,7 @@ use amqp_session_states::DeliveryState;
 use amqp_session_types::{OutputHandle, Role, SessionError};
 use amqp_session_unsettled::{Delivery, DeliveryRange, Unsettled};
 use slab::Slab;
+use smallvec::SmallVec;
 use std::alloc::{AllocError, Global};
 
 /// A delivery that a disposition touches (part 2, 2.7.6).
@@ -31,17 +33,30 @@ pub struct Touched {
     pub handle: OutputHandle,
 }
 
-/// The room that a disposition takes on its way to the links.
+/// How many numbers or runs lie in a value itself: a disposition mostly touches one delivery or a few.
+const FEW: usize = 4;
+
+/// Numbers of deliveries, of which up to 4 lie in the value itself.
+pub type FewNumbers = SmallVec<u32, FEW>;
+
+/// Runs of consecutive deliveries, each as its first and its last number, of which up to 4 lie in the value itself.
+pub type DeliveryRuns = SmallVec<(u32, u32), FEW>;
+
+/// The state of a disposition, once for each delivery, of which one lies in the value itself: a state is large.
+pub type StateCopies = SmallVec<Option<DeliveryState>, 1>;
+
+/// The room that a disposition takes on its way to the links. Where it touches one delivery, all but that one's number
+/// lies in the value itself; a state that is copied may ask for memory of its own.
 #[derive(Debug, Drop)]
 pub struct DispositionRoom {
     /// The numbers of the deliveries that it touches, each once, in order from the first of its range.
     pub numbers: Vec<u32>,
     /// Empty, with room for the numbers that are echoed.
-    pub echoed: Vec<u32>,
+    pub echoed: FewNumbers,
     /// Empty, with room for the runs of these.
-    pub runs: Vec<(u32, u32)>,
+    pub runs: DeliveryRuns,
     /// The disposition's state, once for each delivery.
-    pub states: Vec<Option<DeliveryState>>,
+    pub states: StateCopies,
 }
 
 impl<R: LinkRelay> Session<R> {
@@ -78,8 +93,8 @@ impl<R: LinkRelay> Session<R> {
         ensures err { IfErr result (λ e. e ≡ SessionError.Memory) }
     {
         let numbers = self.numbers(alloc, disposition)?;
-        let echoed = Vec::with_capacity(alloc, numbers.len())?;
-        let runs = Vec::with_capacity(alloc, numbers.len())?;
+        let echoed = FewNumbers::with_capacity(alloc, numbers.len())?;
+        let runs = DeliveryRuns::with_capacity(alloc, numbers.len())?;
         let states = copies(alloc, &disposition.state, numbers.len())?;
         Ok(DispositionRoom {
             numbers,
@@ -97,7 +112,7 @@ impl<R: LinkRelay> Session<R> {
         &mut self,
         disposition: &Disposition,
         room: DispositionRoom,
-    ) -> Vec<(u32, u32)>
+    ) -> DeliveryRuns
         requires { HasRoomFor disposition.now (table_of disposition.now.role self.old) room }
         ensures { DispositionTaken R.gives self.old disposition.now
             (map (echo_of disposition.now) result.items) self.new }
@@ -110,9 +125,9 @@ impl<R: LinkRelay> Session<R> {
         } = room;
         self.walk(disposition, &numbers, &mut states, &mut echoed);
         let settled = if disposition.settled {
-            &numbers
+            numbers.as_slice()
         } else {
-            &echoed
+            echoed.as_slice()
         };
         self.settle(disposition.role, settled);
         gather_runs(&echoed, &mut runs);
@@ -181,12 +196,12 @@ impl<R: LinkRelay> Session<R> {
         &mut self,
         disposition: &Disposition,
         numbers: &[u32],
-        states: &mut Vec<Option<DeliveryState>>,
-        echoed: &mut Vec<u32>,
+        states: &mut StateCopies,
+        echoed: &mut FewNumbers,
     )
         requires copies { AreCopies disposition.now.state states.old.items (length numbers.now) }
         requires empty { echoed.old.items ≡ [] }
-        requires room { length numbers.now ≤ vec_capacity echoed.old }
+        requires room { length numbers.now ≤ echoed.old.capacity }
         requires there { All (λ n. IsUnsettled (table_of disposition.now.role self.old) n)
             numbers.now }
         ensures walked { Walked R.gives.disposes disposition.now (table_of disposition.now.role self.old)
@@ -234,10 +249,10 @@ fn copies(
     alloc: Global,
     state: &Option<DeliveryState>,
     count: usize,
-) -> Result<Vec<Option<DeliveryState>>, AllocError>
+) -> Result<StateCopies, AllocError>
     ensures { IfOk result (λ states. AreCopies state.now states.items count) }
 {
-    let mut states = Vec::with_capacity(alloc, count)?;
+    let mut states = StateCopies::with_capacity(alloc, count)?;
     for _ in 0..count {
         states.push_reserved(state.clone()?);
     }
@@ -250,12 +265,12 @@ fn walk<R: LinkRelay>(
     deliveries: &Unsettled,
     disposition: &Disposition,
     numbers: &[u32],
-    states: &mut Vec<Option<DeliveryState>>,
-    echoed: &mut Vec<u32>,
+    states: &mut StateCopies,
+    echoed: &mut FewNumbers,
 )
     requires copies { AreCopies disposition.now.state states.old.items (length numbers.now) }
     requires empty { echoed.old.items ≡ [] }
-    requires room { length numbers.now ≤ vec_capacity echoed.old }
+    requires room { length numbers.now ≤ echoed.old.capacity }
     requires there { All (λ n. IsUnsettled deliveries.now.table n) numbers.now }
     ensures walked { Walked R.gives.disposes disposition.now deliveries.now.table numbers.now links.old.slots
         echoed.new.items links.new.slots }
@@ -317,9 +332,9 @@ fn settle_received(received: &mut Unsettled, numbers: &[u32])
 }
 
 /// The runs of consecutive numbers, each as its first and its last.
-fn gather_runs(numbers: &[u32], runs: &mut Vec<(u32, u32)>)
+fn gather_runs(numbers: &[u32], runs: &mut DeliveryRuns)
     requires empty { runs.old.items ≡ [] }
-    requires room { length numbers.now ≤ vec_capacity runs.old }
+    requires room { length numbers.now ≤ runs.old.capacity }
     ensures { runs.new.items ≡ runs_of numbers.now }
 {
     for number in numbers {
@@ -328,10 +343,10 @@ fn gather_runs(numbers: &[u32], runs: &mut Vec<(u32, u32)>)
 }
 
 /// A number goes on with the last run, or begins another.
-fn add_to_runs(number: u32, runs: &mut Vec<(u32, u32)>)
-    requires room { vec_len runs.old < vec_capacity runs.old }
+fn add_to_runs(number: u32, runs: &mut DeliveryRuns)
+    requires room { small_vec_len runs.old < runs.old.capacity }
     ensures added { runs.new.items ≡ behind_runs runs.old.items number }
-    ensures room { vec_capacity runs.new ≡ vec_capacity runs.old }
+    ensures room { runs.new.capacity ≡ runs.old.capacity }
 {
     let Some((first, last)) = runs.pop() else {
         runs.push_reserved((number, number));

@@ -22,7 +22,7 @@ mod session;
 mod state;
 
 pub use batch::{Batch, BehindFrame, TransferFrame};
-pub use dispositions::{DispositionRoom, Touched, echoes};
+pub use dispositions::{DeliveryRuns, DispositionRoom, FewNumbers, StateCopies, Touched, echoes};
 pub use fields::{OUTGOING_WINDOW, SessionFields};
 pub use incoming::TransferTaken;
 pub use links::Unallocated;

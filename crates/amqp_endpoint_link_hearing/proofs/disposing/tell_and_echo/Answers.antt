@@ -23,13 +23,13 @@ returns-clause-done c =
     (λ (rs : List (ℕ × ℕ)).
     SendsEach gives c.deref_mut-2.result.now.session (echoes_of c.args.ready.echoes.state rs)
     c.send_echoes.new.session.session)
-    c.deref-2.ensures.value c.send_echoes.ensures.sent)
+    c.deref-2.ensures c.send_echoes.ensures.sent)
     c.send_echoes.ensures.rest
     (c.send_echoes.ensures.added
     ∙ ap (λ (rs : List (ℕ × ℕ)).
     c.args.out.now.items
     ++ frames_of c.deref_mut-2.result.now.session.fields (echoes_of c.args.ready.echoes.state rs))
-    c.deref-2.ensures.value)
+    c.deref-2.ensures)
     (c.tell_reached.ensures.told
     ∙ ap (λ (ds : List Touched). c.args.events.now.items ++ reached_told c.deref_mut.result.now.session ds)
     c.deref.ensures.value)
@@ -52,13 +52,13 @@ returns-clause-goes c least =
     (λ (rs : List (ℕ × ℕ)).
     SendsEach gives c.deref_mut-2.result.now.session (echoes_of c.args.ready.echoes.state rs)
     c.send_echoes.new.session.session)
-    c.deref-2.ensures.value c.send_echoes.ensures.sent)
+    c.deref-2.ensures c.send_echoes.ensures.sent)
     c.send_echoes.ensures.rest
     (c.send_echoes.ensures.added
     ∙ ap (λ (rs : List (ℕ × ℕ)).
     c.args.out.now.items
     ++ frames_of c.deref_mut-2.result.now.session.fields (echoes_of c.args.ready.echoes.state rs))
-    c.deref-2.ensures.value)
+    c.deref-2.ensures)
     (c.tell_reached.ensures.told
     ∙ ap (λ (ds : List Touched). c.args.events.now.items ++ reached_told c.deref_mut.result.now.session ds)
     c.deref.ensures.value))
@@ -83,13 +83,13 @@ returns-clause-waits c most within =
     (λ (rs : List (ℕ × ℕ)).
     SendsEach gives c.deref_mut-2.result.now.session (echoes_of c.args.ready.echoes.state rs)
     c.send_echoes.new.session.session)
-    c.deref-2.ensures.value c.send_echoes.ensures.sent)
+    c.deref-2.ensures c.send_echoes.ensures.sent)
     c.send_echoes.ensures.rest
     (c.send_echoes.ensures.added
     ∙ ap (λ (rs : List (ℕ × ℕ)).
     c.args.out.now.items
     ++ frames_of c.deref_mut-2.result.now.session.fields (echoes_of c.args.ready.echoes.state rs))
-    c.deref-2.ensures.value)
+    c.deref-2.ensures)
     (c.tell_reached.ensures.told
     ∙ ap (λ (ds : List Touched). c.args.events.now.items ++ reached_told c.deref_mut.result.now.session ds)
     c.deref.ensures.value))

@@ -1,4 +1,5 @@
-use Rattle.std.proofs.Common.{◌≡◌, ◌+◌, ◌≤◌, take, length, All, vec_len, vec_capacity}
+use Rattle.std.proofs.Common.{◌≡◌, ◌+◌, ◌≤◌, take, length, All}
+use Rattle.smallvec.specs.SmallVec.{small_vec_len}
 use Rattle.amqp_session_core.specs.Disposing.{Walked}
 use Rattle.amqp_session_core.proofs.dispositions.walk.Given as goal
 
@@ -7,7 +8,7 @@ invariant-loop-number g l = record {
   walked : Walked g.R.LinkRelay.gives.disposes l.disposition l.deliveries.table (take l.number-index l.numbers) l.fn.links.slots l.echoed.items l.links.slots;
   rest : l.links ≡ record l.fn.links { slots = l.links.slots };
   each : All (λ s. s ≡ l.disposition.state) l.states.items;
-  enough : vec_len l.states + l.number-index ≡ length l.numbers;
-  count : vec_len l.echoed ≤ l.number-index;
-  room : vec_capacity l.echoed ≡ vec_capacity l.fn.echoed;
+  enough : small_vec_len l.states + l.number-index ≡ length l.numbers;
+  count : small_vec_len l.echoed ≤ l.number-index;
+  room : l.echoed.capacity ≡ l.fn.echoed.capacity;
 }
