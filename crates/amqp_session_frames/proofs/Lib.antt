@@ -3,6 +3,7 @@ pub mod FrameLaws
 pub mod ReadingLaws
 pub mod Layouts
 pub mod Bodies
+pub mod Empties
 pub mod Writing
 pub mod Shorter
 pub mod Sized

@@ -67,6 +67,14 @@ pub record FrameText (bytes : List ℕ) (frame : Frame) : Type 0 where
   pub layout : Framed bytes 0 frame.channel extended content
   pub body : BodyText content frame.body
 
+-- a frame that says nothing (2.4.5)
+abbrev pub empty_on : ℕ → Frame
+empty_on channel = record { channel = channel; body = Empty }
+
+-- the bytes are no such frame, whatever channel
+pub record IsNoEmpty (bytes : List ℕ) : Type 0 where
+  pub none : (channel : ℕ) → FrameText bytes (empty_on channel) → ⊥
+
 -- these frames one behind the other, and then a rest
 abbrev pub Reads : List ℕ → List Frame → List ℕ → Type 0
 Reads = ReadsAs FrameText

@@ -1,7 +1,7 @@
 //! Frames are read.
-ghost use Rattle.std.specs.Prelude.{◌≡◌, IfErr, IfOk};
+ghost use Rattle.std.specs.Prelude.{◌≡◌, IfErr, IfNone, IfOk, IfSome};
 ghost use Rattle.amqp_session_frames.specs.Body.{BodyRefused, Performed, PerformativeRefused};
-ghost use Rattle.amqp_session_frames.specs.Text.{BodyText, FrameText, NotRead};
+ghost use Rattle.amqp_session_frames.specs.Text.{BodyText, FrameText, IsNoEmpty, NotRead, empty_on};
 
 use crate::error::Error;
 use crate::frame::{Frame, FrameBody};
@@ -40,6 +40,24 @@ impl FrameDecoder {
             channel: header.channel,
             body: read_body(alloc, content)?,
         })
+    }
+
+    /// The channel of the Empty frame that these bytes are, with its size field (part 2, 2.4.5). The extended header is
+    /// skipped. It tells what `decode` would, and makes no frame of it.
+    ///
+    /// `None` where the bytes are no Empty frame: another one, or no frame at all.
+    #[tactic(auto, using(crate::proofs::Empties::empties))]
+    pub fn empty_frame(&self, bytes: &[u8]) -> Option<u16>
+        ensures empty { IfSome result (λ channel. FrameText bytes.now (empty_on channel)) }
+        ensures other { IfNone result (IsNoEmpty bytes.now) }
+    {
+        let Ok(header) = read_header(bytes) else {
+            return None;
+        };
+        if header.start < bytes.len() {
+            return None;
+        }
+        Some(header.channel)
     }
 }
 
