@@ -7,6 +7,7 @@ pub mod Empties
 pub mod Writing
 pub mod Shorter
 pub mod Sized
+pub mod Measuring
 pub mod Middles
 pub mod Dividing
 pub mod Refusing

@@ -6,6 +6,7 @@ use Rattle.serde_amqp_item.specs.Item.{Item}
 use Rattle.serde_amqp_item.specs.Wire.{Wire, IsCapped, IsStrict}
 use Rattle.serde_amqp_item.specs.Canon.{canon, AllWithin, RawKept, ◌>>=◌}
 use Rattle.amqp_session_performatives.specs.Performative.{performative_item, performative_taken}
+use Rattle.amqp_session_performatives.specs.declared.open.Open.{Open as Opening}
 use Rattle.amqp_session_performatives.specs.declared.performative.Performative.{Performative}
 use Rattle.amqp_session_performatives.specs.declared.performative.Performative.TheVariants as performing
 use Rattle.amqp_session_frames.specs.Cutting.{IsPiece, ReadsAs, written, with_size}
@@ -75,6 +76,10 @@ empty_on channel = record { channel = channel; body = Empty }
 pub record IsNoEmpty (bytes : List ℕ) : Type 0 where
   pub none : (channel : ℕ) → FrameText bytes (empty_on channel) → ⊥
 
+-- a frame that begins the connection (2.4.1)
+abbrev pub open_on : ℕ → Opening → Frame
+open_on channel o = record { channel = channel; body = Open o }
+
 -- these frames one behind the other, and then a rest
 abbrev pub Reads : List ℕ → List Frame → List ℕ → Type 0
 Reads = ReadsAs FrameText
@@ -131,6 +136,11 @@ AllWithinCaps (f ∷ fs) = (f.channel < 2 ^ 16) × IsWithinCaps f.body × AllWit
 abbrev pub IsOver : ℕ → Option (List ℕ) → Type 0
 IsOver most None = Unit {0}
 IsOver most (Some text) = most < length text
+
+-- it has a text, of at most so many bytes
+abbrev pub IsWithin : ℕ → Option (List ℕ) → Type 0
+IsWithin most None = ⊥
+IsWithin most (Some text) = length text ≤ most
 
 -- there is a type field, and it is not that of AMQP's frames
 abbrev pub IsOtherType : List ℕ → Type 0

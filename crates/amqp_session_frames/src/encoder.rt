@@ -8,6 +8,7 @@ ghost use Rattle.amqp_session_frames.specs.Cutting.{Cuts};
 ghost use Rattle.amqp_session_frames.specs.Parts.{Continues, IsWritten, NotWritten, room, saying};
 ghost use Rattle.amqp_session_frames.specs.Sizes.{Appends, Fills, Fits, HasSize, HasText, IsOnePiece, IsWhole};
 ghost use Rattle.amqp_session_frames.specs.Sizes.{NotSized, NotWhole, Overflows, PartsRefused, transfer_text};
+ghost use Rattle.amqp_session_frames.specs.Text.{IsOver, IsWithin, frame_text, open_on};
 ghost use Rattle.amqp_session_frames.specs.declared.error.Error.TheVariants.{Memory, TooLarge};
 ghost use Rattle.amqp_session_frames.specs.declared.frame.FrameBody.TheVariants.{Empty, Transfer as TransferBody};
 
@@ -17,7 +18,7 @@ use crate::header::{AMQP_TYPE, HEADER_SIZE, SIZE_FIELD};
 use crate::part::Part;
 use crate::piece::Piece;
 use crate::pieces::Pieces;
-use amqp_session_performatives::Transfer;
+use amqp_session_performatives::{Open, Transfer};
 use bytes::Bytes;
 use serde_amqp_ser::{Serialize, Serializer, serialized_size};
 use std::alloc::Global;
@@ -90,6 +91,21 @@ impl FrameEncoder {
             FrameBody::Detach(detach) => self.encode_undivided(alloc, channel, detach),
             FrameBody::End(end) => self.encode_undivided(alloc, channel, end),
             FrameBody::Close(close) => self.encode_undivided(alloc, channel, close),
+        }
+    }
+
+    /// Whether a frame with this Open has a text, and one within the limit. An Open is sent before the peer's is known,
+    /// when a frame may have 512 bytes (part 2, 2.4.1). It is measured, and not written.
+    #[tactic(auto, using(crate::proofs::Measuring::measuring))]
+    pub fn holds_open(&self, opening: &Open) -> bool
+        ensures yes { result ≡ true → (channel : ℕ) →
+            IsWithin (self.now + 4) (frame_text (open_on channel opening.now)) }
+        ensures no { result ≡ false → (channel : ℕ) →
+            IsOver (self.now + 4) (frame_text (open_on channel opening.now)) }
+    {
+        match size_of(opening) {
+            Ok(size) => fits(self.body_room(), size, 0),
+            Err(_) => false,
         }
     }
 
