@@ -12,3 +12,4 @@ pub mod Middles
 pub mod Dividing
 pub mod Refusing
 pub mod StandardFacts
+pub mod Appended

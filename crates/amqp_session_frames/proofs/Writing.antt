@@ -83,6 +83,11 @@ within_room f text limit e le =
     let piece : List ℕ = piece_of f.channel text (payload_of f.body) in
     subst (λ (o : Option (List ℕ)). IsWithin (limit + 4) o) (sym (text_is limit f text e le)) (omega (arith, le, piece_long f.channel text (payload_of f.body), sized_long piece))
 
+-- its bytes, by their parts
+pub text_by_parts : (f : Frame) (text : List ℕ) → performative_text (performative_of f.body) ≡ Some text → 8 + length text + length (payload_of f.body) < 2 ^ 32 → frame_text f ≡ Some (with_size (2 ∷ 0 ∷ (to_be_bytes w16 f.channel ++ (text ++ payload_of f.body))))
+unfolding piece_of
+text_by_parts f text e lt = frame_has f text e ∙ sized_if (piece_of f.channel text (payload_of f.body)) (omega (arith, piece_long f.channel text (payload_of f.body), lt))
+
 -- ---- a frame that goes in one piece
 
 -- a head, and the payload

@@ -5,3 +5,4 @@ pub mod Header
 pub mod Body
 pub mod Sizes
 pub mod Piece
+pub mod Appending

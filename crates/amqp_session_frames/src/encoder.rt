@@ -44,7 +44,7 @@ impl Model for FrameEncoder {
 const HEAD_SIZE: usize = HEADER_SIZE - SIZE_FIELD;
 
 /// The data offset of a frame without an extended header, in words of four bytes.
-const DATA_OFFSET: u8 = 2;
+pub(crate) const DATA_OFFSET: u8 = 2;
 
 /// The most bytes that a frame can have without its size field.
 const MOST: usize = u32::MAX as usize - SIZE_FIELD;
@@ -247,7 +247,7 @@ impl FrameEncoder {
     }
 
     /// The most bytes that a piece may have behind its header.
-    fn body_room(&self) -> usize
+    pub(crate) fn body_room(&self) -> usize
         ensures { result + 4 ≡ room self.now }
     {
         self.limit.min(MOST) - HEAD_SIZE
@@ -271,7 +271,7 @@ impl FrameEncoder {
 }
 
 /// Whether a performative of so many bytes, with so many bytes of payload behind it, has this room.
-fn fits(room: usize, size: usize, payload: usize) -> bool
+pub(crate) fn fits(room: usize, size: usize, payload: usize) -> bool
     ensures yes { result ≡ true → size + payload ≤ room }
     ensures no { result ≡ false → room < size + payload }
 {
@@ -430,7 +430,7 @@ fn push_header(head: &mut Vec<u8>, channel: u16) -> Result<(), Error>
 
 /// How many bytes the performative is written as.
 #[tactic(auto, using(crate::proofs::Sized::sizing))]
-fn size_of<T: Serialize>(performative: &T) -> Result<usize, Error>
+pub(crate) fn size_of<T: Serialize>(performative: &T) -> Result<usize, Error>
     ensures size { IfOk result (λ n. HasSize (canon (T.item performative.now)) n) }
     ensures refused { IfErr result (λ e. (e ≡ TooLarge)
         × NotSized (canon (T.item performative.now))) }

@@ -3,13 +3,15 @@
 //! A [`Frame`] has a channel and a [`FrameBody`]: one of the nine performatives, a transfer with its payload, or nothing.
 //! [`FrameDecoder`] reads a frame of its bytes. [`FrameEncoder`] writes a frame as [`Pieces`]: a [`Piece`] is its bytes without
 //! the size field, and a transfer that is too long for one frame goes in several. Payloads are shared with the bytes that they
-//! came in, and with the pieces that they go in.
+//! came in, and with the pieces that they go in. [`FrameEncoder::append`] writes a frame that goes whole behind other
+//! bytes, with its size in front and without pieces.
 //!
 //! Which bytes are a frame, and which frame they are, says `FrameText` in specs/Text.antt; what a frame is written as,
 //! `frame_text` there; in which frames a transfer goes, `AreParts` in specs/Parts.antt. That bytes are at most one frame, that
 //! a frame that was written is read back, and that a stream is read in one way, are laws: see [`laws`].
 #![tactic(auto)]
 
+mod appending;
 mod decoder;
 mod encoder;
 mod error;
