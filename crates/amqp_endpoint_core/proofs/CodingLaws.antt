@@ -1,11 +1,12 @@
 -- Laws of frames as they are queued.
-use Rattle.std.proofs.Common.{◌≡◌, ℕ, ◌+◌, ◌≤◌, List, [], ◌∷◌, length, map, inl, inr, Option, Some, None, true, false, refl, sym, ◌∙◌, ap, arith, subst, All}
+use Rattle.std.proofs.Common.{◌≡◌, ℕ, ◌+◌, ◌≤◌, List, [], ◌∷◌, ◌++◌, length, map, inl, inr, Option, Some, None, true, false, refl, sym, ◌∙◌, ap, arith, subst, All}
 use Rattle.std.proofs.lemmas.List.{length-append}
 use Rattle.std.specs.Int.{w32, to_be_bytes}
 use Rattle.std.proofs.lemmas.Bool.Decides.{nat_tests}
 use Rattle.std.specs.Char.{encode_utf8}
 use Rattle.std.specs.Str.{is_utf8, chars}
 use Rattle.amqp_session_frames.specs.declared.frame.Frame.{Frame}
+use Rattle.amqp_session_frames.specs.Appending.{AppendedIn, IsAppended}
 use Rattle.amqp_session_frames.specs.Cutting.{with_size}
 use Rattle.amqp_session_frames.specs.Text.{IsOver, frame_text}
 use Rattle.amqp_session_frames.specs.Parts.{IsWritten}
@@ -82,3 +83,29 @@ encoded_is least limit f pieces others piece w whole short sum both =
     let Q : List (List ℕ) → Type 0 = All (λ p. length p ≤ least) in
     let h : length piece ≤ least = subst Q both short 0 [] (omega arith) in
     (sym (written_is f (with_size piece) text), fits_is f (with_size piece) limit text (omega (arith, length-with_size piece)))
+
+-- a frame that fits is never over the limit
+pub not_over : (least limit : ℕ) (f : Frame) → least + 4 ≡ limit → fits limit f ≡ true → IsOver (least + 4) (frame_text f) → ⊥
+not_over least limit f sum fit over =
+    let P : ℕ → Type 0 = λ n. IsOver n (frame_text f) in
+    over_fits (frame_text f) limit fit (subst P sum over)
+
+-- what was appended is the frame
+pub appended_is : (least room : ℕ) (f : Frame) (left : Option ℕ) (old new : List ℕ) → IsAppended least f room left old new
+    → AppendedIn room (written f) left old new
+appended_is least room f left old new a =
+    let P : List ℕ → Type 0 = λ text. AppendedIn room text left old new in
+    subst P (sym (written_is f a.text a.is)) a.appended
+
+within_limit : (f : Frame) (limit : ℕ) (o : Option (List ℕ)) → frame_text f ≡ o → text_fits limit o ≡ true → length (written f) ≤ limit
+within_limit f limit None is fit = let wrong : false ≡ true = fit in absurd (cc)
+within_limit f limit (Some text) is fit =
+    let short : length text ≤ limit = grind (arith, nat_tests) in
+    omega (arith, short, ap length (written_is f text is))
+
+-- a frame that fits has room in so many bytes as the limit
+pub all_appended : (limit room : ℕ) (f : Frame) (left : Option ℕ) (old new : List ℕ) → fits limit f ≡ true → room ≡ limit
+    → AppendedIn room (written f) left old new → old ≡ [] → new ≡ written f
+all_appended limit room f None old new fit is a none =
+    absurd (omega (arith, a.0, is, within_limit f limit (frame_text f) refl fit))
+all_appended limit room f (Some left) old new fit is a none = a.1 ∙ ap (λ (l : List ℕ). l ++ written f) none

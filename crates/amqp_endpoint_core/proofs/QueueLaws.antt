@@ -1,7 +1,6 @@
 -- What waits is within the limit.
-use Rattle.std.proofs.Common.{◌≡◌, ℕ, ◌≤◌, ◌<◌, zero, suc, List, [], ◌∷◌, ◌++◌, length, take, drop, true, refl, sym, ap}
+use Rattle.std.proofs.Common.{◌≡◌, ℕ, ◌≤◌, ◌<◌, zero, suc, List, [], ◌∷◌, ◌++◌, length, drop, true, refl, sym, ap}
 use Rattle.std.proofs.Common.{arith, subst, append_assoc, append-nil, ◌∙◌}
-use Rattle.std.proofs.lemmas.List.{take_at}
 use Rattle.std.specs.List.{All}
 use Rattle.std.specs.Prelude.{slice_index_or}
 use Rattle.amqp_session_performatives.specs.declared.session_frame.SessionFrame.{SessionFrame}
@@ -120,9 +119,3 @@ pub gathered-same : (queue0 queue1 : List Waiting) (out0 out1 : List SessionFram
     → queue1 ++ frames_waiting out1 ≡ queue0 ++ frames_waiting out0
 gathered-same queue0 queue1 out0 out1 gathered none =
     ap (λ (o : List SessionFrame). queue1 ++ frames_waiting o) none ∙ append-nil queue1 ∙ gathered
-
--- what was appended is taken back
-pub cut_back : (start : ℕ) (before more after left : List ℕ) → start ≡ length before → after ≡ before ++ more
-    → left ≡ take start after → left ≡ before
-cut_back start before more after left is appended cut =
-    cut ∙ ap (take start) appended ∙ take_at before more start (sym is)

@@ -1,6 +1,5 @@
 -- What waits to be pulled.
-use Rattle.std.specs.Prelude.{◌≡◌, ◌≢◌, ◌⊎◌, ℕ, ◌+◌, ◌≤◌, ◌<◌, List, ◌∷◌, ◌++◌, length, map, take, drop, true, Option}
-use Rattle.std.specs.Prelude.{Some, None, All}
+use Rattle.std.specs.Prelude.{◌≡◌, ◌≢◌, ◌⊎◌, ℕ, ◌+◌, ◌≤◌, ◌<◌, List, ◌∷◌, ◌++◌, length, map, take, drop, true, All}
 use Rattle.amqp_session_performatives.specs.declared.session_frame.SessionFrame.{SessionFrame}
 use Rattle.amqp_session_performatives.specs.declared.transfer.Transfer.{Transfer}
 use Rattle.amqp_session_frames.specs.declared.frame.Frame.{Frame as FrameFields}
@@ -9,6 +8,7 @@ use Rattle.amqp_session_frames.specs.Cutting.{joined}
 use Rattle.amqp_endpoint_model.specs.State.{State, fits, Waiting, the_header, the_frame, text_of, waiting_of}
 use Rattle.amqp_endpoint_core.specs.declared.queued.Content.{Content}
 use Rattle.amqp_endpoint_core.specs.declared.queued.Content.TheVariants.{Header, Frame}
+pub use Rattle.amqp_session_frames.specs.Appending.{AppendedIn}
 
 -- what a clause sees of it
 abbrev pub said_by : Content → Waiting
@@ -44,11 +44,6 @@ pub record IsFirst (queue : List Waiting) (first : Waiting) : Type 0 where
 -- the bytes of these, one behind the other
 abbrev pub texts_of : List Waiting → List ℕ
 texts_of waiting = joined (map text_of waiting)
-
--- this text is appended where it is within so many bytes: so many more are left then
-abbrev pub AppendedIn : ℕ → List ℕ → Option ℕ → List ℕ → List ℕ → Type 0
-AppendedIn room text (Some left) bytes bytes_new = (length text + left ≡ room) × (bytes_new ≡ bytes ++ text)
-AppendedIn room text None bytes bytes_new = (room < length text) × (bytes_new ≡ bytes)
 
 -- so many that were queued first are no more than `most` bytes together, and with one more, if there is one, they are
 pub record Fills (most : ℕ) (queue : List Waiting) (count : ℕ) : Type 0 where

@@ -1,16 +1,15 @@
 //! What an endpoint has queued, which is written as it is pulled.
 ghost use Rattle.std.specs.Prelude.{◌≡◌, ◌+◌, ◌<◌, ◌≤◌, ◌^◌, ◌++◌, [], true, drop, length, IfErr, IfOk, MatchOption};
 ghost use Rattle.std.specs.Prelude.{OnErr, OnOk};
-ghost use Rattle.amqp_session_frames.specs.Cutting.{with_size};
 ghost use Rattle.amqp_endpoint_model.specs.State.{Waiting, body_of, fits, protocol_header, text_of, the_frame};
 ghost use Rattle.amqp_endpoint_model.specs.State.{the_header, waiting_of, written};
 ghost use Rattle.amqp_endpoint_model.specs.declared.error.EndpointError.TheVariants.{Memory};
 ghost use Rattle.amqp_endpoint_core.specs.Queue.{AllWithin, AppendedIn, IsFirst, IsWithin, frames_waiting};
 ghost use Rattle.std.specs.VecDeque.{deque_capacity, deque_len};
 
-use crate::coding::{PROTOCOL_HEADER, SIZE_FIELD, encoded};
+use crate::coding::{PROTOCOL_HEADER, SIZE_FIELD};
 use amqp_endpoint_model::EndpointError;
-use amqp_session_frames::{Frame, FrameBody, Piece};
+use amqp_session_frames::{Error as FrameError, Frame, FrameBody, FrameEncoder};
 use amqp_session_performatives::{SessionFrame, SessionFrameBody};
 use std::alloc::{AllocError, Global};
 use std::collections::VecDeque;
@@ -191,25 +190,17 @@ pub(crate) fn gather(
 }
 
 /// What a frame that fits the limit is written as.
+#[tactic(auto, using(crate::proofs::CodingLaws::all_appended))]
 fn frame_bytes(alloc: Global, limit: u32, frame: &Frame) -> Result<Vec<u8>, EndpointError>
     requires least { 512 ≤ limit }
     requires short { fits limit frame.now ≡ true }
     ensures ok { IfOk result (λ v. v.items ≡ written frame.now) }
     ensures err { IfErr result (λ e. e ≡ Memory) }
 {
-    let piece = piece_of(alloc, limit, frame)?;
-    Ok(sized(alloc, &piece)?)
-}
-
-/// The piece of a frame that fits the limit.
-fn piece_of(alloc: Global, limit: u32, frame: &Frame) -> Result<Piece, EndpointError>
-    requires least { 512 ≤ limit }
-    requires short { fits limit frame.now ≡ true }
-    ensures size { IfOk result (λ p. 4 + length p < 2 ^ 32) }
-    ensures text { IfOk result (λ p. with_size p ≡ written frame.now) }
-    ensures err { IfErr result (λ e. e ≡ Memory) }
-{
-    encoded(alloc, limit, frame)
+    let mut bytes = Vec::new(alloc);
+    // the limit is room enough for a frame within it
+    let _ = append_frame(alloc, limit, limit as usize, frame, &mut bytes)?;
+    Ok(bytes)
 }
 
 /// What a frame says that says this of a session.
@@ -233,33 +224,6 @@ fn body_of(body: SessionFrameBody) -> FrameBody
     }
 }
 
-/// A piece with its size in front.
-fn sized(alloc: Global, piece: &Piece) -> Result<Vec<u8>, AllocError>
-    requires { 4 + length piece.now < 2 ^ 32 }
-    ensures { IfOk result (λ v. v.items ≡ with_size piece.now) }
-{
-    let mut out = Vec::with_capacity(alloc, SIZE_FIELD + piece.len())?;
-    append_sized(piece, &mut out)?;
-    Ok(out)
-}
-
-/// Appends a piece with its size in front. Nothing changes where there is no memory.
-#[tactic(auto, using(crate::proofs::QueueLaws::cut_back))]
-fn append_sized(piece: &Piece, out: &mut Vec<u8>) -> Result<(), AllocError>
-    requires { 4 + length piece.now < 2 ^ 32 }
-    ensures ok { OnOk result (out.new.items ≡ out.old.items ++ with_size piece.now) }
-    ensures err { OnErr result (out.new.items ≡ out.old.items) }
-{
-    let start = out.len();
-    let size = SIZE_FIELD + piece.len();
-    out.extend_from_slice(&(size as u32).to_be_bytes())?;
-    let written = piece.write_to(out);
-    if written.is_err() {
-        out.truncate(start);
-    }
-    written
-}
-
 /// Appends the protocol header, where it is at most `room` bytes: the room that is left.
 fn append_header(room: usize, bytes: &mut Vec<u8>) -> Result<Option<usize>, EndpointError>
     ensures ok { IfOk result (λ left.
@@ -274,6 +238,7 @@ fn append_header(room: usize, bytes: &mut Vec<u8>) -> Result<Option<usize>, Endp
 }
 
 /// Appends what a frame that fits the limit is written as, where it is at most `room` bytes: the room that is left.
+#[tactic(auto, using(crate::proofs::CodingLaws::appended_is, crate::proofs::CodingLaws::not_over))]
 fn append_frame(
     alloc: Global,
     limit: u32,
@@ -287,10 +252,10 @@ fn append_frame(
         AppendedIn room (written frame.now) left (bytes.old.items) (bytes.new.items)) }
     ensures err { IfErr result (λ e. (e ≡ Memory) × (bytes.new.items ≡ bytes.old.items)) }
 {
-    let piece = piece_of(alloc, limit, frame)?;
-    let Some(left) = room.checked_sub(SIZE_FIELD + piece.len()) else {
-        return Ok(None);
-    };
-    append_sized(&piece, bytes)?;
-    Ok(Some(left))
+    let encoder = FrameEncoder::new(limit as usize - SIZE_FIELD);
+    match encoder.append(alloc, frame, room, bytes) {
+        Ok(left) => Ok(left),
+        Err(FrameError::TooLarge) => Err(EndpointError::FrameTooLarge),
+        Err(_) => Err(EndpointError::Memory),
+    }
 }
