@@ -1,12 +1,12 @@
 -- Laws of reading a frame.
-use Rattle.std.proofs.Common.{◌≡◌, ◌⊎◌, ℕ, List, [], ◌++◌, length, take, drop, Some, inl, inr, Bool, true, false, refl, sym, ◌∙◌, ap, arith, subst, if◌then◌else◌}
+use Rattle.std.proofs.Common.{◌≡◌, ◌⊎◌, ℕ, List, [], ◌++◌, length, take, drop, append-nil, Some, inl, inr, Bool, true, false, refl, sym, ◌∙◌, ap, arith, subst, if◌then◌else◌}
 use Rattle.std.proofs.lemmas.List.{take-take, take-append-drop, length-take-le}
 use Rattle.std.specs.Int.{w32, from_be_bytes}
 use Rattle.amqp_session_frames.specs.declared.frame.Frame.{Frame}
 use Rattle.amqp_session_frames.specs.declared.frame.FrameBody.{FrameBody}
 use Rattle.amqp_session_frames.specs.declared.frame.FrameBody.TheVariants.{Empty, Open, Close}
 use Rattle.amqp_session_frames.specs.Cutting.{said_size, IsPiece}
-use Rattle.amqp_session_frames.specs.Text.{FrameText}
+use Rattle.amqp_session_frames.specs.Text.{FrameText, empty_on}
 use Rattle.amqp_endpoint_model.specs.declared.event.Event.{Event}
 use Rattle.amqp_endpoint_model.specs.declared.error.EndpointError.{EndpointError}
 use Rattle.amqp_endpoint_model.specs.declared.error.EndpointError.TheVariants.{Memory, NumbersUsedUp, SizeUnder8, SizeOverLimit, PeerLimitUnder512, Frame as FrameFault, Connection, Session}
@@ -152,3 +152,13 @@ module _ {S : Type 0} (does : Relations S) where
           after = after;
         },
       )
+
+  -- an Empty frame in front is skipped
+  pub empty_skipped : (s new : State S) (size channel : ℕ) (before : List Event) → s.phase ≡ Running
+      → PieceOf s.settings.max_frame_size s.rest size → FrameText (take size s.rest) (empty_on channel)
+      → new ≡ record s { rest = drop size s.rest }
+      → (events : List Event) × (before ≡ before ++ events) × TakesFront does s events new
+  empty_skipped s new size channel before run p t e =
+      let m : State S = record s { rest = drop size s.rest } in
+      front_taken s m new (empty_on channel) before before run (frame_split s m size (take size s.rest) (empty_on channel) p refl t refl)
+      (record { events = []; told = sym (append-nil before); takes = (refl, e) })

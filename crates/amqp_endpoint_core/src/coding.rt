@@ -1,16 +1,15 @@
 //! The protocol header, the own Open, and frames as bytes.
-ghost use Rattle.std.specs.Prelude.{◌≡◌, ◌+◌, ◌<◌, ◌≤◌, ◌^◌, ◌⊎◌, true, false, length, None, IfOk, IfErr};
+ghost use Rattle.std.specs.Prelude.{◌≡◌, ◌<◌, None, IfOk, IfErr};
 ghost use Rattle.amqp_session_frames.specs.Text.{FrameText};
-ghost use Rattle.amqp_session_frames.specs.Cutting.{IsPiece, with_size};
+ghost use Rattle.amqp_session_frames.specs.Cutting.{IsPiece};
 ghost use Rattle.amqp_session_connection.specs.Steps.{frame_on};
 ghost use Rattle.amqp_session_frames.specs.declared.frame.FrameBody.TheVariants as body;
-ghost use Rattle.amqp_endpoint_model.specs.State.{written, fits, own_open, error_of};
-ghost use Rattle.amqp_endpoint_model.specs.declared.error.EndpointError.TheVariants.{Memory, FrameTooLarge};
-ghost use Rattle.amqp_endpoint_core.specs.Queue.{GoesWhole};
+ghost use Rattle.amqp_endpoint_model.specs.State.{fits, own_open, error_of};
+ghost use Rattle.amqp_endpoint_model.specs.declared.error.EndpointError.TheVariants.{Memory};
 ghost use Rattle.amqp_endpoint_core.specs.Reading.{NotTaken};
 
 use amqp_endpoint_model::{EndpointError, Settings};
-use amqp_session_frames::{Error as FrameError, Frame, FrameDecoder, FrameEncoder, Piece};
+use amqp_session_frames::{Error as FrameError, Frame, FrameDecoder, FrameEncoder};
 use amqp_session_performatives::Open;
 use amqp_session_types::definitions;
 use bytes::Bytes;
@@ -26,25 +25,12 @@ pub(crate) const SIZE_FIELD: usize = 4;
 /// The protocol header: AMQP, protocol id 0, version 1.0.0 (part 2, 2.2).
 pub(crate) const PROTOCOL_HEADER: &[u8] = b"AMQP\x00\x01\x00\x00";
 
-/// A frame in one piece, which is as long as `limit` allows: one that fits, or that is no transfer.
-pub(crate) fn encoded(alloc: Global, limit: u32, frame: &Frame) -> Result<Piece, EndpointError>
-    requires least { 8 ≤ limit }
-    requires whole { GoesWhole limit frame.now }
-    ensures size { IfOk result (λ p. 4 + length p < 2 ^ 32) }
-    ensures ok { IfOk result (λ p. (with_size p ≡ written frame.now)
-        × (fits limit frame.now ≡ true)) }
-    ensures err { IfErr result (λ e. (e ≡ Memory)
-        ⊎ ((e ≡ FrameTooLarge) × (fits limit frame.now ≡ false))) }
+/// Whether any peer takes an Open: its frame has at most 512 bytes (part 2, 2.4.1).
+#[tactic(auto, using(crate::proofs::CodingLaws::measured))]
+pub(crate) fn goes_to_any(opening: &Open) -> bool
+    ensures { result ≡ fits 512 (frame_on 0 (body.Open opening.now)) }
 {
-    let encoder = FrameEncoder::new(limit as usize - SIZE_FIELD);
-    match encoder.encode(alloc, frame) {
-        Ok(pieces) => {
-            let (piece, _) = pieces.into_parts();
-            Ok(piece)
-        }
-        Err(FrameError::TooLarge) => Err(EndpointError::FrameTooLarge),
-        Err(_) => Err(EndpointError::Memory),
-    }
+    FrameEncoder::new(MIN_MAX_FRAME_SIZE as usize - SIZE_FIELD).holds_open(opening)
 }
 
 /// What the own Open says (part 2, 2.7.1).

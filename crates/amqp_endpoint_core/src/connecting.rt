@@ -13,11 +13,10 @@ ghost use Rattle.amqp_endpoint_model.specs.declared.error.EndpointError.TheVaria
 ghost use Rattle.amqp_endpoint_core.specs.Connected.{BeginsWith, IsGreeting, MovesBy, StayIdle, StayWithin, sent_close};
 ghost use Rattle.amqp_endpoint_core.specs.Connected.{took_close};
 
-use crate::coding::{MIN_MAX_FRAME_SIZE, encoded, open_of};
+use crate::coding::{goes_to_any, open_of};
 use crate::queued::Queued;
 use amqp_endpoint_model::{EndpointError, SessionRelay, Settings};
 use amqp_session_connection::{Connection, ConnectionState};
-use amqp_session_frames::{Frame, FrameBody};
 use amqp_session_performatives::{Close, Open};
 use amqp_session_types::{ConnectionError, IncomingChannel, definitions};
 use std::alloc::Global;
@@ -30,12 +29,11 @@ pub(crate) fn unopened(alloc: Global, settings: &Settings) -> Result<Connection,
     ensures err { IfErr result (λ e. (e ≡ Memory)
         ⊎ ((e ≡ FrameTooLarge) × (fits 512 (own_open settings.now) ≡ false))) }
 {
-    let open = Frame::new(0, FrameBody::Open(open_of(alloc, settings)?));
-    let piece = encoded(alloc, MIN_MAX_FRAME_SIZE, &open);
-    drop(open);
-    piece?;
     let open = open_of(alloc, settings)?;
-    Ok(Connection::new(alloc, ConnectionState::Start, open))
+    if goes_to_any(&open) {
+        return Ok(Connection::new(alloc, ConnectionState::Start, open));
+    }
+    Err(EndpointError::FrameTooLarge)
 }
 
 /// The connection begins anew, with its Open to send, and its header is sent.

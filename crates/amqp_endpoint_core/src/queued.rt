@@ -1,5 +1,5 @@
 //! What an endpoint has queued, which is written as it is pulled.
-ghost use Rattle.std.specs.Prelude.{◌≡◌, ◌+◌, ◌<◌, ◌≤◌, ◌^◌, ◌++◌, [], true, drop, length, IfErr, IfOk, MatchOption};
+ghost use Rattle.std.specs.Prelude.{◌≡◌, ◌+◌, ◌<◌, ◌≤◌, ◌++◌, [], true, drop, IfErr, IfOk, MatchOption};
 ghost use Rattle.std.specs.Prelude.{OnErr, OnOk};
 ghost use Rattle.amqp_endpoint_model.specs.State.{Waiting, body_of, fits, protocol_header, text_of, the_frame};
 ghost use Rattle.amqp_endpoint_model.specs.State.{the_header, waiting_of, written};

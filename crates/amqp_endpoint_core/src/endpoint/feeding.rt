@@ -1,6 +1,7 @@
 //! The peer's bytes are fed.
-ghost use Rattle.std.specs.Prelude.{◌≡◌, ◌++◌, [], true, Some, None, IsSome, IfOk, IfErr, OnOk, MatchOption};
-ghost use Rattle.std.specs.Prelude.{MatchResult};
+ghost use Rattle.std.specs.Prelude.{◌≡◌, ◌≤◌, ◌++◌, [], true, Some, None, IsSome, IfOk, IfErr, IfSome, OnOk};
+ghost use Rattle.std.specs.Prelude.{MatchOption, MatchResult, drop, length, take};
+ghost use Rattle.amqp_session_frames.specs.Text.{FrameText, empty_on};
 ghost use Rattle.amqp_endpoint_model.specs.State.{error_of, has_opened, own_close_with};
 ghost use Rattle.amqp_endpoint_model.specs.Step.{ClosesBoth, FeedsIn, FrontRefused, FrontUnread, Greets, ReadsOn};
 ghost use Rattle.amqp_endpoint_model.specs.Step.{SendsClose, Waits, closed, opened as opened_state, with_close};
@@ -17,7 +18,7 @@ use crate::condition::Condition;
 use crate::connecting::{open, send_close, take_open, take_peers_close};
 use crate::queued::gather;
 use amqp_endpoint_model::{Closed, EndpointError, Event, Fed, Opened, Phase, SessionRelay};
-use amqp_session_frames::{Frame, FrameBody};
+use amqp_session_frames::{Frame, FrameBody, FrameDecoder};
 use amqp_session_performatives::{Close, Open};
 use amqp_session_types::IncomingChannel;
 use bytes::{Buf, BytesMut};
@@ -186,8 +187,29 @@ impl<S: SessionRelay> Endpoint<S> {
         let Some(size) = self.next_size()? else {
             return Ok(false);
         };
+        if let Some(_channel) = self.empty_in_front(size) {
+            self.skip(size);
+            return Ok(true);
+        }
         self.read_whole(size, events)?;
         Ok(true)
+    }
+
+    /// The channel of the frame in front, which has so many bytes, where it says nothing (part 2, 2.4.5). The peer may send
+    /// many of these, and no frame is made of them.
+    fn empty_in_front(&self, size: usize) -> Option<u16>
+        requires { PieceOf self.now.settings.max_frame_size self.now.rest size }
+        ensures { IfSome result (λ channel. FrameText (take size self.now.rest) (empty_on channel)) }
+    {
+        FrameDecoder::new().empty_frame(&self.input.as_slice()[..size])
+    }
+
+    /// Takes so many bytes off the input, unread.
+    fn skip(&mut self, size: usize)
+        requires { size ≤ length self.old.rest }
+        ensures { self.new ≡ record self.old { rest = drop size self.old.rest } }
+    {
+        self.input.advance(size);
     }
 
     /// Takes the frame in front, which has so many bytes. A frame is large: what owns one stands apart from what runs

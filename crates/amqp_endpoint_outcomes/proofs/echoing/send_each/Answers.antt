@@ -1,7 +1,6 @@
-use Rattle.std.proofs.Common.{◌≡◌, ◌++◌, ◌∷◌, [], IsSome, arith, length, option_to_list, subst, ap, ◌∙◌}
-use Rattle.std.proofs.lemmas.List.{length-append}
+use Rattle.std.proofs.Common.{◌≡◌, ◌++◌, ◌∷◌, [], IsSome, arith, subst, ap, ◌∙◌}
 use Rattle.amqp_session_performatives.specs.declared.disposition.Disposition.{Disposition}
-use Rattle.amqp_session_core.proofs.Copying.{copies-left, copy-used, one-used}
+use Rattle.amqp_session_core.proofs.Copying.{copies-before, copies-left, copy-used}
 use Rattle.amqp_endpoint_disposing.specs.Sending.{SendsOne, said_by}
 use Rattle.amqp_endpoint_outcomes.proofs.Goings.{frames-next, sends-next}
 use Rattle.amqp_endpoint_outcomes.proofs.echoing.send_each.Goals as goal
@@ -39,9 +38,7 @@ loop-run-preserved g c =
       enough = omega (
         arith,
         c.loop-run.invariant.enough,
-        ap length c.pop.ensures.items,
-        length-append left (option_to_list c.pop.result),
-        one-used c.pop.result some,
+        copies-before state old left c.pop.result c.pop.ensures.items c.loop-run.invariant.each some,
       );
       spare = omega (
         arith,
