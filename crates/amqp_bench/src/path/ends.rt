@@ -12,9 +12,10 @@ use std::alloc::Global;
 /// The handle of the link that messages and Flows are of.
 const LINK: OutputHandle = OutputHandle(0);
 
-/// A session, and the bytes that it was fed.
+/// A session, the bytes that are under way to it, and those that it was fed.
 struct End {
     bench: Bench,
+    under_way: Vec<u8>,
     input: BytesMut,
     bytes: u64,
 }
@@ -23,6 +24,7 @@ impl Drop for End {
     fn drop(self) {
         let End {
             bench: _,
+            under_way: _,
             input: _,
             bytes: _,
         } = self;
@@ -33,6 +35,7 @@ impl End {
     fn new(alloc: Global) -> Self {
         End {
             bench: Bench::new(alloc, Bytes::new()),
+            under_way: Vec::new(alloc),
             input: BytesMut::new(alloc),
             bytes: 0,
         }
@@ -61,9 +64,10 @@ impl End {
 
     /// A frame comes to the session as its bytes.
     fn take(&mut self, alloc: Global, frame: SessionFrame) -> Result<()> {
-        let bytes = wire::written(alloc, frame)?;
-        self.bytes = self.bytes.saturating_add(bytes.len() as u64);
-        let frame = wire::read(alloc, &mut self.input, bytes.as_slice())?;
+        self.under_way.clear();
+        wire::write(alloc, frame, &mut self.under_way)?;
+        self.bytes = self.bytes.saturating_add(self.under_way.len() as u64);
+        let frame = wire::read(alloc, &mut self.input, self.under_way.as_slice())?;
         Ok(self.bench.take(alloc, frame)?)
     }
 }

@@ -1,32 +1,21 @@
 //! Frames of sessions as bytes.
-use amqp_session_frames::{Error, Frame, FrameBody, FrameDecoder, FrameEncoder, Piece};
+use amqp_session_frames::{Error, Frame, FrameBody, FrameDecoder, FrameEncoder};
 use amqp_session_performatives::{SessionFrame, SessionFrameBody};
 use bytes::BytesMut;
-use std::alloc::{AllocError, Global};
+use std::alloc::Global;
 
 /// The most bytes of a frame without its size.
 const LIMIT: usize = 65_532;
 
-/// The bytes of a frame that a session sends, as long as it fits in one.
-pub(crate) fn written(alloc: Global, frame: SessionFrame) -> Result<Vec<u8>, Error> {
+/// Appends the bytes of a frame that a session sends, where it fits in one.
+pub(crate) fn write(alloc: Global, frame: SessionFrame, bytes: &mut Vec<u8>) -> Result<(), Error> {
     let SessionFrame { channel, body } = frame;
-    encoded(alloc, &Frame::new(channel, body_of(body)))
+    append(alloc, &Frame::new(channel, body_of(body)), bytes)
 }
 
-fn encoded(alloc: Global, frame: &Frame) -> Result<Vec<u8>, Error> {
-    match FrameEncoder::new(LIMIT).encode(alloc, frame) {
-        Ok(pieces) => Ok(sized(alloc, pieces.first())?),
-        Err(error) => Err(error),
-    }
-}
-
-/// A piece with its size in front.
-fn sized(alloc: Global, piece: &Piece) -> Result<Vec<u8>, AllocError> {
-    let size = piece.len().saturating_add(4);
-    let mut bytes = Vec::with_capacity(alloc, size)?;
-    bytes.extend_from_slice(&u32::try_from(size).unwrap_or(u32::MAX).to_be_bytes())?;
-    piece.write_to(&mut bytes)?;
-    Ok(bytes)
+fn append(alloc: Global, frame: &Frame, bytes: &mut Vec<u8>) -> Result<(), Error> {
+    let _left = FrameEncoder::new(LIMIT).append(alloc, frame, usize::MAX, bytes)?;
+    Ok(())
 }
 
 /// What a frame says that says this of a session.
