@@ -26,8 +26,21 @@ pub fn see(
     let side = pair.side(role);
     match words.word()? {
         "list" => write_list(text, &side.end, alloc),
-        "kept" => write_kept(text, &side.end, &tag_of(alloc, words.number()?)?),
+        "kept" => see_kept(side, alloc, words, text),
         word => see_state(side, word, text),
+    }
+}
+
+fn see_kept(
+    side: &Side,
+    alloc: Global,
+    words: &mut Words<'_>,
+    text: &mut String,
+) -> Result<(), Fault> {
+    let number = words.number()?;
+    match tag_of(alloc, number) {
+        Ok(tag) => write_kept(text, &side.end, &tag),
+        Err(error) => Err(error.into()),
     }
 }
 

@@ -6,7 +6,7 @@ use crate::fault::Fault;
 use crate::frames;
 use crate::text::{OK, write_dispositions};
 use crate::words::Words;
-use amqp_session::{DeliveryTag, Flow, Handle, IncomingChannel, OutputHandle, echoes};
+use amqp_session::{Attach, DeliveryTag, Flow, Handle, IncomingChannel, OutputHandle, echoes};
 use bytes::Bytes;
 use std::alloc::{AllocError, Global};
 
@@ -56,9 +56,21 @@ fn take_attach(
 ) -> Result<(), Fault> {
     let handle = words.field("handle")?;
     let link = OutputHandle(words.field("link")?);
-    let attach = attach(alloc, handle)?;
-    let count = peer.session.on_incoming_attach(alloc, link, &attach)?;
+    let count = match attach(alloc, handle) {
+        Ok(attach) => hear_attach(peer, alloc, link, &attach)?,
+        Err(error) => return Err(error.into()),
+    };
     Ok(write!(text, "count={count}")?)
+}
+
+/// The session takes an Attach, and tells what its link does.
+fn hear_attach(
+    peer: &mut Peer,
+    alloc: Global,
+    link: OutputHandle,
+    attach: &Attach,
+) -> Result<u32, Fault> {
+    Ok(peer.session.on_incoming_attach(alloc, link, attach)?)
 }
 
 fn take_flow(
