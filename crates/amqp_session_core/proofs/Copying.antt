@@ -1,5 +1,6 @@
 -- Copies of a state are used up one by one.
-use Rattle.std.proofs.Common.{◌≡◌, List, ◌++◌, ◌+◌, ℕ, Option, Some, None, IsSome, All, ap, ◌∙◌, option_to_list, IfSome, length, refl}
+use Rattle.std.proofs.Common.{◌≡◌, List, ◌++◌, ◌+◌, ℕ, Option, Some, None, IsSome, All, ap, ◌∙◌}
+use Rattle.std.proofs.Common.{option_to_list, IfSome, length, refl}
 use Rattle.std.proofs.lemmas.Bool.{false≢true}
 use Rattle.std.specs.Option.{option_flatten}
 use Rattle.std.proofs.lemmas.List.{length-append}

@@ -23,7 +23,14 @@ walk-requires-clause-there g c =
 pub gather_runs-requires-clause-room : goal.gather_runs-requires-clause-room
 gather_runs-requires-clause-room g c =
     let bound : length c.walk.new.echoed.items ≤ length c.deref.result.now = walked-bound g.R.LinkRelay.gives.disposes c.args.disposition.now _ _ _ _ _ c.walk.ensures.walked in
-    omega (arith, bound, ap (λ (xs : List ℕ). length xs) c.deref-2.ensures, ap (λ (xs : List ℕ). length xs) c.deref.ensures.value, c.requires.runs_room)
+    omega (
+      arith,
+      bound,
+      ap (λ (xs : List ℕ). length xs) c.deref-2.ensures,
+      ap (λ (xs : List ℕ). length xs)
+          c.deref.ensures.value,
+      c.requires.runs_room,
+    )
 
 pub returns : goal.returns
 returns g c =
@@ -34,11 +41,17 @@ returns g c =
     let echoed = c.walk.new.echoed.items in
     let gives = g.R.LinkRelay.gives in
     let walked = subst (λ (ns : List ℕ). Walked gives.disposes d (table_of d.role old) ns old.links echoed mid.links) c.deref.ensures.value c.walk.ensures.walked in
-    let runs : c.gather_runs.new.runs.items ≡ runs_of echoed = c.gather_runs.ensures ∙ ap (λ (xs : List ℕ). runs_of xs) c.deref-2.ensures in
+    let runs : c.gather_runs.new.runs.items ≡ runs_of echoed = c.gather_runs.ensures
+    ∙ ap (λ (xs : List ℕ). runs_of xs) c.deref-2.ensures in
     let settled : c.if-disposition.settled.now ≡ (if d.settled then numbers else echoed) =
     elim c.if-disposition.branch [
-      | then-disposition w ↦ all-settled d.settled numbers echoed c.if-disposition.settled.now w.if-disposition.true (ap (λ (b : Bor (List ℕ)). b.now) w.settled-is ∙ w.as_slice-settled.ensures.value)
-      | else-disposition w ↦ echoed-settled d.settled numbers echoed c.if-disposition.settled.now w.if-disposition.false (ap (λ (b : Bor (List ℕ)). b.now) w.settled-is ∙ w.as_slice-settled-else-disposition.ensures)
+      | then-disposition w ↦ all-settled d.settled numbers echoed c.if-disposition.settled.now
+          w.if-disposition.true (ap (λ (b : Bor (List ℕ)). b.now) w.settled-is ∙ w.as_slice-settled.ensures.value)
+      | else-disposition w ↦ echoed-settled d.settled numbers echoed c.if-disposition.settled.now
+          w.if-disposition.false (ap (λ (b : Bor (List ℕ)). b.now) w.settled-is
+          ∙ w.as_slice-settled-else-disposition.ensures)
     ] in
-    disposition-taken gives old mid c.settle.new.self d numbers echoed c.if-disposition.settled.now (map (echo_of d) c.gather_runs.new.runs.items) c.requires.numbers walked c.walk.ensures.rest settled c.settle.ensures
+    disposition-taken gives old mid c.settle.new.self d numbers echoed c.if-disposition.settled.now
+    (map (echo_of d) c.gather_runs.new.runs.items) c.requires.numbers walked c.walk.ensures.rest settled
+    c.settle.ensures
     (ap (λ (rs : Runs). map (echo_of d) rs) runs)
