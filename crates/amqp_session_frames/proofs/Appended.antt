@@ -1,11 +1,13 @@
 -- Frames that are appended to bytes.
-use Rattle.std.proofs.Common.{◌≡◌, ℕ, ◌+◌, ◌<◌, ◌≤◌, List, [], ◌∷◌, ◌++◌, length, take, Option, Some, None, refl, sym, ◌∙◌, ap, subst, arith, length-append, append_assoc, append-nil}
+use Rattle.std.proofs.Common.{◌≡◌, ℕ, ◌+◌, ◌<◌, ◌≤◌, List, [], ◌∷◌, ◌++◌, length, take, Option, Some, None}
+use Rattle.std.proofs.Common.{refl, sym, ◌∙◌, ap, subst, arith, length-append, append_assoc, append-nil}
 use Rattle.std.proofs.lemmas.List.{take_at}
 use Rattle.std.specs.Int.{w16, w32, to_be_bytes}
 use Rattle.serde_amqp_item.specs.Canon.{canon}
 use Rattle.amqp_session_performatives.specs.Performative.{performative_item}
 use Rattle.amqp_session_performatives.specs.declared.performative.Performative.{Performative}
-use Rattle.amqp_session_frames.specs.Appending.{AppendedIn, HasWholeSize, IsAppended, IsBody, IsLaidIn, IsLaidOut, NotAppended, StandInFront, laid_out}
+use Rattle.amqp_session_frames.specs.Appending.{AppendedIn, HasWholeSize, IsAppended, IsBody, IsLaidIn}
+use Rattle.amqp_session_frames.specs.Appending.{IsLaidOut, NotAppended, StandInFront, laid_out}
 use Rattle.amqp_session_frames.specs.Parts.{room}
 use Rattle.amqp_session_frames.specs.Sizes.{Appends, NotWhole, Overflows}
 use Rattle.amqp_session_frames.specs.Text.{performative_of, performative_text, payload_of}
@@ -19,16 +21,23 @@ use Rattle.amqp_session_frames.proofs.Writing.{over_performative, sized_long, te
 -- ---- bytes
 
 -- how long a frame's bytes are
-pub laid_long : (channel : ℕ) (text payload : List ℕ) → length (laid_out channel text payload) ≡ 8 + length text + length payload
+pub laid_long : (channel : ℕ) (text payload : List ℕ)
+    → length (laid_out channel text payload) ≡ 8 + length text + length payload
 laid_long channel text payload =
-    omega (arith, sized_long (2 ∷ 0 ∷ (to_be_bytes w16 channel ++ (text ++ payload))), length-append (to_be_bytes w16 channel) (text ++ payload), length-append text payload)
+    omega (
+      arith,
+      sized_long (2 ∷ 0 ∷ (to_be_bytes w16 channel ++ (text ++ payload))),
+      length-append
+          (to_be_bytes w16 channel) (text ++ payload),
+      length-append text payload,
+    )
 
 -- a size field and a header, and a body behind them
 pub laid_by : (channel size : ℕ) (text payload : List ℕ) → size ≡ 8 + length text + length payload
     → (to_be_bytes w32 size ++ (2 ∷ 0 ∷ to_be_bytes w16 channel)) ++ (text ++ payload) ≡ laid_out channel text payload
 laid_by channel size text payload is =
-    let piece : List ℕ = 2 ∷ 0 ∷ (to_be_bytes w16 channel ++ (text ++ payload)) in
-    let sum : size ≡ 4 + length (2 ∷ 0 ∷ (to_be_bytes w16 channel ++ (text ++ payload))) = omega (arith, is, length-append (to_be_bytes w16 channel) (text ++ payload), length-append text payload) in
+    let sum : size ≡ 4 + length (2 ∷ 0 ∷ (to_be_bytes w16 channel ++ (text ++ payload))) = omega
+    (arith, is, length-append (to_be_bytes w16 channel) (text ++ payload), length-append text payload) in
     append_assoc (to_be_bytes w32 size) (2 ∷ 0 ∷ to_be_bytes w16 channel) (text ++ payload)
     ∙ ap (λ (n : ℕ). to_be_bytes w32 n ++ (2 ∷ 0 ∷ (to_be_bytes w16 channel ++ (text ++ payload)))) sum
 
@@ -41,7 +50,8 @@ cut_back start old front middle new left is behind stand cut =
 
 -- ---- a frame by its parts
 
-pub body_behind : (text : Option (List ℕ)) (payload old middle new : List ℕ) → Appends text old middle → new ≡ middle ++ payload
+pub body_behind : (text : Option (List ℕ)) (payload old middle new : List ℕ) → Appends text old middle
+    → new ≡ middle ++ payload
     → IsBody text payload old new
 body_behind text payload old middle new a is =
     record {
@@ -53,13 +63,15 @@ body_behind text payload old middle new a is =
 pub stands_as_before : (old new : List ℕ) → new ≡ old → StandInFront old new
 stands_as_before old new is = record { more = []; is = is ∙ sym (append-nil old) }
 
-pub stands_before_text : (text : Option (List ℕ)) (old middle new : List ℕ) → Appends text old middle → new ≡ middle → StandInFront old new
+pub stands_before_text : (text : Option (List ℕ)) (old middle new : List ℕ) → Appends text old middle
+    → new ≡ middle → StandInFront old new
 stands_before_text text old middle new a is = record { more = a.bytes; is = is ∙ a.behind }
 
 pub ruleset bodies = (body_behind, stands_as_before, stands_before_text)
 
 pub laid_behind : (channel size : ℕ) (text : Option (List ℕ)) (payload old middle new : List ℕ)
-    → HasWholeSize text (length payload) size → middle ≡ old ++ (to_be_bytes w32 size ++ (2 ∷ 0 ∷ to_be_bytes w16 channel))
+    → HasWholeSize text (length payload) size
+    → middle ≡ old ++ (to_be_bytes w32 size ++ (2 ∷ 0 ∷ to_be_bytes w16 channel))
     → IsBody text payload middle new → IsLaidOut channel text payload old new
 laid_behind channel size text payload old middle new h front b =
     let one : Some b.performative ≡ Some h.bytes = sym b.is ∙ h.is in
@@ -70,7 +82,8 @@ laid_behind channel size text payload old middle new h front b =
       behind =
           b.behind ∙ ap (λ (l : List ℕ). l ++ (b.performative ++ payload)) front
           ∙ append_assoc old (to_be_bytes w32 size ++ (2 ∷ 0 ∷ to_be_bytes w16 channel)) (b.performative ++ payload)
-          ∙ ap (λ (l : List ℕ). old ++ l) (laid_by channel size b.performative payload (omega (arith, h.long, ap length same)));
+          ∙ ap (λ (l : List ℕ). old ++ l) (laid_by channel size b.performative payload
+          (omega (arith, h.long, ap length same)));
     }
 
 pub laid_in : (limit channel size room left : ℕ) (text : Option (List ℕ)) (payload old new : List ℕ)
@@ -102,7 +115,8 @@ laid_nowhere limit channel size room text payload old new h within over same =
 -- ---- frames
 
 -- a frame with a performative
-appended_in : (limit room : ℕ) (f : Frame) (p : Performative) (left : Option ℕ) (old new : List ℕ) → performative_of f.body ≡ Some p
+appended_in : (limit room : ℕ) (f : Frame) (p : Performative) (left : Option ℕ) (old new : List ℕ)
+    → performative_of f.body ≡ Some p
     → IsLaidIn limit f.channel (canon (performative_item p)) (payload_of f.body) room left old new
     → IsAppended limit f room left old new
 appended_in limit room f p left old new e l =
@@ -113,13 +127,15 @@ appended_in limit room f p left old new e l =
       appended = l.appended;
     }
 
-pub whole_appended : (limit room : ℕ) (f : Frame) (b : FrameBody) (p : Performative) (payload : List ℕ) (left : Option ℕ) (old new : List ℕ)
+pub whole_appended : (limit room : ℕ) (f : Frame) (b : FrameBody) (p : Performative) (payload : List ℕ)
+    (left : Option ℕ) (old new : List ℕ)
     → f.body ≡ b → performative_of b ≡ Some p → payload ≡ payload_of b
     → IsLaidIn limit f.channel (canon (performative_item p)) payload room left old new
     → IsAppended limit f room left old new
 whole_appended limit room f b p payload left old new is said carries l =
     appended_in limit room f p left old new (ap performative_of is ∙ said)
-    (subst (λ (x : List ℕ). IsLaidIn limit f.channel (canon (performative_item p)) x room left old new) (carries ∙ sym (ap payload_of is)) l)
+    (subst (λ (x : List ℕ). IsLaidIn limit f.channel (canon (performative_item p)) x room left old new)
+    (carries ∙ sym (ap payload_of is)) l)
 
 -- a frame without a performative
 pub empty_appended : (limit room channel : ℕ) (left : Option ℕ) (old new : List ℕ) → 4 ≤ limit
@@ -135,12 +151,14 @@ empty_appended limit room channel left old new least a =
 
 -- ---- frames that are refused
 
-pub not_appended : (limit : ℕ) (f : Frame) (b : FrameBody) (p : Performative) (payload : List ℕ) (e : Error) → f.body ≡ b
+pub not_appended : (limit : ℕ) (f : Frame) (b : FrameBody) (p : Performative) (payload : List ℕ) (e : Error)
+    → f.body ≡ b
     → performative_of b ≡ Some p → payload ≡ payload_of b
     → NotWhole limit (canon (performative_item p)) payload e → NotAppended limit f e
 not_appended limit f b p payload TooLarge is said carries n =
     over_performative limit f p (ap performative_of is ∙ said)
-    (subst (λ (x : List ℕ). Overflows limit (canon (performative_item p)) (length x)) (carries ∙ sym (ap payload_of is)) n)
+    (subst (λ (x : List ℕ). Overflows limit (canon (performative_item p)) (length x))
+    (carries ∙ sym (ap payload_of is)) n)
 not_appended limit f b p payload Memory is said carries n = tt
 not_appended limit f b p payload DecodeError is said carries n = absurd n
 not_appended limit f b p payload NotImplemented is said carries n = absurd n

@@ -10,7 +10,8 @@ use Rattle.amqp_session_performatives.specs.declared.performative.Performative.{
 use Rattle.amqp_session_frames.specs.Cutting.{with_size}
 use Rattle.amqp_session_frames.specs.Parts.{room, IsWritten}
 use Rattle.amqp_session_frames.specs.Sizes.{HasSize, NotSized, IsOnePiece, IsWhole, Overflows}
-use Rattle.amqp_session_frames.specs.Text.{IsOver, IsWithin, performative_of, performative_text, payload_of, sized_text, frame_text}
+use Rattle.amqp_session_frames.specs.Text.{IsOver, IsWithin, performative_of, performative_text, payload_of}
+use Rattle.amqp_session_frames.specs.Text.{sized_text, frame_text}
 use Rattle.amqp_session_frames.specs.declared.frame.Frame.{Frame}
 use Rattle.amqp_session_frames.specs.declared.frame.FrameBody.{FrameBody}
 use Rattle.amqp_session_frames.specs.declared.frame.FrameBody.TheVariants.{Empty}
@@ -77,16 +78,23 @@ over_sized f most n = none_by f most n (performative_text (performative_of f.bod
 text_is : (limit : ℕ) (f : Frame) (text : List ℕ) → performative_text (performative_of f.body) ≡ Some text → 4 + length text + length (payload_of f.body) ≤ room limit → frame_text f ≡ Some (with_size (piece_of f.channel text (payload_of f.body)))
 text_is limit f text e le = frame_has f text e ∙ sized_if (piece_of f.channel text (payload_of f.body)) (omega (arith, piece_long f.channel text (payload_of f.body), le))
 
--- a frame that has room
-pub within_room : (f : Frame) (text : List ℕ) (limit : ℕ) → performative_text (performative_of f.body) ≡ Some text → 4 + length text + length (payload_of f.body) ≤ room limit → IsWithin (limit + 4) (frame_text f)
+-- its text is within the limit then
+pub within_room : (f : Frame) (text : List ℕ) (limit : ℕ)
+    → performative_text (performative_of f.body) ≡ Some text
+    → 4 + length text + length (payload_of f.body) ≤ room limit → IsWithin (limit + 4) (frame_text f)
 within_room f text limit e le =
     let piece : List ℕ = piece_of f.channel text (payload_of f.body) in
-    subst (λ (o : Option (List ℕ)). IsWithin (limit + 4) o) (sym (text_is limit f text e le)) (omega (arith, le, piece_long f.channel text (payload_of f.body), sized_long piece))
+    subst (λ (o : Option (List ℕ)). IsWithin (limit + 4) o) (sym (text_is limit f text e le))
+    (omega (arith, le, piece_long f.channel text (payload_of f.body), sized_long piece))
 
 -- its bytes, by their parts
-pub text_by_parts : (f : Frame) (text : List ℕ) → performative_text (performative_of f.body) ≡ Some text → 8 + length text + length (payload_of f.body) < 2 ^ 32 → frame_text f ≡ Some (with_size (2 ∷ 0 ∷ (to_be_bytes w16 f.channel ++ (text ++ payload_of f.body))))
+pub text_by_parts : (f : Frame) (text : List ℕ) → performative_text (performative_of f.body) ≡ Some text
+    → 8 + length text + length (payload_of f.body) < 2 ^ 32
+    → frame_text f ≡ Some (with_size (2 ∷ 0 ∷ (to_be_bytes w16 f.channel ++ (text ++ payload_of f.body))))
 unfolding piece_of
-text_by_parts f text e lt = frame_has f text e ∙ sized_if (piece_of f.channel text (payload_of f.body)) (omega (arith, piece_long f.channel text (payload_of f.body), lt))
+text_by_parts f text e lt = frame_has f text e
+    ∙ sized_if (piece_of f.channel text (payload_of f.body))
+    (omega (arith, piece_long f.channel text (payload_of f.body), lt))
 
 -- ---- a frame that goes in one piece
 
