@@ -1,5 +1,6 @@
 -- Laws of frames as they are queued.
-use Rattle.std.proofs.Common.{◌≡◌, ℕ, ◌+◌, ◌≤◌, List, [], ◌++◌, length, Option, Some, None, Bool, true, false, refl, sym, ◌∙◌, ap, arith, subst}
+use Rattle.std.proofs.Common.{◌≡◌, ℕ, ◌+◌, ◌≤◌, List, [], ◌++◌, length, Option, Some, None, Bool, true, false}
+use Rattle.std.proofs.Common.{refl, sym, ◌∙◌, ap, arith, subst}
 use Rattle.std.proofs.lemmas.Bool.Decides.{nat_tests}
 use Rattle.std.specs.Char.{encode_utf8}
 use Rattle.std.specs.Str.{is_utf8, chars}
@@ -59,26 +60,30 @@ close_fits NotAllowed = refl
 close_fits NotFound = refl
 
 -- a frame that fits is never over the limit
-pub not_over : (least limit : ℕ) (f : Frame) → least + 4 ≡ limit → fits limit f ≡ true → IsOver (least + 4) (frame_text f) → ⊥
+pub not_over : (least limit : ℕ) (f : Frame) → least + 4 ≡ limit → fits limit f ≡ true
+    → IsOver (least + 4) (frame_text f) → ⊥
 not_over least limit f sum fit over =
     let P : ℕ → Type 0 = λ n. IsOver n (frame_text f) in
     over_fits (frame_text f) limit fit (subst P sum over)
 
 -- what was appended is the frame
-pub appended_is : (least room : ℕ) (f : Frame) (left : Option ℕ) (old new : List ℕ) → IsAppended least f room left old new
+pub appended_is : (least room : ℕ) (f : Frame) (left : Option ℕ) (old new : List ℕ)
+    → IsAppended least f room left old new
     → AppendedIn room (written f) left old new
 appended_is least room f left old new a =
     let P : List ℕ → Type 0 = λ text. AppendedIn room text left old new in
     subst P (sym (written_is f a.text a.is)) a.appended
 
-within_limit : (f : Frame) (limit : ℕ) (o : Option (List ℕ)) → frame_text f ≡ o → text_fits limit o ≡ true → length (written f) ≤ limit
+within_limit : (f : Frame) (limit : ℕ) (o : Option (List ℕ)) → frame_text f ≡ o → text_fits limit o ≡ true
+    → length (written f) ≤ limit
 within_limit f limit None is fit = let wrong : false ≡ true = fit in absurd (cc)
 within_limit f limit (Some text) is fit =
     let short : length text ≤ limit = grind (arith, nat_tests) in
     omega (arith, short, ap length (written_is f text is))
 
 -- a frame that fits has room in so many bytes as the limit
-pub all_appended : (limit room : ℕ) (f : Frame) (left : Option ℕ) (old new : List ℕ) → fits limit f ≡ true → room ≡ limit
+pub all_appended : (limit room : ℕ) (f : Frame) (left : Option ℕ) (old new : List ℕ) → fits limit f ≡ true
+    → room ≡ limit
     → AppendedIn room (written f) left old new → old ≡ [] → new ≡ written f
 all_appended limit room f None old new fit is a none =
     absurd (omega (arith, a.0, is, within_limit f limit (frame_text f) refl fit))

@@ -1,5 +1,6 @@
 -- Laws of reading a frame.
-use Rattle.std.proofs.Common.{◌≡◌, ◌⊎◌, ℕ, List, [], ◌++◌, length, take, drop, append-nil, Some, inl, inr, Bool, true, false, refl, sym, ◌∙◌, ap, arith, subst, if◌then◌else◌}
+use Rattle.std.proofs.Common.{◌≡◌, ◌⊎◌, ℕ, List, [], ◌++◌, length, take, drop, append-nil, Some, inl, inr}
+use Rattle.std.proofs.Common.{Bool, true, false, refl, sym, ◌∙◌, ap, arith, subst, if◌then◌else◌}
 use Rattle.std.proofs.lemmas.List.{take-take, take-append-drop, length-take-le}
 use Rattle.std.specs.Int.{w32, from_be_bytes}
 use Rattle.amqp_session_frames.specs.declared.frame.Frame.{Frame}
@@ -160,5 +161,6 @@ module _ {S : Type 0} (does : Relations S) where
       → (events : List Event) × (before ≡ before ++ events) × TakesFront does s events new
   empty_skipped s new size channel before run p t e =
       let m : State S = record s { rest = drop size s.rest } in
-      front_taken s m new (empty_on channel) before before run (frame_split s m size (take size s.rest) (empty_on channel) p refl t refl)
+      front_taken s m new (empty_on channel) before before run
+      (frame_split s m size (take size s.rest) (empty_on channel) p refl t refl)
       (record { events = []; told = sym (append-nil before); takes = (refl, e) })

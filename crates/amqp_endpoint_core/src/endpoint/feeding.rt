@@ -195,8 +195,8 @@ impl<S: SessionRelay> Endpoint<S> {
         Ok(true)
     }
 
-    /// The channel of the frame in front, which has so many bytes, where it says nothing (part 2, 2.4.5). The peer may send
-    /// many of these, and no frame is made of them.
+    /// The channel of the frame in front, which has so many bytes, where it says nothing (part 2, 2.4.5). The peer
+    /// may send many of these, and no frame is made of them.
     fn empty_in_front(&self, size: usize) -> Option<u16>
         requires { PieceOf self.now.settings.max_frame_size self.now.rest size }
         ensures { IfSome result (λ channel. FrameText (take size self.now.rest) (empty_on channel)) }
