@@ -119,8 +119,28 @@ impl PartialEq for ByteBuf {
     ghost laws = { partial_equiv_from_equiv nat_list_eq_equiv };
 
     fn eq(&self, other: &Self) -> bool {
-        self.as_slice() == other.as_slice()
+        are_same(self.as_slice(), other.as_slice())
     }
+}
+
+/// Whether two lists hold the same bytes. Most are tags of a few bytes, for which the comparison of slices, which goes by
+/// groups of many, takes three times as long.
+fn are_same(one: &[u8], other: &[u8]) -> bool
+    ensures { result ≡ bytes_eq one.now other.now }
+{
+    let mut left = one;
+    let mut right = other;
+    while let Some((x, xs)) = left.split_first() {
+        let Some((y, ys)) = right.split_first() else {
+            return false;
+        };
+        if *x != *y {
+            return false;
+        }
+        left = xs;
+        right = ys;
+    }
+    right.is_empty()
 }
 
 impl Eq for ByteBuf {
