@@ -14,9 +14,12 @@ use std::alloc::Global;
 
 /// Cuts a message that is ready into transfers on its link's own handle, for frames of at most `limit` bytes.
 ///
+/// They stand in `spare`, whose own are dropped if it has any: where its memory is enough they take none.
+///
 /// It is refused, in this order, with `FrameTooLarge` exactly where no frame has room for a byte, and with `Memory`.
 pub(crate) fn cut(
     alloc: Global,
+    spare: Batch,
     limit: u32,
     handle: OutputHandle,
     ready: PreparedSend,
@@ -29,7 +32,7 @@ pub(crate) fn cut(
         payload,
         entry,
     } = ready;
-    let batch = transfers(alloc, limit, on_handle(handle, transfer), payload)?;
+    let batch = transfers(alloc, spare, limit, on_handle(handle, transfer), payload)?;
     Ok(PreparedBatch { batch, entry })
 }
 
@@ -45,13 +48,14 @@ fn on_handle(handle: OutputHandle, transfer: Transfer) -> Transfer
 /// The transfers of a message of which the first says this.
 fn transfers(
     alloc: Global,
+    spare: Batch,
     limit: u32,
     first: Transfer,
     payload: Bytes,
 ) -> Result<Batch, EndpointError>
     ensures { CutsTo (room_of first limit) first payload result }
 {
-    match split(alloc, first, payload, limit as usize) {
+    match split(alloc, spare, first, payload, limit as usize) {
         Ok(batch) => Ok(batch),
         Err(refusal) => Err(uncut(refusal)),
     }

@@ -75,7 +75,7 @@ fn numbers_are_read(handle: OutputHandle, message: &Sending)
 }
 
 /// A message that is ready is cut into transfers and handed to its session, and its link has sent it; answers whether
-/// it went settled.
+/// it went settled. The transfers stand in the memory of those that were sent before.
 ///
 /// It is refused, in this order, with `FrameTooLarge`, with `NumberInUse` and with `Memory`. Nothing changes then.
 fn send_ready(
@@ -94,7 +94,29 @@ fn send_ready(
     ensures kept { OnErr result ((session.new ≡ session.old) × (out.new.items ≡ out.old.items)) }
     ensures capacity { deque_capacity out.old ≤ deque_capacity out.new }
 {
-    let cut = match cut(alloc, limit, handle, ready) {
+    let spare = session.take_batch(alloc);
+    send_by(session, alloc, spare, limit, handle, ready, out)
+}
+
+/// The same, in the memory of `spare`.
+fn send_by(
+    session: &mut Session<Numbered<LinkEnd>>,
+    alloc: Global,
+    spare: Batch,
+    limit: u32,
+    handle: OutputHandle,
+    ready: PreparedSend,
+    out: &mut VecDeque<SessionFrame>,
+) -> Result<bool, EndpointError>
+    requires may { MaySend (end_in session.old handle) ready.entry }
+    requires tagged { IsSome ready.transfer.delivery_tag }
+    ensures ok { IfOk result (λ settled.
+        GoesOut limit session.old handle ready settled out.old.items session.new out.new.items) }
+    ensures err { IfErr result (StaysBehind limit session.old handle ready) }
+    ensures kept { OnErr result ((session.new ≡ session.old) × (out.new.items ≡ out.old.items)) }
+    ensures capacity { deque_capacity out.old ≤ deque_capacity out.new }
+{
+    let cut = match cut(alloc, spare, limit, handle, ready) {
         Ok(cut) => cut,
         Err(refused) => return Err(refused),
     };
@@ -124,6 +146,7 @@ fn hand_over(
 {
     let PreparedBatch { mut batch, entry } = cut;
     transfer(session, alloc, handle, &mut batch, out)?;
+    session.give_batch_back(batch);
     let settled = entry.is_none();
     commit_in(session, handle, entry);
     Ok(settled)

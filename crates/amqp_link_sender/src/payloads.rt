@@ -30,9 +30,12 @@ impl SenderLink {
     ///
     /// Errors, tested in this order: those of `prepare_send`, but for want of memory; `IllegalState` where a frame has no
     /// room for a byte of the message; `Memory`, which may stand in place of the latter. Nothing changes then.
+    ///
+    /// The transfers stand in `spare`, whose own are dropped if it has any: where its memory is enough they take none.
     pub fn send_payload(
         &mut self,
         alloc: Global,
+        spare: Batch,
         tag: DeliveryTag,
         message_format: u32,
         payload: Bytes,
@@ -48,7 +51,7 @@ impl SenderLink {
         }
         let settled = goes_settled(self.base.terms.snd_settle_mode, settled);
         let ready = PreparedSend::new(tag, message_format, payload, settled)?;
-        self.cut(alloc, ready, limit)
+        self.cut(alloc, spare, ready, limit)
     }
 
     /// Cuts a message that is ready, and makes room for it.
@@ -56,6 +59,7 @@ impl SenderLink {
     fn cut(
         &mut self,
         alloc: Global,
+        spare: Batch,
         ready: PreparedSend,
         limit: usize,
     ) -> Result<PreparedBatch, SendRefusal>
@@ -66,16 +70,19 @@ impl SenderLink {
             payload,
             entry,
         } = ready;
-        let batch = split_for(alloc, transfer, payload, limit)?;
+        let batch = split_for(alloc, spare, transfer, payload, limit)?;
         Ok(with_room(&mut self.messages, PreparedBatch { batch, entry })?)
     }
 
     /// Cuts what is sent behind this first transfer into transfers for frames of at most `limit` bytes: a message that is
     /// sent on, or an abort, which has no bytes (part 2, 2.6.13 and 2.6.14).
     ///
+    /// The transfers stand in `spare`, as those of `send_payload`.
+    ///
     /// Errors: `NoRoom` exactly where a frame has no room for a byte; `Memory`.
     pub fn send_payload_with_transfer(
         alloc: Global,
+        spare: Batch,
         transfer: Transfer,
         payload: Bytes,
         limit: usize,
@@ -86,7 +93,7 @@ impl SenderLink {
         ensures only { IfErr result (λ e. (e ≡ SplitRefusal.Memory)
             ⊎ ((e ≡ SplitRefusal.NoRoom) × (room_of transfer limit ≡ None))) }
     {
-        split(alloc, transfer, payload, limit)
+        split(alloc, spare, transfer, payload, limit)
     }
 }
 
@@ -94,13 +101,14 @@ impl SenderLink {
 #[tactic(auto, using(crate::proofs::Cutting::splitting))]
 fn split_for(
     alloc: Global,
+    spare: Batch,
     first: Transfer,
     payload: Bytes,
     limit: usize,
 ) -> Result<Batch, SendRefusal>
     ensures { Splitting (room_of first limit) first payload result }
 {
-    match split(alloc, first, payload, limit) {
+    match split(alloc, spare, first, payload, limit) {
         Ok(batch) => Ok(batch),
         Err(error) => Err(SendRefusal::from(error)),
     }

@@ -45,9 +45,12 @@ impl From<AllocError> for SplitRefusal {
 /// of four bytes, since its session is still to write that. Each transfer carries as much as one of that size leaves,
 /// and only the last one less; an empty payload is one transfer. Later transfers carry the handle and `more` alone.
 ///
+/// They stand in `spare`, whose own are dropped if it has any: where its memory is enough they take none.
+///
 /// It is refused with `NoRoom` exactly where a frame has no room for a byte of the payload, and with `Memory`.
 pub fn split(
     alloc: Global,
+    spare: Batch,
     first: Transfer,
     payload: Bytes,
     limit: usize,
@@ -62,7 +65,7 @@ pub fn split(
     let Some(room) = payload_room(&mut first, limit) else {
         return Err(SplitRefusal::NoRoom);
     };
-    Ok(cut(alloc, first, payload, room)?)
+    Ok(cut(alloc, spare, first, payload, room)?)
 }
 
 /// How many bytes of the payload each transfer may carry. None where there is no room for one.
@@ -106,30 +109,43 @@ fn left(limit: usize, size: usize) -> Option<usize>
 
 /// Cuts a payload into transfers of at most so many bytes.
 #[tactic(auto, using(crate::proofs::Splits::is_whole))]
-fn cut(alloc: Global, first: Transfer, payload: Bytes, room: usize) -> Result<Batch, AllocError>
+fn cut(
+    alloc: Global,
+    spare: Batch,
+    first: Transfer,
+    payload: Bytes,
+    room: usize,
+) -> Result<Batch, AllocError>
     requires { 0 < room }
     ensures { IfOk result (λ batch. Splits first payload room batch) }
 {
     if payload.len() <= room {
-        return Ok(whole(alloc, first, payload)?);
+        return Ok(whole(alloc, spare, first, payload)?);
     }
-    cut_up(alloc, first, payload, room)
+    cut_up(alloc, spare, first, payload, room)
 }
 
 /// The one transfer of a payload that isn't cut.
 #[inline(always)]
-fn whole(alloc: Global, first: Transfer, payload: Bytes) -> Result<Batch, AllocError>
+fn whole(alloc: Global, spare: Batch, first: Transfer, payload: Bytes) -> Result<Batch, AllocError>
     ensures { IfOk result (λ batch. batch ≡ first_of (record first { more = false }) payload ∷ []) }
 {
     let mut first = first;
     first.more = false;
-    let mut alone = Batch::new(alloc);
+    let mut alone = spare;
+    alone.clear();
     alone.push_first(alloc, first, payload)?;
     Ok(alone)
 }
 
 /// Cuts a payload into a first transfer and those behind it.
-fn cut_up(alloc: Global, first: Transfer, payload: Bytes, room: usize) -> Result<Batch, AllocError>
+fn cut_up(
+    alloc: Global,
+    spare: Batch,
+    first: Transfer,
+    payload: Bytes,
+    room: usize,
+) -> Result<Batch, AllocError>
     requires { 0 < room }
     ensures { IfOk result (λ batch. Splits first payload room batch) }
 {
@@ -138,7 +154,8 @@ fn cut_up(alloc: Global, first: Transfer, payload: Bytes, room: usize) -> Result
     let handle = first.handle;
     let front = rest.split_to(rest.len().min(room))?;
     first.more = is_left(&rest);
-    let mut batch = Batch::new(alloc);
+    let mut batch = spare;
+    batch.clear();
     batch.push_first(alloc, first, front)?;
     push_rest(alloc, &mut batch, handle, rest, room)?;
     Ok(batch)

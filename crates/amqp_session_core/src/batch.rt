@@ -80,8 +80,16 @@ impl Batch {
         self.transfers.is_empty()
     }
 
+    /// Drops all transfers. The memory stays, for others.
+    pub fn clear(&mut self)
+        ensures { self.new ≡ [] }
+    {
+        self.transfers.clear();
+    }
+
     /// Puts the first transfer of a delivery last. It leaves settled where it says so, and where it gives the delivery
     /// up (part 2, 2.7.5). It is refused where there is no memory, and nothing changes then.
+    #[inline(always)]
     pub fn push_first(
         &mut self,
         alloc: Global,

@@ -107,6 +107,7 @@ pub(crate) fn take_begin(
 
 impl SessionFields {
     /// The frames of what left, in order. There is room for them. Answers whether a Flow is among them.
+    #[inline(always)]
     pub(crate) fn hand_out(
         self,
         sent: &mut Vec<Sent<TransferFrame, BehindFrame>>,

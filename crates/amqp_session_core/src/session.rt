@@ -1,8 +1,8 @@
 //! A session over links of one type.
-ghost use Rattle.std.specs.Prelude.{◌≡◌};
+ghost use Rattle.std.specs.Prelude.{◌≡◌, []};
 ghost use Rattle.amqp_session_core.specs.State.{fresh};
 
-use crate::batch::{BehindFrame, TransferFrame};
+use crate::batch::{Batch, BehindFrame, TransferFrame};
 use crate::fields::SessionFields;
 use crate::routes::Routes;
 use crate::state::SessionState;
@@ -12,6 +12,7 @@ use amqp_session_unsettled::Unsettled;
 use slab::Slab;
 use std::alloc::Global;
 use std::marker::Model;
+use std::mem;
 
 /// A session over links of one type (part 2, 2.5): its state, its windows, its links by their handles, what waits for
 /// the peer's window, and the deliveries that aren't settled.
@@ -37,6 +38,8 @@ pub struct Session<R> {
     pub(crate) received: Unsettled,
     /// Room for the answer to a Flow behind what its link has waiting: it is used again.
     pub(crate) place: Place<BehindFrame>,
+    /// A batch that was given back: its memory is used again.
+    pub(crate) spare: Batch,
 }
 
 impl<R> Model for Session<R> {
@@ -82,6 +85,25 @@ impl<R> Session<R> {
             sent: Vec::new(alloc),
             received: Unsettled::new(alloc),
             place: Place::none(),
+            spare: Batch::new(alloc),
         }
+    }
+
+    /// A batch without transfers, for those of a link. It has the memory of one that was given back, where there is one,
+    /// so that to fill it may take none.
+    pub fn take_batch(&mut self, alloc: Global) -> Batch
+        ensures empty { result ≡ [] }
+        ensures same { self.new ≡ self.old }
+    {
+        let mut batch = mem::replace(&mut self.spare, Batch::new(alloc));
+        batch.clear();
+        batch
+    }
+
+    /// Takes a batch back, whose transfers are dropped if it has any, so that its memory is used again.
+    pub fn give_batch_back(&mut self, batch: Batch)
+        ensures { self.new ≡ self.old }
+    {
+        self.spare = batch;
     }
 }

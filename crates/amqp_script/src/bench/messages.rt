@@ -9,6 +9,7 @@ use amqp_link::{Resolution, Told};
 use amqp_session::{Accepted, Batch, DeliveryState, DeliveryTag, Transfer};
 use bytes::Bytes;
 use std::alloc::Global;
+use std::mem;
 
 impl Bench {
     /// So many deliveries are put together and carried: the ends have no part in it.
@@ -27,6 +28,7 @@ impl Bench {
         for number in 0..count {
             let batch = self.send(alloc, number, settled)?;
             add(&mut self.counts.transfers, batch.len());
+            self.pair.spare = batch;
         }
         Ok(())
     }
@@ -81,7 +83,9 @@ impl Bench {
             settled: Some(settled),
             payload: self.payload.clone()?,
         };
-        send_on_link(&mut self.pair.sender, alloc, message, self.pair.limit)
+        let spare = mem::replace(&mut self.pair.spare, Batch::new(alloc));
+        let limit = self.pair.limit;
+        send_on_link(&mut self.pair.sender, alloc, spare, message, limit)
     }
 
     /// A message is sent and taken by the receiver. The answer is its tag where it comes whole.
@@ -92,7 +96,9 @@ impl Bench {
         settled: bool,
     ) -> Result<Option<DeliveryTag>, Fault> {
         let mut batch = self.send(alloc, number, settled)?;
-        self.carry_and_take(alloc, &mut batch)
+        let tag = self.carry_and_take(alloc, &mut batch)?;
+        self.pair.spare = batch;
+        Ok(tag)
     }
 
     /// The first message that waits is sent on and taken by the receiver.

@@ -5,7 +5,7 @@ use crate::content::number_of_tag;
 use crate::fault::Fault;
 use crate::frame::Frame;
 use amqp_link::{Abort, End, LinkBase, LinkEnd, LinkFlowStateInner, ReceiverLink, SenderLink};
-use amqp_session::{DeliveryTag, ReceiverSettleMode, Role, Unsettled};
+use amqp_session::{Batch, DeliveryTag, ReceiverSettleMode, Role, Unsettled};
 use bytes::Bytes;
 use serde_amqp::Text;
 use std::alloc::{AllocError, Global};
@@ -82,6 +82,8 @@ pub struct Pair {
     pub messages: Vec<(u32, Bytes)>,
     /// How many bytes a frame may have.
     pub limit: u32,
+    /// What was sent last, whose memory is used again.
+    pub spare: Batch,
 }
 
 impl Drop for Pair {
@@ -93,6 +95,7 @@ impl Drop for Pair {
             aborts: _,
             messages: _,
             limit: _,
+            spare: _,
         } = self;
     }
 }
@@ -121,6 +124,7 @@ impl Pair {
             aborts: VecDeque::new(alloc),
             messages: Vec::new(alloc),
             limit: LIMIT,
+            spare: Batch::new(alloc),
         })
     }
 

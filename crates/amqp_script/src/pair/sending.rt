@@ -80,15 +80,17 @@ pub fn send(pair: &mut Pair, alloc: Global, message: Message) -> Result<usize, F
     let number = message.number;
     let kept = message.payload.clone()?;
     let limit = pair.limit;
-    let mut batch = send_on_link(&mut pair.sender, alloc, message, limit)?;
+    let spare = Batch::new(alloc);
+    let mut batch = send_on_link(&mut pair.sender, alloc, spare, message, limit)?;
     pair.messages.push((number, kept))?;
     carry(pair, alloc, &mut batch)
 }
 
-/// The link takes a message as sent, and hands its transfers out.
+/// The link takes a message as sent, and hands its transfers out, in the memory of `spare`.
 pub fn send_on_link(
     side: &mut Side,
     alloc: Global,
+    spare: Batch,
     message: Message,
     limit: u32,
 ) -> Result<Batch, Fault> {
@@ -99,20 +101,30 @@ pub fn send_on_link(
         payload,
     } = message;
     let tag = tag_of(alloc, number)?;
-    send_ready(side.sender()?, alloc, tag, format, payload, settled, limit)
+    send_ready(
+        side.sender()?,
+        alloc,
+        spare,
+        tag,
+        format,
+        payload,
+        settled,
+        limit,
+    )
 }
 
 /// The same, with its tag.
 fn send_ready(
     link: &mut SenderLink,
     alloc: Global,
+    spare: Batch,
     tag: DeliveryTag,
     format: u32,
     payload: Bytes,
     settled: Option<bool>,
     limit: u32,
 ) -> Result<Batch, Fault> {
-    match link.send_payload(alloc, tag, format, payload, settled, limit as usize) {
+    match link.send_payload(alloc, spare, tag, format, payload, settled, limit as usize) {
         Ok(PreparedBatch { batch, entry }) => {
             link.commit_send(entry);
             Ok(batch)
@@ -151,7 +163,13 @@ fn cut_on(alloc: Global, prepared: PreparedSendOn, limit: u32) -> Result<Batch, 
 }
 
 fn cut(alloc: Global, first: Transfer, payload: Bytes, limit: u32) -> Result<Batch, Fault> {
-    match SenderLink::send_payload_with_transfer(alloc, first, payload, limit as usize) {
+    match SenderLink::send_payload_with_transfer(
+        alloc,
+        Batch::new(alloc),
+        first,
+        payload,
+        limit as usize,
+    ) {
         Ok(batch) => Ok(batch),
         Err(refusal) => Err(Fault::from(refusal)),
     }

@@ -23,7 +23,7 @@ returns c =
     c.in_ok-push_rest.ensures.1 ∙ ap (λ (l : Transfers). l ++ c.in_ok-push_rest.ensures.0)
     (c.in_ok-push_first.ensures.ok
     ∙ ap (λ (l : Transfers). l ++ first_of (record c.args.first { more = c.is_left.result }) front ∷ [])
-    c.new-batch.ensures
+    c.clear.ensures
     ∙ ap (λ (b : Bool). first_of (record c.args.first { more = b }) front ∷ []) c.is_left.ensures) in
     let P : Transfers → Type 0 = λ l. Splits c.args.first c.args.payload c.args.room l in
     subst P (sym all) (split-of c.args.first c.args.payload front left c.min.result c.args.room

@@ -1,5 +1,5 @@
 use Rattle.amqp_endpoint_sending.proofs.Handing.{cut_may, cut_tagged, stays_uncut, stays_untaken}
-use Rattle.amqp_endpoint_sending.proofs.sending.send_ready.Goals as goal
+use Rattle.amqp_endpoint_sending.proofs.sending.send_by.Goals as goal
 
 pub hand_over-requires-clause-may : goal.hand_over-requires-clause-may
 hand_over-requires-clause-may c =
