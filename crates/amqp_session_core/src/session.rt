@@ -14,6 +14,9 @@ use std::alloc::Global;
 use std::marker::Model;
 use std::mem;
 
+/// How many transfers a batch has room for at most whose memory is kept.
+const SPARE: usize = 64;
+
 /// A session over links of one type (part 2, 2.5): its state, its windows, its links by their handles, what waits for
 /// the peer's window, and the deliveries that aren't settled.
 ///
@@ -100,10 +103,13 @@ impl<R> Session<R> {
         batch
     }
 
-    /// Takes a batch back, whose transfers are dropped if it has any, so that its memory is used again.
+    /// Takes a batch back, whose transfers are dropped if it has any, so that its memory is used again; but where that is
+    /// of many transfers, it is given up.
     pub fn give_batch_back(&mut self, batch: Batch)
         ensures { self.new ≡ self.old }
     {
-        self.spare = batch;
+        if batch.transfers.capacity() <= SPARE {
+            self.spare = batch;
+        }
     }
 }
