@@ -1,18 +1,21 @@
 -- Entries of deliveries: looked up, entered and changed.
-use Rattle.std.proofs.Common.{◌≡◌, ℕ, List, [], ◌∷◌, ◌++◌, Bool, true, false, cond, Option, None, Some, IsSome, ap, sym, ◌∙◌, refl, subst}
-use Rattle.std.specs.Map.{lookup, remove_entry, set_value}
+use Rattle.std.proofs.Common.{◌≡◌, ℕ, List, [], ◌∷◌, Bool, true, false, cond, Option, None, Some, IsSome, ap, ◌∙◌, refl}
+use Rattle.std.specs.Map.{lookup, set_value}
 use Rattle.std.specs.Str.{bytes_eq}
 use Rattle.std.proofs.lemmas.Map.Steps.{set_value_same}
 use Rattle.amqp_session_types.specs.declared.modes.ReceiverSettleMode.{ReceiverSettleMode}
 use Rattle.amqp_link_receiving.specs.declared.attachment.Attachment.{Attachment}
 use Rattle.amqp_link_receiving.specs.declared.entry.Entry.{Entry}
 use Rattle.amqp_link_receiving.specs.declared.entry.Entry.TheVariants.{Half, Whole}
-use Rattle.amqp_link_receiving.specs.declared.entry.WholeMessage.{WholeMessage}
-use Rattle.amqp_link_receiving.specs.Deliveries.{Delivery, Entries, found}
+use Rattle.amqp_link_receiving.specs.declared.entry.Note.TheVariants.{Named, Numbered, Told}
+use Rattle.amqp_link_receiving.specs.Deliveries.{Entries, found}
 use Rattle.amqp_session_states.specs.declared.delivery_state.DeliveryState.{DeliveryState}
-use Rattle.amqp_link_receiving.specs.Numbering.{message_named, named, named_at}
-use Rattle.amqp_link_receiving.specs.Disposing.{told_of, with_state, with_state_at}
-use Rattle.amqp_link_receiving.specs.Steps.{numbered, renumbered_as, renumbered_from}
+use Rattle.amqp_link_receiving.specs.Disposing.{with_state, with_state_at}
+use Rattle.amqp_link_receiving.specs.Notes.{noted_of}
+use Rattle.amqp_link_receiving.specs.Numbering.{message_named, named_at}
+use Rattle.amqp_link_receiving.specs.Receiving.{without}
+use Rattle.amqp_link_receiving.specs.Steps.{renumbered_as, renumbered_from}
+use Rattle.amqp_link_unsettled.specs.Entries.{changed, changed_at}
 
 -- the last of two values stays
 pub set-twice : (test : List ℕ → Bool) (es : Entries) (v w : Entry) → set_value test (set_value test es v) w ≡ set_value test es w
@@ -34,50 +37,53 @@ lookup-set test (e ∷ es) w some = by (test e.0) refl some (lookup-set test es 
     by true h s rest = ap (λ (c : Bool). cond c (Some w) (lookup test es)) h
     by false h s rest = ap (λ (c : Bool). cond c (Some e.1) (lookup test (set_value test es w))) h ∙ rest s
 
--- what is put twice
-pub put-found : (test : List ℕ → Bool) (es es' : Entries) (v w : Entry) → lookup test es ≡ Some v → es' ≡ set_value test es w → IsSome (lookup test es')
-put-found test es es' v w e at =
-    let P : Entries → Type 0 = λ l. IsSome (lookup test l) in
-    let Q : Option Entry → Type 0 = λ o. IsSome o in
-    subst P (sym at) (subst Q (sym (lookup-set test es w (subst Q (sym e) refl))) refl)
-
 pub put-over : (test : List ℕ → Bool) (es one two : Entries) (v w : Entry) → one ≡ set_value test es v → two ≡ set_value test one w → two ≡ set_value test es w
 put-over test es one two v w a b = b ∙ ap (λ (l : Entries). set_value test l w) a ∙ set-twice test es v w
-
-pub renumbers : (att : Attachment) (es one two : Entries) (tag : List ℕ) (number : ℕ) (mode : Option ReceiverSettleMode) (earlier v w : Entry)
-    → lookup (bytes_eq tag) es ≡ Some earlier → one ≡ set_value (bytes_eq tag) es v → w ≡ numbered att earlier number mode → two ≡ set_value (bytes_eq tag) one w
-    → two ≡ renumbered_as att es tag number mode
-renumbers att es one two tag number mode (Whole m) v w e a is b =
-    put-over (bytes_eq tag) es one two v w a b ∙ ap (λ (x : Entry). set_value (bytes_eq tag) es x) is
-    ∙ sym (ap (λ (o : Option Entry). renumbered_from att es tag number mode o) e)
-renumbers att es one two tag number mode (Half kept) v w e a is b =
-    put-over (bytes_eq tag) es one two v w a b ∙ ap (λ (x : Entry). set_value (bytes_eq tag) es x) is
-    ∙ set_value_same (bytes_eq tag) es (Half kept) e
-    ∙ sym (ap (λ (o : Option Entry). renumbered_from att es tag number mode o) e)
-
-pub tells : (es one two : Entries) (tag : List ℕ) (state : DeliveryState) (earlier v w : Entry)
-    → lookup (bytes_eq tag) es ≡ Some earlier → one ≡ set_value (bytes_eq tag) es v → w ≡ told_of earlier state → two ≡ set_value (bytes_eq tag) one w
-    → two ≡ with_state es tag state
-tells es one two tag state (Whole m) v w e a is b =
-    put-over (bytes_eq tag) es one two v w a b ∙ ap (λ (x : Entry). set_value (bytes_eq tag) es x) is
-    ∙ sym (ap (λ (o : Option Entry). with_state_at es tag state o) e)
-tells es one two tag state (Half kept) v w e a is b =
-    put-over (bytes_eq tag) es one two v w a b ∙ ap (λ (x : Entry). set_value (bytes_eq tag) es x) is
-    ∙ set_value_same (bytes_eq tag) es (Half kept) e
-    ∙ sym (ap (λ (o : Option Entry). with_state_at es tag state o) e)
 
 -- a value that was taken out is put back
 pub set_value_back : (test : List ℕ → Bool) (es one two : Entries) (v w : Entry) → lookup test es ≡ Some w → one ≡ set_value test es v → two ≡ set_value test one w → two ≡ es
 set_value_back test es one two v w e a b = put-over test es one two v w a b ∙ set_value_same test es w e
 
--- a message bears its number, once its entry was taken out and put back so
-pub names : (es one two : Entries) (tag : List ℕ) (message : ℕ) (earlier v w : Entry)
-    → lookup (bytes_eq tag) es ≡ Some earlier → one ≡ set_value (bytes_eq tag) es v → w ≡ named earlier message
-    → two ≡ set_value (bytes_eq tag) one w → two ≡ message_named es tag message
-names es one two tag message (Whole m) v w e a is b =
-    put-over (bytes_eq tag) es one two v w a b ∙ ap (λ (x : Entry). set_value (bytes_eq tag) es x) is
-    ∙ sym (ap (λ (o : Option Entry). named_at es tag message o) e)
-names es one two tag message (Half kept) v w e a is b =
-    put-over (bytes_eq tag) es one two v w a b ∙ ap (λ (x : Entry). set_value (bytes_eq tag) es x) is
-    ∙ set_value_same (bytes_eq tag) es (Half kept) e
-    ∙ sym (ap (λ (o : Option Entry). named_at es tag message o) e)
+-- what is noted of the delivery with a tag, note by note
+module _ (es after : Entries) (tag : List ℕ) where
+  pub names : (message : ℕ) → after ≡ changed (λ e. noted_of e (Named message)) tag es
+      → after ≡ message_named es tag message
+  names message is = is ∙ by (found es tag) refl
+    where
+      by : (o : Option Entry) → found es tag ≡ o
+          → changed_at (λ e. noted_of e (Named message)) tag es o ≡ named_at es tag message o
+      by None e = refl
+      by (Some (Whole m)) e = refl
+      by (Some (Half kept)) e = set_value_same (bytes_eq tag) es (Half kept) e
+
+  pub tells : (state : DeliveryState) → after ≡ changed (λ e. noted_of e (Told state)) tag es
+      → after ≡ with_state es tag state
+  tells state is = is ∙ by (found es tag) refl
+    where
+      by : (o : Option Entry) → found es tag ≡ o
+          → changed_at (λ e. noted_of e (Told state)) tag es o ≡ with_state_at es tag state o
+      by None e = refl
+      by (Some (Whole m)) e = refl
+      by (Some (Half kept)) e = set_value_same (bytes_eq tag) es (Half kept) e
+
+  pub renumbers : (att : Attachment) (number : ℕ) (mode : Option ReceiverSettleMode)
+      → after ≡ changed (λ e. noted_of e (Numbered att.count number mode)) tag es
+      → after ≡ renumbered_as att es tag number mode
+  renumbers att number mode is = is ∙ by (found es tag) refl
+    where
+      by : (o : Option Entry) → found es tag ≡ o
+          → changed_at (λ e. noted_of e (Numbered att.count number mode)) tag es o
+          ≡ renumbered_from att es tag number mode o
+      by None e = refl
+      by (Some (Whole m)) e = refl
+      by (Some (Half kept)) e = set_value_same (bytes_eq tag) es (Half kept) e
+
+-- where there is none nothing is taken out
+pub none_taken : (es : Entries) (tag : List ℕ) → found es tag ≡ None → es ≡ without es tag
+none_taken [] tag none = refl
+none_taken (e ∷ es) tag none = by (bytes_eq tag e.0) none (none_taken es tag)
+  where
+    by : (b : Bool) → cond b (Some e.1) (found es tag) ≡ None → (found es tag ≡ None → es ≡ without es tag)
+        → e ∷ es ≡ cond b es (e ∷ without es tag)
+    by true h rest = absurd cc
+    by false h rest = ap (λ (l : Entries). e ∷ l) (rest h)

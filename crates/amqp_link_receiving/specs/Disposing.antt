@@ -31,11 +31,6 @@ disposable count None = Err NotKept
 disposable count (Some (Half kept)) = Err NotAssociated
 disposable count (Some (Whole m)) = if is_final m.state then Err AlreadyDisposed else numbered_in count m
 
--- a message with the state that is told of it
-abbrev pub told_of : Entry → DeliveryState → Entry
-told_of (Whole m) state = Whole (record m { state = Some state })
-told_of (Half kept) state = Half kept
-
 -- the state is told of a message that is kept
 abbrev pub with_state_at : Entries → List ℕ → DeliveryState → Option Entry → Entries
 with_state_at entries tag state (Some (Whole m)) =

@@ -6,3 +6,4 @@ pub mod Readings
 pub mod Disposing
 pub mod Numbering
 pub mod Listed
+pub mod Notes

@@ -6,11 +6,6 @@ use Rattle.amqp_link_receiving.specs.declared.entry.Entry.{Entry}
 use Rattle.amqp_link_receiving.specs.declared.entry.Entry.TheVariants.{Half, Whole}
 use Rattle.amqp_link_receiving.specs.Deliveries.{Entries, found}
 
--- a message under a number of its owner's
-abbrev pub named : Entry → ℕ → Entry
-named (Whole m) message = Whole (record m { message = Some message })
-named (Half kept) message = Half kept
-
 -- the message with a tag, where it is there whole, bears this number from now on
 abbrev pub named_at : Entries → List ℕ → ℕ → Option Entry → Entries
 named_at entries tag message (Some (Whole m)) =

@@ -29,11 +29,6 @@ IsHalf (Some (Half kept)) = Unit {0}
 IsHalf entry = ⊥
 
 -- a message under a number
-abbrev pub numbered : Attachment → Entry → ℕ → Option ReceiverSettleMode → Entry
-numbered attachment (Whole m) number mode =
-    Whole (record m { number = number; attachment = attachment.count; rcv_settle_mode = mode })
-numbered attachment (Half kept) number mode = Half kept
-
 abbrev pub renumbered_from : Attachment → Entries → List ℕ → ℕ → Option ReceiverSettleMode → Option Entry → Entries
 renumbered_from attachment entries tag number mode (Some (Whole m)) =
     set_value (bytes_eq tag) entries

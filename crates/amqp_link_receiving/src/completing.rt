@@ -1,6 +1,6 @@
 //! The last transfers of deliveries (part 2, 2.6.14).
 ghost use Rattle.std.specs.Prelude.{◌≡◌, ◌^◌, ◌<◌, ◌↔◌, [], length, take, true, Some, None, IfOk, IsTrue, Ok, Err};
-ghost use Rattle.std.specs.Prelude.{OnErr};
+ghost use Rattle.std.specs.Prelude.{false, OnErr};
 ghost use Rattle.amqp_link_types.specs.declared.refusals.ReceiverTransferError.TheVariants.{Memory};
 ghost use Rattle.amqp_link_receiving.specs.Deliveries.{begun, delivery_of, fresh, found, joined, kept_bytes, resumed};
 ghost use Rattle.amqp_link_receiving.specs.Deliveries.{resumption, with_last};
@@ -14,7 +14,7 @@ use crate::entry::{Entry, WholeMessage};
 use crate::head::{Head, Start, start_of};
 use crate::incoming::Incoming;
 use crate::message_bytes::MessageBytes;
-use crate::noting::{enter, make_room, renumber};
+use crate::noting::{enter, fresh_key, make_room, renumber};
 use crate::resuming::{Resumption, front_size, how_resumed, joined_from};
 use amqp_link_place::Gathered;
 use amqp_link_types::ReceiverTransferError;
@@ -47,7 +47,7 @@ pub(crate) fn finish(
     }
     let registering = settled_by(held.settled, settled, held.delivery_id);
     let whole = held.completed_with(alloc, head, payload)?;
-    complete(alloc, attachment, unsettled, registering, whole)
+    complete(attachment, unsettled, registering, whole)
 }
 
 /// Takes a delivery of one transfer.
@@ -66,13 +66,12 @@ pub(crate) fn take_whole(
     if start.resume {
         return resume_whole(alloc, attachment, unsettled, start, payload);
     }
-    take_fresh(alloc, attachment, unsettled, start, payload)
+    take_fresh(attachment, unsettled, start, payload)
 }
 
 /// Takes a delivery of one transfer that isn't known.
 #[tactic(auto, using(crate::proofs::Alone::among_none))]
 fn take_fresh(
-    alloc: Global,
     attachment: Attachment,
     unsettled: &mut UnsettledMap<Entry>,
     start: Start,
@@ -96,12 +95,7 @@ fn take_fresh(
     if attachment.is_passed(0, payload.len() as u64) {
         return Err(ReceiverTransferError::MessageSizeExceeded);
     }
-    file(
-        alloc,
-        attachment,
-        unsettled,
-        start.with_bytes(payload, false),
-    )
+    file_fresh(attachment, unsettled, start.with_bytes(payload, false))
 }
 
 /// Whether no delivery is unsettled.
@@ -138,9 +132,35 @@ fn take_settled(
     })
 }
 
+/// Takes a delivery that isn't known and is complete at once.
+#[tactic(auto, using(crate::proofs::Entering::none_taken))]
+fn file_fresh(
+    attachment: Attachment,
+    unsettled: &mut UnsettledMap<Entry>,
+    delivery: Incoming<Bytes>,
+) -> Result<Answer, ReceiverTransferError>
+    requires short { length delivery.payload < 2 ^ 32 }
+    requires absent { found unsettled.old.entries delivery.delivery_tag ≡ None }
+    requires begins { delivery.joins ≡ false }
+    ensures { Completes attachment None unsettled.old.entries (Ok delivery) result
+        unsettled.new.entries }
+{
+    let registering = registered(
+        delivery.settled,
+        delivery.delivery_id,
+        &delivery.delivery_tag,
+    )?;
+    if delivery.settled {
+        return Ok(handed_out(registering, delivery));
+    }
+    let key = fresh_key(unsettled, &delivery.delivery_tag)?;
+    let whole = whole_of(attachment, &delivery)?;
+    unsettled.insert_reserved(key, Entry::Whole(whole));
+    Ok(handed_out(registering, delivery))
+}
+
 /// Takes a delivery that begins and is complete at once.
 fn file(
-    alloc: Global,
     attachment: Attachment,
     unsettled: &mut UnsettledMap<Entry>,
     delivery: Incoming<Bytes>,
@@ -154,7 +174,7 @@ fn file(
         delivery.delivery_id,
         &delivery.delivery_tag,
     )?;
-    complete(alloc, attachment, unsettled, registering, delivery)
+    complete(attachment, unsettled, registering, delivery)
 }
 
 /// Resumes a delivery whose last transfer this is.
@@ -174,26 +194,20 @@ fn resume_whole(
         return Err(ReceiverTransferError::IllegalRcvSettleModeInTransfer);
     }
     match how {
-        Resumption::Joins => file(
-            alloc,
-            attachment,
-            unsettled,
-            start.with_bytes(Bytes::new(), true),
-        ),
+        Resumption::Joins => file(attachment, unsettled, start.with_bytes(Bytes::new(), true)),
         Resumption::From(at) => {
             let size = front_size(unsettled, &start.delivery_tag, at);
             if attachment.is_passed(size, payload.len() as u64) {
                 return Err(ReceiverTransferError::MessageSizeExceeded);
             }
             let whole = joined_from(alloc, unsettled, &start.delivery_tag, at, &payload)?;
-            file(alloc, attachment, unsettled, start.with_bytes(whole, false))
+            file(attachment, unsettled, start.with_bytes(whole, false))
         }
     }
 }
 
 /// A delivery is complete: its message is handed out, and kept where it isn't settled.
 fn complete(
-    alloc: Global,
     attachment: Attachment,
     unsettled: &mut UnsettledMap<Entry>,
     registering: Registering,
@@ -210,14 +224,7 @@ fn complete(
     if delivery.joins {
         let number = delivery.delivery_id;
         let mode = delivery.rcv_settle_mode;
-        renumber(
-            alloc,
-            attachment,
-            unsettled,
-            &delivery.delivery_tag,
-            number,
-            mode,
-        );
+        renumber(attachment, unsettled, &delivery.delivery_tag, number, mode);
         return Ok(handed_out(registering, delivery));
     }
     let key = make_room(unsettled, &delivery.delivery_tag, false)?;

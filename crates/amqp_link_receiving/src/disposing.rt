@@ -2,15 +2,12 @@
 ghost use Rattle.std.specs.Prelude.{◌≡◌, if◌then◌else◌};
 ghost use Rattle.amqp_link_receiving.specs.declared.disposing.DisposeRefusal.TheVariants.{AlreadyDisposed};
 ghost use Rattle.amqp_link_receiving.specs.Deliveries.{found};
-ghost use Rattle.amqp_link_receiving.specs.Disposing.{disposable, is_final, numbered_in, told_of, with_state};
+ghost use Rattle.amqp_link_receiving.specs.Disposing.{disposable, is_final, numbered_in, with_state};
 
-use crate::entry::{Entry, WholeMessage};
-use crate::noting::put;
-use amqp_link_place::Gathered;
+use crate::entry::{Entry, Note, WholeMessage};
 use amqp_link_unsettled::UnsettledMap;
 use amqp_session_states::DeliveryState;
 use amqp_session_types::{DeliveryTag, ReceiverSettleMode};
-use std::alloc::Global;
 use thiserror::Error;
 
 /// Why a delivery can't be disposed of.
@@ -79,32 +76,8 @@ fn is_final(state: &Option<DeliveryState>) -> bool
 }
 
 /// Notes the state that is told of a message.
-pub(crate) fn tell(
-    alloc: Global,
-    unsettled: &mut UnsettledMap<Entry>,
-    tag: &DeliveryTag,
-    state: DeliveryState,
-)
+pub(crate) fn tell(unsettled: &mut UnsettledMap<Entry>, tag: &DeliveryTag, state: DeliveryState)
     ensures { unsettled.new.entries ≡ with_state unsettled.old.entries tag.now state }
 {
-    match unsettled.get(tag) {
-        Some(Entry::Whole(_)) => {}
-        _ => return,
-    }
-    let earlier = unsettled.replace(tag, Entry::Half(Gathered::new(alloc)));
-    let entry = told(earlier, state);
-    put(unsettled, tag, entry);
-}
-
-/// A message with the state that is told of it.
-fn told(entry: Entry, state: DeliveryState) -> Entry
-    ensures { result ≡ told_of entry state }
-{
-    match entry {
-        Entry::Whole(message) => Entry::Whole(WholeMessage {
-            state: Some(state),
-            ..message
-        }),
-        Entry::Half(kept) => Entry::Half(kept),
-    }
+    unsettled.note_where_kept(tag, Note::Told(state));
 }

@@ -20,7 +20,7 @@ mod state;
 pub use answer::{Answer, Message, Registering, Told};
 pub use attachment::Attachment;
 pub use disposing::{Disposable, DisposeRefusal};
-pub use entry::{Entry, WholeMessage};
+pub use entry::{Entry, Note, WholeMessage};
 pub use head::{Head, Start};
 pub use incoming::Incoming;
 pub use message_bytes::MessageBytes;

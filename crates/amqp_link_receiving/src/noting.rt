@@ -1,14 +1,14 @@
 //! How deliveries are entered among the unsettled ones (part 2, 2.6.12).
-ghost use Rattle.std.specs.Prelude.{◌≡◌, ◌<◌, ◌||◌, [], IsSome, IfOk, false, if◌then◌else◌};
+ghost use Rattle.std.specs.Prelude.{◌≡◌, ◌<◌, ◌||◌, [], IsSome, IfOk, OnOk, false, if◌then◌else◌};
 ghost use Rattle.std.specs.Map.{set_value};
 ghost use Rattle.std.specs.Str.{bytes_eq};
 ghost use Rattle.amqp_link_receiving.specs.Deliveries.{found};
 ghost use Rattle.amqp_link_receiving.specs.declared.entry.Entry.TheVariants.{Half};
 ghost use Rattle.amqp_link_receiving.specs.Receiving.{entered, noted, without};
-ghost use Rattle.amqp_link_receiving.specs.Steps.{key_of, numbered, renumbered_as};
+ghost use Rattle.amqp_link_receiving.specs.Steps.{key_of, renumbered_as};
 
 use crate::attachment::Attachment;
-use crate::entry::{Entry, WholeMessage};
+use crate::entry::{Entry, Note};
 use crate::incoming::Incoming;
 use amqp_link_place::Gathered;
 use amqp_link_unsettled::UnsettledMap;
@@ -32,9 +32,21 @@ pub(crate) fn make_room(
     if unsettled.contains(tag) {
         return Ok(None);
     }
+    Ok(Some(fresh_key(unsettled, tag)?))
+}
+
+/// A key for a delivery that has no entry and is to be entered, and room for it.
+pub(crate) fn fresh_key(
+    unsettled: &mut UnsettledMap<Entry>,
+    tag: &DeliveryTag,
+) -> Result<DeliveryTag, AllocError>
+    ensures entries { unsettled.new.entries ≡ unsettled.old.entries }
+    ensures key { IfOk result (λ key. key ≡ tag.now) }
+    ensures room { OnOk result (0 < unsettled.new.room) }
+{
     let key = tag.clone()?;
     unsettled.reserve(1)?;
-    Ok(Some(key))
+    Ok(key)
 }
 
 /// Enters a delivery for which there is room: in the place of its entry, or behind the others.
@@ -64,7 +76,6 @@ pub(crate) fn put(unsettled: &mut UnsettledMap<Entry>, tag: &DeliveryTag, entry:
 
 /// Gives a message that is there whole the number of its delivery in the present attachment.
 pub(crate) fn renumber(
-    alloc: Global,
     attachment: Attachment,
     unsettled: &mut UnsettledMap<Entry>,
     tag: &DeliveryTag,
@@ -74,33 +85,12 @@ pub(crate) fn renumber(
     ensures { unsettled.new.entries ≡ renumbered_as attachment unsettled.old.entries tag.now number
         rcv_settle_mode }
 {
-    match unsettled.get(tag) {
-        Some(Entry::Whole(_)) => {}
-        _ => return,
-    }
-    let earlier = unsettled.replace(tag, Entry::Half(Gathered::new(alloc)));
-    let entry = numbered(attachment, earlier, number, rcv_settle_mode);
-    put(unsettled, tag, entry);
-}
-
-/// A message under this number.
-fn numbered(
-    attachment: Attachment,
-    entry: Entry,
-    number: u32,
-    rcv_settle_mode: Option<ReceiverSettleMode>,
-) -> Entry
-    ensures { result ≡ numbered attachment entry number rcv_settle_mode }
-{
-    match entry {
-        Entry::Whole(message) => Entry::Whole(WholeMessage {
-            number,
-            attachment: attachment.count,
-            rcv_settle_mode,
-            ..message
-        }),
-        Entry::Half(kept) => Entry::Half(kept),
-    }
+    let note = Note::Numbered {
+        attachment: attachment.count,
+        number,
+        rcv_settle_mode,
+    };
+    unsettled.note_where_kept(tag, note);
 }
 
 /// Notes that transfers of a delivery are coming in: where it is settled nothing is kept of it.
@@ -125,7 +115,7 @@ pub(crate) fn note(
     if delivery.joins {
         let number = delivery.delivery_id;
         let mode = delivery.rcv_settle_mode;
-        renumber(alloc, attachment, unsettled, tag, number, mode);
+        renumber(attachment, unsettled, tag, number, mode);
         return;
     }
     enter(unsettled, key, tag, Entry::Half(Gathered::new(alloc)));

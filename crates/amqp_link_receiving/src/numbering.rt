@@ -1,43 +1,16 @@
 //! The numbers that the owner of a link gives the messages that it was handed.
 ghost use Rattle.std.specs.Prelude.{◌≡◌, option_copied};
-ghost use Rattle.amqp_link_receiving.specs.Numbering.{bears, is_number, message_named, named, tag_of};
+ghost use Rattle.amqp_link_receiving.specs.Numbering.{bears, is_number, message_named, tag_of};
 
-use crate::entry::{Entry, WholeMessage};
-use crate::noting::put;
-use amqp_link_place::Gathered;
+use crate::entry::{Entry, Note};
 use amqp_link_unsettled::{Iter, UnsettledMap};
 use amqp_session_types::DeliveryTag;
-use std::alloc::Global;
 
 /// The message with a tag bears this number from now on, where it is there whole.
-pub(crate) fn name(
-    alloc: Global,
-    unsettled: &mut UnsettledMap<Entry>,
-    tag: &DeliveryTag,
-    message: u64,
-)
+pub(crate) fn name(unsettled: &mut UnsettledMap<Entry>, tag: &DeliveryTag, message: u64)
     ensures { unsettled.new.entries ≡ message_named unsettled.old.entries tag.now message }
 {
-    match unsettled.get(tag) {
-        Some(Entry::Whole(_)) => {}
-        _ => return,
-    }
-    let earlier = unsettled.replace(tag, Entry::Half(Gathered::new(alloc)));
-    let entry = named(earlier, message);
-    put(unsettled, tag, entry);
-}
-
-/// A message under this number.
-fn named(entry: Entry, message: u64) -> Entry
-    ensures { result ≡ named entry message }
-{
-    match entry {
-        Entry::Whole(whole) => Entry::Whole(WholeMessage {
-            message: Some(message),
-            ..whole
-        }),
-        Entry::Half(kept) => Entry::Half(kept),
-    }
+    unsettled.note_where_kept(tag, Note::Named(message));
 }
 
 /// The tag of the first message that bears this number.

@@ -239,7 +239,7 @@ impl ReceivingEnd {
     /// noted. It takes no memory.
     pub fn dispose_reserved(
         &mut self,
-        alloc: Global,
+        _alloc: Global,
         tag: &DeliveryTag,
         settled: bool,
         state: DeliveryState,
@@ -250,16 +250,16 @@ impl ReceivingEnd {
             let _ = self.unsettled.remove(tag);
             return;
         }
-        tell(alloc, &mut self.unsettled, tag, state);
+        tell(&mut self.unsettled, tag, state);
     }
 
     /// The message with a tag bears this number of its owner's from now on, where it has come whole and is unsettled.
     /// It takes no memory.
-    pub fn number_message(&mut self, alloc: Global, tag: &DeliveryTag, message: u64)
+    pub fn number_message(&mut self, _alloc: Global, tag: &DeliveryTag, message: u64)
         ensures { self.new ≡ record self.old
             { unsettled = message_named self.old.unsettled tag.now message } }
     {
-        name(alloc, &mut self.unsettled, tag, message);
+        name(&mut self.unsettled, tag, message);
     }
 
     /// The tag of the unsettled message that bears this number of its owner's, of the first of them if more than one

@@ -37,6 +37,18 @@ module _ {M : Type 0} where
       by true rest e = absurd cc
       by false rest e = rest e
 
+  -- where each tag has a value, those that are looked up among the values are all
+  pub all-there : (test : List ℕ → Bool) (es : List (List ℕ × Option M)) → length (live es) ≡ length es
+      → lookup test (live es) ≡ None → lookup test es ≡ None
+  all-there test [] full none = refl
+  all-there test ((t, None) ∷ es) full none = absurd (omega (arith, full, live-short es))
+  all-there test ((t, Some m) ∷ es) full none = by (test t) (all-there test es (omega (arith, full))) none
+    where
+      by : (b : Bool) → (lookup test (live es) ≡ None → lookup test es ≡ None) → cond b (Some m) (lookup test (live es)) ≡ None
+          → cond b (Some (Some m)) (lookup test es) ≡ None
+      by true rest e = absurd cc
+      by false rest e = rest e
+
   -- a tag that isn't there has no value
   none_live : (test : List ℕ → Bool) (es : List (List ℕ × Option M)) → NonePasses test es → lookup test (live es) ≡ None
   none_live test [] none = refl

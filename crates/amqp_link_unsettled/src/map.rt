@@ -8,7 +8,7 @@ ghost use Rattle.std.specs.Map.Iter.{ShowsInOrder, deref_pair};
 ghost use Rattle.std.specs.Option.{option_to_list};
 ghost use Rattle.std.specs.Str.{bytes_eq};
 ghost use Rattle.indexmap.specs.IndexMap.{index_map_len, spare};
-ghost use Rattle.amqp_link_unsettled.specs.Entries.{live};
+ghost use Rattle.amqp_link_unsettled.specs.Entries.{changed, live};
 
 use crate::iter::Iter;
 use amqp_session_types::DeliveryTag;
@@ -116,12 +116,23 @@ impl<M: Drop> UnsettledMap<M> {
     }
 
     /// Notes something of the delivery with this tag, which there must be.
+    #[tactic(auto, using(crate::proofs::Noted::changed_some))]
     pub fn note(&mut self, tag: &DeliveryTag, note: M::Note)
     where
         M: Noting,
         requires { IsSome (lookup (bytes_eq tag.now) self.old.entries) }
         ensures { IfSome (lookup (bytes_eq tag.now) self.old.entries) (λ m. self.new
             ≡ record self.old { entries = set_value (bytes_eq tag.now) self.old.entries (M.noted m note) }) }
+    {
+        self.note_where_kept(tag, note);
+    }
+
+    /// Notes something of the delivery with this tag, if there is one.
+    pub fn note_where_kept(&mut self, tag: &DeliveryTag, note: M::Note)
+    where
+        M: Noting,
+        ensures { self.new ≡ record self.old
+            { entries = changed (λ m. M.noted m note) tag.now self.old.entries } }
     {
         note_in(&mut self.slots, tag, note);
     }
@@ -161,7 +172,7 @@ impl<M: Drop> UnsettledMap<M> {
           room = self.old.room - 1;
         } }
     {
-        enter(&mut self.slots, tag, message);
+        enter(&mut self.slots, self.count, tag, message);
         self.count += 1;
         self.room -= 1;
     }
@@ -222,25 +233,35 @@ impl<M: Drop> UnsettledMap<M> {
     }
 }
 
-/// Enters a delivery behind the others.
-fn enter<M: Drop>(slots: &mut IndexMap<DeliveryTag, Option<M>>, tag: DeliveryTag, message: M)
+/// Enters a delivery behind the others, of which there are so many.
+fn enter<M: Drop>(
+    slots: &mut IndexMap<DeliveryTag, Option<M>>,
+    count: usize,
+    tag: DeliveryTag,
+    message: M,
+)
+    requires count { count ≡ length (live slots.old.entries) }
     requires room { 0 < spare slots.old }
     requires absent { lookup (bytes_eq tag) (live slots.old.entries) ≡ None }
     ensures entries { live slots.new.entries ≡ live slots.old.entries ++ (tag, message) ∷ [] }
     ensures room { spare slots.old ≤ spare slots.new + 1 }
     ensures fits { length (live slots.new.entries) < 2 ^ 63 }
 {
-    forget(slots, &tag);
+    forget(slots, count, &tag);
     push(slots, tag, message);
 }
 
-/// Sees to it that a tag without a value isn't there at all.
-fn forget<M: Drop>(slots: &mut IndexMap<DeliveryTag, Option<M>>, tag: &DeliveryTag)
+/// Sees to it that a tag without a value isn't there at all. It is looked for only where some tag has none.
+fn forget<M: Drop>(slots: &mut IndexMap<DeliveryTag, Option<M>>, count: usize, tag: &DeliveryTag)
+    requires count { count ≡ length (live slots.old.entries) }
     requires absent { lookup (bytes_eq tag.now) (live slots.old.entries) ≡ None }
     ensures entries { live slots.new.entries ≡ live slots.old.entries }
     ensures gone { lookup (bytes_eq tag.now) slots.new.entries ≡ None }
     ensures room { spare slots.old ≤ spare slots.new }
 {
+    if slots.len() == count {
+        return;
+    }
     if !slots.contains_key(tag) {
         return;
     }
@@ -282,22 +303,21 @@ fn exchange<M: Drop>(
     slot.replace(message).unwrap()
 }
 
-/// Notes something of the value of a tag, which has one.
+/// Notes something of the value of a tag, if it has one.
 #[tactic(auto, using(crate::proofs::Live::rules))]
 fn note_in<M: Noting + Drop>(
     slots: &mut IndexMap<DeliveryTag, Option<M>>,
     tag: &DeliveryTag,
     note: M::Note,
 )
-    requires { IsSome (lookup (bytes_eq tag.now) (live slots.old.entries)) }
-    ensures entries { IfSome (lookup (bytes_eq tag.now) (live slots.old.entries)) (λ m. live slots.new.entries
-        ≡ set_value (bytes_eq tag.now) (live slots.old.entries) (M.noted m note)) }
+    ensures entries { live slots.new.entries
+        ≡ changed (λ m. M.noted m note) tag.now (live slots.old.entries) }
     ensures room { spare slots.new ≡ spare slots.old }
 {
     let Some(slot) = slots.get_mut(tag) else {
-        unreachable!()
+        return;
     };
-    let Some(message) = slot else { unreachable!() };
+    let Some(message) = slot else { return };
     message.note(note);
 }
 

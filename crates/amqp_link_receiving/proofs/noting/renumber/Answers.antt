@@ -1,18 +1,11 @@
 use Rattle.std.proofs.Common.{ap}
-use Rattle.std.specs.Str.{bytes_eq}
 use Rattle.amqp_link_unsettled.specs.Entries.{Kept}
 use Rattle.amqp_link_receiving.specs.declared.entry.Entry.{Entry}
-use Rattle.amqp_link_receiving.specs.declared.entry.Entry.TheVariants.{Half}
-use Rattle.amqp_link_receiving.proofs.Entering.{put-found, renumbers}
+use Rattle.amqp_link_receiving.proofs.Entering.{renumbers}
 use Rattle.amqp_link_receiving.proofs.noting.renumber.Goals as goal
-
-pub put-requires : goal.put-requires
-put-requires c =
-    put-found (bytes_eq c.args.tag.now) c.args.unsettled.now.entries c.replace-earlier.new.self.entries c.replace-earlier.result (Half c.new.result) c.replace-earlier.ensures.earlier
-    (ap (λ (k : Kept Entry). k.entries) c.replace-earlier.ensures.entries)
 
 pub returns : goal.returns
 returns c =
-    renumbers c.args.attachment c.args.unsettled.now.entries c.replace-earlier.new.self.entries c.put.new.unsettled.entries c.args.tag.now c.args.number c.args.rcv_settle_mode
-    c.replace-earlier.result (Half c.new.result) c.numbered-entry.result c.replace-earlier.ensures.earlier
-    (ap (λ (k : Kept Entry). k.entries) c.replace-earlier.ensures.entries) c.numbered-entry.ensures c.put.ensures
+    renumbers c.args.unsettled.now.entries c.note_where_kept.new.self.entries c.args.tag.now c.args.attachment
+    c.args.number c.args.rcv_settle_mode
+    (ap (λ (k : Kept Entry). k.entries) c.note_where_kept.ensures)
