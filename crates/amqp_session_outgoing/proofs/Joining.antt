@@ -1,15 +1,14 @@
 -- Where a link's transfers wait.
 use Rattle.std.proofs.Common.{◌≡◌, ◌≢◌, ℕ, ◌<◌, ◌≤◌, suc, zero, List, [], ◌∷◌, ◌++◌, length, arith, Bool, true, false, length-append, refl, sym, ap, ◌∙◌, Option, Some, None}
 use Rattle.std.proofs.lemmas.List.Elements.{All-head, All-tail}
-use Rattle.std.specs.Prelude.{Result, Ok, Err, OnOk, OnErr, map, slice_index_or, slice_set, ◌==◌, ◌+◌, if◌then◌else◌}
+use Rattle.std.specs.Prelude.{Result, Ok, Err, OnOk, OnErr, All, slice_index_or, slice_set, ◌==◌, ◌+◌, if◌then◌else◌}
 use Rattle.std.proofs.lemmas.Grind.{common_steps}
 use Rattle.amqp_session_outgoing.specs.Frames.{last_room}
 use Rattle.amqp_session_outgoing.specs.Nodes.{values_of, HoldValues}
 use Rattle.amqp_session_outgoing.proofs.Noding.{value-at, values-length}
-use Rattle.amqp_session_outgoing.specs.Queues.{Queues, joined, followed, trailed, units_of, room_behind, held_in, turn_of}
-use Rattle.amqp_session_types.specs.declared.handles.OutputHandle.{OutputHandle}
+use Rattle.amqp_session_outgoing.specs.Queues.{Queues, joined, followed, trailed, units_of, room_behind, held_in}
 use Rattle.amqp_session_outgoing.proofs.Numbering.{firsts-followed}
-use Rattle.amqp_session_outgoing.specs.Fields.{queues_of, EachWaits, IsPlace, IsNowhere, ChangesAt}
+use Rattle.amqp_session_outgoing.specs.Fields.{queues_of}
 use Rattle.amqp_session_outgoing.specs.declared.frames.Outbound.{Outbound}
 use Rattle.amqp_session_outgoing.specs.declared.turns.Queue.{Queue}
 
@@ -22,39 +21,28 @@ on_err (Ok x) f p = tt
 on_err (Err e) f p = f p
 
 module _ {T F : Type 0} where
-  pub queues_of-same : (items : List (Queue T F)) (i : ℕ) (q d : Queue T F)
-      → i < length items → q.handle ≡ (slice_index_or items i d).handle
-      → q.units ≡ (slice_index_or items i d).units
-      → queues_of (slice_set items i q) ≡ queues_of items
-  queues_of-same [] i q d lt same more = absurd (omega arith)
-  queues_of-same (x ∷ xs) zero q d lt same more = grind (arith, common_steps)
-  queues_of-same (x ∷ xs) (suc i) q d lt same more =
-      let rest : queues_of (slice_set xs i q) ≡ queues_of xs = queues_of-same xs i q d (omega arith) same more in
-      grind (arith, common_steps)
+  -- each link in the turn has something waiting
+  abbrev pub EachWaits : List (Queue T F) → Type 0
+  EachWaits items = All (λ q. 0 < length q.units) items
 
-  default : (items : List (Queue T F)) (i : ℕ) (d f : Queue T F) → i < length items → slice_index_or items i d ≡ slice_index_or items i f
-  default [] i d f lt = absurd (omega arith)
-  default (x ∷ items) zero d f lt = refl
-  default (x ∷ items) (suc i) d f lt = default items i d f (omega arith)
+  -- the link with this handle stands at this place of the turn
+  pub record IsPlace (items : List (Queue T F)) (handle i : ℕ) : Type 0 where
+    pub within : i < length items
+    pub before : (k : ℕ) (d : Queue T F) → k < i → ((slice_index_or items k d).handle).0 ≢ handle
+    pub found : Queue T F
+    pub here : ((slice_index_or items i found).handle).0 ≡ handle
 
-  -- a queue written back at its place with other transfers
-  pub changes : (items : List (Queue T F)) (i : ℕ) (change : List (Outbound T F) → List (Outbound T F)) (now : Queue T F) (units : List (Outbound T F))
-      → i < length items → now ≡ slice_index_or items i now → units ≡ change now.units
-      → ChangesAt items i change (slice_set items i (record { handle = now.handle; units = units }))
-  changes items i change now units lt is more =
-      let q : Queue T F = record { handle = now.handle; units = units } in
-      let e : now ≡ slice_index_or items i q = is ∙ default items i now q lt in
-      record {
-        queue = q;
-        changed = refl;
-        handle = ap (λ (x : Queue T F). x.handle) e;
-        units = more ∙ ap (λ (x : Queue T F). change x.units) e;
-      }
+  -- no link with this handle stands in the turn
+  pub record IsNowhere (items : List (Queue T F)) (handle : ℕ) : Type 0 where
+    pub other : (k : ℕ) (d : Queue T F) → k < length items → ((slice_index_or items k d).handle).0 ≢ handle
 
-  -- and with the same ones
-  pub unchanged : (items : List (Queue T F)) (i : ℕ) (now q : Queue T F) → i < length items → now ≡ slice_index_or items i now
-      → q.handle ≡ now.handle → q.units ≡ now.units → queues_of (slice_set items i q) ≡ queues_of items
-  unchanged items i now q lt is handle same = queues_of-same items i q now lt (handle ∙ ap (λ (x : Queue T F). x.handle) is) (same ∙ ap (λ (x : Queue T F). x.units) is)
+  -- the transfers of the link at this place became others, and nothing else changed
+  pub record ChangesAt (old : List (Queue T F)) (i : ℕ) (change : List (Outbound T F) → List (Outbound T F))
+      (new : List (Queue T F)) : Type 0 where
+    pub queue : Queue T F
+    pub changed : new ≡ slice_set old i queue
+    pub handle : queue.handle ≡ (slice_index_or old i queue).handle
+    pub units : queue.units ≡ change (slice_index_or old i queue).units
 
   -- room behind the last
   pub last-room-is : (count : ℕ) (units : List (Outbound T F)) (i : ℕ) (d : Outbound T F) → length units ≡ i + 1 → last_room count units ≡ length (slice_index_or units i d).behind + count
@@ -185,9 +173,6 @@ module _ {T F : Type 0} where
   pub room-at : (count : ℕ) (items : List (Queue T F)) (i handle : ℕ) (d : Queue T F) → IsPlace items handle i → room_behind handle count (queues_of items) ≡ last_room count (slice_index_or items i d).units
   room-at count items i handle d p = ap (λ (us : List (Outbound T F)). last_room count us) (units-at items i handle d p)
 
-  pub room-nowhere : (count : ℕ) (items : List (Queue T F)) (handle : ℕ) → IsNowhere items handle → room_behind handle count (queues_of items) ≡ 0
-  room-nowhere count items handle n = ap (λ (us : List (Outbound T F)). last_room count us) (units-none items handle n.other)
-
   pub waits-nowhere : (items : List (Queue T F)) (handle : ℕ) → IsNowhere items handle → units_of handle (queues_of items) ≡ []
   waits-nowhere items handle n = units-none items handle n.other
 
@@ -219,9 +204,4 @@ module _ {T F : Type 0} where
       let rest : held_in (followed handle frame queues) ≡ held_in queues = held-followed handle frame queues in
       held-case (q.0 == handle) _ _ _ (omega (arith, trailed-length frame q.1)) (omega arith)
 
-  -- the counts of the links in turn
-  pub counted : (items : List (Queue T F)) → map (λ (q : Queue T F). (q.handle, length q.units)) items ≡ turn_of (queues_of items)
-  counted [] = refl
-  counted (q ∷ items) = ap (λ (xs : List (OutputHandle × ℕ)). (q.handle, length q.units) ∷ xs) (counted items)
-
-pub ruleset rules = (joined-at, joined-last, followed-at, waits-at, waits-nowhere, held-joined, held-followed, firsts-followed, on_ok, on_err)
+pub ruleset rules = (held-joined, held-followed, firsts-followed, on_ok, on_err)

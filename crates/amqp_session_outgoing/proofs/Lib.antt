@@ -3,6 +3,7 @@ pub mod Turning
 pub mod Passing
 pub mod Joining
 pub mod Standing
+pub mod Changing
 pub mod Numbering
 pub mod Order
 pub mod Counting

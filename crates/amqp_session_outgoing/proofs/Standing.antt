@@ -1,19 +1,17 @@
--- Where the links stand that wait.
-use Rattle.std.proofs.Common.{◌≡◌, ◌≢◌, ◌⊎◌, inl, inr, ℕ, ◌+◌, ◌%◌, ◌^◌, ◌<◌, zero, suc, Bool, true, false}
-use Rattle.std.proofs.Common.{true≢false, cond, List, [], ◌∷◌, ◌++◌, length, drop, arith, nat_eq, is_some, Option}
-use Rattle.std.proofs.Common.{Some, None, refl, sym, ap, subst, ◌∙◌}
-use Rattle.std.specs.Prelude.{map, option_map, slice_index_or, unwrap_or, slice_set, IfSome, IfNone, IsSome, Result}
-use Rattle.std.specs.Prelude.{Ok, Err, OnOk, OnErr}
-use Rattle.std.specs.Map.{lookup}
+-- Where the queues of the links stand that wait.
+use Rattle.std.proofs.Common.{◌≡◌, ◌≢◌, ◌⊎◌, inl, inr, ℕ, ◌+◌, ◌<◌, ◌≤◌, ◌↔◌, zero, suc, Bool, true, false, true≢false}
+use Rattle.std.proofs.Common.{cond, List, [], ◌∷◌, ◌++◌, length, arith, nat_eq, is_some, Option, Some, None, refl, sym}
+use Rattle.std.proofs.Common.{ap, subst, ◌∙◌}
+use Rattle.std.specs.Prelude.{option_map, slice_index_or, slice_set, unwrap_or, IsSome, if◌then◌else◌, ◌==◌, All}
 use Rattle.std.proofs.lemmas.Bool.Decides.{eqb_tells}
-use Rattle.amqp_session_types.specs.declared.handles.OutputHandle.{OutputHandle}
+use Rattle.slab.specs.Slab.{Slab, get}
 use Rattle.amqp_session_outgoing.specs.Queues.{Queues}
-use Rattle.amqp_session_outgoing.specs.Fields.{queues_of, IsPlace, IsNowhere, ChangesAt}
-use Rattle.amqp_session_outgoing.specs.Positions.{distance, one_before, position_of, handles_in, AreNoted}
-use Rattle.amqp_session_outgoing.specs.declared.frames.Outbound.{Outbound}
-use Rattle.amqp_session_outgoing.specs.declared.positions.Positions.{Positions}
+use Rattle.amqp_session_outgoing.specs.Fields.{queues_at, queues_of, waiting_at, put_before, handle_at}
+use Rattle.amqp_session_outgoing.specs.Fields.{AllWait}
+use Rattle.amqp_session_outgoing.specs.Spots.{times, AreNoted}
 use Rattle.amqp_session_outgoing.specs.declared.turns.Queue.{Queue}
-use Rattle.amqp_session_outgoing.proofs.Order.{same_or_other}
+use Rattle.amqp_session_outgoing.proofs.Joining.{IsPlace, IsNowhere}
+use Rattle.amqp_session_outgoing.proofs.Order.{same_or_other, if_same, if_other}
 
 some-is : (a b : ℕ) → Some a ≡ Some b → a ≡ b
 some-is a b e = ap (λ (o : Option ℕ). unwrap_or o 0) e
@@ -21,319 +19,371 @@ some-is a b e = ap (λ (o : Option ℕ). unwrap_or o 0) e
 none-is : (a : ℕ) → None ≡ Some a → ⊥
 none-is a e = true≢false (sym (ap (λ (o : Option ℕ). is_some o) e))
 
-small-of : (first i : ℕ) (found : Option ℕ) → option_map (distance first) found ≡ Some i → i < 2 ^ 64
-small-of first i None e = absurd (none-is i e)
-small-of first i (Some n) e = omega (arith, some-is (distance first n) i e)
+abbrev pub one-if : Bool → ℕ
+one-if b = if b then 1 else 0
 
--- positions are small numbers
-pub small : (p : Positions) (handle i : ℕ) → position_of p handle ≡ Some i → i < 2 ^ 64
-small p handle i e = small-of p.first i (lookup (nat_eq handle) p.numbers.entries) e
+times-append : (spot : ℕ) (xs ys : List ℕ) → times spot (xs ++ ys) ≡ times spot xs + times spot ys
+times-append spot [] ys = omega arith
+times-append spot (x ∷ xs) ys = omega (arith, times-append spot xs ys)
 
-at-front : (xs : List ℕ) (x i : ℕ) → i < length xs → slice_index_or (xs ++ x ∷ []) i 0 ≡ slice_index_or xs i 0
-at-front [] x i lt = absurd (omega arith)
-at-front (y ∷ xs) x zero lt = refl
-at-front (y ∷ xs) x (suc i) lt = at-front xs x i (omega arith)
+times-here : (spot first : ℕ) (turn : List ℕ) → first ≡ spot → times spot (first ∷ turn) ≡ 1 + times spot turn
+times-here spot first turn e =
+    let one : one-if (first == spot) ≡ 1 = if_same first spot 1 0 e in
+    omega (arith, one)
 
-at-end : (xs : List ℕ) (x i : ℕ) → i ≡ length xs → slice_index_or (xs ++ x ∷ []) i 0 ≡ x
-at-end [] x zero e = refl
-at-end [] x (suc i) e = absurd (omega (arith, e))
-at-end (y ∷ xs) x zero e = absurd (omega (arith, e))
-at-end (y ∷ xs) x (suc i) e = at-end xs x i (omega (arith, e))
+times-other : (spot first : ℕ) (turn : List ℕ) → first ≢ spot → times spot (first ∷ turn) ≡ times spot turn
+times-other spot first turn n =
+    let none : one-if (first == spot) ≡ 0 = if_other first spot 1 0 n in
+    omega (arith, none)
 
-length-push : (xs : List ℕ) (x : ℕ) → length (xs ++ x ∷ []) ≡ length xs + 1
-length-push [] x = refl
-length-push (y ∷ xs) x = let rest : length (xs ++ x ∷ []) ≡ length xs + 1 = length-push xs x in omega (arith, rest)
+-- a spot that goes to the end stands in the turn as often
+pub times-turned : (spot first : ℕ) (turn : List ℕ) → times spot (turn ++ first ∷ []) ≡ times spot (first ∷ turn)
+times-turned spot first turn = omega (arith, times-append spot turn (first ∷ []))
 
--- nothing is noted of a turn in which no link stands
-pub noted-none : (g : ℕ → Option ℕ) → ((handle : ℕ) → g handle ≡ None) → AreNoted g []
-noted-none g none =
-    record {
-      each = λ i lt. absurd (omega (arith, lt));
-      within = λ handle i e. absurd (none-is i (sym (none handle) ∙ e));
-      only = λ handle i e. absurd (none-is i (sym (none handle) ∙ e));
-    }
-
--- the same positions elsewhere
-pub noted-same : (g new : ℕ → Option ℕ) (turn : List ℕ) → ((handle : ℕ) → new handle ≡ g handle) → AreNoted g turn
-    → AreNoted new turn
-noted-same g new turn same a =
-    record {
-      each = λ i lt. same (slice_index_or turn i 0) ∙ a.each i lt;
-      within = λ handle i e. a.within handle i (sym (same handle) ∙ e);
-      only = λ handle i e. a.only handle i (sym (same handle) ∙ e);
-    }
-
--- a link joins at the end
-module _ (g new : ℕ → Option ℕ) (key : ℕ) (turn : List ℕ) (a : AreNoted g turn) (none : g key ≡ None)
-    (is : (other : ℕ) → new other ≡ cond (nat_eq key other) (Some (length turn)) (g other)) where
-  push-at : (other : ℕ) → key ≡ other → new other ≡ Some (length turn)
-  push-at other e = elim (eqb_tells key other) [
-    | inl p ↦ is other ∙ ap (λ (b : Bool). cond b (Some (length turn)) (g other)) p.0
+-- what is noted somewhere at one key and elsewhere as before
+module _ {X : Type 0} (old new : ℕ → Option X) (key : ℕ) (at : Option X)
+    (is : (other : ℕ) → new other ≡ cond (nat_eq key other) at (old other)) where
+  noted-at : (other : ℕ) → key ≡ other → new other ≡ at
+  noted-at other e = elim (eqb_tells key other) [
+    | inl p ↦ is other ∙ ap (λ (b : Bool). cond b at (old other)) p.0
     | inr p ↦ absurd (p.1 e)
   ]
 
-  push-other : (other : ℕ) → key ≢ other → new other ≡ g other
-  push-other other n = elim (eqb_tells key other) [
+  noted-other : (other : ℕ) → key ≢ other → new other ≡ old other
+  noted-other other n = elim (eqb_tells key other) [
     | inl p ↦ absurd (n p.1)
-    | inr p ↦ is other ∙ ap (λ (b : Bool). cond b (Some (length turn)) (g other)) p.0
+    | inr p ↦ is other ∙ ap (λ (b : Bool). cond b at (old other)) p.0
   ]
 
-  push-each : (i : ℕ) → i < length (turn ++ key ∷ []) → new (slice_index_or (turn ++ key ∷ []) i 0) ≡ Some i
-  push-each i lt = elim (same_or_other i (length turn)) [
+-- nothing is noted where no link waits
+pub noted-none : (h n : ℕ → Option ℕ) → ((spot : ℕ) → h spot ≡ None) → ((handle : ℕ) → n handle ≡ None)
+    → AreNoted h [] n
+noted-none h n vacant none =
+    record {
+      once = λ spot. ap (λ (o : Option ℕ). one-if (is_some o)) (sym (vacant spot));
+      each = λ spot handle e. absurd (none-is handle (sym (vacant spot) ∙ e));
+      only = λ spot handle e. absurd (none-is spot (sym (none handle) ∙ e));
+    }
+
+-- the same is noted
+pub noted-same : (h now n m : ℕ → Option ℕ) (turn later : List ℕ) → ((spot : ℕ) → now spot ≡ h spot)
+    → ((spot : ℕ) → times spot later ≡ times spot turn) → ((handle : ℕ) → m handle ≡ n handle)
+    → AreNoted h turn n → AreNoted now later m
+noted-same h now n m turn later same often told a =
+    record {
+      once = λ spot. often spot ∙ a.once spot ∙ ap (λ (o : Option ℕ). one-if (is_some o)) (sym (same spot));
+      each = λ spot handle e. told handle ∙ a.each spot handle (sym (same spot) ∙ e);
+      only = λ spot handle e. same spot ∙ a.only spot handle (sym (told handle) ∙ e);
+    }
+
+one-at-most : (b : Bool) → one-if b ≤ 1
+one-at-most true = omega arith
+one-at-most false = omega arith
+
+-- the first spot of the turn doesn't stand in the rest
+pub times-behind : (h : ℕ → Option ℕ) (spot : ℕ) (rest : List ℕ) (n : ℕ → Option ℕ) → AreNoted h (spot ∷ rest) n
+    → times spot rest ≡ 0
+times-behind h spot rest n a =
+    omega (arith, times-here spot spot rest refl, a.once spot, one-at-most (is_some (h spot)))
+
+-- a spot of the turn
+times-some : (turn : List ℕ) (k d : ℕ) → k < length turn → 0 < times (slice_index_or turn k d) turn
+times-some [] k d lt = absurd (omega (arith, lt))
+times-some (first ∷ turn) zero d lt = omega (arith, times-here first first turn refl)
+times-some (first ∷ turn) (suc k) d lt =
+    let some : 0 < times (slice_index_or turn k d) turn = times-some turn k d (omega (arith, lt)) in
+    omega (arith, some)
+
+-- a link joins the turn at a spot that was vacant
+module _ (h now n m : ℕ → Option ℕ) (turn : List ℕ) (spot key : ℕ) (a : AreNoted h turn n) (vacant : h spot ≡ None)
+    (unknown : n key ≡ None) (here : now spot ≡ Some key) (others : (s : ℕ) → s ≢ spot → now s ≡ h s)
+    (told : (other : ℕ) → m other ≡ cond (nat_eq key other) (Some spot) (n other)) where
+  joined-once : (s : ℕ) → times s (turn ++ spot ∷ []) ≡ one-if (is_some (now s))
+  joined-once s = elim (same_or_other spot s) [
     | inl e ↦
-        ap (λ (h : ℕ). new h) (at-end turn key i e) ∙ push-at key refl ∙ ap (λ (n : ℕ). Some n) (sym e)
-    | inr n ↦
-        let here : i < length turn = omega (arith, n, lt, length-push turn key) in
-        let apart : key ≢ slice_index_or turn i 0 = λ e. none-is i (sym none ∙ ap (λ (h : ℕ). g h) e ∙ a.each i here) in
-        ap (λ (h : ℕ). new h) (at-front turn key i here) ∙ push-other (slice_index_or turn i 0) apart ∙ a.each i here
+        let before : times s turn ≡ 0 = a.once s ∙ ap (λ (x : ℕ). one-if (is_some (h x))) (sym e)
+        ∙ ap (λ (o : Option ℕ). one-if (is_some o)) vacant in
+        let after : one-if (is_some (now s)) ≡ 1 = ap (λ (x : ℕ). one-if (is_some (now x))) (sym e)
+        ∙ ap (λ (o : Option ℕ). one-if (is_some o)) here in
+        omega (arith, before, after, times-append s turn (spot ∷ []), times-here s spot [] e)
+    | inr ne ↦
+        let same : one-if (is_some (now s)) ≡ one-if (is_some (h s)) =
+        ap (λ (o : Option ℕ). one-if (is_some o)) (others s (λ e. ne (sym e))) in
+        omega (arith, a.once s, same, times-append s turn (spot ∷ []), times-other s spot [] ne)
   ]
 
-  push-back : (handle i : ℕ) → new handle ≡ Some i → (i < length (turn ++ key ∷ []))
-      × (slice_index_or (turn ++ key ∷ []) i 0 ≡ handle)
-  push-back handle i e = elim (same_or_other key handle) [
-    | inl s ↦
-        let last : i ≡ length turn = some-is i (length turn) (sym e ∙ push-at handle s) in
-        (omega (arith, last, length-push turn key), at-end turn key i last ∙ s)
-    | inr n ↦
-        let was : g handle ≡ Some i = sym (push-other handle n) ∙ e in
-        let here : i < length turn = a.within handle i was in
-        (omega (arith, here, length-push turn key), at-front turn key i here ∙ a.only handle i was)
+  joined-each : (s handle : ℕ) → now s ≡ Some handle → m handle ≡ Some s
+  joined-each s handle e = elim (same_or_other s spot) [
+    | inl i ↦
+        let same : key ≡ handle = some-is key handle (sym here ∙ ap (λ (x : ℕ). now x) (sym i) ∙ e) in
+        noted-at n m key (Some spot) told handle same ∙ ap (λ (x : ℕ). Some x) (sym i)
+    | inr o ↦
+        let was : n handle ≡ Some s = a.each s handle (sym (others s o) ∙ e) in
+        let apart : key ≢ handle = λ i. none-is s (sym unknown ∙ ap (λ (x : ℕ). n x) i ∙ was) in
+        noted-other n m key (Some spot) told handle apart ∙ was
   ]
 
-  pub noted-pushed : AreNoted new (turn ++ key ∷ [])
-  noted-pushed = record {
-    each = push-each;
-    within = λ handle i e. (push-back handle i e).0;
-    only =
-        λ handle i e. (push-back handle i e).1;
-  }
-
--- the first link goes
-module _ (g new : ℕ → Option ℕ) (key : ℕ) (rest : List ℕ) (a : AreNoted g (key ∷ rest))
-    (few : (handle i : ℕ) → g handle ≡ Some i → i < 2 ^ 64)
-    (is : (other : ℕ) → new other ≡ cond (nat_eq key other) None (option_map one_before (g other))) where
-  pop-at : (other : ℕ) → key ≡ other → new other ≡ None
-  pop-at other e = elim (eqb_tells key other) [
-    | inl p ↦ is other ∙ ap (λ (b : Bool). cond b None (option_map one_before (g other))) p.0
-    | inr p ↦ absurd (p.1 e)
+  joined-only : (s handle : ℕ) → m handle ≡ Some s → now s ≡ Some handle
+  joined-only s handle e = elim (same_or_other key handle) [
+    | inl i ↦
+        let same : spot ≡ s = some-is spot s (sym (noted-at n m key (Some spot) told handle i) ∙ e) in
+        ap (λ (x : ℕ). now x) (sym same) ∙ here ∙ ap (λ (x : ℕ). Some x) i
+    | inr o ↦
+        let was : h s ≡ Some handle =
+        a.only s handle (sym (noted-other n m key (Some spot) told handle o) ∙ e) in
+        let apart : s ≢ spot = λ i. none-is handle (sym vacant ∙ ap (λ (x : ℕ). h x) (sym i) ∙ was) in
+        others s apart ∙ was
   ]
 
-  pop-other : (other : ℕ) → key ≢ other → new other ≡ option_map one_before (g other)
-  pop-other other n = elim (eqb_tells key other) [
-    | inl p ↦ absurd (n p.1)
-    | inr p ↦ is other ∙ ap (λ (b : Bool). cond b None (option_map one_before (g other))) p.0
-  ]
-
-  pop-each : (i : ℕ) → i < length rest → new (slice_index_or rest i 0) ≡ Some i
-  pop-each i lt =
-      let was : g (slice_index_or rest i 0) ≡ Some (suc i) = a.each (suc i) (omega arith) in
-      let first : g key ≡ Some 0 = a.each 0 (omega arith) in
-      let apart : key ≢ slice_index_or rest i 0 = λ e. absurd
-      (omega (arith, some-is 0 (suc i) (sym first ∙ ap (λ (h : ℕ). g h) e ∙ was))) in
-      let less : one_before (suc i) ≡ i = omega (arith, few (slice_index_or rest i 0) (suc i) was) in
-      pop-other (slice_index_or rest i 0) apart ∙ ap (λ (o : Option ℕ). option_map one_before o) was
-      ∙ ap (λ (n : ℕ). Some n) less
-
-  pop-place : (handle i j : ℕ) → key ≢ handle → g handle ≡ Some j → one_before j ≡ i
-      → (i < length rest) × (slice_index_or rest i 0 ≡ handle)
-  pop-place handle i zero n was e = absurd (n (a.only handle 0 was))
-  pop-place handle i (suc j) n was e =
-      let same : i ≡ j = omega (arith, e, few handle (suc j) was) in
-      let here : suc j < length (key ∷ rest) = a.within handle (suc j) was in
-      (omega (arith, same, here), ap (λ (k : ℕ). slice_index_or rest k 0) same ∙ a.only handle (suc j) was)
-
-  pop-found : (handle i : ℕ) (found : Option ℕ) → key ≢ handle → g handle ≡ found
-      → option_map one_before found ≡ Some i → (i < length rest) × (slice_index_or rest i 0 ≡ handle)
-  pop-found handle i None n was e = absurd (none-is i e)
-  pop-found handle i (Some j) n was e = pop-place handle i j n was (some-is (one_before j) i e)
-
-  pop-back : (handle i : ℕ) → new handle ≡ Some i → (i < length rest) × (slice_index_or rest i 0 ≡ handle)
-  pop-back handle i e = elim (same_or_other key handle) [
-    | inl s ↦ absurd (none-is i (sym (pop-at handle s) ∙ e))
-    | inr n ↦ pop-found handle i (g handle) n refl (sym (pop-other handle n) ∙ e)
-  ]
-
-  pub noted-popped : AreNoted new rest
-  noted-popped = record {
-    each = pop-each;
-    within = λ handle i e. (pop-back handle i e).0;
-    only =
-        λ handle i e. (pop-back handle i e).1;
-  }
-
-  pub gone : new key ≡ None
-  gone = pop-at key refl
-
--- the first link goes to the end
-module _ (g new : ℕ → Option ℕ) (key : ℕ) (rest : List ℕ) (a : AreNoted g (key ∷ rest))
-    (few : (handle i : ℕ) → g handle ≡ Some i → i < 2 ^ 64)
-    (is : (other : ℕ) → new other ≡ cond (nat_eq key other) (Some (length rest)) (option_map one_before (g other)))
-  where
-    abbrev between : ℕ → Option ℕ
-    between other = cond (nat_eq key other) None (option_map one_before (g other))
-
-    over : (b : Bool) (to : ℕ) (found : Option ℕ) → cond b (Some to) found ≡ cond b (Some to) (cond b None found)
-    over true to found = refl
-    over false to found = refl
-
-    pub noted-rotated : AreNoted new (rest ++ key ∷ [])
-    noted-rotated =
-        noted-pushed between new key rest (noted-popped g between key rest a few (λ other. refl))
-        (gone g between key rest a few (λ other. refl))
-        (λ other. is other ∙ over (nat_eq key other) (length rest) (option_map one_before (g other)))
+  pub noted-joined : AreNoted now (turn ++ spot ∷ []) m
+  noted-joined = record { once = joined-once; each = joined-each; only = joined-only }
 
 module _ {T F : Type 0} where
-  -- the handle of the link at a place
-  handle-at : (items : List (Queue T F)) (i : ℕ) (d : Queue T F) → i < length items
-      → slice_index_or (handles_in (queues_of items)) i 0 ≡ ((slice_index_or items i d).handle).0
-  handle-at [] i d lt = absurd (omega arith)
-  handle-at (q ∷ items) zero d lt = refl
-  handle-at (q ∷ items) (suc i) d lt = handle-at items i d (omega arith)
+  pub queue-is : (a b : Queue T F) → Some a ≡ Some b → a ≡ b
+  queue-is a b e = ap (λ (o : Option (Queue T F)). unwrap_or o a) e
 
-  length-handles : (items : List (Queue T F)) → length (handles_in (queues_of items)) ≡ length items
-  length-handles [] = refl
-  length-handles (q ∷ items) = let rest : length (handles_in (queues_of items)) ≡ length items =
-      length-handles items in omega (arith, rest)
-
-  one-of : (items : List (Queue T F)) → 0 < length items → Queue T F
-  one-of [] some = absurd (omega arith)
-  one-of (q ∷ items) some = q
-
-  -- a link that is noted stands where it is
-  is-place : (g : ℕ → Option ℕ) (items : List (Queue T F)) (handle i : ℕ) → AreNoted g (handles_in (queues_of items))
-      → g handle ≡ Some i → IsPlace items handle i
-  is-place g items handle i a e =
-      let here : i < length items = omega (arith, a.within handle i e, length-handles items) in
-      let found : Queue T F = one-of items (omega (arith, here)) in
-      record {
-        within = here;
-        before = λ k d lt same.
-            let early : k < length items = omega (arith, lt, here) in
-            let at : g handle ≡ Some k = ap (λ (h : ℕ). g h) (sym (handle-at items k d early ∙ same))
-            ∙ a.each k (omega (arith, early, length-handles items)) in
-            absurd (omega (arith, lt, some-is k i (sym at ∙ e)));
-        found = found;
-        here = sym (handle-at items i found here) ∙ a.only handle i e;
-      }
-
-  -- one that isn't noted stands nowhere
-  is-nowhere : (g : ℕ → Option ℕ) (items : List (Queue T F)) (handle : ℕ) → AreNoted g (handles_in (queues_of items))
-      → g handle ≡ None → IsNowhere items handle
-  is-nowhere g items handle a none =
-      record {
-        other = λ k d lt same.
-            none-is k (sym none ∙ ap (λ (h : ℕ). g h) (sym (handle-at items k d lt ∙ same))
-            ∙ a.each k (omega (arith, lt, length-handles items)));
-      }
-
-  -- what is told of a link's place
-  pub place-some : (g : ℕ → Option ℕ) (items : List (Queue T F)) (handle : ℕ) (told : Option ℕ)
-      → AreNoted g (handles_in (queues_of items)) → told ≡ g handle → IfSome told (λ i. IsPlace items handle i)
-  place-some g items handle None a e = tt
-  place-some g items handle (Some i) a e = is-place g items handle i a (sym e)
-
-  pub place-none : (g : ℕ → Option ℕ) (items : List (Queue T F)) (handle : ℕ) (told : Option ℕ)
-      → AreNoted g (handles_in (queues_of items)) → told ≡ g handle → IfNone told (IsNowhere items handle)
-  place-none g items handle None a e = is-nowhere g items handle a (sym e)
-  place-none g items handle (Some i) a e = tt
-
-  handles-push : (items : List (Queue T F)) (q : Queue T F) → handles_in (queues_of (items ++ q ∷ []))
-      ≡ handles_in (queues_of items) ++ (q.handle).0 ∷ []
-  handles-push [] q = refl
-  handles-push (x ∷ items) q = ap (λ (hs : List ℕ). (x.handle).0 ∷ hs) (handles-push items q)
-
-  handles-drop : (items : List (Queue T F)) (q : Queue T F) → 0 < length items → q ≡ slice_index_or items 0 q
-      → handles_in (queues_of items) ≡ (q.handle).0 ∷ handles_in (queues_of (drop 1 items))
-  handles-drop [] q some is = absurd (omega arith)
-  handles-drop (x ∷ items) q some is = ap (λ (y : Queue T F). (y.handle).0 ∷ handles_in (queues_of items)) (sym is)
-
-  -- where the first link of the turn stands is noted
-  pub first-noted : (g : ℕ → Option ℕ) (items : List (Queue T F)) (q : Queue T F)
-      → AreNoted g (handles_in (queues_of items)) → 0 < length items → q ≡ slice_index_or items 0 q
-      → IsSome (g (q.handle).0)
-  first-noted g items q a some is =
-      ap (λ (o : Option ℕ). is_some o)
-      (ap (λ (x : Queue T F). g (x.handle).0) is ∙ ap (λ (h : ℕ). g h) (sym (handle-at items 0 q some))
-      ∙ a.each 0 (omega (arith, some, length-handles items)))
-
-  -- the first link of the turn leaves it
-  pub noted-left : (p new : Positions) (items : List (Queue T F)) (q : Queue T F)
-      → AreNoted (position_of p) (handles_in (queues_of items)) → 0 < length items → q ≡ slice_index_or items 0 q
-      → ((other : ℕ) → position_of new other ≡ cond (nat_eq (q.handle).0 other) None
-      (option_map one_before (position_of p other)))
-      → AreNoted (position_of new) (handles_in (queues_of (drop 1 items)))
-  noted-left p new items q a some is stands =
-      noted-popped (position_of p) (position_of new) (q.handle).0 (handles_in (queues_of (drop 1 items)))
-      (subst (λ (hs : List ℕ). AreNoted (position_of p) hs) (handles-drop items q some is) a) (small p) stands
-
-  -- it goes to the end
-  pub noted-last : (p new : Positions) (items : List (Queue T F)) (q last : Queue T F) (at : ℕ)
-      → AreNoted (position_of p) (handles_in (queues_of items)) → 0 < length items → q ≡ slice_index_or items 0 q
-      → last.handle ≡ q.handle → at ≡ length (drop 1 items)
-      → ((other : ℕ) → position_of new other ≡ cond (nat_eq (q.handle).0 other) (Some at)
-      (option_map one_before (position_of p other)))
-      → AreNoted (position_of new) (handles_in (queues_of (drop 1 items ++ last ∷ [])))
-  noted-last p new items q last at a some is same end stands =
-      let rest : List ℕ = handles_in (queues_of (drop 1 items)) in
-      let to : at ≡ length rest = end ∙ sym (length-handles (drop 1 items)) in
-      subst (λ (hs : List ℕ). AreNoted (position_of new) hs)
-      (sym (handles-push (drop 1 items) last ∙ ap (λ (h : OutputHandle). rest ++ h.0 ∷ []) same))
-      (noted-rotated (position_of p) (position_of new) (q.handle).0 rest
-      (subst (λ (hs : List ℕ). AreNoted (position_of p) hs) (handles-drop items q some is) a) (small p)
-      (λ other. stands other ∙ ap (λ (n : ℕ). cond (nat_eq (q.handle).0 other) (Some n)
-      (option_map one_before (position_of p other))) to))
-
-  -- another link joins the turn
-  noted-joined : (p new : Positions) (items : List (Queue T F)) (last : Queue T F) (key : ℕ)
-      → AreNoted (position_of p) (handles_in (queues_of items)) → IsNowhere items key → (last.handle).0 ≡ key
-      → ((other : ℕ) → position_of new other ≡ cond (nat_eq key other) (Some (length items)) (position_of p other))
-      → AreNoted (position_of new) (handles_in (queues_of (items ++ last ∷ [])))
-  noted-joined p new items last key a nowhere same stands =
-      let turn : List ℕ = handles_in (queues_of items) in
-      subst (λ (hs : List ℕ). AreNoted (position_of new) hs)
-      (sym (handles-push items last ∙ ap (λ (h : ℕ). turn ++ h ∷ []) same))
-      (noted-pushed (position_of p) (position_of new) key turn a
-      (unnoted (position_of p) items key a nowhere (position_of p key) refl)
-      (λ other. stands other ∙ ap (λ (n : ℕ). cond (nat_eq key other) (Some n) (position_of p other))
-      (sym (length-handles items))))
+  -- a spot that isn't vacant has a queue
+  pub queue-of : (slab : Slab (Queue T F)) (spot : ℕ) → IsSome (get slab spot)
+      → (q : Queue T F) × (get slab spot ≡ Some q)
+  queue-of slab spot some = by (get slab spot) refl
     where
-      unnoted : (g : ℕ → Option ℕ) (items : List (Queue T F)) (key : ℕ) → AreNoted g (handles_in (queues_of items))
-          → IsNowhere items key → (found : Option ℕ) → g key ≡ found → g key ≡ None
-      unnoted g items key a nowhere None e = e
-      unnoted g items key a nowhere (Some i) e =
-          let here : i < length items = omega (arith, a.within key i e, length-handles items) in
-          let d : Queue T F = one-of items (omega (arith, here)) in
-          absurd (nowhere.other i d here (sym (handle-at items i d here) ∙ a.only key i e))
+      by : (found : Option (Queue T F)) → get slab spot ≡ found → (q : Queue T F) × (get slab spot ≡ Some q)
+      by None e = absurd (true≢false (sym some ∙ ap (λ (o : Option (Queue T F)). is_some o) e))
+      by (Some q) e = (q, e)
 
-  handles-set : (items : List (Queue T F)) (i : ℕ) (q : Queue T F) → q.handle ≡ (slice_index_or items i q).handle
-      → handles_in (queues_of (slice_set items i q)) ≡ handles_in (queues_of items)
-  handles-set [] i q same = refl
-  handles-set (x ∷ items) zero q same = ap (λ (h : OutputHandle). h.0 ∷ handles_in (queues_of items)) same
-  handles-set (x ∷ items) (suc i) q same = ap (λ (hs : List ℕ). (x.handle).0 ∷ hs) (handles-set items i q same)
+  before-append : (found : Option (Queue T F)) (xs ys : List (Queue T F))
+      → put_before found (xs ++ ys) ≡ put_before found xs ++ ys
+  before-append None xs ys = refl
+  before-append (Some q) xs ys = refl
 
-  -- the turn stays where the transfers of one link change
-  pub noted-changed : (g : ℕ → Option ℕ) (items new : List (Queue T F)) (i : ℕ)
-      (change : List (Outbound T F) → List (Outbound T F)) → ChangesAt items i change new
-      → AreNoted g (handles_in (queues_of items)) → AreNoted g (handles_in (queues_of new))
-  noted-changed g items new i change c a =
-      subst (λ (hs : List ℕ). AreNoted g hs) (sym (ap (λ (qs : List (Queue T F)). handles_in (queues_of qs)) c.changed
-      ∙ handles-set items i c.queue c.handle)) a
+  queues-append : (slab : Slab (Queue T F)) (xs ys : List ℕ)
+      → queues_at slab (xs ++ ys) ≡ queues_at slab xs ++ queues_at slab ys
+  queues-append slab [] ys = refl
+  queues-append slab (x ∷ xs) ys =
+      ap (λ (qs : List (Queue T F)). put_before (get slab x) qs) (queues-append slab xs ys)
+      ∙ before-append (get slab x) (queues_at slab xs) (queues_at slab ys)
 
-  -- a link that stood nowhere joins the turn, or there is no memory
-  pub noted-after : {A E : Type 0} → (r : Result A E) (p new : Positions) (items later : List (Queue T F))
-      (handle : OutputHandle) (batch : List (Outbound T F)) → AreNoted (position_of p) (handles_in (queues_of items))
-      → IsNowhere items handle.0
-      → OnOk r ((q : Queue T F) × (later ≡ items ++ q ∷ []) × (q.handle ≡ handle) × (q.units ≡ batch))
-      → OnErr r (later ≡ items)
-      → OnOk r ((other : ℕ) → position_of new other ≡ cond (nat_eq handle.0 other) (Some (length items))
-      (position_of p other))
-      → OnErr r ((other : ℕ) → position_of new other ≡ position_of p other)
-      → AreNoted (position_of new) (handles_in (queues_of later))
-  noted-after (Ok x) p new items later handle batch a nowhere ok err stands stood =
-      subst (λ (qs : List (Queue T F)). AreNoted (position_of new) (handles_in (queues_of qs))) (sym ok.1)
-      (noted-joined p new items ok.0 handle.0 a nowhere (ap (λ (h : OutputHandle). h.0) ok.2) stands)
-  noted-after (Err e) p new items later handle batch a nowhere ok err stands stood =
-      subst (λ (qs : List (Queue T F)). AreNoted (position_of new) (handles_in (queues_of qs))) (sym err)
-      (noted-same (position_of p) (position_of new) (handles_in (queues_of items)) stood a)
+  pub queues-first : (slab : Slab (Queue T F)) (spot : ℕ) (turn : List ℕ) (q : Queue T F) → get slab spot ≡ Some q
+      → queues_at slab (spot ∷ turn) ≡ q ∷ queues_at slab turn
+  queues-first slab spot turn q e = ap (λ (o : Option (Queue T F)). put_before o (queues_at slab turn)) e
 
-pub ruleset rules = (noted-none, noted-same)
+  pub queues-push : (slab : Slab (Queue T F)) (spot : ℕ) (turn : List ℕ) (q : Queue T F) → get slab spot ≡ Some q
+      → queues_at slab (turn ++ spot ∷ []) ≡ queues_at slab turn ++ q ∷ []
+  queues-push slab spot turn q e =
+      queues-append slab turn (spot ∷ [])
+      ∙ ap (λ (qs : List (Queue T F)). queues_at slab turn ++ qs) (queues-first slab spot [] q e)
+
+  -- queues at other spots stay
+  pub queues-others : (old new : Slab (Queue T F)) (spot : ℕ) (turn : List ℕ) → times spot turn ≡ 0
+      → ((s : ℕ) → s ≢ spot → get new s ≡ get old s) → queues_at new turn ≡ queues_at old turn
+  queues-others old new spot [] none others = refl
+  queues-others old new spot (x ∷ turn) none others = elim (same_or_other x spot) [
+    | inl e ↦ absurd (omega (arith, none, times-here spot x turn e))
+    | inr ne ↦
+        ap (λ (o : Option (Queue T F)). put_before o (queues_at new turn)) (others x ne)
+        ∙ ap (λ (qs : List (Queue T F)). put_before (get old x) qs)
+        (queues-others old new spot turn (omega (arith, none, times-other spot x turn ne)) others)
+  ]
+
+  -- where in the turn a queue stands that stands at a spot
+  pub record StandsAt (slab : Slab (Queue T F)) (turn : List ℕ) (handle spot : ℕ) : Type 0 where
+    pub index : ℕ
+    pub place : IsPlace (queues_at slab turn) handle index
+    pub here : (d : Queue T F) → get slab spot ≡ Some (slice_index_or (queues_at slab turn) index d)
+    pub changes : (new : Slab (Queue T F)) (q : Queue T F) → get new spot ≡ Some q
+        → ((s : ℕ) → s ≢ spot → get new s ≡ get slab s)
+        → queues_at new turn ≡ slice_set (queues_at slab turn) index q
+
+  -- at other spots stand queues of other links
+  abbrev OthersStand : Slab (Queue T F) → List ℕ → ℕ → ℕ → Type 0
+  OthersStand slab turn handle spot =
+      (s : ℕ) → 0 < times s turn → s ≢ spot → (x : Queue T F) × (get slab s ≡ Some x) × ((x.handle).0 ≢ handle)
+
+  others-rest : (slab : Slab (Queue T F)) (first : ℕ) (turn : List ℕ) (handle spot : ℕ)
+      → OthersStand slab (first ∷ turn) handle spot → OthersStand slab turn handle spot
+  others-rest slab first turn handle spot o = λ s some ne. o s (more s some (same_or_other first s)) ne
+    where
+      more : (s : ℕ) → 0 < times s turn → (first ≡ s) ⊎ (first ≢ s) → 0 < times s (first ∷ turn)
+      more s some (inl e) = omega (arith, some, times-here s first turn e)
+      more s some (inr n) = omega (arith, some, times-other s first turn n)
+
+  stands-first : (slab : Slab (Queue T F)) (turn : List ℕ) (handle spot : ℕ) (q : Queue T F) → get slab spot ≡ Some q
+      → (q.handle).0 ≡ handle → times spot turn ≡ 0 → StandsAt slab (spot ∷ turn) handle spot
+  stands-first slab turn handle spot q found link none =
+      let items : queues_at slab (spot ∷ turn) ≡ q ∷ queues_at slab turn = queues-first slab spot turn q found in
+      record {
+        index = 0;
+        place =
+            record {
+              within = subst (λ (qs : List (Queue T F)). 0 < length qs) (sym items) (omega arith);
+              before = λ k d lt same. absurd (omega (arith, lt));
+              found = q;
+              here = ap (λ (qs : List (Queue T F)). ((slice_index_or qs 0 q).handle).0) items ∙ link;
+            };
+        here = λ d. found ∙ ap (λ (qs : List (Queue T F)). Some (slice_index_or qs 0 d)) (sym items);
+        changes = λ new x is others.
+            queues-first new spot turn x is
+            ∙ ap (λ (qs : List (Queue T F)). x ∷ qs) (queues-others slab new spot turn none others)
+            ∙ ap (λ (qs : List (Queue T F)). slice_set qs 0 x) (sym items);
+      }
+
+  stands-behind : (slab : Slab (Queue T F)) (first : ℕ) (turn : List ℕ) (handle spot : ℕ) (x : Queue T F)
+      → get slab first ≡ Some x → (x.handle).0 ≢ handle → first ≢ spot → StandsAt slab turn handle spot
+      → StandsAt slab (first ∷ turn) handle spot
+  stands-behind slab first turn handle spot x found other ne st =
+      let items : queues_at slab (first ∷ turn) ≡ x ∷ queues_at slab turn = queues-first slab first turn x found in
+      record {
+        index = suc st.index;
+        place =
+            subst (λ (qs : List (Queue T F)). IsPlace qs handle (suc st.index)) (sym items)
+            (record {
+              within = omega (arith, st.place.within);
+              before = earlier;
+              found = st.place.found;
+              here = st.place.here;
+            });
+        here = λ d. st.here d ∙ ap (λ (qs : List (Queue T F)). Some (slice_index_or qs (suc st.index) d)) (sym items);
+        changes = λ new q is others.
+            queues-first new first turn x (others first ne ∙ found)
+            ∙ ap (λ (qs : List (Queue T F)). x ∷ qs) (st.changes new q is others)
+            ∙ ap (λ (qs : List (Queue T F)). slice_set qs (suc st.index) q) (sym items);
+      }
+    where
+      earlier : (k : ℕ) (d : Queue T F) → k < suc st.index
+          → ((slice_index_or (x ∷ queues_at slab turn) k d).handle).0 ≢ handle
+      earlier zero d lt = other
+      earlier (suc k) d lt = st.place.before k d (omega (arith, lt))
+
+  stands : (slab : Slab (Queue T F)) (turn : List ℕ) (handle spot : ℕ) (q : Queue T F) → get slab spot ≡ Some q
+      → (q.handle).0 ≡ handle → times spot turn ≡ 1 → OthersStand slab turn handle spot
+      → StandsAt slab turn handle spot
+  stands slab [] handle spot q found link once others = absurd (omega (arith, once))
+  stands slab (first ∷ turn) handle spot q found link once others = elim (same_or_other first spot) [
+    | inl e ↦
+        subst (λ (f : ℕ). StandsAt slab (f ∷ turn) handle spot) (sym e)
+        (stands-first slab turn handle spot q found link (omega (arith, once, times-here spot first turn e)))
+    | inr ne ↦
+        let x = others first (omega (arith, times-here first first turn refl)) ne in
+        stands-behind slab first turn handle spot x.0 x.1 x.2 ne
+        (stands slab turn handle spot q found link (omega (arith, once, times-other spot first turn ne))
+        (others-rest slab first turn handle spot others))
+  ]
+
+  -- a queue that stands in the turn
+  in-turn : (slab : Slab (Queue T F)) (turn : List ℕ) (n : ℕ → Option ℕ) (s : ℕ) → AreNoted (handle_at slab) turn n
+      → 0 < times s turn → (x : Queue T F) × (get slab s ≡ Some x) × (n (x.handle).0 ≡ Some s)
+  in-turn slab turn n s a some = by (get slab s) refl
+    where
+      by : (found : Option (Queue T F)) → get slab s ≡ found
+          → (x : Queue T F) × (get slab s ≡ Some x) × (n (x.handle).0 ≡ Some s)
+      by None e =
+          let none : times s turn ≡ 0 = a.once s
+          ∙ ap (λ (o : Option (Queue T F)). one-if (is_some (option_map (λ (q : Queue T F). (q.handle).0) o))) e in
+          absurd (omega (arith, some, none))
+      by (Some x) e = (
+        x,
+        e,
+        a.each s (x.handle).0
+            (ap (λ (o : Option (Queue T F)). option_map (λ (q : Queue T F). (q.handle).0) o) e),
+      )
+
+  at-handle : (found : Option (Queue T F)) (handle : ℕ)
+      → option_map (λ (q : Queue T F). (q.handle).0) found ≡ Some handle
+      → (q : Queue T F) × (found ≡ Some q) × ((q.handle).0 ≡ handle)
+  at-handle None handle e = absurd (none-is handle e)
+  at-handle (Some q) handle e = (q, refl, some-is (q.handle).0 handle e)
+
+  -- a link stands at the spot that is noted for it
+  pub noted-stands : (slab : Slab (Queue T F)) (turn : List ℕ) (n : ℕ → Option ℕ) (handle spot : ℕ)
+      → AreNoted (handle_at slab) turn n → Some spot ≡ n handle → StandsAt slab turn handle spot
+  noted-stands slab turn n handle spot a told =
+      let at = a.only spot handle (sym told) in
+      let q = at-handle (get slab spot) handle at in
+      stands slab turn handle spot q.0 q.1 q.2
+      (a.once spot ∙ ap (λ (o : Option ℕ). one-if (is_some o)) at)
+      (λ s some ne.
+      let x = in-turn slab turn n s a some in
+      (x.0, x.1, λ same. ne (some-is s spot (sym x.2 ∙ ap (λ (y : ℕ). n y) same ∙ sym told))))
+
+  pub noted-there : (slab : Slab (Queue T F)) (turn : List ℕ) (n : ℕ → Option ℕ) (handle spot : ℕ)
+      → AreNoted (handle_at slab) turn n → Some spot ≡ n handle → IsSome (get slab spot)
+  noted-there slab turn n handle spot a told =
+      let q = at-handle (get slab spot) handle (a.only spot handle (sym told)) in
+      ap (λ (o : Option (Queue T F)). is_some o) q.1
+
+  nowhere : (slab : Slab (Queue T F)) (turn : List ℕ) (handle : ℕ)
+      → ((s : ℕ) → 0 < times s turn → (x : Queue T F) × (get slab s ≡ Some x) × ((x.handle).0 ≢ handle))
+      → IsNowhere (queues_at slab turn) handle
+  nowhere slab [] handle apart = record { other = λ k d lt same. absurd (omega (arith, lt)) }
+  nowhere slab (first ∷ turn) handle apart =
+      let x = apart first (omega (arith, times-here first first turn refl)) in
+      let rest = nowhere slab turn handle (λ s some. apart s (more s some (same_or_other first s))) in
+      subst (λ (qs : List (Queue T F)). IsNowhere qs handle) (sym (queues-first slab first turn x.0 x.1))
+      (record { other = λ k d lt. by x.0 x.2 rest k d lt })
+    where
+      more : (s : ℕ) → 0 < times s turn → (first ≡ s) ⊎ (first ≢ s) → 0 < times s (first ∷ turn)
+      more s some (inl e) = omega (arith, some, times-here s first turn e)
+      more s some (inr n) = omega (arith, some, times-other s first turn n)
+
+      by : (x : Queue T F) → (x.handle).0 ≢ handle → IsNowhere (queues_at slab turn) handle → (k : ℕ) (d : Queue T F)
+          → k < length (x ∷ queues_at slab turn)
+          → ((slice_index_or (x ∷ queues_at slab turn) k d).handle).0 ≢ handle
+      by x ne rest zero d lt = ne
+      by x ne rest (suc k) d lt = rest.other k d (omega (arith, lt))
+
+  -- a link of which no spot is noted stands nowhere
+  pub noted-nowhere : (slab : Slab (Queue T F)) (turn : List ℕ) (n : ℕ → Option ℕ) (handle : ℕ)
+      → AreNoted (handle_at slab) turn n → None ≡ n handle → IsNowhere (queues_at slab turn) handle
+  noted-nowhere slab turn n handle a none =
+      nowhere slab turn handle
+      (λ s some.
+      let x = in-turn slab turn n s a some in
+      (x.0, x.1, λ same. none-is s (none ∙ ap (λ (y : ℕ). n y) (sym same) ∙ x.2)))
+
+  -- each spot of the turn has a queue
+  pub all-stand : (slab : Slab (Queue T F)) (turn : List ℕ) (n : ℕ → Option ℕ) → AreNoted (handle_at slab) turn n
+      → All (λ (spot : ℕ). IsSome (get slab spot)) turn
+  all-stand slab turn n a k d lt =
+      let x = in-turn slab turn n (slice_index_or turn k d) a (times-some turn k d lt) in
+      ap (λ (o : Option (Queue T F)). is_some o) x.1
+
+  -- no link waits where the turn is empty
+  pub none-stand : (slab : Slab (Queue T F)) (turn : List ℕ) (n : ℕ → Option ℕ) (queues : Queues T F)
+      → AreNoted (handle_at slab) turn n → waiting_at slab turn ≡ queues → (length turn ≡ 0) ↔ (queues ≡ [])
+  none-stand slab [] n queues a view = (λ e. sym view, λ e. refl)
+  none-stand slab (spot ∷ turn) n queues a view =
+      let x = in-turn slab (spot ∷ turn) n spot a (omega (arith, times-here spot spot turn refl)) in
+      let first = ap (λ (qs : List (Queue T F)). length (queues_of qs)) (queues-first slab spot turn x.0 x.1) in (
+        λ e. absurd (omega (arith, e)),
+        λ e. absurd (omega (arith, first, ap (λ (qs : Queues T F). length qs) (view ∙ e))),
+      )
+
+  -- what stands at the spots stays where the slots do
+  queues-same : (old new : Slab (Queue T F)) (turn : List ℕ) → new.slots ≡ old.slots
+      → queues_at new turn ≡ queues_at old turn
+  queues-same old new [] same = refl
+  queues-same old new (spot ∷ turn) same =
+      ap (λ (qs : List (Option (Queue T F))). put_before (slice_index_or qs spot None) (queues_at new turn)) same
+      ∙ ap (λ (qs : List (Queue T F)). put_before (get old spot) qs) (queues-same old new turn same)
+
+  pub same-waiting : (old new : Slab (Queue T F)) (turn : List ℕ) → new.slots ≡ old.slots
+      → waiting_at new turn ≡ waiting_at old turn
+  same-waiting old new turn same = ap (λ (qs : List (Queue T F)). queues_of qs) (queues-same old new turn same)
+
+  pub same-waits : (old new : Slab (Queue T F)) → new.slots ≡ old.slots → AllWait old → AllWait new
+  same-waits old new same w =
+      record {
+        some = λ spot q e.
+            w.some spot q (sym (ap (λ (qs : List (Option (Queue T F))). slice_index_or qs spot None) same) ∙ e);
+      }
+
+  pub same-noted : (old new : Slab (Queue T F)) (turn : List ℕ) (n m : ℕ → Option ℕ) → new.slots ≡ old.slots
+      → ((handle : ℕ) → m handle ≡ n handle) → AreNoted (handle_at old) turn n → AreNoted (handle_at new) turn m
+  same-noted old new turn n m same told a =
+      noted-same (handle_at old) (handle_at new) n m turn turn
+      (λ s.
+      ap (λ (qs : List (Option (Queue T F))). option_map (λ (q : Queue T F). (q.handle).0) (slice_index_or qs s None))
+      same)
+      (λ s. refl) told a
+
+pub ruleset rules = (noted-none, noted-same, same-waiting, same-waits, same-noted)

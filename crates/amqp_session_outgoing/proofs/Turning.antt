@@ -1,6 +1,5 @@
 -- Runs of transfers that leave, and turns.
-use Rattle.std.proofs.Common.{◌≡◌, ℕ, ◌+◌, ◌%◌, ◌^◌, ◌<◌, arith, List, [], ◌∷◌, ◌++◌, length, drop, refl, ◌∙◌, ap, append_assoc, subst}
-use Rattle.std.proofs.lemmas.List.Elements.{All-drop, All-push}
+use Rattle.std.proofs.Common.{◌≡◌, ℕ, ◌+◌, ◌%◌, ◌^◌, arith, List, [], ◌∷◌, ◌++◌, length, refl, ◌∙◌, ap, append_assoc, subst}
 use Rattle.amqp_session_outgoing.specs.Queues.{Queues, held_in, rejoined, TakesTurn, TakesTurnOf}
 use Rattle.amqp_session_outgoing.specs.declared.frames.Outbound.{Outbound}
 use Rattle.amqp_session_outgoing.specs.State.{State, Sends, Leaves, Leaving, registered, after}
@@ -8,17 +7,9 @@ use Rattle.amqp_session_outgoing.specs.Frames.{is_first}
 use Rattle.amqp_session_unsettled.specs.Table.{Table}
 use Rattle.amqp_session_types.specs.declared.handles.OutputHandle.{OutputHandle}
 use Rattle.std.specs.Prelude.{if◌then◌else◌}
-use Rattle.amqp_session_outgoing.specs.Fields.{EachWaits}
-use Rattle.amqp_session_outgoing.specs.declared.turns.Queue.{Queue}
 use Rattle.amqp_session_outgoing.specs.declared.frames.Sent.{Sent}
 
 module _ {T F : Type 0} where
-  pub EachWaits-drop : (items : List (Queue T F)) → EachWaits items → EachWaits (drop 1 items)
-  EachWaits-drop items h = All-drop (λ (q : Queue T F). 0 < length q.units) 1 items h
-
-  pub EachWaits-push : (items : List (Queue T F)) (q : Queue T F) → EachWaits items → 0 < length q.units → EachWaits (items ++ q ∷ [])
-  EachWaits-push items q h w = All-push (λ (q : Queue T F). 0 < length q.units) items q h w
-
   held-push : (queues : Queues T F) (q : ℕ × List (Outbound T F)) → held_in (queues ++ q ∷ []) ≡ held_in queues + length q.1
   held-push [] q = omega arith
   held-push (x ∷ queues) q = let rest : held_in (queues ++ q ∷ []) ≡ held_in queues + length q.1 = held-push queues q in omega arith

@@ -6,4 +6,4 @@ pub mod History
 pub mod Told
 pub mod Turns
 pub mod Nodes
-pub mod Positions
+pub mod Spots

@@ -12,7 +12,7 @@ pub mod laws;
 mod nodes;
 mod outgoing;
 mod place;
-mod positions;
+mod spots;
 mod turns;
 
 pub use behind::Behind;

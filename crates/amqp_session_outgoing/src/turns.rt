@@ -1,19 +1,22 @@
 //! The links that wait, in turn.
-ghost use Rattle.std.specs.Prelude.{◌≡◌, ◌≢◌, ℕ, ◌+◌, ◌-◌, ◌^◌, ◌<◌, ◌≤◌, ◌↔◌, [], ◌∷◌, ◌++◌, length, IsTrue, IsOk};
-ghost use Rattle.std.specs.Prelude.{◌⊎◌, OnOk, OnErr, IfOk, IfSome, IfNone, Some, cond, nat_eq, max, slice_index_or};
+ghost use Rattle.std.specs.Prelude.{◌≡◌, ℕ, ◌+◌, ◌-◌, ◌^◌, ◌<◌, ◌≤◌, ◌↔◌, ◌==◌, [], ◌∷◌, ◌++◌, length, IsTrue, IsOk};
+ghost use Rattle.std.specs.Prelude.{◌⊎◌, OnOk, OnErr, IfOk, Some, cond, nat_eq, max, All};
 ghost use Rattle.std.specs.VecDeque.{deque_len, deque_capacity};
+ghost use Rattle.slab.specs.Slab.{get, slab_len, ContainsKey, HasRoomFor, Updates};
 ghost use Rattle.amqp_session_outgoing.specs.Frames.{first_count, frames_count, last_room};
 ghost use Rattle.amqp_session_outgoing.specs.Queues.{held_in, firsts_in, frames_in, units_of, room_behind, TakesTurn};
 ghost use Rattle.amqp_session_outgoing.specs.Queues.{joined, trailed, turn_of, FollowsIn};
-ghost use Rattle.amqp_session_outgoing.specs.Fields.{queues_of, EachWaits, AllShort, IsPlace, IsNowhere, ChangesAt};
-ghost use Rattle.amqp_session_outgoing.specs.Positions.{position_of, spots_in, handles_in, AreNoted};
+ghost use Rattle.amqp_session_outgoing.specs.Fields.{waiting_at, handle_at, AllWait, AllShort, HasFewAt};
+ghost use Rattle.amqp_session_outgoing.specs.Fields.{ChangesQueue, TakesFirst, Joins};
+ghost use Rattle.amqp_session_outgoing.specs.Spots.{spot_of, notes_left, AreNoted};
 ghost use Rattle.amqp_session_outgoing.specs.declared.turns.Queue.{Queue};
 
 use crate::frames::Outbound;
 use crate::nodes::{LIMIT, Row, Store};
 use crate::place::Place;
-use crate::positions::Positions;
+use crate::spots::Spots;
 use amqp_session_types::OutputHandle;
+use slab::Slab;
 use std::alloc::{AllocError, Global};
 use std::collections::VecDeque;
 use std::marker::Model;
@@ -35,9 +38,12 @@ impl<T: Drop, F: Drop> Drop for Queue<T, F> {
 
 /// The links that wait, in turn, each with its waiting transfers.
 pub(crate) struct Turns<T, F> {
-    queues: VecDeque<Queue<T, F>>,
-    /// Where each of them stands.
-    positions: Positions,
+    /// The queue of each link stands at one spot as long as the link waits.
+    queues: Slab<Queue<T, F>>,
+    /// The spots of the queues, in turn.
+    turn: VecDeque<usize>,
+    /// The spot of each link that waits.
+    spots: Spots,
     /// The nodes in which more transfers may wait.
     store: Store<Outbound<T, F>>,
     held: usize,
@@ -49,7 +55,8 @@ impl<T: Drop, F: Drop> Drop for Turns<T, F> {
     fn drop(self) {
         let Turns {
             queues: _,
-            positions: _,
+            turn: _,
+            spots: _,
             store: _,
             held: _,
             frames: _,
@@ -77,8 +84,9 @@ impl<T: Drop, F: Drop> Turns<T, F> {
         ensures { result ≡ record { queues = []; room = 0 } }
     {
         Turns {
-            queues: VecDeque::new(alloc),
-            positions: Positions::new(alloc),
+            queues: Slab::new(alloc),
+            turn: VecDeque::new(alloc),
+            spots: Spots::new(alloc),
             store: Store::new(alloc),
             held: 0,
             frames: 0,
@@ -105,7 +113,7 @@ impl<T: Drop, F: Drop> Turns<T, F> {
     pub(crate) fn is_empty(&self) -> bool
         ensures { IsTrue result ↔ (self.now.queues ≡ []) }
     {
-        self.queues.is_empty()
+        self.turn.is_empty()
     }
 
     /// How many frames wait: transfers, and the frames behind them.
@@ -116,21 +124,21 @@ impl<T: Drop, F: Drop> Turns<T, F> {
     }
 
     /// Whether a transfer of a link waits.
-    #[tactic(auto, using(crate::proofs::Joining::rules))]
     pub(crate) fn is_waiting(&self, handle: OutputHandle) -> bool
         ensures { IsTrue result ↔ (0 < length (units_of handle.0 self.now.queues)) }
     {
-        place_of(&self.queues, &self.positions, handle).is_some()
+        self.spots.get(handle).is_some()
     }
 
     /// The links that wait, in turn, each with how many of its transfers wait.
     pub(crate) fn counts(&self, alloc: Global) -> Result<Vec<(OutputHandle, usize)>, AllocError>
         ensures { IfOk result (λ counts. counts.items ≡ turn_of self.now.queues) }
     {
-        counts(&self.queues, alloc)
+        counts(&self.turn, &self.queues, alloc)
     }
 
     /// The first link of the turn gives up its first transfer.
+    #[inline(always)]
     pub(crate) fn take_turn(&mut self) -> (OutputHandle, Outbound<T, F>)
         requires { 0 < held_in self.old.queues }
         ensures taken { TakesTurn self.old.queues (result.0).0 result.1 self.new.queues }
@@ -139,14 +147,18 @@ impl<T: Drop, F: Drop> Turns<T, F> {
         ensures firsts { firsts_in self.new.queues + first_count result.1.part
             ≡ firsts_in self.old.queues }
     {
-        let (handle, unit) = take_turn(&mut self.queues, &mut self.positions, &mut self.store);
+        let (handle, unit) = take_turn(
+            &mut self.turn,
+            &mut self.queues,
+            &mut self.spots,
+            &mut self.store,
+        );
         self.held -= 1;
         self.frames -= 1 + unit.behind.len() as u128;
         (handle, unit)
     }
 
     /// A batch of a link waits behind what the link has waiting.
-    #[tactic(auto, using(crate::proofs::Joining::rules))]
     pub(crate) fn join(
         &mut self,
         alloc: Global,
@@ -167,8 +179,9 @@ impl<T: Drop, F: Drop> Turns<T, F> {
         let held = sum_in_limit(self.held, count)?;
         let frames = self.frames + count_frames(batch);
         join(
+            &mut self.turn,
             &mut self.queues,
-            &mut self.positions,
+            &mut self.spots,
             &mut self.store,
             alloc,
             handle,
@@ -188,8 +201,9 @@ impl<T: Drop, F: Drop> Turns<T, F> {
     {
         let room = self.room.max(count);
         let _ = sum_in_limit(self.held, room)?;
+        self.turn.reserve(room)?;
         self.queues.reserve(room)?;
-        self.positions.reserve(room)?;
+        self.spots.reserve(room)?;
         self.store.reserve(room)?;
         self.room = room;
         Ok(())
@@ -218,15 +232,14 @@ impl<T: Drop, F: Drop> Turns<T, F> {
         ensures kept { room_behind handle.0 count self.now.queues ≤ place.old →
             place.new ≡ place.old }
     {
-        match place_of(&self.queues, &self.positions, handle) {
-            Some(index) => widen_behind(&self.queues[index].units, alloc, count, place),
+        match self.spots.get(handle) {
+            Some(spot) => widen_behind(&self.queues[spot].units, alloc, count, place),
             None => Ok(()),
         }
     }
 
     /// A frame of a link goes behind the transfers that the link has waiting. It is given back where there are none.
     /// It is refused where there is no memory and the place has no room.
-    #[tactic(auto, using(crate::proofs::Joining::rules))]
     pub(crate) fn follow(
         &mut self,
         handle: OutputHandle,
@@ -242,10 +255,10 @@ impl<T: Drop, F: Drop> Turns<T, F> {
         ensures fits { room_behind handle.0 1 self.old.queues ≤ place.old → IsOk result }
         ensures at_once { units_of handle.0 self.old.queues ≡ [] → place.new ≡ place.old }
     {
-        let Some(index) = place_of(&self.queues, &self.positions, handle) else {
+        let Some(spot) = self.spots.get(handle) else {
             return Ok(Some(frame));
         };
-        follow(&mut self.queues, index, place, frame)?;
+        follow(&mut self.queues, spot, place, frame)?;
         self.frames += 1;
         Ok(None)
     }
@@ -264,52 +277,66 @@ fn sum_in_limit(held: usize, count: usize) -> Result<usize, AllocError>
 
 /// The first link of the turn gives up its first transfer, and stands last if another of it waits. The node goes to the
 /// store.
+#[inline(always)]
 fn take_turn<T: Drop, F: Drop>(
-    queues: &mut VecDeque<Queue<T, F>>,
-    positions: &mut Positions,
+    turn: &mut VecDeque<usize>,
+    queues: &mut Slab<Queue<T, F>>,
+    spots: &mut Spots,
     store: &mut Store<Outbound<T, F>>,
 ) -> (OutputHandle, Outbound<T, F>)
-    requires some { 0 < length queues.old.items }
-    requires waits { EachWaits queues.old.items }
+    requires some { 0 < length turn.old.items }
+    requires waits { AllWait queues.old }
     requires short { store.old + 1 < 2 ^ 63 }
-    requires noted { AreNoted (position_of positions.old)
-        (handles_in (queues_of queues.old.items)) }
-    ensures taken { TakesTurn (queues_of queues.old.items) (result.0).0 result.1
-        (queues_of queues.new.items) }
-    ensures waits { EachWaits queues.new.items }
-    ensures noted { AreNoted (position_of positions.new) (handles_in (queues_of queues.new.items)) }
-    ensures spots { spots_in positions.old ≤ spots_in positions.new }
+    requires noted { AreNoted (handle_at queues.old) turn.old.items (spot_of spots.old) }
+    ensures taken { TakesTurn (waiting_at queues.old turn.old.items) (result.0).0 result.1
+        (waiting_at queues.new turn.new.items) }
+    ensures waits { AllWait queues.new }
+    ensures noted { AreNoted (handle_at queues.new) turn.new.items (spot_of spots.new) }
+    ensures notes { notes_left spots.old ≤ notes_left spots.new }
     ensures store { store.new ≡ store.old + 1 }
-    ensures capacity { deque_capacity queues.new ≡ deque_capacity queues.old }
-    ensures len { deque_len queues.new ≤ deque_len queues.old }
+    ensures capacity { deque_capacity turn.new ≡ deque_capacity turn.old }
+    ensures len { deque_len turn.new ≤ deque_len turn.old }
+    ensures room { queues.new.capacity ≡ queues.old.capacity }
+    ensures stands { slab_len queues.new ≤ slab_len queues.old }
 {
-    let mut queue = queues.pop_front().unwrap();
-    let unit = queue.units.take_first(store);
-    let handle = queue.handle;
-    if !queue.units.is_empty() {
-        positions.rotate(handle, queues.len());
-        queues.push_back_reserved(queue);
+    let first = take_spot(turn);
+    let (handle, unit, is_last) = take_first(queues, first, store);
+    if !is_last {
+        turn.push_back_reserved(first);
         return (handle, unit);
     }
-    positions.remove_first(handle);
+    let _ = queues.remove(first);
+    spots.remove(handle);
     (handle, unit)
 }
 
-/// Where a link stands in the turn.
-fn place_of<T, F>(
-    queues: &VecDeque<Queue<T, F>>,
-    positions: &Positions,
-    handle: OutputHandle,
-) -> Option<usize>
-    requires noted { AreNoted (position_of positions.now)
-        (handles_in (queues_of queues.now.items)) }
-    ensures some { IfSome result (λ i. IsPlace queues.now.items handle.0 i) }
-    ensures none { IfNone result (IsNowhere queues.now.items handle.0) }
+/// The first spot of the turn.
+#[inline(always)]
+fn take_spot(turn: &mut VecDeque<usize>) -> usize
+    requires { 0 < length turn.old.items }
+    ensures items { turn.old.items ≡ result ∷ turn.new.items }
+    ensures len { deque_len turn.new + 1 ≡ deque_len turn.old }
+    ensures capacity { deque_capacity turn.new ≡ deque_capacity turn.old }
 {
-    if queues.is_empty() {
-        return None;
-    }
-    positions.get(handle)
+    turn.pop_front().unwrap()
+}
+
+/// The queue at a spot gives up its first transfer: the link's handle, the transfer, and whether no other waits.
+#[inline(always)]
+fn take_first<T: Drop, F: Drop>(
+    queues: &mut Slab<Queue<T, F>>,
+    spot: usize,
+    store: &mut Store<Outbound<T, F>>,
+) -> (OutputHandle, Outbound<T, F>, bool)
+    requires spot { ContainsKey queues.old spot }
+    requires waits { AllWait queues.old }
+    requires short { store.old + 1 < 2 ^ 63 }
+    ensures taken { TakesFirst queues.old spot result.0 result.1 result.2 queues.new }
+    ensures store { store.new ≡ store.old + 1 }
+{
+    let queue = &mut queues[spot];
+    let unit = queue.units.take_first(store);
+    (queue.handle, unit, queue.units.is_empty())
 }
 
 /// Gets room for so many more frames behind the last of these transfers.
@@ -344,151 +371,155 @@ fn count_frames<T, F: Drop>(batch: &VecDeque<Outbound<T, F>>) -> u128
 }
 
 /// A batch waits behind what its link has waiting, and a link that had nothing joins the turn.
-#[tactic(auto, using(crate::proofs::Joining::rules))]
 fn join<T: Drop, F: Drop>(
-    queues: &mut VecDeque<Queue<T, F>>,
-    positions: &mut Positions,
+    turn: &mut VecDeque<usize>,
+    queues: &mut Slab<Queue<T, F>>,
+    spots: &mut Spots,
     store: &mut Store<Outbound<T, F>>,
     alloc: Global,
     handle: OutputHandle,
     batch: &mut VecDeque<Outbound<T, F>>,
 ) -> Result<(), AllocError>
     requires some { 0 < length batch.old.items }
-    requires waits { EachWaits queues.old.items }
-    requires short { held_in (queues_of queues.old.items) + store.old < 2 ^ 63 }
-    requires fits { held_in (queues_of queues.old.items) + length batch.old.items < 2 ^ 63 }
-    requires noted { AreNoted (position_of positions.old)
-        (handles_in (queues_of queues.old.items)) }
-    ensures ok { OnOk result (queues_of queues.new.items
-        ≡ joined handle.0 batch.old.items (queues_of queues.old.items)) }
-    ensures err { OnErr result (queues_of queues.new.items ≡ queues_of queues.old.items) }
+    requires waits { AllWait queues.old }
+    requires short { held_in (waiting_at queues.old turn.old.items) + store.old < 2 ^ 63 }
+    requires fits { held_in (waiting_at queues.old turn.old.items) + length batch.old.items
+        < 2 ^ 63 }
+    requires noted { AreNoted (handle_at queues.old) turn.old.items (spot_of spots.old) }
+    requires stands { slab_len queues.old ≤ queues.old.capacity }
+    ensures ok { OnOk result (waiting_at queues.new turn.new.items
+        ≡ joined handle.0 batch.old.items (waiting_at queues.old turn.old.items)) }
+    ensures err { OnErr result (waiting_at queues.new turn.new.items
+        ≡ waiting_at queues.old turn.old.items) }
     ensures emptied { OnOk result (batch.new.items ≡ []) }
     ensures batch { OnErr result (batch.new.items ≡ batch.old.items) }
-    ensures waits { EachWaits queues.new.items }
-    ensures noted { AreNoted (position_of positions.new) (handles_in (queues_of queues.new.items)) }
-    ensures taken { OnOk result (spots_in positions.old ≤ spots_in positions.new + 1) }
-    ensures spots { OnErr result (spots_in positions.old ≤ spots_in positions.new) }
+    ensures waits { AllWait queues.new }
+    ensures noted { AreNoted (handle_at queues.new) turn.new.items (spot_of spots.new) }
+    ensures taken { OnOk result (notes_left spots.old ≤ notes_left spots.new + 1) }
+    ensures notes { OnErr result (notes_left spots.old ≤ notes_left spots.new) }
     ensures store { OnOk result (store.new + length batch.old.items
         ≡ max store.old (length batch.old.items)) }
     ensures kept { OnErr result (store.old ≤ store.new) }
     ensures bound { OnErr result (store.new ≤ max store.old (length batch.old.items)) }
-    ensures places { OnErr result (deque_len queues.new ≡ deque_len queues.old) }
-    ensures joins { OnOk result (deque_len queues.new ≤ deque_len queues.old + 1) }
-    ensures within { deque_len queues.new ≤ deque_capacity queues.new }
-    ensures capacity { deque_capacity queues.old ≤ deque_capacity queues.new }
-    ensures refused { OnErr result ((deque_capacity queues.old ≤ deque_len queues.old)
-        ⊎ ((spots_in positions.old ≡ 0) ⊎ (store.old < length batch.old.items))) }
+    ensures places { OnErr result (deque_len turn.new ≡ deque_len turn.old) }
+    ensures joins { OnOk result (deque_len turn.new ≤ deque_len turn.old + 1) }
+    ensures within { deque_len turn.new ≤ deque_capacity turn.new }
+    ensures capacity { deque_capacity turn.old ≤ deque_capacity turn.new }
+    ensures stands { OnErr result (slab_len queues.new ≡ slab_len queues.old) }
+    ensures stands_too { OnOk result (slab_len queues.new ≤ slab_len queues.old + 1) }
+    ensures stands_within { slab_len queues.new ≤ queues.new.capacity }
+    ensures room { queues.old.capacity ≤ queues.new.capacity }
+    ensures refused { OnErr result ((deque_capacity turn.old ≤ deque_len turn.old)
+        ⊎ ((queues.old.capacity ≤ slab_len queues.old) ⊎ ((notes_left spots.old ≡ 0)
+        ⊎ (store.old < length batch.old.items)))) }
 {
     store.reserve(batch.len())?;
-    match place_of(queues, positions, handle) {
-        Some(place) => {
-            join_at(queues, store, place, batch);
+    match spots.get(handle) {
+        Some(spot) => {
+            join_at(queues, store, spot, batch);
             Ok(())
         }
-        None => join_last(queues, positions, store, alloc, handle, batch),
+        None => join_last(turn, queues, spots, store, alloc, handle, batch),
     }
 }
 
-/// A batch waits behind what the link at this place has waiting.
+/// A batch waits behind what the queue at this spot has waiting.
 fn join_at<T: Drop, F: Drop>(
-    queues: &mut VecDeque<Queue<T, F>>,
+    queues: &mut Slab<Queue<T, F>>,
     store: &mut Store<Outbound<T, F>>,
-    place: usize,
+    spot: usize,
     batch: &mut VecDeque<Outbound<T, F>>,
 )
-    requires place { place < length queues.old.items }
-    requires waits { EachWaits queues.old.items }
+    requires spot { ContainsKey queues.old spot }
     requires nodes { length batch.old.items ≤ store.old }
-    requires short { held_in (queues_of queues.old.items) + store.old < 2 ^ 63 }
-    ensures changed { ChangesAt queues.old.items place (λ units. units ++ batch.old.items)
-        queues.new.items }
+    requires short { HasFewAt queues.old spot store.old }
+    ensures changed { ChangesQueue queues.old spot (λ units. units ++ batch.old.items) queues.new }
     ensures emptied { batch.new.items ≡ [] }
-    ensures waits { EachWaits queues.new.items }
     ensures store { store.new + length batch.old.items ≡ store.old }
-    ensures len { deque_len queues.new ≡ deque_len queues.old }
-    ensures capacity { deque_capacity queues.new ≡ deque_capacity queues.old }
 {
-    let queue = &mut queues[place];
+    let queue = &mut queues[spot];
     queue.units.append(store, batch);
 }
 
 /// A batch of a link that has nothing waiting joins the turn at its end.
 fn join_last<T: Drop, F: Drop>(
-    queues: &mut VecDeque<Queue<T, F>>,
-    positions: &mut Positions,
+    turn: &mut VecDeque<usize>,
+    queues: &mut Slab<Queue<T, F>>,
+    spots: &mut Spots,
     store: &mut Store<Outbound<T, F>>,
     alloc: Global,
     handle: OutputHandle,
     batch: &mut VecDeque<Outbound<T, F>>,
 ) -> Result<(), AllocError>
-    requires some { 0 < length batch.old.items }
-    requires waits { EachWaits queues.old.items }
     requires nodes { length batch.old.items ≤ store.old }
     requires short { store.old < 2 ^ 63 }
-    ensures waits { EachWaits queues.new.items }
-    ensures stands { OnOk result ((other : ℕ) → position_of positions.new other
-        ≡ cond (nat_eq handle.0 other) (Some (length queues.old.items))
-        (position_of positions.old other)) }
-    ensures stood { OnErr result ((other : ℕ) →
-        position_of positions.new other ≡ position_of positions.old other) }
-    ensures taken { OnOk result (spots_in positions.old ≤ spots_in positions.new + 1) }
-    ensures spots { OnErr result (spots_in positions.old ≤ spots_in positions.new) }
-    ensures ok { OnOk result ((q : Queue T F) × (queues.new.items ≡ queues.old.items ++ q ∷ [])
-        × (q.handle ≡ handle) × (q.units ≡ batch.old.items)) }
-    ensures err { OnErr result (queues.new.items ≡ queues.old.items) }
+    requires stands { slab_len queues.old ≤ queues.old.capacity }
+    ensures ok { OnOk result (Joins turn.old.items queues.old (spot_of spots.old) handle
+        batch.old.items turn.new.items queues.new (spot_of spots.new)) }
+    ensures err { OnErr result (queues.new.slots ≡ queues.old.slots) }
+    ensures turn { OnErr result (turn.new.items ≡ turn.old.items) }
+    ensures noted { OnErr result ((other : ℕ) →
+        spot_of spots.new other ≡ spot_of spots.old other) }
+    ensures taken { OnOk result (notes_left spots.old ≤ notes_left spots.new + 1) }
+    ensures notes { OnErr result (notes_left spots.old ≤ notes_left spots.new) }
     ensures emptied { OnOk result (batch.new.items ≡ []) }
     ensures batch { OnErr result (batch.new.items ≡ batch.old.items) }
     ensures store { OnOk result (store.new + length batch.old.items ≡ store.old) }
     ensures kept { OnErr result (store.new ≡ store.old) }
-    ensures places { OnErr result (deque_len queues.new ≡ deque_len queues.old) }
-    ensures joins { OnOk result (deque_len queues.new ≡ deque_len queues.old + 1) }
-    ensures within { deque_len queues.new ≤ deque_capacity queues.new }
-    ensures capacity { deque_capacity queues.old ≤ deque_capacity queues.new }
-    ensures refused { OnErr result ((deque_capacity queues.old ≤ deque_len queues.old)
-        ⊎ (spots_in positions.old ≡ 0)) }
+    ensures joins { OnOk result (deque_len turn.new ≡ deque_len turn.old + 1) }
+    ensures within { deque_len turn.new ≤ deque_capacity turn.new }
+    ensures capacity { deque_capacity turn.old ≤ deque_capacity turn.new }
+    ensures stands { OnOk result (slab_len queues.new ≡ slab_len queues.old + 1) }
+    ensures stands_within { slab_len queues.new ≤ queues.new.capacity }
+    ensures room { queues.old.capacity ≤ queues.new.capacity }
+    ensures refused { OnErr result ((deque_capacity turn.old ≤ deque_len turn.old)
+        ⊎ ((queues.old.capacity ≤ slab_len queues.old) ⊎ (notes_left spots.old ≡ 0))) }
 {
+    turn.reserve(1)?;
     queues.reserve(1)?;
-    positions.reserve(1)?;
-    positions.insert_reserved(handle, queues.len());
+    spots.reserve(1)?;
     let mut units = Row::new(alloc);
     units.append(store, batch);
-    queues.push_back_reserved(Queue { handle, units });
+    let spot = queues.insert_reserved(Queue { handle, units });
+    spots.insert_reserved(handle, spot);
+    turn.push_back_reserved(spot);
     Ok(())
 }
 
-/// A frame goes behind the last transfer that the link at this place has waiting.
+/// A frame goes behind the last transfer that the queue at this spot has waiting.
 fn follow<T: Drop, F: Drop>(
-    queues: &mut VecDeque<Queue<T, F>>,
-    index: usize,
+    queues: &mut Slab<Queue<T, F>>,
+    spot: usize,
     place: &mut Place<F>,
     frame: F,
 ) -> Result<(), AllocError>
-    requires index { index < length queues.old.items }
-    requires waits { EachWaits queues.old.items }
-    ensures ok { OnOk result (ChangesAt queues.old.items index (trailed frame) queues.new.items) }
-    ensures err { OnErr result (queues_of queues.new.items ≡ queues_of queues.old.items) }
-    ensures short { OnOk result ((d : Queue T F) →
-        last_room 1 (slice_index_or queues.old.items index d).units < 2 ^ 64) }
-    ensures refused { OnErr result ((d : Queue T F) →
-        place.old < last_room 1 (slice_index_or queues.old.items index d).units) }
-    ensures waits { EachWaits queues.new.items }
-    ensures len { deque_len queues.new ≡ deque_len queues.old }
-    ensures capacity { deque_capacity queues.new ≡ deque_capacity queues.old }
+    requires spot { ContainsKey queues.old spot }
+    requires waits { AllWait queues.old }
+    ensures ok { OnOk result (ChangesQueue queues.old spot (trailed frame) queues.new) }
+    ensures err { OnErr result (queues.new ≡ queues.old) }
+    ensures short { OnOk result ((q : Queue T F) → get queues.old spot ≡ Some q →
+        last_room 1 q.units < 2 ^ 64) }
+    ensures refused { OnErr result ((q : Queue T F) → get queues.old spot ≡ Some q →
+        place.old < last_room 1 q.units) }
 {
-    let queue = &mut queues[index];
+    let queue = &mut queues[spot];
     queue.units.trail(place, frame)
 }
 
 /// The links of the turn, each with how many of its transfers wait.
 fn counts<T, F>(
-    queues: &VecDeque<Queue<T, F>>,
+    turn: &VecDeque<usize>,
+    queues: &Slab<Queue<T, F>>,
     alloc: Global,
 ) -> Result<Vec<(OutputHandle, usize)>, AllocError>
-    ensures { IfOk result (λ counts. counts.items ≡ turn_of (queues_of queues.now.items)) }
+    requires { All (λ spot. ContainsKey queues.now spot) turn.now.items }
+    ensures { IfOk result (λ counts.
+        counts.items ≡ turn_of (waiting_at queues.now turn.now.items)) }
 {
-    let mut counts = Vec::with_capacity(alloc, queues.len())?;
-    for i in 0..queues.len() {
-        counts.push_reserved((queues[i].handle, queues[i].units.len()));
+    let mut counts = Vec::with_capacity(alloc, turn.len())?;
+    for i in 0..turn.len() {
+        let queue = &queues[turn[i]];
+        counts.push_reserved((queue.handle, queue.units.len()));
     }
     Ok(counts)
 }
