@@ -6,7 +6,8 @@ use Rattle.amqp_session_frames.specs.Cutting.{joined}
 use Rattle.amqp_endpoint_model.specs.declared.call.Call.{Call}
 use Rattle.amqp_endpoint_model.specs.declared.call.Call.TheVariants.{Connect, Feed, Pull, Queued, IsIdle, Heartbeat}
 use Rattle.amqp_endpoint_model.specs.declared.call.Call.TheVariants.{BreakOff, Close as CloseCall, IsClosed, TryClose}
-use Rattle.amqp_endpoint_model.specs.declared.call.Call.TheVariants.{Begin, AcceptBegin, End as EndCall, IsEnded, TryEnd}
+use Rattle.amqp_endpoint_model.specs.declared.call.Call.TheVariants.{Begin, AcceptBegin, End as EndCall, IsEnded}
+use Rattle.amqp_endpoint_model.specs.declared.call.Call.TheVariants.{TryEnd}
 use Rattle.amqp_endpoint_model.specs.declared.call.Call.TheVariants.{AttachSender, AttachReceiver, Detach, CloseLink}
 use Rattle.amqp_endpoint_model.specs.declared.call.Call.TheVariants.{Grant, Drain, Credit, HeldBack}
 use Rattle.amqp_endpoint_model.specs.declared.call.Call.TheVariants.{Waiting as WaitingCall}
@@ -38,7 +39,8 @@ use Rattle.amqp_endpoint_world.proofs.OnTheWay.{Matched, matched_in, pulled-appe
 
 pub joined-append : (a b : List (List ℕ)) → joined (a ++ b) ≡ joined a ++ joined b
 joined-append [] b = refl
-joined-append (p ∷ ps) b = ap (λ (x : List ℕ). p ++ x) (joined-append ps b) ∙ sym (append_assoc p (joined ps) (joined b))
+joined-append (p ∷ ps) b =
+    ap (λ (x : List ℕ). p ++ x) (joined-append ps b) ∙ sym (append_assoc p (joined ps) (joined b))
 
 -- one history behind another
 given-append : (g : List (List ℕ)) (calls : List Call) (ts : List Told) (more : List Call) (us : List Told)
@@ -298,7 +300,8 @@ module _ {S : Type 0} (does : Relations S) where
       let m = matched_in end v step t.did (queued_at end t) in
       let stream : stream_to end mid ≡ w = stream-step does end old step t.did mid one in
       let now : Gave (state_at end mid) q h =
-      pulled-over (state_at end old) calls said (state_at end mid) p g (step-run end old step t mid (mid, one, a, b, refl))
+      pulled-over (state_at end old) calls said (state_at end mid) p g
+      (step-run end old step t mid (mid, one, a, b, refl))
       (fresh-in end old step t.did (queued_at end t) mid p one (none [] [] old refl)) gave in
       let onward : NonePulled end mid q = λ more us there r down.
       ap (λ (s : List ℕ). pulled_since_break q (calls_at end s more us) (told_at end more us)) stream

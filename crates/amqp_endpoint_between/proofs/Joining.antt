@@ -2,7 +2,7 @@
 use Rattle.std.proofs.Common.{◌≡◌, ℕ, Bool, true, false, List, [], ◌∷◌, ◌++◌, Some, None}
 use Rattle.std.proofs.Common.{ap, refl, subst, sym, ◌∙◌}
 use Rattle.std.specs.Prelude.{map}
-use Rattle.std.proofs.lemmas.List.{append_assoc, append_cancel_left, map-append}
+use Rattle.std.proofs.lemmas.List.{append_assoc, append_cancel_left}
 use Rattle.amqp_session_frames.proofs.ReadingLaws.{Reads-texts}
 use Rattle.amqp_session_frames.specs.Cutting.{ReadsAs, joined}
 use Rattle.amqp_session_frames.specs.Text.{AllWithinCaps, Reads, texts}
@@ -12,7 +12,7 @@ use Rattle.amqp_endpoint_model.specs.declared.call.Call.{Call}
 use Rattle.amqp_endpoint_model.specs.declared.phase.Phase.{Phase}
 use Rattle.amqp_endpoint_model.specs.declared.phase.Phase.TheVariants.{Unconnected, Greeting, Running, Over}
 use Rattle.amqp_endpoint_model.specs.declared.settings.Settings.{Settings}
-use Rattle.amqp_endpoint_model.specs.History.{Run, nothing, summary}
+use Rattle.amqp_endpoint_model.specs.History.{Run, nothing}
 use Rattle.amqp_endpoint_model.specs.Relay.{Relations}
 use Rattle.amqp_endpoint_model.specs.Said.{Told}
 use Rattle.amqp_endpoint_model.specs.State.{State, Waiting, fits, fresh, is_unconnected, own_open, protocol_header}
@@ -177,7 +177,8 @@ module _ {S : Type 0} (does : Relations S) where
         → Run does (state_at end start) (calls_at end [] steps ts) (told_at end steps ts) (state_at end new)
     run-new end =
         subst
-        (λ (s : List ℕ). Run does (state_at end start) (calls_at end s steps ts) (told_at end steps ts) (state_at end new))
+        (λ (s : List ℕ).
+        Run does (state_at end start) (calls_at end s steps ts) (told_at end steps ts) (state_at end new))
         (nothing_yet does end a b start n) (end_run does end start steps ts new run)
 
     as-fresh : (s : State S) (settings : Settings) (sessions : S) → s ≡ fresh settings sessions

@@ -93,7 +93,8 @@ own-text settings f opens (inr (inl is)) =
     subst (λ (g : Frame). HasText (frame_text g)) (sym is) (fit-text 512 (frame_text heartbeat) heartbeat-fits)
 own-text settings f opens (inr (inr (error, is, fit))) = fit-text 512 (frame_text f) fit
 
-session-texts : (limit : ℕ) (frames : List SessionFrame) → All (λ (f : SessionFrame). fits limit (frame_of f) ≡ true) frames
+session-texts : (limit : ℕ) (frames : List SessionFrame)
+    → All (λ (f : SessionFrame). fits limit (frame_of f) ≡ true) frames
     → AllHaveTexts (flat_map frame_in (map waiting_of frames))
 session-texts limit [] fit = tt
 session-texts limit (f ∷ fs) fit =

@@ -19,8 +19,9 @@ use amqp_endpoint_model::SessionRelay;
 /// an older connection (part 2, 2.2, 2.3, 2.4).
 ///
 /// Where the sending end has no connection, the receiving end took nothing, and nothing is on its way; where the
-/// receiving end has none, nothing is said. Each frame that is sent is to lie within what is read: no list in it has
-/// more than 65,536 elements, and no map more than 32,768 pairs.
+/// receiving end has none, nothing is said. The order is said where each frame that the sending end queued is one that
+/// may be read: its channel has two bytes, no list or array in it has more than 65,536 elements and no map more than
+/// 32,768 pairs, and what it keeps as bytes are wire forms. The settings are those that an endpoint accepts.
 pub fn what_an_end_takes_was_sent<S: SessionRelay>()
     ensures { (settings_a settings_b : Settings) (start new : WorldState S) (steps : List Step)
         (told : List WorldTold) → refusal_of_settings settings_a ≡ None →
