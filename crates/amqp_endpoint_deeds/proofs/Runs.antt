@@ -3,17 +3,22 @@ use Rattle.std.proofs.Common.{◌≡◌, ℕ, Bool, true, false, ◌||◌, List,
 use Rattle.std.proofs.Common.{ap, drop, refl, sym, subst, take, ◌∙◌, take-append-drop}
 use Rattle.std.specs.Prelude.{◌⊎◌, All, flat_map, if◌then◌else◌, map}
 use Rattle.std.proofs.lemmas.List.{append-nil, append_assoc}
+use Rattle.std.specs.Str.{is_utf8, chars}
+use Rattle.std.specs.Char.{encode_utf8}
 use Rattle.std.proofs.lemmas.List.Elements.{All-nil}
 use Rattle.amqp_session_connection.specs.Table.{after_send_close}
 use Rattle.amqp_session_connection.specs.declared.state.ConnectionState.TheVariants.{HeaderExchange, OpenSent}
 use Rattle.amqp_session_frames.proofs.CuttingLaws.{reads-append}
 use Rattle.amqp_session_frames.specs.Cutting.{ReadsAs}
+use Rattle.amqp_session_frames.specs.declared.error.Error.{Error as FrameError}
+use Rattle.amqp_session_frames.specs.declared.error.Error.TheVariants.{DecodeError}
 use Rattle.amqp_session_frames.specs.declared.frame.Frame.{Frame}
 use Rattle.amqp_session_frames.specs.declared.frame.FrameBody.{FrameBody}
 use Rattle.amqp_session_frames.specs.declared.frame.FrameBody.TheVariants.{Empty, Open, Close}
 use Rattle.amqp_session_performatives.specs.declared.session_frame.SessionFrame.{SessionFrame}
 use Rattle.amqp_session_types.specs.declared.error.Error.{Error}
-use Rattle.amqp_session_types.specs.declared.refusals.ConnectionError.TheVariants.{IllegalState as OutOfOrder}
+use Rattle.amqp_session_types.specs.declared.refusals.ConnectionError.{ConnectionError}
+use Rattle.amqp_session_types.specs.declared.refusals.ConnectionError.TheVariants.{IllegalState as OutOfOrder, NotFound}
 use Rattle.amqp_endpoint_model.specs.declared.call.Call.{Call}
 use Rattle.amqp_endpoint_model.specs.declared.call.Call.TheVariants.{Connect, Feed, Pull, Queued, IsIdle, Heartbeat}
 use Rattle.amqp_endpoint_model.specs.declared.call.Call.TheVariants.{BreakOff, Close as CloseCall, IsClosed, TryClose}
@@ -26,6 +31,8 @@ use Rattle.amqp_endpoint_model.specs.declared.error.EndpointError.{EndpointError
 use Rattle.amqp_endpoint_model.specs.declared.error.EndpointError.TheVariants.{AlreadyConnected, Connection, Memory}
 use Rattle.amqp_endpoint_model.specs.declared.error.EndpointError.TheVariants.{IllegalState, NotConnected}
 use Rattle.amqp_endpoint_model.specs.declared.error.EndpointError.TheVariants.{NumbersUsedUp, PeerLimitUnder512}
+use Rattle.amqp_endpoint_model.specs.declared.error.EndpointError.TheVariants.{Frame as FrameFault, SizeOverLimit}
+use Rattle.amqp_endpoint_model.specs.declared.error.EndpointError.TheVariants.{SizeUnder8}
 use Rattle.amqp_endpoint_model.specs.declared.error.EndpointError.TheVariants.{Session}
 use Rattle.amqp_endpoint_model.specs.declared.event.Event.{Event}
 use Rattle.amqp_endpoint_model.specs.declared.phase.Phase.{Phase}
@@ -41,12 +48,14 @@ use Rattle.amqp_endpoint_model.specs.State.{waiting_of}
 use Rattle.amqp_endpoint_model.specs.Step.{Admits, AfterFault, Breaks, BreaksGreeting, ClosesBoth, ClosesBy, ClosesOwn}
 use Rattle.amqp_endpoint_model.specs.Step.{Ends, EndsRunning, FeedsIn, FrontBarred, FrontRefused, Greets, MovesBy}
 use Rattle.amqp_endpoint_model.specs.Step.{ReadsOn, RefusesBody, SendsClose, SessionsAnswer, SessionsDo, Step}
-use Rattle.amqp_endpoint_model.specs.Step.{TakesAll, TakesBody, anew, at_state, condition_of, connected, opened}
+use Rattle.amqp_endpoint_model.specs.Step.{TakesAll, TakesBody, anew, at_state, condition_of, condition_of_connection}
+use Rattle.amqp_endpoint_model.specs.Step.{condition_of_frame, connected, opened}
 use Rattle.amqp_endpoint_model.specs.Step.{with_close}
 use Rattle.amqp_endpoint_model.specs.History.{BodyTells, Run, is_close}
 use Rattle.amqp_endpoint_model.proofs.Keeping.{step-settings}
 use Rattle.amqp_endpoint_deeds.specs.Deeds.{AreDone, AreRead, Closes, Deed, Does, Finishes, Hears, IsDeed, IsDone}
-use Rattle.amqp_endpoint_deeds.specs.Deeds.{IsInOrder, MayClose, MayOpen, MayPass, Moves, MovesByFrame, NoneRenews}
+use Rattle.amqp_endpoint_deeds.specs.Deeds.{IsInOrder, IsOwnFrame, KeepToFrames, MayClose, MayOpen, MayPass, Moves}
+use Rattle.amqp_endpoint_deeds.specs.Deeds.{MovesByFrame, NoneRenews}
 use Rattle.amqp_endpoint_deeds.specs.Deeds.{Tell, Throughout, closed_behind, come_to, is_up, opened_behind}
 use Rattle.amqp_endpoint_deeds.specs.Deeds.{opened_with, up_behind}
 use Rattle.amqp_endpoint_deeds.specs.Deeds.{Queues, Refuses, Renews, Takes, done_by, done_in, done_since, fed_by}
@@ -149,27 +158,61 @@ none-append (Renews ∷ deeds) more n m = absurd n
 none-append (Closes ∷ deeds) more n m = none-append deeds more n m
 none-append (Finishes ∷ deeds) more n m = none-append deeds more n m
 
--- deeds of a connection that was up or wasn't, by which it doesn't begin anew, and behind them it is up or isn't
-record Going (before : Bool) (deeds : List Deed) (behind : Bool) : Type 0 where
-  along : Along up_behind MayPass before deeds behind
-  none : NoneRenews deeds
+go-append : (settings : Settings) (deeds more : List Deed) → KeepToFrames settings deeds → KeepToFrames settings more
+    → KeepToFrames settings (deeds ++ more)
+go-append settings [] more g h = h
+go-append settings (Queues the_header ∷ deeds) more g h = absurd g
+go-append settings (Queues (the_frame frame) ∷ deeds) more (own, g) h = (own, go-append settings deeds more g h)
+go-append settings (Hears frame events ∷ deeds) more g h = go-append settings deeds more g h
+go-append settings (Takes limit frame frames events ∷ deeds) more g h = go-append settings deeds more g h
+go-append settings (Refuses limit frame error own_close ∷ deeds) more g h = go-append settings deeds more g h
+go-append settings (Does limit call answer frames ∷ deeds) more g h = go-append settings deeds more g h
+go-append settings (Moves connection ∷ deeds) more g h = go-append settings deeds more g h
+go-append settings (Renews ∷ deeds) more g h = absurd g
+go-append settings (Closes ∷ deeds) more g h = go-append settings deeds more g h
+go-append settings (Finishes ∷ deeds) more g h = go-append settings deeds more g h
 
-going-both : (before mid behind : Bool) (deeds more : List Deed) → Going before deeds mid → Going mid more behind
-    → Going before (deeds ++ more) behind
-going-both before mid behind deeds more a b =
-    record {
-      along = along-both up_behind MayPass before mid behind deeds more a.along b.along;
-      none = none-append deeds more a.none b.none;
-    }
+go-none : (settings : Settings) (deeds : List Deed) → KeepToFrames settings deeds → NoneRenews deeds
+go-none settings [] g = tt
+go-none settings (Queues the_header ∷ deeds) g = absurd g
+go-none settings (Queues (the_frame frame) ∷ deeds) (own, g) = go-none settings deeds g
+go-none settings (Hears frame events ∷ deeds) g = go-none settings deeds g
+go-none settings (Takes limit frame frames events ∷ deeds) g = go-none settings deeds g
+go-none settings (Refuses limit frame error own_close ∷ deeds) g = go-none settings deeds g
+go-none settings (Does limit call answer frames ∷ deeds) g = go-none settings deeds g
+go-none settings (Moves connection ∷ deeds) g = go-none settings deeds g
+go-none settings (Renews ∷ deeds) g = absurd g
+go-none settings (Closes ∷ deeds) g = go-none settings deeds g
+go-none settings (Finishes ∷ deeds) g = go-none settings deeds g
 
-going-none : (up : Bool) → Going up [] up
-going-none up = record { along = record { holds = tt; comes = refl }; none = tt }
+-- the own Close of a fault fits every peer's limit
+abbrev Tells : Option (List ℕ) → Type 0
+Tells None = Unit {0}
+Tells (Some condition) = fits 512 (own_close_with (Some (error_of condition))) ≡ true
 
--- by one deed
-going-by : (deed : Deed) (before behind : Bool) → MayPass before deed → up_behind before deed ≡ behind
-    → NoneRenews (deed ∷ []) → Going before (deed ∷ []) behind
-going-by deed before behind may is none =
-    record { along = record { holds = (may, tt); comes = is }; none = none }
+frame-tells : (e : FrameError) → Tells (Some (condition_of_frame e))
+unfolding is_utf8 chars encode_utf8
+frame-tells DecodeError = refl
+frame-tells e = refl
+
+connection-tells : (e : ConnectionError) → Tells (Some (condition_of_connection e))
+unfolding is_utf8 chars encode_utf8
+connection-tells NotFound = refl
+connection-tells e = refl
+
+fault-tells : (e : EndpointError) → Tells (condition_of e)
+unfolding is_utf8 chars encode_utf8
+fault-tells SizeUnder8 = refl
+fault-tells SizeOverLimit = refl
+fault-tells PeerLimitUnder512 = refl
+fault-tells (FrameFault e) = frame-tells e
+fault-tells (Connection e) = connection-tells e
+fault-tells (Session e) = refl
+fault-tells e = tt
+
+plain-close : fits 512 (own_close_with None) ≡ true
+unfolding is_utf8 chars encode_utf8
+plain-close = refl
 
 -- a connection stays as it is, or is over
 abbrev still : Bool → Bool
@@ -222,10 +265,6 @@ close-writes : (own : Bool) (error : Option Error) (peer : Option ℕ)
     → Writing peer (close-deeds own (own_close_with error)) peer
 close-writes true error peer = writing-none peer
 close-writes false error peer = record { holds = (λ theirs. theirs, tt); comes = refl }
-
-close-goes : (own : Bool) (close : Frame) (up : Bool) → Going up (close-deeds own close) up
-close-goes true close up = going-none up
-close-goes false close up = going-by (Queues (the_frame close)) up up tt refl tt
 
 close-queues : {S : Type 0} (s : State S) (own : Bool) (close : Frame) → s.own_close ≡ own
     → with_close s close ≡ s.queue ++ queued_by (close-deeds own close)
@@ -282,7 +321,34 @@ same-read phase limit bytes frames more rest none r =
     (subst (λ (fs : List Frame). AreRead phase limit bytes fs rest)
     (sym (ap (λ (fs : List Frame). frames ++ fs) none ∙ append-nil frames)) r)
 
-module _ {S : Type 0} (does : Relations S) where
+module _ {S : Type 0} (does : Relations S) (settings : Settings) where
+  -- deeds of a connection that was up or wasn't, by which it doesn't begin anew, and behind them it is up or isn't
+  record Going (before : Bool) (deeds : List Deed) (behind : Bool) : Type 0 where
+    along : Along up_behind MayPass before deeds behind
+    go_on : KeepToFrames settings deeds
+
+  going-both : (before mid behind : Bool) (deeds more : List Deed) → Going before deeds mid → Going mid more behind
+      → Going before (deeds ++ more) behind
+  going-both before mid behind deeds more a b =
+      record {
+        along = along-both up_behind MayPass before mid behind deeds more a.along b.along;
+        go_on = go-append settings deeds more a.go_on b.go_on;
+      }
+
+  going-none : (up : Bool) → Going up [] up
+  going-none up = record { along = record { holds = tt; comes = refl }; go_on = tt }
+
+  -- by one deed
+  going-by : (deed : Deed) (before behind : Bool) → MayPass before deed → up_behind before deed ≡ behind
+      → KeepToFrames settings (deed ∷ []) → Going before (deed ∷ []) behind
+  going-by deed before behind may is go =
+      record { along = record { holds = (may, tt); comes = is }; go_on = go }
+
+  close-goes : (own : Bool) (close : Frame) (up : Bool) → IsOwnFrame settings close
+      → Going up (close-deeds own close) up
+  close-goes true close up is = going-none up
+  close-goes false close up is = going-by (Queues (the_frame close)) up up tt refl (is, tt)
+
   done-append : (old mid new : S) (deeds more : List Deed) → AreDone does old deeds mid → AreDone does mid more new
       → AreDone does old (deeds ++ more) new
   done-append old mid new [] more same d = subst (λ (s : S). AreDone does s more new) same d
@@ -530,7 +596,7 @@ module _ {S : Type 0} (does : Relations S) where
             going-both (is_up old.phase) (is_up old.phase) false (Hears f events ∷ []) (w.deeds ++ close)
             (going-by (Hears f events) (is_up old.phase) (is_up old.phase) up refl tt)
             (going-both (is_up old.phase) false false w.deeds close (w.going (is_up old.phase))
-            (close-goes old.own_close frame false));
+            (close-goes old.own_close frame false (inr (inr (None, refl, plain-close)))));
       })
   takes-body f body is old events new up t =
       subst (AddsTo old (f ∷ []) events) (sym t.queued)
@@ -606,9 +672,10 @@ module _ {S : Type 0} (does : Relations S) where
             (sym (ap (λ (s : State S). is_up s.phase) after)) tt;
       }
 
-  after-fault : (condition : Option (List ℕ)) (s new : State S) → AfterFault does condition s new → MayCut s new
-  after-fault None s new b = breaks s new b
-  after-fault (Some condition) s new (closes, is) =
+  after-fault : (condition : Option (List ℕ)) (s new : State S) → Tells condition → AfterFault does condition s new
+      → MayCut s new
+  after-fault None s new tells b = breaks s new b
+  after-fault (Some condition) s new tells (closes, is) =
       let w = closes-by s.own_close s.sessions new.sessions closes in
       let frame : Frame = own_close_with (Some (error_of condition)) in
       let close : List Deed = close-deeds s.own_close frame in
@@ -638,14 +705,14 @@ module _ {S : Type 0} (does : Relations S) where
             subst (λ (up : Bool). Going (is_up s.phase) (w.deeds ++ close) up)
             (sym (ap (λ (t : State S). is_up t.phase) is))
             (going-both (is_up s.phase) false false w.deeds close (w.going (is_up s.phase))
-            (close-goes s.own_close frame false));
+            (close-goes s.own_close frame false (inr (inr (Some (error_of condition), refl, tells)))));
       }
 
-  after-front : (condition : Option (List ℕ)) (s : State S) (sessions : S) (new : State S) → is_up s.phase ≡ true
-      → Fronted (limit_of s.peer_limit) s.sessions sessions
+  after-front : (condition : Option (List ℕ)) (s : State S) (sessions : S) (new : State S) → Tells condition
+      → is_up s.phase ≡ true → Fronted (limit_of s.peer_limit) s.sessions sessions
       → AfterFault does condition (record s { sessions = sessions }) new → MayCut s new
-  after-front condition s sessions new running (stays-so same) a =
-      let c = after-fault condition (record s { sessions = sessions }) new a in
+  after-front condition s sessions new tells running (stays-so same) a =
+      let c = after-fault condition (record s { sessions = sessions }) new tells a in
       record {
         deeds = c.deeds;
         are_done = subst (λ (x : S). AreDone does x c.deeds new.sessions) same c.are_done;
@@ -656,7 +723,7 @@ module _ {S : Type 0} (does : Relations S) where
         writing = c.writing;
         going = c.going;
       }
-  after-front None s sessions new running (bars f e theirs ends r) (finishes, after) =
+  after-front None s sessions new tells running (bars f e theirs ends r) (finishes, after) =
       record {
         deeds = Refuses (limit_of s.peer_limit) f e true ∷ [];
         are_done = (
@@ -680,7 +747,7 @@ module _ {S : Type 0} (does : Relations S) where
             going-by (Refuses (limit_of s.peer_limit) f e true) (is_up s.phase) (is_up new.phase) running
             (sym (ap (λ (t : State S). is_up t.phase) after)) tt;
       }
-  after-front (Some condition) s sessions new running (bars f e theirs ends r) (closes, is) =
+  after-front (Some condition) s sessions new tells running (bars f e theirs ends r) (closes, is) =
       let frame : Frame = own_close_with (Some (error_of condition)) in
       let close = close-writes s.own_close (Some (error_of condition)) s.peer_limit in
       record {
@@ -712,7 +779,8 @@ module _ {S : Type 0} (does : Relations S) where
             subst (λ (up : Bool). Going (is_up s.phase) (refuses ∷ close-deeds s.own_close frame) up)
             (sym (ap (λ (t : State S). is_up t.phase) is))
             (going-both (is_up s.phase) false false (refuses ∷ []) (close-deeds s.own_close frame)
-            (going-by refuses (is_up s.phase) false running refl tt) (close-goes s.own_close frame false));
+            (going-by refuses (is_up s.phase) false running refl tt)
+            (close-goes s.own_close frame false (inr (inr (Some (error_of condition), refl, tells)))));
       }
 
   -- these bytes were read and these events told, and so much was taken
@@ -755,7 +823,7 @@ module _ {S : Type 0} (does : Relations S) where
       → EndsRunning does mid left (Some e) new → ReadsThem old all events new
   read-faulted old mid all left frames events e new running read a r =
       let c =
-      after-front (condition_of e) mid r.sessions new (ap is_up running)
+      after-front (condition_of e) mid r.sessions new (fault-tells e) (ap is_up running)
       (front-refused e mid left r.sessions r.refused) r.after in
       let taken : taken_by (a.deeds ++ c.deeds) ≡ frames =
       flat-append taken_in a.deeds c.deeds ∙ ap (λ (fs : List Frame). taken_by a.deeds ++ fs) c.untaken
@@ -914,7 +982,7 @@ module _ {S : Type 0} (does : Relations S) where
       (greeted, (inl (inr refl), refl), (new.sessions, finishes, refl)) (ap (λ (s : State S). s.phase) after)
       (record { told = refl; calls = refl })
       (record { holds = (tt, (tt, tt)); comes = sym (ap (λ (s : State S). s.peer_limit) after) })
-      (record { along = record { holds = (tt, (tt, tt)); comes = refl }; none = tt })
+      (record { along = record { holds = (tt, (tt, tt)); comes = refl }; go_on = tt })
 
   -- bytes are fed while frames are read
   runs : (old : State S) (bytes : List ℕ) (events : List Event) (fault : Option EndpointError) (new : State S)
@@ -940,9 +1008,9 @@ module _ {S : Type 0} (does : Relations S) where
 
   -- the peer's header is whole with them
   greeted : (old : State S) (bytes : List ℕ) (events : List Event) (fault : Option EndpointError) (new : State S)
-      → old.phase ≡ Greeting → take 8 (old.rest ++ bytes) ≡ protocol_header
+      → old.settings ≡ settings → old.phase ≡ Greeting → take 8 (old.rest ++ bytes) ≡ protocol_header
       → ReadsOn does (opened does old) (drop 8 (old.rest ++ bytes)) events fault new → Did old [] bytes events [] new
-  greeted old bytes events fault new is header r =
+  greeted old bytes events fault new kept is header r =
       let t = reads-on (opened does old) (drop 8 (old.rest ++ bytes)) events fault new r in
       let first : Waiting = the_frame (own_open old.settings) in
       let begun : S = at_state does old.sessions OpenSent in
@@ -973,7 +1041,7 @@ module _ {S : Type 0} (does : Relations S) where
             subst (λ (up : Bool). Going up (moves ∷ Queues first ∷ t.deeds) (is_up new.phase)) (sym (ap is_up is))
             (record {
               along = record { holds = (tt, (tt, t.going.along.holds)); comes = t.going.along.comes };
-              none = t.going.none;
+              go_on = (inl (ap own_open kept), t.going.go_on);
             });
       }
 
@@ -982,8 +1050,9 @@ module _ {S : Type 0} (does : Relations S) where
   untold old bytes events new none d = subst (λ (es : List Event). Did old [] bytes es [] new) (sym none) d
 
   greets : (old : State S) (bytes : List ℕ) (events : List Event) (fault : Option EndpointError) (new : State S)
-      → old.phase ≡ Greeting → Greets does old (old.rest ++ bytes) events fault new → Did old [] bytes events [] new
-  greets old bytes events fault new is (inl (short, none, clean, after)) =
+      → old.settings ≡ settings → old.phase ≡ Greeting → Greets does old (old.rest ++ bytes) events fault new
+      → Did old [] bytes events [] new
+  greets old bytes events fault new kept is (inl (short, none, clean, after)) =
       untold old bytes events new none
       (subst (λ (s : State S). Did old [] bytes [] [] s) (sym after)
       (record {
@@ -1005,23 +1074,24 @@ module _ {S : Type 0} (does : Relations S) where
         writing = writing-none old.peer_limit;
         going = going-none (is_up old.phase);
       }))
-  greets old bytes events fault new is (inr (inl (long, other, none, why, b))) =
+  greets old bytes events fault new kept is (inr (inl (long, other, none, why, b))) =
       untold old bytes events new none (broken old bytes new b)
-  greets old bytes events fault new is (inr (inr (inl (header, r)))) = greeted old bytes events fault new is header r
-  greets old bytes events fault new is (inr (inr (inr (none, memory, b)))) =
+  greets old bytes events fault new kept is (inr (inr (inl (header, r)))) =
+      greeted old bytes events fault new kept is header r
+  greets old bytes events fault new kept is (inr (inr (inr (none, memory, b)))) =
       untold old bytes events new none (broken-greeting old bytes new b)
 
   feeds-in : (phase : Phase) (old : State S) (bytes : List ℕ) (events : List Event) (fault : Option EndpointError)
-      (new : State S) → old.phase ≡ phase → FeedsIn does phase old bytes events fault new
+      (new : State S) → old.settings ≡ settings → old.phase ≡ phase → FeedsIn does phase old bytes events fault new
       → Did old [] bytes events [] new
-  feeds-in Unconnected old bytes events fault new is (none, why, same) =
+  feeds-in Unconnected old bytes events fault new kept is (none, why, same) =
       untold old bytes events new none
       (cuts old bytes [] new (ap (λ (s : State S). s.sessions) same) (ap (λ (s : State S). s.phase) same ∙ is)
       tell-nothing (record { holds = tt; comes = sym (ap (λ (s : State S). s.peer_limit) same) })
-      (record { along = record { holds = tt; comes = ap is_up is }; none = tt }))
-  feeds-in Greeting old bytes events fault new is g = greets old bytes events fault new is g
-  feeds-in Running old bytes events fault new is r = runs old bytes events fault new is r
-  feeds-in Over old bytes events fault new is (none, why, same) =
+      (record { along = record { holds = tt; comes = ap is_up is }; go_on = tt }))
+  feeds-in Greeting old bytes events fault new kept is g = greets old bytes events fault new kept is g
+  feeds-in Running old bytes events fault new kept is r = runs old bytes events fault new is r
+  feeds-in Over old bytes events fault new kept is (none, why, same) =
       untold old bytes events new none
       (subst (λ (s : State S). Did old [] bytes [] [] s) (sym same)
       (record {
@@ -1081,7 +1151,7 @@ module _ {S : Type 0} (does : Relations S) where
       (quietly old [] (Queues (the_frame heartbeat) ∷ []) (record old { queue = old.queue ++ the_frame heartbeat ∷ [] })
       (old.sessions, refl, refl) refl refl refl refl (record { told = refl; calls = refl })
       (record { holds = (not-so, tt); comes = refl }) (record { holds = (λ theirs. theirs, tt); comes = refl })
-      (going-by (Queues (the_frame heartbeat)) (is_up old.phase) (is_up old.phase) tt refl tt))
+      (going-by (Queues (the_frame heartbeat)) (is_up old.phase) (is_up old.phase) tt refl (inr (inl refl), tt)))
 
   pulls : (old : State S) (first : Waiting) (others : List Waiting) (new : State S) → old.queue ≡ first ∷ others
       → new ≡ record old { queue = others } → Did old (first ∷ []) [] [] [] new
@@ -1115,7 +1185,8 @@ module _ {S : Type 0} (does : Relations S) where
       (writing-both old.peer_limit old.peer_limit old.peer_limit w.deeds close (w.writing old.peer_limit)
       (record { holds = (λ theirs. theirs, tt); comes = refl }))
       (going-both (is_up old.phase) (is_up old.phase) (is_up old.phase) w.deeds close (w.going (is_up old.phase))
-      (going-by (Queues (the_frame (own_close_with None))) (is_up old.phase) (is_up old.phase) tt refl tt)))
+      (going-by (Queues (the_frame (own_close_with None))) (is_up old.phase) (is_up old.phase) tt refl
+      (inr (inr (None, refl, plain-close)), tt))))
 
   abbrev Done : ℕ → S → List (List ℕ) → List ℕ → List Event → List (Call × Said) → List Event → List (Call × Said)
       → State S → Type 0
@@ -1131,7 +1202,7 @@ module _ {S : Type 0} (does : Relations S) where
       (tell-both (before ++ since) deeds events others did later t u)
 
   module _ (start : S) (given : List (List ℕ)) (bytes : List ℕ) (events : List Event) (did : List (Call × Said))
-      (all_events : List Event) (all_did : List (Call × Said)) (old : State S) where
+      (all_events : List Event) (all_did : List (Call × Said)) (old : State S) (was : old.settings ≡ settings) where
     abbrev Was : Type 0
     Was = Done old.settings.max_frame_size start given bytes events did all_events all_did old
 
@@ -1143,10 +1214,10 @@ module _ {S : Type 0} (does : Relations S) where
 
     -- so a run goes on
     further : (gone : List Waiting) (more : List ℕ) (others : List Event) (later : List (Call × Said)) (new : State S)
-        → Did old gone more others later new → Was
+        → new.settings ≡ settings → Did old gone more others later new → Was
         → Done old.settings.max_frame_size start (given ++ map text_of gone) (bytes ++ more) (events ++ others)
         (did ++ later) (all_events ++ others) (all_did ++ later) new
-    further gone more others later new d i =
+    further gone more others later new kept d i =
         let writing : Writing None (i.before ++ (i.since ++ d.deeds)) new.peer_limit =
         subst (λ (ds : List Deed). Writing None ds new.peer_limit) (append_assoc i.before i.since d.deeds)
         (writing-both None old.peer_limit new.peer_limit (i.before ++ i.since) d.deeds
@@ -1199,7 +1270,13 @@ module _ {S : Type 0} (does : Relations S) where
               record {
                 later = one.later ++ d.deeds;
                 is = ap (λ (ds : List Deed). ds ++ d.deeds) one.is;
-                none = none-append one.later d.deeds one.none d.going.none;
+                none = none-append one.later d.deeds one.none (go-none settings d.deeds d.going.go_on);
+                behind = one.behind ++ d.deeds;
+                header = ap (λ (ds : List Deed). ds ++ d.deeds) one.header;
+                frames =
+                    subst (λ (x : Settings). KeepToFrames x (one.behind ++ d.deeds)) (sym kept)
+                    (go-append settings one.behind d.deeds
+                    (subst (λ (x : Settings). KeepToFrames x one.behind) was one.frames) d.going.go_on);
               };
         }
 
@@ -1234,99 +1311,113 @@ module _ {S : Type 0} (does : Relations S) where
           peer = writing.comes;
           up_in_order = passing.holds;
           up = passing.comes;
-          of_one = λ up. record { later = Queues the_header ∷ []; is = refl; none = tt };
+          of_one = λ up. record {
+            later = Queues the_header ∷ [];
+            is = refl;
+            none = tt;
+            behind = [];
+            header = refl;
+            frames = tt;
+          };
         })
 
-    quiet : (new : State S) → Did old [] [] [] [] new → Was
+    quiet : (new : State S) → new.settings ≡ settings → Did old [] [] [] [] new → Was
         → Done old.settings.max_frame_size start (given ++ []) (bytes ++ []) (events ++ []) (did ++ [])
         (all_events ++ []) (all_did ++ []) new
-    quiet new d i = further [] [] [] [] new d i
+    quiet new kept d i = further [] [] [] [] new kept d i
 
-    unchanged : (new : State S) → new ≡ old → Was
+    unchanged : (new : State S) → new.settings ≡ settings → new ≡ old → Was
         → Done old.settings.max_frame_size start (given ++ []) (bytes ++ []) (events ++ []) (did ++ [])
         (all_events ++ []) (all_did ++ []) new
-    unchanged new same i = quiet new (stays old new same) i
+    unchanged new kept same i = quiet new kept (stays old new same) i
 
-    by-sessions : (call : Call) (answer : Said) (new : State S)
+    by-sessions : (call : Call) (answer : Said) (new : State S) → new.settings ≡ settings
         → Did old [] [] (events_of answer) ((call, answer) ∷ []) new → Was
         → Done old.settings.max_frame_size start (given ++ []) (bytes ++ []) (events ++ events_of answer)
         (did ++ (call, answer) ∷ []) (all_events ++ events_of answer) (all_did ++ (call, answer) ∷ []) new
-    by-sessions call answer new d i = further [] [] (events_of answer) ((call, answer) ∷ []) new d i
+    by-sessions call answer new kept d i =
+        further [] [] (events_of answer) ((call, answer) ∷ []) new kept d i
 
-    refusing : (call : Call) (e : EndpointError) (new : State S) → new ≡ old → Was → Is call (refused e) new
-    refusing Connect e new same i = unchanged new same i
-    refusing (Feed more) e new same i = unchanged new same i
-    refusing call e new same i = unchanged new same i
+    refusing : (call : Call) (e : EndpointError) (new : State S) → new.settings ≡ settings → new ≡ old → Was
+        → Is call (refused e) new
+    refusing Connect e new kept same i = unchanged new kept same i
+    refusing (Feed more) e new kept same i = unchanged new kept same i
+    refusing call e new kept same i = unchanged new kept same i
 
-    does-it : (call : Call) (answer : Said) (new : State S) → SessionsDo does old call answer new → Was
+    does-it : (call : Call) (answer : Said) (new : State S) → new.settings ≡ settings
+        → SessionsDo does old call answer new → Was
         → Done old.settings.max_frame_size start (given ++ []) (bytes ++ []) (events ++ events_of answer)
         (did ++ (call, answer) ∷ []) (all_events ++ events_of answer) (all_did ++ (call, answer) ∷ []) new
-    does-it call answer new s i = by-sessions call answer new (does-call old call answer new s) i
+    does-it call answer new kept s i = by-sessions call answer new kept (does-call old call answer new s) i
 
-    answers-it : (call : Call) (answer : Said) (new : State S) → SessionsAnswer does old call answer new → Was
+    answers-it : (call : Call) (answer : Said) (new : State S) → new.settings ≡ settings
+        → SessionsAnswer does old call answer new → Was
         → Done old.settings.max_frame_size start (given ++ []) (bytes ++ []) (events ++ events_of answer)
         (did ++ (call, answer) ∷ []) (all_events ++ events_of answer) (all_did ++ (call, answer) ∷ []) new
-    answers-it call answer new s i = by-sessions call answer new (answers-call old call answer new s) i
+    answers-it call answer new kept s i = by-sessions call answer new kept (answers-call old call answer new s) i
 
-    step : (call : Call) (answer : Said) (new : State S) → Step does old call answer new → Was → Is call answer new
-    step call (refused e) new (may, same) i = refusing call e new same i
-    step (Feed more) (fed told fault) new s i =
-        further [] more told [] new (feeds-in old.phase old more told fault new refl s) i
-    step Connect done new (may, after) i = connects new (not-up old.phase may) after i
-    step Pull (pulled None) new (empty, same) i = unchanged new same i
-    step Pull (pulled (Some text)) new (first, others, is, said_so, after) i =
+    step : (call : Call) (answer : Said) (new : State S) → new.settings ≡ settings → Step does old call answer new → Was
+        → Is call answer new
+    step call (refused e) new kept (may, same) i = refusing call e new kept same i
+    step (Feed more) (fed told fault) new kept s i =
+        further [] more told [] new kept (feeds-in old.phase old more told fault new was refl s) i
+    step Connect done new kept (may, after) i = connects new (not-up old.phase may) after i
+    step Pull (pulled None) new kept (empty, same) i = unchanged new kept same i
+    step Pull (pulled (Some text)) new kept (first, others, is, said_so, after) i =
         subst
         (λ (t : List ℕ).
         Done old.settings.max_frame_size start (given ++ t ∷ []) (bytes ++ []) (events ++ []) (did ++ [])
         (all_events ++ []) (all_did ++ []) new)
-        (sym said_so) (further (first ∷ []) [] [] [] new (pulls old first others new is after) i)
-    step Queued (count n) new (is, same) i = unchanged new same i
-    step IsIdle (truth b) new (is, same) i = unchanged new same i
-    step Heartbeat done new (none, after) i = quiet new (beats old new after) i
-    step BreakOff done new b i = quiet new (broken old [] new b) i
-    step CloseCall done new (none, closes, after) i =
-        quiet new (sends-own-close old new (may-close (has_opened old.phase) old.own_close none) closes after) i
-    step IsClosed (truth b) new (is, same) i = unchanged new same i
-    step TryClose (tried_close o) new (is, after) i =
-        quiet new
+        (sym said_so) (further (first ∷ []) [] [] [] new kept (pulls old first others new is after) i)
+    step Queued (count n) new kept (is, same) i = unchanged new kept same i
+    step IsIdle (truth b) new kept (is, same) i = unchanged new kept same i
+    step Heartbeat done new kept (none, after) i = quiet new kept (beats old new after) i
+    step BreakOff done new kept b i = quiet new kept (broken old [] new b) i
+    step CloseCall done new kept (none, closes, after) i =
+        quiet new kept (sends-own-close old new (may-close (has_opened old.phase) old.own_close none) closes after) i
+    step IsClosed (truth b) new kept (is, same) i = unchanged new kept same i
+    step TryClose (tried_close o) new kept (is, after) i =
+        quiet new kept
         (subst (λ (t : State S). Did old [] [] [] [] t) (sym after)
         (quietly old [] [] _ refl refl refl (append-nil old.queue) refl tell-nothing
         (closing-none old.own_close) (writing-none old.peer_limit) (going-none (is_up old.phase)))) i
-    step Begin (session_begun n) new s i = does-it _ _ new s i
-    step (AcceptBegin c) (session_begun n) new s i = does-it _ _ new s i
-    step (End n) done new s i = does-it _ _ new s i
-    step (TryEnd n) (tried_end o) new s i = does-it _ _ new s i
-    step (AttachSender n settings) (attaching link told) new s i = does-it _ _ new s i
-    step (AttachReceiver n settings) (attaching link told) new s i = does-it _ _ new s i
-    step (Detach link) done new s i = does-it _ _ new s i
-    step (CloseLink link) (link_closed told) new s i = does-it _ _ new s i
-    step (Grant link n) (credit_is left) new s i = does-it _ _ new s i
-    step (Drain link) done new s i = does-it _ _ new s i
-    step (Send link message) (message_sent tag outcome) new s i = does-it _ _ new s i
-    step (Dispose link message disposal) done new s i = does-it _ _ new s i
-    step (DisposeAll link messages disposal) done new s i = does-it _ _ new s i
-    step (IsEnded n) (truth b) new s i = answers-it _ _ new s i
-    step (Credit link) (credit_is left) new s i = answers-it _ _ new s i
-    step (HeldBack n) (count m) new s i = answers-it _ _ new s i
-    step (WaitingCall n) (waiting turn) new s i = answers-it _ _ new s i
-    step call answer new s i = absurd s
+    step Begin (session_begun n) new kept s i = does-it _ _ new kept s i
+    step (AcceptBegin c) (session_begun n) new kept s i = does-it _ _ new kept s i
+    step (End n) done new kept s i = does-it _ _ new kept s i
+    step (TryEnd n) (tried_end o) new kept s i = does-it _ _ new kept s i
+    step (AttachSender n asked) (attaching link told) new kept s i = does-it _ _ new kept s i
+    step (AttachReceiver n asked) (attaching link told) new kept s i = does-it _ _ new kept s i
+    step (Detach link) done new kept s i = does-it _ _ new kept s i
+    step (CloseLink link) (link_closed told) new kept s i = does-it _ _ new kept s i
+    step (Grant link n) (credit_is left) new kept s i = does-it _ _ new kept s i
+    step (Drain link) done new kept s i = does-it _ _ new kept s i
+    step (Send link message) (message_sent tag outcome) new kept s i = does-it _ _ new kept s i
+    step (Dispose link message disposal) done new kept s i = does-it _ _ new kept s i
+    step (DisposeAll link messages disposal) done new kept s i = does-it _ _ new kept s i
+    step (IsEnded n) (truth b) new kept s i = answers-it _ _ new kept s i
+    step (Credit link) (credit_is left) new kept s i = answers-it _ _ new kept s i
+    step (HeldBack n) (count m) new kept s i = answers-it _ _ new kept s i
+    step (WaitingCall n) (waiting turn) new kept s i = answers-it _ _ new kept s i
+    step call answer new kept s i = absurd s
 
   run-done : (start : S) (given : List (List ℕ)) (bytes : List ℕ) (events : List Event) (did : List (Call × Said))
       (all_events : List Event) (all_did : List (Call × Said)) (limit : ℕ) (old end : State S) (calls : List Call)
-      (told : List Told) → old.settings.max_frame_size ≡ limit → Run does old calls told end
+      (told : List Told) → old.settings ≡ settings → settings.max_frame_size ≡ limit → Run does old calls told end
       → Done limit start given bytes events did all_events all_did old
       → Done limit start (pulled_since given calls told) (fed_since bytes calls told) (told_since events calls told)
       (done_since did calls told) (all_events ++ events_told told) (all_did ++ calls_done calls told) end
-  run-done start given bytes events did all_events all_did limit old end [] [] is same i =
+  run-done start given bytes events did all_events all_did limit old end [] [] was is same i =
       subst (λ (es : List Event). Done limit start given bytes events did es (all_did ++ []) end)
       (sym (append-nil all_events))
       (subst (λ (cs : List (Call × Said)). Done limit start given bytes events did all_events cs end)
       (sym (append-nil all_did))
       (subst (λ (s : State S). Done limit start given bytes events did all_events all_did s) (sym same) i))
-  run-done start given bytes events did all_events all_did limit old end [] (t ∷ ts) is run i = absurd run
-  run-done start given bytes events did all_events all_did limit old end (call ∷ calls) [] is run i = absurd run
-  run-done start given bytes events did all_events all_did limit old end (call ∷ calls) (t ∷ ts) is
+  run-done start given bytes events did all_events all_did limit old end [] (t ∷ ts) was is run i = absurd run
+  run-done start given bytes events did all_events all_did limit old end (call ∷ calls) [] was is run i = absurd run
+  run-done start given bytes events did all_events all_did limit old end (call ∷ calls) (t ∷ ts) was is
       (mid, one, queued, rest) i =
+      let kept : mid.settings ≡ settings = step-settings does old call t.answer mid one ∙ was in
+      let least : old.settings.max_frame_size ≡ limit = ap (λ (x : Settings). x.max_frame_size) was ∙ is in
       let given_now : List (List ℕ) = note given_by given call t.answer in
       let bytes_now : List ℕ = note fed_by bytes call t.answer in
       let events_now : List Event = note (λ (c : Call). events_of) events call t.answer in
@@ -1334,11 +1425,11 @@ module _ {S : Type 0} (does : Relations S) where
       let seen : List Event = all_events ++ events_of t.answer in
       let gone : List (Call × Said) = all_did ++ call_done call t.answer in
       let first : Done limit start given_now bytes_now events_now did_now seen gone mid =
-      subst (λ (n : ℕ). Done n start given_now bytes_now events_now did_now seen gone mid) is
-      (step start given bytes events did all_events all_did old call t.answer mid one
-      (subst (λ (n : ℕ). Done n start given bytes events did all_events all_did old) (sym is) i)) in
+      subst (λ (n : ℕ). Done n start given_now bytes_now events_now did_now seen gone mid) least
+      (step start given bytes events did all_events all_did old was call t.answer mid kept one
+      (subst (λ (n : ℕ). Done n start given bytes events did all_events all_did old) (sym least) i)) in
       let all = run-done start given_now bytes_now events_now did_now seen gone limit mid end calls ts
-      (ap (λ s. s.max_frame_size) (step-settings does old call t.answer mid one) ∙ is) rest first in
+      kept is rest first in
       subst
       (λ (es : List Event).
       Done limit start (pulled_since given_now calls ts) (fed_since bytes_now calls ts)
@@ -1351,12 +1442,12 @@ module _ {S : Type 0} (does : Relations S) where
       (told_since events_now calls ts) (done_since did_now calls ts) (seen ++ events_told ts) cs end)
       (append_assoc all_did (call_done call t.answer) (calls_done calls ts)) all)
 
-  pub is-done : (sessions : S) (settings : Settings) (calls : List Call) (told : List Told) (end : State S)
+  done-so : (sessions : S) (calls : List Call) (told : List Told) (end : State S)
       → Run does (fresh settings sessions) calls told end
       → Done settings.max_frame_size sessions (pulled_since [] calls told) (fed_since [] calls told)
       (told_since [] calls told) (done_since [] calls told) (events_told told) (calls_done calls told) end
-  is-done sessions settings calls told end run =
-      run-done sessions [] [] [] [] [] [] settings.max_frame_size (fresh settings sessions) end calls told refl run
+  done-so sessions calls told end run =
+      run-done sessions [] [] [] [] [] [] settings.max_frame_size (fresh settings sessions) end calls told refl refl run
       (record {
         before = [];
         since = [];
@@ -1370,3 +1461,9 @@ module _ {S : Type 0} (does : Relations S) where
         up = refl;
         of_one = λ up. never Unconnected refl up;
       })
+
+pub is-done : {S : Type 0} (does : Relations S) (sessions : S) (settings : Settings) (calls : List Call)
+    (told : List Told) (end : State S) → Run does (fresh settings sessions) calls told end
+    → IsDone does settings.max_frame_size sessions (pulled_since [] calls told) (fed_since [] calls told)
+    (told_since [] calls told) (done_since [] calls told) (events_told told) (calls_done calls told) end
+is-done does sessions settings calls told end run = done-so does settings sessions calls told end run

@@ -5,6 +5,7 @@ use Rattle.amqp_session_connection.specs.State as channels
 use Rattle.amqp_session_connection.specs.Table.{after_incoming_close, after_send_close}
 use Rattle.amqp_session_connection.specs.declared.state.ConnectionState.TheVariants.{HeaderExchange, OpenSent}
 use Rattle.amqp_session_performatives.specs.declared.session_frame.SessionFrame.{SessionFrame}
+use Rattle.amqp_session_types.specs.declared.error.Error.{Error}
 use Rattle.amqp_session_frames.specs.Cutting.{ReadsAs}
 use Rattle.amqp_session_frames.specs.declared.frame.Frame.{Frame}
 use Rattle.amqp_session_frames.specs.declared.frame.FrameBody.{FrameBody}
@@ -18,8 +19,10 @@ use Rattle.amqp_endpoint_model.specs.declared.phase.Phase.TheVariants.{Unconnect
 use Rattle.amqp_endpoint_model.specs.History.{FrameTells, is_close}
 use Rattle.amqp_endpoint_model.specs.Relay.{IsOfSession, IsSessionFault, Relations}
 use Rattle.amqp_endpoint_model.specs.Said.{Said, Told, done, fed, pulled}
-use Rattle.amqp_endpoint_model.specs.State.{State, Waiting, fits, frame_of, is_unconnected, limit_of, protocol_header}
-use Rattle.amqp_endpoint_model.specs.State.{text_of, the_frame, the_header, waiting_of}
+use Rattle.amqp_endpoint_model.specs.declared.settings.Settings.{Settings}
+use Rattle.amqp_endpoint_model.specs.State.{State, Waiting, fits, frame_of, heartbeat, is_unconnected, limit_of}
+use Rattle.amqp_endpoint_model.specs.State.{own_close_with, own_open, protocol_header, text_of, the_frame, the_header}
+use Rattle.amqp_endpoint_model.specs.State.{waiting_of}
 use Rattle.amqp_endpoint_model.specs.Step.{Admits, ClosesBy, MovesBy, MovesByOpen, anew}
 use Rattle.amqp_endpoint_deeds.specs.Telling.{call_done, events_of}
 
@@ -210,11 +213,30 @@ NoneRenews [] = Unit {0}
 NoneRenews (Renews ∷ later) = ⊥
 NoneRenews (deed ∷ later) = NoneRenews later
 
--- deeds of one connection, from where it begins anew on
-pub record AreOfOne (deeds : List Deed) : Type 0 where
+-- a frame that the connection queues of itself: its Open, by these settings, an empty one, or its Close, which fits
+-- every peer's limit (part 2, 2.4.1, 2.4.3, 2.4.5)
+abbrev pub IsOwnFrame : Settings → Frame → Type 0
+IsOwnFrame settings frame =
+    (frame ≡ own_open settings) ⊎ (frame ≡ heartbeat)
+    ⊎ ((error : Option Error) × (frame ≡ own_close_with error) × (fits 512 frame ≡ true))
+
+-- by none of these deeds the connection begins anew or queues its header: what it queues of itself are frames
+abbrev pub KeepToFrames : Settings → List Deed → Type 0
+KeepToFrames settings [] = Unit {0}
+KeepToFrames settings (Renews ∷ later) = ⊥
+KeepToFrames settings (Queues the_header ∷ later) = ⊥
+KeepToFrames settings (Queues (the_frame frame) ∷ later) = IsOwnFrame settings frame × KeepToFrames settings later
+KeepToFrames settings (deed ∷ later) = KeepToFrames settings later
+
+-- deeds of one connection, from where it begins anew on: its header is queued first and once, and then frames (part 2,
+-- 2.2)
+pub record AreOfOne (settings : Settings) (deeds : List Deed) : Type 0 where
   pub later : List Deed
   pub is : deeds ≡ Renews ∷ later
   pub none : NoneRenews later
+  pub behind : List Deed
+  pub header : later ≡ Queues the_header ∷ behind
+  pub frames : KeepToFrames settings behind
 
 -- the own Close waits to be pulled
 abbrev pub is_own_close : Waiting → Bool
@@ -298,4 +320,4 @@ pub record IsDone {S : Type 0} (does : Relations S) (limit : ℕ) (start : S) (g
   pub peer : come_to opened_behind None (before ++ since) ≡ s.peer_limit
   pub up_in_order : Throughout up_behind MayPass false (before ++ since)
   pub up : come_to up_behind false (before ++ since) ≡ is_up s.phase
-  pub of_one : is_unconnected s.phase ≡ false → AreOfOne since
+  pub of_one : is_unconnected s.phase ≡ false → AreOfOne s.settings since

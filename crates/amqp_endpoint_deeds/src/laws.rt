@@ -16,7 +16,9 @@ use amqp_endpoint_model::SessionRelay;
 /// which is 512 bytes up to the peer's Open and then its max-frame-size; and that Open comes once (part 2, 2.4.1,
 /// 2.7.1). Frames of the peer's are taken only as long as the connection is up, from where it begins anew up to where
 /// it is over, and else the sessions queue none; it begins anew only where it isn't up; and as long as it isn't cut
-/// off, what was done since the latest connect is done on one connection (part 2, 2.4.1, 2.4.3).
+/// off, what was done since the latest connect is done on one connection, which queues its header first and once, and
+/// behind it frames, of which its own are its Open by these settings, empty frames, and a Close that fits every peer's
+/// limit (part 2, 2.2, 2.4.1, 2.4.3).
 ///
 /// As long as the connection isn't cut off, what pull gave since the latest connect, and then what is queued, is what
 /// the deeds since then queue, in order; the frames that they take are what is read of the bytes fed since then; and

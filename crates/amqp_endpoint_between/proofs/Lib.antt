@@ -1,0 +1,3 @@
+pub mod Connecting
+pub mod Sending
+pub mod Joining
