@@ -1,23 +1,24 @@
 -- What an end of a world took is a beginning of what the other one sent.
-use Rattle.std.proofs.Common.{◌≡◌, ℕ, Bool, true, false, List, [], ◌∷◌, ◌++◌, Some, None}
+use Rattle.std.proofs.Common.{◌≡◌, ℕ, Bool, true, false, List, [], ◌∷◌, ◌++◌, Option, Some, None, inl, inr}
 use Rattle.std.proofs.Common.{ap, refl, subst, sym, ◌∙◌}
 use Rattle.std.specs.Prelude.{map}
-use Rattle.std.proofs.lemmas.List.{append_assoc, append_cancel_left}
-use Rattle.amqp_session_frames.proofs.ReadingLaws.{Reads-texts}
-use Rattle.amqp_session_frames.specs.Cutting.{ReadsAs, joined}
+use Rattle.std.proofs.lemmas.List.{append-nil, append_assoc, append_cancel_left}
+use Rattle.amqp_session_frames.proofs.ReadingLaws.{Reads-texts, partial-texts}
+use Rattle.amqp_session_frames.specs.Cutting.{IsPartial, ReadsAs, joined}
 use Rattle.amqp_session_frames.specs.Text.{AllWithinCaps, Reads, texts}
 use Rattle.amqp_session_frames.specs.declared.frame.Frame.{Frame}
-use Rattle.amqp_endpoint_model.proofs.Keeping.{step-settings}
+use Rattle.amqp_endpoint_model.proofs.Keeping.{fresh-stands, step-settings}
+use Rattle.amqp_endpoint_model.proofs.PieceLaws.{Stands, StandsAt, step-stands}
 use Rattle.amqp_endpoint_model.specs.declared.call.Call.{Call}
 use Rattle.amqp_endpoint_model.specs.declared.phase.Phase.{Phase}
 use Rattle.amqp_endpoint_model.specs.declared.phase.Phase.TheVariants.{Unconnected, Greeting, Running, Over}
 use Rattle.amqp_endpoint_model.specs.declared.settings.Settings.{Settings}
-use Rattle.amqp_endpoint_model.specs.History.{Run, nothing}
+use Rattle.amqp_endpoint_model.specs.History.{Run, Summary, note, nothing, summary}
 use Rattle.amqp_endpoint_model.specs.Relay.{Relations}
 use Rattle.amqp_endpoint_model.specs.Said.{Told}
 use Rattle.amqp_endpoint_model.specs.State.{State, Waiting, fits, fresh, is_unconnected, own_open, protocol_header}
 use Rattle.amqp_endpoint_model.specs.State.{text_of, the_frame, the_header}
-use Rattle.amqp_endpoint_model.specs.Step.{Admits, refusal_of_settings}
+use Rattle.amqp_endpoint_model.specs.Step.{Admits, Waits, refusal_of_settings}
 use Rattle.amqp_endpoint_deeds.proofs.Runs.{is-done}
 use Rattle.amqp_endpoint_deeds.specs.Deeds.{AreOfOne, AreRead, Deed, IsInOrder, Passes, Throughout, fed_since}
 use Rattle.amqp_endpoint_deeds.specs.Deeds.{opened_behind, pulled_since, queued_by, taken_by}
@@ -67,6 +68,15 @@ none-taken Running limit bytes fs rest up none (body, header, r) =
 none-taken Over limit bytes fs rest up none (body, left, header, r) =
     let clash : [] ≡ protocol_header ++ body = sym none ∙ header in absurd cc
 
+-- less than a frame waits
+partial : (limit : ℕ) (rest : List ℕ) → Waits limit rest → IsPartial rest
+partial limit rest (inl short) = inl short
+partial limit rest (inr (least, most, short)) = inr short
+
+caps-last : (taken others : List Frame) → AllWithinCaps (taken ++ others) → AllWithinCaps others
+caps-last [] others caps = caps
+caps-last (f ∷ taken) others (narrow, within, caps) = caps-last taken others caps
+
 module _ {S : Type 0} where
   on-the-way : (way : Way S) (phase : Phase) (frames : List Frame) (text held : List ℕ) → way.to.phase ≡ phase
       → texts frames ≡ Some text → IsHeld phase way.to.rest held
@@ -94,12 +104,13 @@ module _ {S : Type 0} where
 
   taken-in-order : (way : Way S) (sending : List Deed) (taken : List Frame) (limit : ℕ) (bytes : List ℕ)
       (phase : Phase) → way.to.phase ≡ phase → is_unconnected phase ≡ false
+      → (phase ≡ Running → IsPartial way.to.rest)
       → protocol_header ++ joined (map text_of (map the_frame (sent_by sending)))
       ≡ bytes ++ (way.stream ++ joined (map text_of way.from.queue))
       → AllHaveTexts (sent_by sending) → AreRead phase limit bytes taken way.to.rest → AllWithinCaps (sent_by sending)
       → AreTakenInOrder way (sent_by sending) taken
-  taken-in-order way sending taken limit bytes Unconnected is up all have r caps = absurd cc
-  taken-in-order way sending taken limit bytes Greeting is up all have (none, same) caps =
+  taken-in-order way sending taken limit bytes Unconnected is up waits all have r caps = absurd cc
+  taken-in-order way sending taken limit bytes Greeting is up waits all have (none, same) caps =
       let sent : List Frame = sent_by sending in
       let more : List ℕ = way.stream ++ joined (map text_of way.from.queue) in
       record {
@@ -108,8 +119,9 @@ module _ {S : Type 0} where
         left =
             on-the-way way Greeting sent (joined (map text_of (map the_frame sent))) way.to.rest is
             (texts-are sent have) refl (all ∙ ap (λ (b : List ℕ). b ++ more) same);
+        all = λ running clear none. let clash : Greeting ≡ Running = sym is ∙ running in absurd cc;
       }
-  taken-in-order way sending taken limit bytes Running is up all have (body, header, r) caps =
+  taken-in-order way sending taken limit bytes Running is up waits all have (body, header, r) caps =
       let sent : List Frame = sent_by sending in
       let more : List ℕ = way.stream ++ joined (map text_of way.from.queue) in
       let whole : joined (map text_of (map the_frame sent)) ≡ body ++ more =
@@ -122,8 +134,16 @@ module _ {S : Type 0} where
         others = others;
         begins = begins;
         left = on-the-way way Running others (way.to.rest ++ more) way.to.rest is are refl refl;
+        all = λ running clear none.
+            partial-texts way.to.rest others
+            (caps-last taken others (subst (λ (fs : List Frame). AllWithinCaps fs) begins caps)) (waits refl)
+            (are
+            ∙ ap (λ (t : List ℕ). Some (way.to.rest ++ t))
+            (ap (λ (x : List ℕ). x ++ joined (map text_of way.from.queue)) clear
+            ∙ ap (λ (ws : List Waiting). joined (map text_of ws)) none)
+            ∙ ap (λ (t : List ℕ). Some t) (append-nil way.to.rest));
       }
-  taken-in-order way sending taken limit bytes Over is up all have (body, left, header, r) caps =
+  taken-in-order way sending taken limit bytes Over is up waits all have (body, left, header, r) caps =
       let sent : List Frame = sent_by sending in
       let more : List ℕ = way.stream ++ joined (map text_of way.from.queue) in
       let whole : joined (map text_of (map the_frame sent)) ≡ body ++ more =
@@ -136,6 +156,7 @@ module _ {S : Type 0} where
         others = others;
         begins = begins;
         left = on-the-way way Over others (left ++ more) left is are tt refl;
+        all = λ running clear none. let clash : Over ≡ Running = sym is ∙ running in absurd cc;
       }
 
   -- what passes in a direction
@@ -144,20 +165,21 @@ module _ {S : Type 0} where
       → (is_unconnected way.from.phase ≡ false → Passes limit sending given bytes_from way.from)
       → Throughout opened_behind IsInOrder None (before ++ sending) → fits 512 (own_open way.from.settings) ≡ true
       → Passes limit_to receiving given_to bytes way.to → is_unconnected way.to.phase ≡ false
-      → Gave way.from p given → (is_unconnected way.from.phase ≡ true → p ≡ []) → p ≡ bytes ++ way.stream
+      → (way.to.phase ≡ Running → IsPartial way.to.rest) → Gave way.from p given
+      → (is_unconnected way.from.phase ≡ true → p ≡ []) → p ≡ bytes ++ way.stream
       → (down : Bool) → is_unconnected way.from.phase ≡ down → Pass down way sending receiving
   passed way before sending receiving limit limit_to given given_to bytes_from bytes p one sends order opens takes up
-      gave none carried true down =
+      waits gave none carried true down =
       let (unfed, clear) = both-none bytes way.stream (sym (none down) ∙ carried) in
       (none-taken way.to.phase limit_to bytes (taken_by receiving) way.to.rest up unfed takes.read, clear)
   passed way before sending receiving limit limit_to given given_to bytes_from bytes p one sends order opens takes up
-      gave none carried false down =
+      waits gave none carried false down =
       let headed : queued_by sending ≡ the_header ∷ map the_frame (sent_by sending) =
       header-first way.from.settings sending (one down) in
       record {
         headed = headed;
         taken = λ caps.
-            taken-in-order way sending (taken_by receiving) limit_to bytes way.to.phase refl up
+            taken-in-order way sending (taken_by receiving) limit_to bytes way.to.phase refl up waits
             (all-bytes way sending given bytes headed (sends down).queued (sym (gave down) ∙ carried))
             (sent-texts way.from.settings before sending opens (one down) order) takes.read caps;
       }
@@ -170,6 +192,24 @@ module _ {S : Type 0} (does : Relations S) where
   kept-settings old (call ∷ calls) [] end run = absurd run
   kept-settings old (call ∷ calls) (t ∷ ts) end (mid, one, queued, rest) =
       kept-settings mid calls ts end rest ∙ step-settings does old call t.answer mid one
+
+  stands-along : (limit : ℕ) (σ : Summary) (old : State S) (calls : List Call) (ts : List Told) (end : State S)
+      → old.settings.max_frame_size ≡ limit → StandsAt does limit σ old → Run does old calls ts end
+      → StandsAt does limit (summary σ calls ts) end
+  stands-along limit σ old [] [] end l h same = subst (λ (s : State S). StandsAt does limit σ s) (sym same) h
+  stands-along limit σ old [] (t ∷ ts) end l h run = absurd run
+  stands-along limit σ old (call ∷ calls) [] end l h run = absurd run
+  stands-along limit σ old (call ∷ calls) (t ∷ ts) end l h (mid, one, queued, rest) =
+      stands-along limit (note σ call t.answer) mid calls ts end
+      (ap (λ (s : Settings). s.max_frame_size) (step-settings does old call t.answer mid one) ∙ l)
+      (step-stands does limit σ old call t.answer mid l h one) rest
+
+  part-waits : (phase : Phase) (limit : ℕ) (rest : List ℕ) (peer : Option ℕ) (σ : Summary)
+      → Stands does phase limit rest peer σ → phase ≡ Running → IsPartial rest
+  part-waits Unconnected limit rest peer σ h is = absurd cc
+  part-waits Greeting limit rest peer σ h is = absurd cc
+  part-waits Running limit rest peer σ h is = partial limit rest h.waits
+  part-waits Over limit rest peer σ h is = absurd cc
 
   module _ (a b : Settings) (start new : WorldState S) (steps : List Step) (ts : List WorldTold)
       (n : IsNewWorld does a b start) (run : WorldRun does start steps ts new) where
@@ -196,6 +236,18 @@ module _ {S : Type 0} (does : Relations S) where
         (subst
         (λ (s : State S). Run does s (calls_at end [] steps ts) (told_at end steps ts) (state_at end new))
         (is-fresh end) (run-new end))
+
+    waits-new : (end : End) → (state_at end new).phase ≡ Running → IsPartial (state_at end new).rest
+    waits-new end running =
+        let settings : Settings = (state_at end start).settings in
+        let calls : List Call = calls_at end [] steps ts in
+        let told : List Told = told_at end steps ts in
+        part-waits (state_at end new).phase settings.max_frame_size (state_at end new).rest
+        (state_at end new).peer_limit (summary nothing calls told)
+        (stands-along settings.max_frame_size nothing (fresh settings (state_at end start).sessions) calls told
+        (state_at end new) refl (fresh-stands does settings (state_at end start).sessions)
+        (subst (λ (s : State S). Run does s calls told (state_at end new)) (is-fresh end) (run-new end)))
+        running
 
     none-new : (end : End) → NonePulled does end start []
     none-new end more us there r down =
@@ -262,12 +314,14 @@ module _ {S : Type 0} (does : Relations S) where
           let from = done-new B in
           let to = done-new A in
           passed (way_from B new) from.before from.since to.since _ _ _ _ _ _ _ from.of_one from.passes from.in_order
-          (opens B) (to.passes up) up (gave-new B) (none-now B) (carried-new A up) (is_unconnected new.b.phase) refl
+          (opens B) (to.passes up) up (waits-new A) (gave-new B) (none-now B) (carried-new A up)
+          (is_unconnected new.b.phase) refl
       pass-new B up =
           let from = done-new A in
           let to = done-new B in
           passed (way_from A new) from.before from.since to.since _ _ _ _ _ _ _ from.of_one from.passes from.in_order
-          (opens A) (to.passes up) up (gave-new A) (none-now A) (carried-new B up) (is_unconnected new.a.phase) refl
+          (opens A) (to.passes up) up (waits-new B) (gave-new A) (none-now A) (carried-new B up)
+          (is_unconnected new.a.phase) refl
 
       between-them : Between does start steps ts new
       between-them = record { done = done-new; pass = pass-new }

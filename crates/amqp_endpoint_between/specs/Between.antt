@@ -4,7 +4,7 @@ use Rattle.amqp_session_frames.specs.Cutting.{joined}
 use Rattle.amqp_session_frames.specs.Text.{AllWithinCaps, texts}
 use Rattle.amqp_session_frames.specs.declared.frame.Frame.{Frame}
 use Rattle.amqp_endpoint_model.specs.declared.phase.Phase.{Phase}
-use Rattle.amqp_endpoint_model.specs.declared.phase.Phase.TheVariants.{Greeting, Over}
+use Rattle.amqp_endpoint_model.specs.declared.phase.Phase.TheVariants.{Greeting, Running, Over}
 use Rattle.amqp_endpoint_model.specs.Relay.{Relations}
 use Rattle.amqp_endpoint_model.specs.State.{Waiting, is_unconnected, protocol_header, text_of, the_frame, the_header}
 use Rattle.amqp_endpoint_deeds.specs.Deeds.{Deed, IsDone, done_since, fed_since, pulled_since, queued_by, taken_by}
@@ -47,11 +47,12 @@ module _ {S : Type 0} where
     pub whole : awaited way.to.phase ++ text ≡ held ++ (way.stream ++ joined (map text_of way.from.queue))
 
   -- the frames that were taken are a beginning of those that were sent, one for one and in order, and the others are on
-  -- the way
+  -- the way: none, where the receiving end reads on, nothing is on its way, and nothing is queued
   pub record AreTakenInOrder (way : Way S) (sent taken : List Frame) : Type 0 where
     pub others : List Frame
     pub begins : sent ≡ taken ++ others
     pub left : AreOnTheWay way others
+    pub all : way.to.phase ≡ Running → way.stream ≡ [] → way.from.queue ≡ [] → others ≡ []
 
   -- what the sending end queued is its header, and behind it frames alone, which are taken in order where no list in
   -- them is longer than may be read

@@ -15,8 +15,9 @@ use amqp_endpoint_model::SessionRelay;
 /// order. The sending end queued its header first and once, and behind it these frames alone. The others of them are
 /// those whose texts are what the receiving end holds of an unfinished frame, then what is on its way, and then what
 /// the sending end has queued still; where the header is awaited it stands in front of them, and where the receiving
-/// end's connection is over nothing is said of what it holds. So no frame is lost, doubled, changed, overtaken or of
-/// an older connection (part 2, 2.2, 2.3, 2.4).
+/// end's connection is over nothing is said of what it holds. There are no others where the receiving end reads on,
+/// nothing is on its way and nothing is queued. So no frame is lost, doubled, changed, overtaken or of an older
+/// connection (part 2, 2.2, 2.3, 2.4).
 ///
 /// Where the sending end has no connection, the receiving end took nothing, and nothing is on its way; where the
 /// receiving end has none, nothing is said. The order is said where each frame that the sending end queued is one that
