@@ -28,7 +28,7 @@ abbrev pub IsHalf : Option Entry → Type 0
 IsHalf (Some (Half kept)) = Unit {0}
 IsHalf entry = ⊥
 
--- a message under a number
+-- the message with a tag, where it has come whole, goes on under a number in an attachment
 abbrev pub renumbered_from : Attachment → Entries → List ℕ → ℕ → Option ReceiverSettleMode → Option Entry → Entries
 renumbered_from attachment entries tag number mode (Some (Whole m)) =
     set_value (bytes_eq tag) entries

@@ -21,6 +21,10 @@ use std::fmt;
 use std::hash::{Hash, Hasher};
 use std::marker::Model;
 
+/// How many bytes are compared one by one, at most, as those of most tags are: the comparison of slices goes by groups of
+/// many, and takes twice as long for few.
+const SHORT: usize = 32;
+
 /// Bytes (part 1, 1.6.19). Up to 32 of them, as a delivery's tag has at most, lie in the value itself. A clause
 /// sees the list of them.
 pub struct ByteBuf {
@@ -119,12 +123,14 @@ impl PartialEq for ByteBuf {
     ghost laws = { partial_equiv_from_equiv nat_list_eq_equiv };
 
     fn eq(&self, other: &Self) -> bool {
+        if self.len() > SHORT {
+            return self.as_slice() == other.as_slice();
+        }
         are_same(self.as_slice(), other.as_slice())
     }
 }
 
-/// Whether two lists hold the same bytes. Most are tags of a few bytes, for which the comparison of slices, which goes by
-/// groups of many, takes three times as long.
+/// Whether two lists hold the same bytes, which are compared one by one.
 fn are_same(one: &[u8], other: &[u8]) -> bool
     ensures { result ≡ bytes_eq one.now other.now }
 {
