@@ -1,17 +1,16 @@
--- An attachment is read as the transfers with its handle, as long as no other Attach takes that.
-use Rattle.std.proofs.Common.{◌≡◌, ◌==◌, ℕ, suc, Bool, true, false, List, [], ◌∷◌, ◌++◌, ap, refl, sym, ◌∙◌}
-use Rattle.std.proofs.Common.{append_assoc}
-use Rattle.std.specs.Prelude.{if◌then◌else◌}
-use Rattle.std.specs.Str.{bytes_eq}
-use Rattle.std.proofs.lemmas.Slice.Eq.{bytes_eq-Decides}
+-- What a session hands out is read as it comes to its peer.
+use Rattle.std.proofs.Common.{◌≡◌, ◌==◌, ℕ, false, List, [], ◌∷◌, ◌++◌, ap, append_assoc, refl, sym, ◌∙◌}
 use Rattle.amqp_session_performatives.specs.declared.attach.Attach.{Attach}
 use Rattle.amqp_session_performatives.specs.declared.session_frame.SessionFrame.{SessionFrame}
 use Rattle.amqp_session_performatives.specs.declared.session_frame.SessionFrameBody.{SessionFrameBody}
-use Rattle.amqp_session_performatives.specs.declared.session_frame.SessionFrameBody.TheVariants as body
+use Rattle.amqp_session_performatives.specs.declared.session_frame.SessionFrameBody.TheVariants as session
+use Rattle.amqp_session_frames.specs.declared.frame.FrameBody.{FrameBody}
 use Rattle.amqp_link_place.specs.Readings.{Piece}
-use Rattle.amqp_endpoint_laws.specs.Attachments.{Follows, Past, Waits, attach_in, attaches_in, attachment, named}
-use Rattle.amqp_endpoint_laws.specs.Attachments.{named_behind, pieces_from, stand_behind, uses}
+use Rattle.amqp_endpoint_model.specs.State.{body_of}
+use Rattle.amqp_endpoint_laws.specs.Attachments.{attach_in, attaches_in, bodies_of}
+use Rattle.amqp_endpoint_laws.specs.Handed.{piece_on as come_on}
 use Rattle.amqp_endpoint_laws.specs.Queued.{piece_on, pieces_on}
+use Rattle.amqp_endpoint_laws.specs.Taken.{NoneAttaches, pieces_come}
 
 pub attaches-both : (first later : List SessionFrame)
     → attaches_in (first ++ later) ≡ attaches_in first ++ attaches_in later
@@ -30,63 +29,41 @@ pub none-both : (handle : ℕ) (first later : List Attach) → NoneTakes handle 
 none-both handle [] later none more = more
 none-both handle (attach ∷ first) later (one, none) more = (one, none-both handle first later none more)
 
-module _ (name : List ℕ) where
-  -- all that come before it pass by
-  waits-one : (same : Bool) (handle n : ℕ) (frames : List SessionFrame)
-      → pieces_from name (if same then named_behind (if same then suc n else n) handle
-      else Waits (if same then suc n else n)) frames
-      ≡ pieces_from name (Waits n) frames
-  waits-one true handle n frames = refl
-  waits-one false handle n frames = refl
+pub bodies-both : (first later : List SessionFrame) → bodies_of (first ++ later) ≡ bodies_of first ++ bodies_of later
+bodies-both [] later = refl
+bodies-both (frame ∷ first) later =
+    ap (λ (xs : List FrameBody). body_of frame.body ∷ xs) (bodies-both first later)
 
-  waited-by : (it : SessionFrameBody) (first later : List SessionFrame)
-      → attachment name (uses name first) (first ++ later) ≡ attachment name 0 later
-      → pieces_from name (stand_behind name (Waits (named name (attach_in it ++ attaches_in first))) it)
-      (first ++ later)
-      ≡ attachment name 0 later
-  waited-by (body.Attach attach) first later rest =
-      waits-one (bytes_eq attach.name name) attach.handle.0 (uses name first) (first ++ later) ∙ rest
-  waited-by (body.Begin begin) first later rest = rest
-  waited-by (body.Flow flow) first later rest = rest
-  waited-by (body.Transfer transfer payload) first later rest = rest
-  waited-by (body.Disposition disposition) first later rest = rest
-  waited-by (body.Detach detach) first later rest = rest
-  waited-by (body.End end) first later rest = rest
+-- none takes it at the peer either
+module _ (handle : ℕ) where
+  one-comes : (it : SessionFrameBody) (frames : List SessionFrame) → NoneTakes handle (attach_in it ++ attaches_in frames)
+      → (NoneTakes handle (attaches_in frames) → NoneAttaches handle (bodies_of frames))
+      → NoneAttaches handle (body_of it ∷ bodies_of frames)
+  one-comes (session.Attach attach) frames (one, none) rest = (one, rest none)
+  one-comes (session.Begin begin) frames none rest = (tt, rest none)
+  one-comes (session.Flow flow) frames none rest = (tt, rest none)
+  one-comes (session.Transfer transfer payload) frames none rest = (tt, rest none)
+  one-comes (session.Disposition disposition) frames none rest = (tt, rest none)
+  one-comes (session.Detach detach) frames none rest = (tt, rest none)
+  one-comes (session.End end) frames none rest = (tt, rest none)
 
-  waited : (first later : List SessionFrame)
-      → attachment name (uses name first) (first ++ later) ≡ attachment name 0 later
-  waited [] later = refl
-  waited (frame ∷ first) later = waited-by frame.body first later (waited first later)
+  pub none-comes : (frames : List SessionFrame) → NoneTakes handle (attaches_in frames)
+      → NoneAttaches handle (bodies_of frames)
+  none-comes [] none = tt
+  none-comes (frame ∷ frames) none = one-comes frame.body frames none (none-comes frames)
 
-  -- its handle is its own from its Attach on
-  followed-by : (handle : ℕ) (it : SessionFrameBody) (frames : List SessionFrame)
-      → NoneTakes handle (attach_in it ++ attaches_in frames)
-      → (NoneTakes handle (attaches_in frames) → pieces_from name (Follows handle) frames ≡ pieces_on handle frames)
-      → pieces_from name (stand_behind name (Follows handle) it) frames ≡ pieces_on handle frames
-  followed-by handle (body.Attach attach) frames (one, none) rest =
-      ap (λ (b : Bool). pieces_from name (if b then Past else Follows handle) frames) one ∙ rest none
-  followed-by handle (body.Begin begin) frames none rest = rest none
-  followed-by handle (body.Flow flow) frames none rest = rest none
-  followed-by handle (body.Transfer transfer payload) frames none rest = rest none
-  followed-by handle (body.Disposition disposition) frames none rest = rest none
-  followed-by handle (body.Detach detach) frames none rest = rest none
-  followed-by handle (body.End end) frames none rest = rest none
+  -- its transfers come on the handle on which they are sent
+  on-alike : (it : SessionFrameBody) → come_on handle (body_of it) ≡ piece_on handle it
+  on-alike (session.Begin begin) = refl
+  on-alike (session.Attach attach) = refl
+  on-alike (session.Flow flow) = refl
+  on-alike (session.Transfer transfer payload) = refl
+  on-alike (session.Disposition disposition) = refl
+  on-alike (session.Detach detach) = refl
+  on-alike (session.End end) = refl
 
-  followed : (handle : ℕ) (frames : List SessionFrame) → NoneTakes handle (attaches_in frames)
-      → pieces_from name (Follows handle) frames ≡ pieces_on handle frames
-  followed handle [] none = refl
-  followed handle (frame ∷ frames) none =
-      ap (λ (ps : List Piece). piece_on handle frame.body ++ ps)
-      (followed-by handle frame.body frames none (followed handle frames))
-
-  pub attachment-read : (channel handle : ℕ) (attach : Attach) (first later : List SessionFrame)
-      → attach.name ≡ name → attach.handle.0 ≡ handle → NoneTakes handle (attaches_in later)
-      → attachment name (uses name first)
-      (first ++ record { channel = channel; body = body.Attach attach } ∷ later)
-      ≡ pieces_on handle later
-  attachment-read channel handle attach first later is own none =
-      waited first (record { channel = channel; body = body.Attach attach } ∷ later)
-      ∙ ap (λ (b : Bool). pieces_from name (if b then Follows attach.handle.0 else Waits 0) later)
-      ((bytes_eq-Decides attach.name name).1 is)
-      ∙ ap (λ (h : ℕ). pieces_from name (Follows h) later) own
-      ∙ followed handle later none
+  pub pieces-alike : (frames : List SessionFrame) → pieces_come handle (bodies_of frames) ≡ pieces_on handle frames
+  pieces-alike [] = refl
+  pieces-alike (frame ∷ frames) =
+      ap (λ (ps : List Piece). ps ++ pieces_come handle (bodies_of frames)) (on-alike frame.body)
+      ∙ ap (λ (ps : List Piece). piece_on handle frame.body ++ ps) (pieces-alike frames)

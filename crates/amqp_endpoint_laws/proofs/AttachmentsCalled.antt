@@ -22,7 +22,8 @@ use Rattle.amqp_link_receiving.specs.declared.answer.Told.{Told}
 use Rattle.amqp_endpoint_asked.specs.Asked.{is_asked}
 use Rattle.amqp_endpoint_attached.specs.Linked.{Linked, gives}
 use Rattle.amqp_endpoint_attached.specs.Links.{own_attach, receiver_by, sender_by}
-use Rattle.amqp_endpoint_conversation.specs.Ending.{EndReply}
+use Rattle.amqp_endpoint_conversation.specs.Ending.{EndReply, end_frame}
+use Rattle.amqp_endpoint_conversation.specs.Faults.{fault_error}
 use Rattle.amqp_endpoint_deeds.specs.Deeds.{Deed, Does, IsDeed, Takes}
 use Rattle.amqp_endpoint_link_attaching.proofs.Inside.{attaches-inside}
 use Rattle.amqp_endpoint_linked.specs.Attaching.{LinkAttached}
@@ -48,7 +49,7 @@ use Rattle.amqp_endpoint_talk.proofs.Inside.{at-once-on, both-on, left-on}
 use Rattle.amqp_endpoint_laws.specs.Attachments.{attach_in, attached_in, attaches_in, gone_in, named_by, names_in}
 use Rattle.amqp_endpoint_laws.specs.Queued.{AttachesFirst}
 use Rattle.amqp_endpoint_laws.proofs.PassedCalled.{IsAttaching, called}
-use Rattle.amqp_endpoint_laws.proofs.PassedHeard.{frame-heard}
+use Rattle.amqp_endpoint_laws.proofs.PassedHeard.{behind-others, frame-heard}
 use Rattle.amqp_endpoint_laws.proofs.PassedWalk.{Walk}
 
 -- none of the frames that go is an Attach
@@ -150,9 +151,15 @@ attaching-none =
       at = λ m ws old new p. p;
       silent = λ o m old new p. p;
       free = λ m frames s talk live said on. on-none _ frames on;
-      inside = λ m accepted frames before after old new allowed stepped rest d. on-none _ frames d.on;
-      hears = λ m channel it told frames before after old new reaches memory h rest.
-          hears-none it told frames before.value after.value h.heard;
+      inside = λ m accepted frames before after old new allowed stepped rest d keeps. on-none _ frames d.on;
+      hears = λ m channel it told frames before after old new reaches h rest.
+          hears-none it (Ok told) frames before.value after.value h.heard;
+      fails = λ m channel it fault frames before s old new reaches f.
+          let end : SessionFrame = end_frame f.ends.channel (Some (fault_error fault)) in
+          same-none frames _ f.ends.queued
+          (subst NoneAttach (sym (behind-others f.out_mid (end ∷ [])))
+          (both-none (goes f.out_mid) (goes (end ∷ []))
+          (hears-none it (Err fault) f.out_mid before.value s.value f.refuses.hears.heard) (refl, tt)));
       asked = λ m channel it before old new reaches t. tt;
       unheard = λ m channel it talk reaches asked live. tt;
       asks = λ channel begin number old new a. tt;
@@ -190,6 +197,7 @@ pub record AttachesOnce (link : End) (handle : OutputHandle) (frames : List Sess
   pub are : frames ≡ record { channel = channel; body = session.Attach attach } ∷ later
   pub handled : attach.handle.0 ≡ (own_attach link handle).handle.0
   pub named : attach.name ≡ (own_attach link handle).name
+  pub sided : attach.role ≡ (own_attach link handle).role
   pub none : attaches_in later ≡ []
 
 module _ (old new : LinkedSessions) (limit number : ℕ) (it : End) (link : ℕ) (events : List Event)
@@ -207,6 +215,7 @@ module _ (old new : LinkedSessions) (limit number : ℕ) (it : End) (link : ℕ)
         are = l.queued ∙ s.are;
         handled = ap (λ (x : Attach). x.handle.0) s.announces.is;
         named = ap (λ (x : Attach). x.name) s.announces.is;
+        sided = ap (λ (x : Attach). x.role) s.announces.is;
         none = none-in s.later (on-none _ s.later s.inside.on);
       }
 

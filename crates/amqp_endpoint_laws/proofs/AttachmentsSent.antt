@@ -29,10 +29,12 @@ use Rattle.amqp_endpoint_sessions.specs.State.{live_at}
 use Rattle.amqp_endpoint_sessions.proofs.Owning.{same_number}
 use Rattle.amqp_endpoint_settings.specs.declared.link.LinkSettings.{LinkSettings}
 use Rattle.amqp_endpoint_talk.specs.Windows.{Came, Passing, went}
-use Rattle.amqp_endpoint_laws.specs.Attachments.{attaches_in, attachment, uses}
+use Rattle.amqp_endpoint_laws.specs.Attachments.{attaches_in, attachment, bodies_of, uses}
 use Rattle.amqp_endpoint_laws.specs.Passed.{PassesIn, called_in, is_it, passes_in, sent_in, session_taking}
 use Rattle.amqp_endpoint_laws.specs.Queued.{SayMessages, messages_by, pieces_on, pieces_waiting}
-use Rattle.amqp_endpoint_laws.proofs.Attachments.{NoneTakes, attaches-both, attachment-read, none-both}
+use Rattle.amqp_endpoint_laws.specs.Taken.{NoneAttaches, pieces_come}
+use Rattle.amqp_endpoint_laws.proofs.Attachments.{NoneTakes, attaches-both, bodies-both, none-both, none-comes}
+use Rattle.amqp_endpoint_laws.proofs.Attachments.{pieces-alike}
 use Rattle.amqp_endpoint_laws.proofs.AttachmentsCalled.{attaches-once, call-none, take-none}
 use Rattle.amqp_endpoint_laws.proofs.LinksKept.{BackGoesOn, FinishedGoesOn, LeftGoesOn}
 use Rattle.amqp_endpoint_laws.proofs.LinksStay.{entered-before, held-since}
@@ -41,6 +43,7 @@ use Rattle.amqp_endpoint_laws.proofs.QueuedAttached.{HandlesApart, Reached, is-e
 use Rattle.amqp_endpoint_laws.proofs.QueuedAttached.{reached-apart, reached-new, reached-on, same-handle, says-all}
 use Rattle.amqp_endpoint_laws.proofs.QueuedOrder.{pieces-both}
 use Rattle.amqp_endpoint_laws.proofs.QueuedSince.{done-of}
+use Rattle.amqp_endpoint_laws.proofs.TakenRead.{attachment-read, named-so}
 
 module _ (handles_apart : HandlesApart) (back_on : BackGoesOn) (left_on : LeftGoesOn) (finished_on : FinishedGoesOn)
   where
@@ -169,8 +172,8 @@ module _ (handles_apart : HandlesApart) (back_on : BackGoesOn) (left_on : LeftGo
         done = done-of number before sessions old first passed
 
         -- it is read as what goes with its handle
-        attachment-is : attachment its.name (uses its.name (sent_in first))
-            (sent_in first ++ frames ++ sent_in passings)
+        attachment-is : attachment its.name (uses its.name (bodies_of (sent_in first)))
+            (bodies_of (sent_in first ++ frames ++ sent_in passings))
             ≡ pieces_on handle.0 (sent_in passings)
         attachment-is =
             let once = attaches-once old new limit number (sender_by its) link events frames d.0 in
@@ -196,15 +199,21 @@ module _ (handles_apart : HandlesApart) (back_on : BackGoesOn) (left_on : LeftGo
             (is-entered handles_apart back_on left_on finished_on sessions old new end settings before since_then number
             link limit its events frames passings handle fresh done d passes held)
             held) in
-            ap (λ (fs : List SessionFrame). attachment its.name (uses its.name (sent_in first)) fs)
-            (ap (λ (fs : List SessionFrame). sent_in first ++ fs ++ sent_in passings) once.are
-            ∙ append_assoc (sent_in first) _ (sent_in passings))
-            ∙ attachment-read its.name once.channel handle.0 once.attach (sent_in first) later once.named own none
+            ap (λ (came : List FrameBody). attachment its.name (uses its.name (bodies_of (sent_in first))) came)
+            (ap (λ (fs : List SessionFrame). bodies_of (sent_in first ++ fs ++ sent_in passings)) once.are
+            ∙ ap bodies_of (append_assoc (sent_in first) _ (sent_in passings))
+            ∙ bodies-both (sent_in first) _)
+            ∙ attachment-read its.name once.attach (bodies_of (sent_in first)) (bodies_of later)
+            (named-so its.name once.attach once.named once.sided)
+            (subst (λ (h : ℕ). NoneAttaches h (bodies_of later)) (sym own) (none-comes handle.0 later none))
+            ∙ ap (λ (h : ℕ). pieces_come h (bodies_of later)) own
+            ∙ pieces-alike handle.0 later
             ∙ pieces-both handle.0 once.later (sent_in passings)
             ∙ ap (λ (ps : List Piece). ps ++ pieces_on handle.0 (sent_in passings)) silent
 
         pub attachment-says : SayMessages
-            (attachment its.name (uses its.name (sent_in first)) (sent_in first ++ frames ++ sent_in passings)
+            (attachment its.name (uses its.name (bodies_of (sent_in first)))
+            (bodies_of (sent_in first ++ frames ++ sent_in passings))
             ++ pieces_waiting handle.0 session.value.session)
             (messages_by link since_then)
         attachment-says =

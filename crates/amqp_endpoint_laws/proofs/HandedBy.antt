@@ -47,12 +47,13 @@ use Rattle.amqp_endpoint_laws.specs.Passed.{is_it}
 use Rattle.amqp_endpoint_laws.specs.Telling.{numbers_told}
 use Rattle.amqp_endpoint_laws.proofs.Counted.{answer-unnumbered}
 use Rattle.amqp_endpoint_laws.proofs.HandedOut.{HearsOne, IsTold, LeadsLessAt, Receives, Says, StandsAlone, each-hears}
-use Rattle.amqp_endpoint_laws.proofs.HandedOut.{each-leads, goes-same}
+use Rattle.amqp_endpoint_laws.proofs.HandedOut.{each-leads, each-still, goes-same}
 use Rattle.amqp_endpoint_laws.proofs.HandedOut.{handed-both, hands-out, none-handed, none-resume, readings-both}
 use Rattle.amqp_endpoint_laws.proofs.HandedOut.{receives-holds, says-none, says-so}
 use Rattle.amqp_endpoint_laws.proofs.HoldingDeeds.{GoesBy, IsNotTransfer, TakesNoTransfer, deed-goes}
 use Rattle.amqp_endpoint_laws.proofs.HoldingEnds.{Holding, Stays}
-use Rattle.amqp_endpoint_laws.proofs.HoldingTalk.{AllRest, EachOf, fails-stay, held_in, leads_in}
+use Rattle.amqp_endpoint_laws.proofs.HoldingTalk.{AllRest, EachAt, EachOf, LeadsStillAt, fails-stay, held_in}
+use Rattle.amqp_endpoint_laws.proofs.HoldingTalk.{leads_in, still-same}
 use Rattle.amqp_endpoint_laws.proofs.Numbered.{GivesNext, gives-next}
 use Rattle.amqp_endpoint_laws.proofs.PassedPlaces.{eq-same}
 use Rattle.amqp_endpoint_laws.proofs.Unnumbered.{Unnumbered}
@@ -228,6 +229,14 @@ module _ (old new : LinkedSessions) (channel : IncomingChannel) (it : Transfer) 
       sym (ap (λ (t : Talk). leads_in (live_at t.sessions n) input) b.dropped.same) ∙ there
   heard-leads (inr (inr b)) n input h there = (b.stays n).leads input h there
 
+  heard-still : HeardBy → (n : ℕ) → LeadsStillAt (live_at old.talk.sessions n) (live_at new.talk.sessions n)
+  heard-still (inl b) n =
+      each-still old new b.mid channel it payload b.session b.took b.own events b.heard b.comes n
+  heard-still (inr (inl b)) n =
+      still-same (live_at old.talk.sessions n) (live_at new.talk.sessions n)
+      (ap (λ (t : Talk). live_at t.sessions n) b.dropped.same)
+  heard-still (inr (inr b)) n = (b.stays n).keeps
+
   -- and what is handed out is so by a link that stays attached
   heard-hands : (link : ℕ) → HeardBy → (handed_by link events ≡ []) ⊎ StaysSomewhere old new link
   heard-hands link (inl b) =
@@ -353,17 +362,24 @@ frame-moves (body.Transfer transfer payload) limit channel frames events old new
 frame-moves it limit channel frames events old new d n h =
     inr (deed-goes (Takes limit (record { channel = channel; body = it }) frames events) tt old new d n h)
 
+-- and the peer's handles lead so
+pub record HearsAt (old new : Option Session) : Type 0 where
+  pub hears : EachAt HearsOne old new
+  pub leads : LeadsLessAt old new
+  pub keeps : LeadsStillAt old new
+
 pub frame-leads : (transfer : Transfer) (payload : List ℕ) (limit channel : ℕ) (frames : List SessionFrame)
     (events : List Event) (old new : LinkedSessions)
     → IsDeed linked old
     (Takes limit (record { channel = channel; body = body.Transfer transfer payload }) frames events) new
-    → EachOf HearsOne old.talk.sessions new.talk.sessions
-    × ((n : ℕ) → LeadsLessAt (live_at old.talk.sessions n) (live_at new.talk.sessions n))
-frame-leads transfer payload limit channel frames events old new d =
-    let heard = heard-so old new (record { 0 = channel }) transfer payload frames events d.0 in (
-      heard-moves old new (record { 0 = channel }) transfer payload frames events heard,
-      heard-leads old new (record { 0 = channel }) transfer payload frames events heard,
-    )
+    → (n : ℕ) → HearsAt (live_at old.talk.sessions n) (live_at new.talk.sessions n)
+frame-leads transfer payload limit channel frames events old new d n =
+    let heard = heard-so old new (record { 0 = channel }) transfer payload frames events d.0 in
+    record {
+      hears = heard-moves old new (record { 0 = channel }) transfer payload frames events heard n;
+      leads = heard-leads old new (record { 0 = channel }) transfer payload frames events heard n;
+      keeps = heard-still old new (record { 0 = channel }) transfer payload frames events heard n;
+    }
 
 pub deed-moves : (deed : Deed) (old new : LinkedSessions) → IsDeed linked old deed new
     → EachOf (MovesBy old new) old.talk.sessions new.talk.sessions

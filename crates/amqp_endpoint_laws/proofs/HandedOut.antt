@@ -1,16 +1,15 @@
 -- What a receiving link of an endpoint hands out is what the transfers say that reach it.
 use Rattle.std.proofs.Common.{◌≡◌, ◌==◌, ◌&&◌, ◌⊎◌, inl, inr, ℕ, Bool, true, false, List, [], ◌∷◌, ◌++◌, Option}
 use Rattle.std.proofs.Common.{Some, None, Ok, ap, refl, sym, subst, true≢false, ◌∙◌, if◌then◌else◌, map, append_assoc}
-use Rattle.std.proofs.lemmas.List.{append-nil, get_or-set_other, map-append}
+use Rattle.std.proofs.lemmas.List.{append-nil, map-append}
 use Rattle.std.proofs.lemmas.Option.{none-some, same_Some}
-use Rattle.std.specs.Prelude.{option_map, slice_index_or}
+use Rattle.std.specs.Prelude.{option_map}
 use Rattle.amqp_session_types.specs.declared.channels.IncomingChannel.{IncomingChannel}
 use Rattle.amqp_session_types.specs.declared.handles.OutputHandle.{OutputHandle}
 use Rattle.amqp_session_performatives.specs.declared.session_frame.SessionFrame.{SessionFrame}
 use Rattle.amqp_session_performatives.specs.declared.transfer.Transfer.{Transfer}
 use Rattle.amqp_session_frames.specs.declared.frame.FrameBody.TheVariants as body
 use Rattle.amqp_session_core.specs.State.{StepsAt, link_at, reached as link_reached}
-use Rattle.amqp_session_core.specs.Steps.{TakesTransfer as TakesTransferStep}
 use Rattle.amqp_session_core.specs.Told.{TransferAt}
 use Rattle.amqp_session_core.specs.declared.incoming.TransferTaken.{TransferTaken}
 use Rattle.amqp_session_core.specs.declared.relay.TransferAnswer.{TransferAnswer}
@@ -61,11 +60,13 @@ use Rattle.amqp_endpoint_laws.specs.Life.{StaysAttached, StaysSomewhere}
 use Rattle.amqp_endpoint_laws.specs.Passed.{is_it}
 use Rattle.amqp_endpoint_laws.proofs.HoldingEnds.{Goes, Holding, Part, Stays, attached-so, held_end, held_if, held_link}
 use Rattle.amqp_endpoint_laws.proofs.HoldingEnds.{stays-on}
-use Rattle.amqp_endpoint_laws.proofs.HoldingInside.{LeadsLess, at-one, less}
+use Rattle.amqp_endpoint_laws.proofs.HoldingInside.{at-one, same-leads}
 use Rattle.amqp_endpoint_laws.proofs.HoldingDeeds.{talk-same}
 use Rattle.amqp_endpoint_laws.proofs.HoldingDone.{closes-none, closes-stays, remembers-stays}
-use Rattle.amqp_endpoint_laws.proofs.HoldingTalk.{AllRest, EachAt, EachOf, changed-live, each-same, goes-on-stays}
-use Rattle.amqp_endpoint_laws.proofs.HoldingTalk.{held-of, held_in, leads_in, live-changes}
+use Rattle.amqp_endpoint_laws.proofs.HoldingTalk.{AllRest, EachAt, EachOf, LeadsStillAt, changed-live, each-same}
+use Rattle.amqp_endpoint_laws.proofs.HoldingTalk.{goes-on-stays, held-of, held_in, leads_in, live-changes, still-on}
+use Rattle.amqp_endpoint_laws.proofs.HoldingTalk.{still-same}
+use Rattle.amqp_endpoint_laws.proofs.LeadingStill.{other-links, same-still}
 use Rattle.amqp_endpoint_laws.proofs.PassedPlaces.{eq-same}
 use Rattle.amqp_endpoint_laws.proofs.Unnumbered.{Unnumbered}
 
@@ -267,7 +268,7 @@ record AtLink (old new : LinksIn) (it : Transfer) (payload : List ℕ) (told : T
   answer : TransferAnswer Told
   is : told ≡ answer.told
   stepped : StepsAt (λ before after. gives.transfers before it payload (Ok answer) after) old.links handle new.links
-  leads : LeadsLess old new
+  routes : new.routes ≡ old.routes
 
 at-link : (old new : LinksIn) (it : Transfer) (payload : List ℕ) (o : Option ℕ) (took : TransferTaken Told)
     → TransferAt gives old it payload o (Ok took) new → AtLink old new it payload took.told
@@ -279,16 +280,8 @@ at-link old new it payload (Some handle) took t =
       answer = t.answer;
       is = t.told;
       stepped = t.stepped.1;
-      leads =
-          less (TakesTransferStep handle it payload (Ok t.answer) took.flow) old new refl t.stepped;
+      routes = ap (λ (x : LinksIn). x.routes) t.stepped.3;
     }
-
--- the other links stay
-other-links : (does : Link → Link → Type 0) (old new : LinksIn) (handle h : ℕ) → StepsAt does old.links handle new.links
-    → (h == handle) ≡ false → link_at new h ≡ link_at old h
-other-links does old new handle h st apart =
-    ap (λ (ls : List (Option Link)). slice_index_or ls h None) st.others
-    ∙ get_or-set_other old.links handle h (Some st.after) None (other_number h handle apart)
 
 -- in no other place of a session that goes on a receiving link with this number is attached, or waits to be
 abbrev pub StandsAlone : LinkedSessions → ℕ → ℕ → ℕ → Type 0
@@ -426,8 +419,16 @@ module _ (old new : LinkedSessions) (mid : Talk) (channel : IncomingChannel) (it
       → leads_in (live_at old.talk.sessions n) input ≡ Some h
   each-leads n input h there =
       live-changes LeadsLessAt (λ o p same i k e. sym (ap (λ (x : Option Session). leads_in x i) same) ∙ e) session
-      before after old.talk.sessions mid.sessions heard.takes.hears.stepped at.leads n input h
-      ((stays n).leads input h there)
+      before after old.talk.sessions mid.sessions heard.takes.hears.stepped
+      (same-leads before.value.session after.value.session at.routes) n input h ((stays n).leads input h there)
+
+  -- and those lead there still that led to a link that stays attached
+  pub each-still : (n : ℕ) → LeadsStillAt (live_at old.talk.sessions n) (live_at new.talk.sessions n)
+  each-still n =
+      still-on (live_at old.talk.sessions n) (live_at mid.sessions n) (live_at new.talk.sessions n)
+      (live-changes LeadsStillAt still-same session before after old.talk.sessions mid.sessions
+      heard.takes.hears.stepped (same-still before.value.session after.value.session at.routes) n)
+      (stays n)
 
   -- a message that comes whole is handed out by a link that is attached before and behind
   module _ (message : Message) (t : IsTaker at.stepped.before.link)
@@ -606,7 +607,8 @@ module _ (old new : LinkedSessions) (mid : Talk) (channel : IncomingChannel) (it
               ap (λ (k : ℕ). held_in (live_at mid.sessions k) own.0) same
               ∙ ap (λ (o : Option Session). held_in o own.0) heard.stands
               ∙ ap held_link
-              (other-links _ before.value.session after.value.session at.handle own.0 at.stepped e)
+              (other-links _ before.value.session after.value.session at.handle own.0 at.stepped
+              (other_number own.0 at.handle e))
               ∙ sym (ap (λ (o : Option Session). held_in o own.0) heard.live)
               ∙ sym (ap (λ (k : ℕ). held_in (live_at old.talk.sessions k) own.0) same)
               ∙ receives-holds old link n own (held_said reading.held) r

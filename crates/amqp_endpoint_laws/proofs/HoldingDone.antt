@@ -60,6 +60,7 @@ use Rattle.amqp_endpoint_laws.proofs.HoldingInside.{Each, LeadsFirst, Rests, all
 use Rattle.amqp_endpoint_laws.proofs.HoldingInside.{batch-stays, behind-stays, first-rests}
 use Rattle.amqp_endpoint_laws.proofs.HoldingInside.{changed-stays, each-comes, freed-stays, rests-on, sent-stays}
 use Rattle.amqp_endpoint_laws.proofs.HoldingWaits.{IsUnattached, answer-waits}
+use Rattle.amqp_endpoint_laws.proofs.LeadingStill.{own-waits}
 
 -- a session that stays
 same-stays : (old new : Linked) → new ≡ old → Rests old.session new.session
@@ -335,6 +336,10 @@ module _ (before after : Linked) (limit : ℕ) (link : End) (placed : Placed) (f
   attached-first fresh None None (a, aborts) =
       allocated-leads before.session after.session placed.handle.0 (with_number placed.link a.attaching) None
       a.allocates (λ k held is. refl)
+      (λ k held is.
+      absurd
+      (own-waits placed.link link placed.handle a.attach.incomplete_unsettled a.attaching fresh a.sends.sent k held
+      is))
   attached-first fresh None (Some exchange) a = absurd a
   attached-first fresh (Some input) None a = absurd a
   attached-first fresh (Some input) (Some exchange) a =
@@ -345,5 +350,6 @@ module _ (before after : Linked) (limit : ℕ) (link : End) (placed : Placed) (f
       (λ k held is.
       absurd
       (answer-waits placed.link link a.asked.attach e.takes.told e.taken e.attached a.becomes placed.handle
-      a.attach.incomplete_unsettled a.asked.flow fresh e.takes.takes e.sent e.flows k held is)))
+      a.attach.incomplete_unsettled a.asked.flow fresh e.takes.takes e.sent e.flows k held is))
+      (λ k held is. refl))
       (replies-stay a.reply a.mid _ a.replies)

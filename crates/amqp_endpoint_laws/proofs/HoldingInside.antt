@@ -1,6 +1,6 @@
 -- What the links of a session hold of their messages, whatever is done in it but that transfers come.
 use Rattle.std.proofs.Common.{◌≡◌, ◌≢◌, ◌⊎◌, ◌==◌, inl, inr, ℕ, Bool, true, false, List, [], ◌∷◌, Option, Some, None}
-use Rattle.std.proofs.Common.{Result, Ok, Err, ap, cond, refl, sym, subst, ◌∙◌, if◌then◌else◌}
+use Rattle.std.proofs.Common.{IsSome, Result, Ok, Err, ap, cond, refl, sym, subst, ◌∙◌, if◌then◌else◌}
 use Rattle.std.proofs.lemmas.Bool.Decides.{eqb_tells}
 use Rattle.std.proofs.lemmas.List.{get_or-set_other}
 use Rattle.std.proofs.lemmas.Bool.{eq-eqb}
@@ -38,12 +38,15 @@ use Rattle.amqp_endpoint_links.specs.History.{routed_in}
 use Rattle.amqp_endpoint_links.proofs.Routing.{Change, Frees, Puts, Same, Takes, change}
 use Rattle.amqp_endpoint_attached.specs.Linked.{LinksIn, gives}
 use Rattle.amqp_endpoint_attached.proofs.There.{replaced}
+use Rattle.amqp_endpoint_link_hearing.proofs.Heard.{stepped-there}
 use Rattle.amqp_endpoint_linking.specs.Linking.{Link}
-use Rattle.amqp_endpoint_laws.proofs.HoldingEnds.{Comes, Goes, Holding, IsFresh, Stays, attaches-go, comes-on}
-use Rattle.amqp_endpoint_laws.proofs.HoldingEnds.{detaches-stay, disposes-stay, flows-stay, goes-still}
+use Rattle.amqp_endpoint_laws.proofs.HoldingEnds.{Comes, Goes, Holding, IsAttached, IsFresh, Part, Stays, attaches-go}
+use Rattle.amqp_endpoint_laws.proofs.HoldingEnds.{comes-on, detaches-stay, disposes-stay, flows-stay, goes-still}
 use Rattle.amqp_endpoint_laws.proofs.HoldingEnds.{held_end, held_link, stays-on}
 use Rattle.amqp_endpoint_laws.proofs.HoldingWaits.{attached-waits}
 use Rattle.amqp_endpoint_laws.proofs.HoldingEnds.{stays-still}
+use Rattle.amqp_endpoint_laws.proofs.LeadingStill.{LeadsStill, allocated-still, allocated-there, detached-still}
+use Rattle.amqp_endpoint_laws.proofs.LeadingStill.{freed-still, same-still, taken-still, taken-there}
 
 -- under each own handle what is held goes from the old session to the new
 abbrev pub Each : (Holding → Holding → Type 0) → LinksIn → LinksIn → Type 0
@@ -53,7 +56,7 @@ Each Rel old new = (h : ℕ) → Rel (held_link (link_at old h)) (held_link (lin
 abbrev pub LeadsLess : LinksIn → LinksIn → Type 0
 LeadsLess old new = (input h : ℕ) → map.get new.routes input ≡ Some h → map.get old.routes input ≡ Some h
 
-same-leads : (old new : LinksIn) → new.routes ≡ old.routes → LeadsLess old new
+pub same-leads : (old new : LinksIn) → new.routes ≡ old.routes → LeadsLess old new
 same-leads old new same input h there = sym (ap (λ (t : RouteTable). map.get t input) same) ∙ there
 
 unless-leads : (handle h : ℕ) (o : Option ℕ) → unless_to handle o ≡ Some h → o ≡ Some h
@@ -88,10 +91,24 @@ less step old new none s input h there = by (change gives step old new s)
     by (Frees handle left freed) =
         unless-leads handle h (map.get old.routes input) (sym (left input) ∙ there)
 
--- what is held stays under each own handle, and the peer's handles lead to no other links
+-- what is held stays under each own handle, and the peer's handles lead to no other links, and to those still that are
+-- attached
 pub record Rests (old new : LinksIn) : Type 0 where
   pub holds : Each Stays old new
   pub leads : LeadsLess old new
+  pub keeps : LeadsStill old new
+
+-- what is held was so before
+pub was-so : (a b : Holding) (x : ℕ × Part) → Stays a b → b ≡ Some x → a ≡ Some x
+was-so a b x (inl same) is = sym same ∙ is
+was-so a b x (inr gone) is = absurd (none-some x (sym gone ∙ is))
+
+still-on : (old mid new : LinksIn) → LeadsStill old mid → Rests mid new → LeadsStill old new
+still-on old mid new first later input h k held there is =
+    later.keeps input h k held
+    (first input h k held there
+    (was-so (held_link (link_at mid h)) (held_link (link_at new h)) (k, (true, held)) (later.holds h) is))
+    is
 
 pub rests-on : (old mid new : LinksIn) → Rests old mid → Rests mid new → Rests old new
 rests-on old mid new first later =
@@ -100,6 +117,7 @@ rests-on old mid new first later =
           stays-on (held_link (link_at old h)) (held_link (link_at mid h)) (held_link (link_at new h)) (first.holds h)
           (later.holds h);
       leads = λ input h there. first.leads input h (later.leads input h there);
+      keeps = still-on old mid new first.keeps later;
     }
 
 pub each-comes : (number : ℕ) (old mid new : LinksIn) → Each (Comes number) old mid → Rests mid new
@@ -111,12 +129,14 @@ each-comes number old mid new first later h =
 links-same : (old new : LinksIn) → new.links ≡ old.links → Each Stays old new
 links-same old new same h = inl (ap (λ (ls : List (Option Link)). held_link (slice_index_or ls h None)) same)
 
+-- the peer's handles lead where they led
+routes-rest : (old new : LinksIn) → Each Stays old new → new.routes ≡ old.routes → Rests old new
+routes-rest old new holds same =
+    record { holds = holds; leads = same-leads old new same; keeps = same-still old new same }
+
 pub all-same : (old new : LinksIn) → new ≡ old → Rests old new
 all-same old new same =
-    record {
-      holds = links-same old new (ap (λ (s : LinksIn). s.links) same);
-      leads = same-leads old new (ap (λ (s : LinksIn). s.routes) same);
-    }
+    routes-rest old new (links-same old new (ap (λ (s : LinksIn). s.links) same)) (ap (λ (s : LinksIn). s.routes) same)
 
 pub rests-go : (old new : LinksIn) → Rests old new → Each Goes old new
 rests-go old new rests h = inr (rests.holds h)
@@ -162,45 +182,40 @@ pub changed-stays : (old new : LinksIn) (handle : ℕ) (before after : Link)
     → Step gives old (Changes handle before after) new → Stays (held_link (Some before)) (held_link (Some after))
     → Rests old new
 changed-stays old new handle before after s keeps =
-    record {
-      holds = at-one Stays stays-still old new handle before after s.0 (ap (λ (x : LinksIn). x.links) s.1) keeps;
-      leads = less (Changes handle before after) old new refl s;
-    }
+    routes-rest old new
+    (at-one Stays stays-still old new handle before after s.0 (ap (λ (x : LinksIn). x.links) s.1) keeps)
+    (ap (λ (x : LinksIn). x.routes) s.1)
 
 -- a frame of a link is sent, or its transfers, or Dispositions
 pub behind-stays : (old new : LinksIn) (handle : OutputHandle) (frame : BehindFrame) (left : Option BehindFrame)
     (answer : Option SessionFrame) → Step gives old (SendsBehind handle frame left answer) new → Rests old new
 behind-stays old new handle frame left answer s =
-    record {
-      holds = links-same old new (ap (λ (x : LinksIn). x.links) s.2);
-      leads = less (SendsBehind handle frame left answer) old new refl s;
-    }
+    routes-rest old new (links-same old new (ap (λ (x : LinksIn). x.links) s.2)) (ap (λ (x : LinksIn). x.routes) s.2)
 
 pub batch-stays : (old new : LinksIn) (handle : OutputHandle) (batch : Transfers) (left : Left)
     (frames : List SessionFrame) → Step gives old (SendsTransfers handle batch left frames) new → Rests old new
 batch-stays old new handle batch left frames s =
-    record {
-      holds = links-same old new (ap (λ (x : LinksIn). x.links) s.2);
-      leads = less (SendsTransfers handle batch left frames) old new refl s;
-    }
+    routes-rest old new (links-same old new (ap (λ (x : LinksIn). x.links) s.2)) (ap (λ (x : LinksIn). x.routes) s.2)
 
 table-same : (by : Role) (table : Table) (s : LinksIn) → (with_table by table s).links ≡ s.links
 table-same role.Sender table s = refl
 table-same role.Receiver table s = refl
 
+table-leads : (by : Role) (table : Table) (s : LinksIn) → (with_table by table s).routes ≡ s.routes
+table-leads role.Sender table s = refl
+table-leads role.Receiver table s = refl
+
 sent-same : (settled : Bool) (old : LinksIn) (d : Disposition) (numbers : List ℕ) (new : LinksIn)
-    → SendsDispositionStep gives settled old d numbers new → new.links ≡ old.links
-sent-same false old d numbers new s = ap (λ (x : LinksIn). x.links) s.1
+    → SendsDispositionStep gives settled old d numbers new → Rests old new
+sent-same false old d numbers new s = all-same old new s.1
 sent-same true old d numbers new s =
-    ap (λ (x : LinksIn). x.links) s.1 ∙ table-same (opposite d.role) _ old
+    routes-rest old new
+    (links-same old new (ap (λ (x : LinksIn). x.links) s.1 ∙ table-same (opposite d.role) _ old))
+    (ap (λ (x : LinksIn). x.routes) s.1 ∙ table-leads (opposite d.role) _ old)
 
 pub sent-stays : (old new : LinksIn) (d : Disposition) (numbers : List ℕ)
     → Step gives old (SendsDisposition d numbers) new → Rests old new
-sent-stays old new d numbers s =
-    record {
-      holds = links-same old new (sent-same d.settled old d numbers new s);
-      leads = less (SendsDisposition d numbers) old new refl s;
-    }
+sent-stays old new d numbers s = sent-same d.settled old d numbers new s
 
 -- an own handle is taken back, or given
 freed-at : (old new : LinksIn) (h : ℕ) (freed : Bool) → link_at new h ≡ (if freed then None else link_at old h)
@@ -213,6 +228,7 @@ freed-stays old new handle s =
     record {
       holds = λ h. freed-at old new h (h == handle) (s.0 h);
       leads = less (Deallocates handle) old new refl s;
+      keeps = freed-still old new handle s;
     }
 
 given-comes : (number : ℕ) (old new : LinksIn) (handle : ℕ) (link : Link) → IsFresh number (held_link (Some link))
@@ -316,10 +332,29 @@ calm-routes (TakesDetach handle detach told) calm = refl
 calm-routes (TakesBegin channel begin base left frames) calm = refl
 calm-routes step calm = absurd calm
 
+calm-still : (step : Act Link AttachTold Told Detached) (old new : LinksIn) → Step gives old step new
+    → IsCalm step → LeadsStill old new
+calm-still (TakesFlow flow told reply base left frames) old new s calm =
+    same-still old new (ap (λ (x : LinksIn). x.routes) s.becomes)
+calm-still (SetsWindow flow base) old new s calm = same-still old new (ap (λ (x : LinksIn). x.routes) s.2)
+calm-still (TakesDisposition d walk echoes) old new s calm =
+    same-still old new
+    (ap (λ (x : LinksIn). x.routes) s.becomes ∙ table-leads d.role _ (record old { links = new.links }))
+calm-still (TakesDetach handle detach (Ok told)) old new s calm = detached-still old new handle detach told s
+calm-still (TakesDetach handle detach (Err e)) old new s calm =
+    same-still old new (ap (λ (x : LinksIn). x.routes) s.2)
+calm-still (TakesBegin channel begin base left frames) old new s calm =
+    same-still old new (ap (λ (x : LinksIn). x.routes) s.5)
+calm-still step old new s calm = absurd calm
+
 pub calm-stays : (step : Act Link AttachTold Told Detached) (old new : LinksIn) → Step gives old step new
     → IsCalm step → Rests old new
 calm-stays step old new s calm =
-    record { holds = calm-holds step old new s calm; leads = less step old new (calm-routes step calm) s }
+    record {
+      holds = calm-holds step old new s calm;
+      leads = less step old new (calm-routes step calm) s;
+      keeps = calm-still step old new s calm;
+    }
 
 pub taken-goes : (old new : LinksIn) (handle : ℕ) (attach : Attach) (told : Result AttachTold RelayError)
     → Step gives old (TakesAttach handle attach told) new → Each Goes old new
@@ -329,6 +364,10 @@ taken-goes old new handle attach (Err e) s = attach-goes old new handle attach (
 -- and that handle of the peer's leads to it then, unless the link waits still
 pub record LeadsMore (attach : Attach) (handle : ℕ) (old new : LinksIn) : Type 0 where
   pub holds : Each Goes old new
+  pub keeps : LeadsStill old new
+  pub there :
+      (h : ℕ) → IsAttached (held_link (link_at old h)) (held_link (link_at new h))
+      → map.get new.routes attach.handle.0 ≡ Some h
   pub leads :
       (input h : ℕ) → map.get new.routes input ≡ Some h
       → (map.get old.routes input ≡ Some h) ⊎ ((input ≡ attach.handle.0) × (h ≡ handle))
@@ -368,8 +407,7 @@ taken-waits old new handle attach (Ok told) s k held is =
     absurd
     (attached-waits s.1.after.number s.1.before.link attach told s.1.after.link s.1.stepped.0 k held
     (sym (ap held_link
-    (ap (λ (ls : List (Option Link)). slice_index_or ls handle None) s.1.others
-    ∙ replaced old handle s.1.before s.1.after (sym s.1.had)))
+    (stepped-there (λ before after. gives.attaches before attach (Ok told) after) old handle new s.1))
     ∙ is))
 taken-waits old new handle attach (Err e) s k held is = less (TakesAttach handle attach (Err e)) old new refl s
 
@@ -378,6 +416,8 @@ pub attach-leads : (old new : LinksIn) (handle : ℕ) (attach : Attach) (told : 
 attach-leads old new handle attach told s =
     record {
       holds = taken-goes old new handle attach told s;
+      keeps = taken-still old new handle attach told s;
+      there = taken-there old new handle attach told s;
       leads = taken-leads old new handle attach told s;
       waits = taken-waits old new handle attach told s;
     }
@@ -386,7 +426,11 @@ attach-leads old new handle attach told s =
 pub record LeadsFirst (handle : ℕ) (old new : LinksIn) : Type 0 where
   pub vacant : link_at old handle ≡ None
   pub others : (h : ℕ) → (h == handle) ≡ false → Stays (held_link (link_at old h)) (held_link (link_at new h))
+  pub keeps : LeadsStill old new
   pub input : Option ℕ
+  pub there :
+      (k : ℕ) (held : Option Delivery) → held_link (link_at new handle) ≡ Some (k, (true, held))
+      → (other : ℕ) × (input ≡ Some other) × (map.get new.routes other ≡ Some handle)
   pub leads :
       (other h : ℕ) → map.get new.routes other ≡ Some h
       → (map.get old.routes other ≡ Some h) ⊎ ((input ≡ Some other) × (h ≡ handle))
@@ -399,34 +443,42 @@ given-others : (old new : LinksIn) (handle : ℕ) (link : Link)
 given-others old new handle link becomes h apart =
     inl (ap held_link (becomes h ∙ ap (λ (b : Bool). if b then Some link else link_at old h) apart))
 
--- it waits only where none leads to it
+given-there : (old new : LinksIn) (handle : ℕ) (link : Link)
+    → ((h : ℕ) → link_at new h ≡ (if h == handle then Some link else link_at old h)) → link_at new handle ≡ Some link
+given-there old new handle link becomes =
+    becomes handle ∙ ap (λ (b : Bool). if b then Some link else link_at old handle) (eq-eqb handle handle refl)
+
+-- it waits only where none leads to it, and is attached only where one does
 pub allocated-leads : (old new : LinksIn) (handle : ℕ) (link : Link) (input : Option ℕ)
     → Step gives old (Allocates handle link input) new
     → ((k : ℕ) (held : Option Delivery) → held_link (Some link) ≡ Some (k, (false, held)) → input ≡ None)
+    → ((k : ℕ) (held : Option Delivery) → held_link (Some link) ≡ Some (k, (true, held)) → IsSome input)
     → LeadsFirst handle old new
-allocated-leads old new handle link None s waits =
+allocated-leads old new handle link None s waits attached =
     record {
       vacant = s.1;
       others = given-others old new handle link s.3;
+      keeps = allocated-still old new handle link None s;
       input = None;
+      there = λ k held is.
+          let none = attached k held (sym (ap held_link (given-there old new handle link s.3)) ∙ is) in
+          absurd cc;
       leads = λ other h there. inl (less (Allocates handle link None) old new refl s other h there);
       waits = λ k held is. refl;
     }
-allocated-leads old new handle link (Some input) s waits =
+allocated-leads old new handle link (Some input) s waits attached =
     record {
       vacant = s.2;
       others = given-others old new handle link s.4;
+      keeps = allocated-still old new handle link (Some input) s;
       input = Some input;
+      there = λ k held is. (input, refl, allocated-there old new handle link input s);
       leads = λ other h there.
           elim (put-leads old.routes new.routes input handle other h (ap (λ (x : LinksIn). x.routes) s.5) there) [
             | inl was ↦ inl was
             | inr (same, is) ↦ inr (ap (λ (k : ℕ). Some k) (sym same), is)
           ];
-      waits = λ k held is.
-          waits k held
-          (sym (ap held_link
-          (s.4 handle ∙ ap (λ (b : Bool). if b then Some link else link_at old handle) (eq-eqb handle handle refl)))
-          ∙ is);
+      waits = λ k held is. waits k held (sym (ap held_link (given-there old new handle link s.4)) ∙ is);
     }
 
 pub first-rests : (handle : ℕ) (old mid new : LinksIn) → LeadsFirst handle old mid → Rests mid new
@@ -437,13 +489,16 @@ first-rests handle old mid new first later =
       others = λ h apart.
           stays-on (held_link (link_at old h)) (held_link (link_at mid h)) (held_link (link_at new h))
           (first.others h apart) (later.holds h);
+      keeps = still-on old mid new first.keeps later;
       input = first.input;
+      there = λ k held is.
+          let (other, input, led) = first.there k held (was k (true, held) is) in
+          (other, input, later.keeps other handle k held led is);
       leads = λ other h there. first.leads other h (later.leads other h there);
-      waits = λ k held is. first.waits k held (by k held is (later.holds handle));
+      waits = λ k held is. first.waits k held (was k (false, held) is);
     }
   where
-    by : (k : ℕ) (held : Option Delivery) → held_link (link_at new handle) ≡ Some (k, (false, held))
-        → Stays (held_link (link_at mid handle)) (held_link (link_at new handle))
-        → held_link (link_at mid handle) ≡ Some (k, (false, held))
-    by k held is (inl same) = sym same ∙ is
-    by k held is (inr gone) = absurd (none-some _ (sym gone ∙ is))
+    was : (k : ℕ) (x : Part) → held_link (link_at new handle) ≡ Some (k, x)
+        → held_link (link_at mid handle) ≡ Some (k, x)
+    was k x is =
+        was-so (held_link (link_at mid handle)) (held_link (link_at new handle)) (k, x) (later.holds handle) is

@@ -1,7 +1,7 @@
 -- What links hold of their messages in all sessions of an endpoint, as one of these goes on, begins or ends.
 use Rattle.std.proofs.Common.{◌≡◌, ◌==◌, ◌⊎◌, inl, inr, ℕ, Bool, true, false, List, [], ◌∷◌, Option, Some, None}
-use Rattle.std.proofs.Common.{Ok, Err, ap, if◌then◌else◌, refl, sym, subst, true≢false, ◌∙◌}
-use Rattle.std.proofs.lemmas.Option.{none-some, same_Some}
+use Rattle.std.proofs.Common.{Ok, Err, ap, if◌then◌else◌, refl, sym, subst, ◌∙◌}
+use Rattle.std.proofs.lemmas.Option.{none-some}
 use Rattle.std.specs.FinMap as map
 use Rattle.std.specs.Global.{Box}
 use Rattle.amqp_session_types.specs.declared.channels.IncomingChannel.{IncomingChannel}
@@ -18,8 +18,6 @@ use Rattle.amqp_link_base.specs.declared.detached.Detached.{Detached}
 use Rattle.amqp_link_attach.specs.declared.state.LinkState.{LinkState}
 use Rattle.amqp_link_attach.specs.declared.state.LinkState.TheVariants as state
 use Rattle.amqp_link_ends.specs.Ends.{state_of}
-use Rattle.amqp_link_ends.specs.declared.end.End.{End}
-use Rattle.amqp_link_ends.specs.declared.end.End.TheVariants.{Receiver, Sender}
 use Rattle.amqp_link_ends.specs.declared.relay.AttachTold.{AttachTold}
 use Rattle.amqp_link_receiving.specs.Deliveries.{Delivery}
 use Rattle.amqp_link_receiving.specs.declared.answer.Told.{Told}
@@ -54,10 +52,11 @@ use Rattle.amqp_endpoint_sessions.specs.declared.place.Place.TheVariants.{Asked,
 use Rattle.amqp_endpoint_sessions.proofs.Owning.{at, same_number}
 use Rattle.amqp_endpoint_laws.specs.Conversing.{SessionsAct}
 use Rattle.amqp_endpoint_laws.specs.Held.{number_live, number_of}
-use Rattle.amqp_endpoint_laws.proofs.HoldingEnds.{Goes, Holding, Part, Stays, goes-on, held_end, held_if, held_link}
-use Rattle.amqp_endpoint_laws.proofs.HoldingEnds.{stands_so, stays-on, stays-still}
+use Rattle.amqp_endpoint_laws.proofs.HoldingEnds.{Goes, Holding, IsAttached, Stays, goes-on, held_link, stands_so}
+use Rattle.amqp_endpoint_laws.proofs.HoldingEnds.{stays-on, stays-still}
 use Rattle.amqp_endpoint_laws.proofs.HoldingInside.{IsCalm, LeadsFirst, LeadsMore, Rests, all-same, attach-leads}
-use Rattle.amqp_endpoint_laws.proofs.HoldingInside.{calm-stays}
+use Rattle.amqp_endpoint_laws.proofs.HoldingInside.{calm-stays, was-so}
+use Rattle.amqp_endpoint_laws.proofs.LeadingStill.{waiting-holds}
 use Rattle.amqp_endpoint_laws.proofs.PassedPlaces.{eq-same}
 
 -- what a link holds under an own handle in a session that goes on
@@ -82,16 +81,31 @@ pub each-same : (Rel : Holding → Holding → Type 0) → ((a : Holding) → Re
 each-same Rel still old new same h =
     subst (λ (o : Option Session). Rel (held_in old h) (held_in o h)) (sym same) (still (held_in old h))
 
--- what is held in it stays, and the peer's handles lead to no other links
+-- where a handle of the peer's led to a receiving link that is attached then too, it leads there still
+abbrev pub LeadsStillAt : Option Session → Option Session → Type 0
+LeadsStillAt old new =
+    (input h k : ℕ) (held : Option Delivery) → leads_in old input ≡ Some h → held_in new h ≡ Some (k, (true, held))
+    → leads_in new input ≡ Some h
+
+pub still-same : (old new : Option Session) → new ≡ old → LeadsStillAt old new
+still-same old new same input h k held there is = ap (λ (o : Option Session). leads_in o input) same ∙ there
+
+-- what is held in it stays, and the peer's handles lead to no other links, and to those still that are attached
 pub record RestsAt (old new : Option Session) : Type 0 where
   pub holds : EachAt Stays old new
   pub leads : (input h : ℕ) → leads_in new input ≡ Some h → leads_in old input ≡ Some h
+  pub keeps : LeadsStillAt old new
+
+rests-at : (before after : Session) → Rests before.value.session after.value.session
+    → RestsAt (Some before) (Some after)
+rests-at before after r = record { holds = r.holds; leads = r.leads; keeps = r.keeps }
 
 pub rests-same : (old new : Option Session) → new ≡ old → RestsAt old new
 rests-same old new same =
     record {
       holds = each-same Stays stays-still old new same;
       leads = λ input h there. sym (ap (λ (o : Option Session). leads_in o input) same) ∙ there;
+      keeps = still-same old new same;
     }
 
 -- and so it is where it begins, and where it is over
@@ -101,6 +115,7 @@ rests-none old new bare unled =
     record {
       holds = λ h. inr (bare h);
       leads = λ input h there. absurd (none-some h (sym (unled input) ∙ there));
+      keeps = λ input h k held there is. absurd (none-some (k, (true, held)) (sym (bare h) ∙ is));
     }
 
 pub rests-dead : (old new : Option Session) → new ≡ None → RestsAt old new
@@ -114,14 +129,22 @@ EachOf Rel old new = (n : ℕ) → EachAt Rel (live_at old n) (live_at new n)
 abbrev pub AllRest : Sessions → Sessions → Type 0
 AllRest old new = (n : ℕ) → RestsAt (live_at old n) (live_at new n)
 
-pub all-on : (old mid new : Sessions) → AllRest old mid → AllRest mid new → AllRest old new
-all-on old mid new first later n =
+pub still-on : (old mid new : Option Session) → LeadsStillAt old mid → RestsAt mid new → LeadsStillAt old new
+still-on old mid new first later input h k held there is =
+    later.keeps input h k held
+    (first input h k held there (was-so (held_in mid h) (held_in new h) (k, (true, held)) (later.holds h) is)) is
+
+rests-on : (old mid new : Option Session) → RestsAt old mid → RestsAt mid new → RestsAt old new
+rests-on old mid new first later =
     record {
       holds = λ h.
-          stays-on (held_in (live_at old n) h) (held_in (live_at mid n) h) (held_in (live_at new n) h)
-          ((first n).holds h) ((later n).holds h);
-      leads = λ input h there. (first n).leads input h ((later n).leads input h there);
+          stays-on (held_in old h) (held_in mid h) (held_in new h) (first.holds h) (later.holds h);
+      leads = λ input h there. first.leads input h (later.leads input h there);
+      keeps = still-on old mid new first.keeps later;
     }
+
+pub all-on : (old mid new : Sessions) → AllRest old mid → AllRest mid new → AllRest old new
+all-on old mid new first later n = rests-on (live_at old n) (live_at mid n) (live_at new n) (first n) (later n)
 
 pub each-goes-on : (old mid new : Sessions) → EachOf Goes old mid → AllRest mid new → EachOf Goes old new
 each-goes-on old mid new first later n h =
@@ -263,7 +286,7 @@ ends-stays number error session old new out out_new e =
 pub inside-stays : (m : ℕ) (before after : Session) (old new : Sessions) → Step old (ChangesLive m before after) new
     → Rests before.value.session after.value.session → AllRest old new
 inside-stays m before after old new s each =
-    live-changes RestsAt rests-same m before after old new s (record { holds = each.holds; leads = each.leads })
+    live-changes RestsAt rests-same m before after old new s (rests-at before after each)
 
 pub goes-on-stays : (Does : Linked → Linked → Type 0) (old : Talk) (session : ℕ) (new : Talk)
     → ((before after : Linked) → Does before after → Rests before.session after.session)
@@ -341,10 +364,9 @@ heard-rests it calm old channel h frames new t =
     hears-so RestsAt rests-same it old new channel
     (λ told number before after out reaches live l.
     let (steps, are, history) = heard gives before.value after.value [] out it (Ok told) l in
-    let r =
-    hearing-does Rests it steps before.value after.value (λ r. r)
-    (λ step is w. step-rests it step before.value after.value calm is w) are history in
-    record { holds = r.holds; leads = r.leads })
+    rests-at before after
+    (hearing-does Rests it steps before.value after.value (λ r. r)
+    (λ step is w. step-rests it step before.value after.value calm is w) are history))
     h frames t
 
 -- a link that waits for it takes the peer's Attach, or none does
@@ -413,19 +435,12 @@ module _ (talk : Talk) (links : Links) (session : ℕ) (role : Role) (handle : O
   name-named None is = absurd cc
   name-named (Some number) is = place-named (held_at links number) is
 
-waiting-holds : (n : ℕ) (e : End) (k : ℕ) (held : Option Delivery) → stands_so (state_of e) ≡ Some false
-    → held_end n e ≡ Some (k, (true, held)) → ⊥
-waiting-holds n (Sender s) k held waits is = none-some _ is
-waiting-holds n (Receiver r) k held waits is =
-    true≢false
-    (sym (ap (λ (x : ℕ × Part). x.1.0)
-    (same_Some (n, (false, r.end.held)) (k, (true, held))
-    (sym (ap (λ (o : Option Bool). held_if o n r.end.held) waits) ∙ is))))
-
 pub record LeadsMoreAt (attach : Attach) (old new : Option Session) : Type 0 where
   pub handle : OutputHandle
   pub unattached : (k : ℕ) (held : Option Delivery) → held_in old handle.0 ≡ Some (k, (true, held)) → ⊥
   pub holds : EachAt Goes old new
+  pub keeps : LeadsStillAt old new
+  pub there : (h : ℕ) → IsAttached (held_in old h) (held_in new h) → leads_in new attach.handle.0 ≡ Some h
   pub leads :
       (input h : ℕ) → leads_in new input ≡ Some h
       → (leads_in old input ≡ Some h) ⊎ ((input ≡ attach.handle.0) × (h ≡ handle.0))
@@ -467,39 +482,38 @@ module _ (attach : Attach) (named : NamedLink) (old : Talk) (links : Links) (cha
           → live_at old.sessions number ≡ Some before
           → AttachesIn attach named before.value.session after.value.session
           → AttachesAt attach (Some before) (Some after)
-      by number before after reaches live (inl r) = inl (record { holds = r.holds; leads = r.leads })
+      by number before after reaches live (inl r) = inl (rests-at before after r)
       by number before after reaches live (inr (handle, waits, m)) =
           inr (record {
             handle = handle;
             unattached =
                 unattached-so number before handle live (named-in number reaches n) waits;
             holds = m.holds;
+            keeps = m.keeps;
+            there = m.there;
             leads = m.leads;
             waits = m.waits;
           })
 
 pub attaches-on : (attach : Attach) (old mid new : Option Session) → AttachesAt attach old mid → RestsAt mid new
     → AttachesAt attach old new
-attaches-on attach old mid new (inl r) later =
-    inl (record {
-      holds = λ h.
-          stays-on (held_in old h) (held_in mid h) (held_in new h) (r.holds h) (later.holds h);
-      leads = λ input h there. r.leads input h (later.leads input h there);
-    })
+attaches-on attach old mid new (inl r) later = inl (rests-on old mid new r later)
 attaches-on attach old mid new (inr m) later =
     inr (record {
       handle = m.handle;
       unattached = m.unattached;
       holds = λ h. goes-on (held_in old h) (held_in mid h) (held_in new h) (m.holds h) (later.holds h);
+      keeps = still-on old mid new m.keeps later;
+      there = λ h t.
+          let is = was-so (held_in mid h) (held_in new h) (t.number, (true, t.held)) (later.holds h) t.is in
+          later.keeps attach.handle.0 h t.number t.held
+          (m.there h (record { number = t.number; held = t.held; was = t.was; is = is })) t.is;
       leads = λ input h there. m.leads input h (later.leads input h there);
       waits = λ k held is input h there.
-          m.waits k held (by k held is (later.holds m.handle.0)) input h (later.leads input h there);
+          m.waits k held
+          (was-so (held_in mid m.handle.0) (held_in new m.handle.0) (k, (false, held)) (later.holds m.handle.0) is)
+          input h (later.leads input h there);
     })
-  where
-    by : (k : ℕ) (held : Option Delivery) → held_in new m.handle.0 ≡ Some (k, (false, held))
-        → Stays (held_in mid m.handle.0) (held_in new m.handle.0) → held_in mid m.handle.0 ≡ Some (k, (false, held))
-    by k held is (inl same) = sym same ∙ is
-    by k held is (inr gone) = absurd (none-some _ (sym gone ∙ is))
 
 pub attaches-go : (attach : Attach) (old new : Sessions)
     → ((n : ℕ) → AttachesAt attach (live_at old n) (live_at new n)) → EachOf Goes old new
@@ -514,7 +528,11 @@ attaches-go attach old new each n h = by (each n)
 pub record LeadsFirstAt (handle : ℕ) (old new : Option Session) : Type 0 where
   pub vacant : number_live old handle ≡ None
   pub others : (h : ℕ) → (h == handle) ≡ false → Stays (held_in old h) (held_in new h)
+  pub keeps : LeadsStillAt old new
   pub input : Option ℕ
+  pub there :
+      (k : ℕ) (held : Option Delivery) → held_in new handle ≡ Some (k, (true, held))
+      → (other : ℕ) × (input ≡ Some other) × (leads_in new other ≡ Some handle)
   pub leads :
       (other h : ℕ) → leads_in new other ≡ Some h
       → (leads_in old other ≡ Some h) ⊎ ((input ≡ Some other) × (h ≡ handle))
@@ -529,7 +547,9 @@ first-at handle before after f =
     inr (record {
       vacant = ap number_of f.vacant;
       others = f.others;
+      keeps = f.keeps;
       input = f.input;
+      there = f.there;
       leads = f.leads;
       waits = f.waits;
     })

@@ -89,7 +89,8 @@ out-keeps =
           behind qs_none (before ps_none out);
       gone = λ first old new ps gone unsaid none out. gone-out new gone;
       free = λ first stood frames unsaid none out. out;
-      live = λ first stood accepted before after ps allowed is goes none out. live-out stood after out;
+      live = λ first stood accepted before after ps allowed is goes asked none out. live-out stood after out;
+      fails = λ first stood before after ps qs over is goes unsaid gone none out. gone-out over gone;
       told = λ first stood before after it is hears none out. asked-out stood after out;
       asks = λ first channel asked begin is none out. some-none _ _ none;
       begins = λ first window channel session frame b none out. some-none (Went frame) [] none;

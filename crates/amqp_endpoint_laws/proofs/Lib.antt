@@ -12,6 +12,9 @@ mod SessionsGoing
 mod SessionsHeard
 mod SessionsKept
 mod PassedPlaces
+mod AskedCameInside
+mod AskedCameHeard
+mod AskedCame
 mod PassedWalk
 mod PassedJudged
 mod PassedHeard
@@ -31,6 +34,7 @@ mod HeldHeard
 mod HeldKept
 mod HoldingEnds
 mod HoldingWaits
+mod LeadingStill
 mod HoldingInside
 mod HoldingDone
 mod HoldingTalk
@@ -52,6 +56,15 @@ mod AttachmentsCalled
 mod AttachmentsSent
 mod QueuedCalled
 mod LeadingAlone
+mod ComesAttachedHeld
+mod ComesAttachedNamed
+mod ComesAttachedHeard
+mod ComesAttached
+mod ComesAttachedUntaken
+mod ComesAttachedCalled
 mod SeenWalk
 mod Seen
 mod Judged
+mod TakenRead
+mod TakenOver
+mod TakenJoining

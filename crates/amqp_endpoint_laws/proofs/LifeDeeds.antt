@@ -1,75 +1,34 @@
 -- Over the whole life of a link what is handed out by it is what the transfers say that reach it.
-use Rattle.std.proofs.Common.{◌≡◌, ◌≢◌, ◌⊎◌, inl, inr, ℕ, Bool, true, false, List, [], ◌∷◌, ◌++◌, Option, Some}
+use Rattle.std.proofs.Common.{◌≡◌, ◌⊎◌, inl, inr, ℕ, true, false, List, [], ◌∷◌, ◌++◌, Option, Some}
 use Rattle.std.proofs.Common.{None, ap, append_assoc, map, refl, sym, subst, true≢false, ◌∙◌}
 use Rattle.std.proofs.lemmas.Bool.Decides.{eqb_tells}
 use Rattle.std.proofs.lemmas.List.{append-nil}
 use Rattle.std.proofs.lemmas.Option.{none-some, same_Some}
 use Rattle.amqp_session_types.specs.declared.handles.OutputHandle.{OutputHandle}
-use Rattle.amqp_link_attach.specs.State.{is_attached}
-use Rattle.amqp_link_ends.specs.declared.end.End.{End}
-use Rattle.amqp_link_ends.specs.declared.end.End.TheVariants.{Receiver, Sender}
 use Rattle.amqp_link_place.specs.Readings.{Piece, Reading, nothing, readings}
-use Rattle.amqp_link_receiver.specs.State.{ReceiverState}
 use Rattle.amqp_link_receiving.specs.Deliveries.{Delivery}
 use Rattle.amqp_link_receiving.specs.Readings.{held_said}
-use Rattle.amqp_endpoint_attached.specs.Receiving.{receiving}
 use Rattle.amqp_endpoint_deeds.specs.Deeds.{AreDone, Deed, IsDeed, told_by, told_in}
-use Rattle.amqp_endpoint_link_hearing.specs.Naming.{link_in}
 use Rattle.amqp_endpoint_linked.specs.Does.{linked}
 use Rattle.amqp_endpoint_linked.specs.declared.linked.LinkedSessions.{LinkedSessions}
-use Rattle.amqp_endpoint_linking.specs.Linking.{Link}
 use Rattle.amqp_endpoint_sessions.specs.State.{live_at}
 use Rattle.amqp_endpoint_laws.specs.Handed.{Handed, NoneResumes, handed_as, handed_by, pieces_in}
 use Rattle.amqp_endpoint_laws.specs.Life.{Reach, ReachBy, StaysAttached, StaysSomewhere}
+use Rattle.amqp_endpoint_laws.proofs.ComesAttachedHeld.{holding-receives}
 use Rattle.amqp_endpoint_laws.proofs.HandedBy.{deed-hands, deed-says}
-use Rattle.amqp_endpoint_laws.proofs.HandedOut.{Receives, Says, StandsAlone, as-receiving, handed-both, is-receiving}
+use Rattle.amqp_endpoint_laws.proofs.HandedOut.{Receives, Says, StandsAlone, handed-both, is-receiving}
 use Rattle.amqp_endpoint_laws.proofs.HandedOut.{none-resume, readings-both, receives-holds, receives-so}
-use Rattle.amqp_endpoint_laws.proofs.HoldingEnds.{Holding, Part, held_end, held_if, held_link, so-attached, stands_so}
-use Rattle.amqp_endpoint_laws.proofs.HoldingTalk.{held-of, held_in}
+use Rattle.amqp_endpoint_laws.proofs.HoldingEnds.{Holding, Part}
+use Rattle.amqp_endpoint_laws.proofs.HoldingTalk.{held_in}
 use Rattle.amqp_endpoint_laws.proofs.LifePlace.{CameBy, IsIn, IsUnentered, came-so}
 use Rattle.amqp_endpoint_laws.proofs.LifePlace.{known-first, stays-in, unentered-none}
 use Rattle.amqp_endpoint_laws.proofs.LinksKept.{BackGoesOn, FinishedGoesOn, LeftGoesOn}
 
 -- a link that is held so receives
-record HoldsSo (l : Option Link) (link : ℕ) (held : Option Delivery) : Type 0 where
-  end : ReceiverState
-  is : l ≡ Some (receiving link end)
-  attached : is_attached end.base.local_state ≡ true
-  holds : end.end.held ≡ held
-
-held-so : (l : Link) (r : ReceiverState) (link : ℕ) (held : Option Delivery) (o : Option Bool) → l.link ≡ Receiver r
-    → stands_so r.base.local_state ≡ o → held_if o l.number r.end.held ≡ Some (link, (true, held))
-    → HoldsSo (Some l) link held
-held-so l r link held None is so e = absurd (none-some _ e)
-held-so l r link held (Some attached) is so e =
-    let same = same_Some (l.number, (attached, r.end.held)) (link, (true, held)) e in
-    record {
-      end = r;
-      is = as-receiving l r is
-          ∙ ap (λ (k : ℕ). Some (receiving k r)) (ap (λ (p : ℕ × Part). p.0) same);
-      attached =
-          so-attached r.base.local_state
-          (so ∙ ap (λ (b : Bool). Some b) (ap (λ (p : ℕ × Part). p.1.0) same));
-      holds = ap (λ (p : ℕ × Part). p.1.1) same;
-    }
-
-end-so : (l : Link) (link : ℕ) (held : Option Delivery) (e : End) → l.link ≡ e
-    → held_end l.number e ≡ Some (link, (true, held)) → HoldsSo (Some l) link held
-end-so l link held (Sender s) is h = absurd (none-some _ h)
-end-so l link held (Receiver r) is h = held-so l r link held (stands_so r.base.local_state) is refl h
-
-link-so : (l : Option Link) (link : ℕ) (held : Option Delivery) → held_link l ≡ Some (link, (true, held))
-    → HoldsSo l link held
-link-so None link held h = absurd (none-some _ h)
-link-so (Some l) link held h = end-so l link held l.link refl h
-
-holds-receives : (s : LinkedSessions) (link session : ℕ) (own : OutputHandle) (held : Option Delivery)
+pub holds-receives : (s : LinkedSessions) (link session : ℕ) (own : OutputHandle) (held : Option Delivery)
     → held_in (live_at s.talk.sessions session) own.0 ≡ Some (link, (true, held)) → Receives s link session own held
 holds-receives s link session own held h =
-    let so =
-    link-so (link_in (live_at s.talk.sessions session) own) link held
-    (sym (held-of (live_at s.talk.sessions session) own) ∙ h) in
-    record { end = so.end; there = so.is; attached = so.attached; holds = so.holds }
+    receives-so s link session own held (holding-receives s link session own held h)
 
 module _ (link : ℕ) where
   -- the link is attached in this place
@@ -101,7 +60,7 @@ module _ (link : ℕ) where
   holding-on None = inr (λ held is. none-some _ is)
   holding-on (Some (number, part)) = number-on (Some (number, part)) number part refl
 
-  on-or-not : (s : LinkedSessions) (n h : ℕ) → IsOn s n h ⊎ (IsOn s n h → ⊥)
+  pub on-or-not : (s : LinkedSessions) (n h : ℕ) → IsOn s n h ⊎ (IsOn s n h → ⊥)
   on-or-not s n h =
       elim (holding-on (held_in (live_at s.talk.sessions n) h)) [
         | inl (held, is) ↦ inl (record { held = held; on = is })
@@ -121,7 +80,7 @@ module _ (link : ℕ) where
       ap (λ (k : ℕ). held_in (live_at s.talk.sessions k) own.0) in_it
       ∙ ap (λ (k : ℕ). held_in (live_at s.talk.sessions n) k) by_it
 
-  was-on : (old mid : LinkedSessions) (n h : ℕ) → IsIn link old n h → StaysSomewhere old mid link → IsOn old n h
+  pub was-on : (old mid : LinkedSessions) (n h : ℕ) → IsIn link old n h → StaysSomewhere old mid link → IsOn old n h
   was-on old mid n h i (session, own, st) =
       let (in_it, by_it) = stays-on-at old mid n h session own i st in
       record {
@@ -151,7 +110,7 @@ module _ (link : ℕ) where
       }
 
   -- where it doesn't, nothing is handed out by it, and nothing reaches it
-  none-handed-so : (deed : Deed) (old mid : LinkedSessions) → IsDeed linked old deed mid
+  pub none-handed-so : (deed : Deed) (old mid : LinkedSessions) → IsDeed linked old deed mid
       → (StaysSomewhere old mid link → ⊥) → handed_by link (told_in deed) ≡ []
   none-handed-so deed old mid d apart =
       elim (deed-hands deed old mid link d) [ inl none ↦ none | inr stays ↦ absurd (apart stays) ]
@@ -205,7 +164,7 @@ module _ (link : ℕ) where
       on-in deed old mid n h d i = stays-in link deed old mid d back_on left_on finished_on n h i
 
       -- once its attachment ended
-      stays-gone : (deed : Deed) (old mid : LinkedSessions) (n h : ℕ) → IsDeed linked old deed mid → IsIn link old n h
+      pub stays-gone : (deed : Deed) (old mid : LinkedSessions) (n h : ℕ) → IsDeed linked old deed mid → IsIn link old n h
           → ((x : Part) → held_in (live_at old.talk.sessions n) h ≡ Some (link, x) → x.0 ≡ true)
           → (IsOn mid n h → ⊥) → (x : Part) → held_in (live_at mid.talk.sessions n) h ≡ Some (link, x) → ⊥
       stays-gone deed old mid n h d i was off x is = by x is (came-so link deed old mid d n h x is)

@@ -31,6 +31,9 @@ use Rattle.amqp_endpoint_reading.specs.Following.{goes}
 use Rattle.amqp_endpoint_reading.specs.Reading.{Wired}
 use Rattle.amqp_endpoint_talk.specs.Inside.{Batches}
 use Rattle.amqp_endpoint_laws.specs.Passed.{called_in, holder}
+use Rattle.amqp_endpoint_laws.proofs.AskedCameInside.{KeepsBy, attached-keeps, closing-keeps, detaches-keep}
+use Rattle.amqp_endpoint_laws.proofs.AskedCameInside.{disposes-keep, disposes-one-keeps, drains-keep, gives-keeps}
+use Rattle.amqp_endpoint_laws.proofs.AskedCameInside.{sends-keep}
 use Rattle.amqp_endpoint_laws.proofs.PassedWalk.{AttachGoes, Walk}
 
 -- a call that sends a message
@@ -55,18 +58,19 @@ module _ {Allows : Batches → Type 0} (P : ℕ → List Wired → Talk → Talk
 
   -- what a call does in the session that holds its link
   done-in : (does : Does) (session : ℕ) (handle : _) (old new : Talk) (frames : List SessionFrame) → StaysInside does
-      → DoneIn does session handle old [] new frames → P session (goes frames) old new
-  done-in does session handle old new frames inside d =
+      → KeepsBy does → DoneIn does session handle old [] new frames → P session (goes frames) old new
+  done-in does session handle old new frames inside keeps d =
       subst (λ (fs : List SessionFrame). P session (goes fs) old new) (sym d.queued)
       (w.inside session [] d.frames d.before d.after old new w.quiet d.stepped d.rest
-      (inside handle d.before.value d.after.value d.frames d.did))
+      (inside handle d.before.value d.after.value d.frames d.did)
+      (keeps handle d.before.value d.after.value d.frames d.did))
 
   done-at : (does : Does) (place : Where) (old new : Talk) (frames : List SessionFrame) → StaysInside does
-      → DoneAt does place old [] new frames → Q (holder place) (goes frames) old new
-  done-at does None old new frames inside d = absurd d
-  done-at does (Some (AtRest end)) old new frames inside d = absurd d
-  done-at does (Some (Held session handle)) old new frames inside d =
-      w.at session (goes frames) old new (done-in does session handle old new frames inside d)
+      → KeepsBy does → DoneAt does place old [] new frames → Q (holder place) (goes frames) old new
+  done-at does None old new frames inside keeps d = absurd d
+  done-at does (Some (AtRest end)) old new frames inside keeps d = absurd d
+  done-at does (Some (Held session handle)) old new frames inside keeps d =
+      w.at session (goes frames) old new (done-in does session handle old new frames inside keeps d)
 
   sent-at : (limit : ℕ) (tag : List ℕ) (message : Sending) (settled : Bool) (place : Where) (old new : Talk)
       (frames : List SessionFrame) → ((accepted : Batches) → Allows accepted)
@@ -78,7 +82,8 @@ module _ {Allows : Batches → Type 0} (P : ℕ → List Wired → Talk → Talk
       w.at session (goes frames) old new
       (subst (λ (fs : List SessionFrame). P session (goes fs) old new) (sym d.queued)
       (w.inside session ((handle.0, d.did.transfers) ∷ []) d.frames d.before d.after old new (may _) d.stepped d.rest
-      (sends-inside limit tag message settled handle d.before.value d.after.value d.frames d.did)))
+      (sends-inside limit tag message settled handle d.before.value d.after.value d.frames d.did)
+      (sends-keep limit tag message settled handle d.before.value d.after.value d.frames d.did)))
 
   disposed-at : (limit : ℕ) (place : Where) (messages : List ℕ) (disposal : Disposal) (old new : Talk)
       (frames : List SessionFrame) → DisposedAt limit place messages disposal old [] new frames
@@ -87,7 +92,7 @@ module _ {Allows : Batches → Type 0} (P : ℕ → List Wired → Talk → Talk
       stays (holder place) frames old new none same
   disposed-at limit place (message ∷ messages) disposal old new frames d =
       done-at (disposes_of_all limit (message ∷ messages) disposal) place old new frames
-      (disposes-inside limit (message ∷ messages) disposal) d
+      (disposes-inside limit (message ∷ messages) disposal) (disposes-keep limit (message ∷ messages) disposal) d
 
   closed-at : (place : Where) (number : ℕ) (events : List Event) (old new : Talk) (links links_new : LinksBy)
       (frames : List SessionFrame) → ClosedAt place old links number [] events new links_new frames
@@ -97,7 +102,7 @@ module _ {Allows : Batches → Type 0} (P : ℕ → List Wired → Talk → Talk
       stays None frames old new c.silent c.same
   closed-at (Some (Held session handle)) number events old new links links_new frames c =
       w.at session (goes frames) old new
-      (done-in (closes events) session handle old new frames (closes-inside events) c.done)
+      (done-in (closes events) session handle old new frames (closes-inside events) (closing-keeps events) c.done)
 
   attached : (old new : Talk) (links links_new : LinksBy) (limit session : ℕ) (link : End) (number : ℕ)
       (events : List Event) (frames : List SessionFrame) → AttachGoes P
@@ -111,7 +116,9 @@ module _ {Allows : Batches → Type 0} (P : ℕ → List Wired → Talk → Talk
       (subst (λ (fs : List SessionFrame). P session (goes fs) old new) (sym (l.queued ∙ s.are))
       (w.on session (goes (attach_frame i.before.value.session s.attach ∷ [])) (goes s.later) old old new
       (first session s.attach i.before old (i.stepped).0)
-      (w.inside session [] s.later i.before i.after old new w.quiet i.stepped i.rest s.inside)))
+      (w.inside session [] s.later i.before i.after old new w.quiet i.stepped i.rest s.inside
+      (attached-keeps i.before.value i.after.value limit link a.placed l.frames i.attached.input a.placed.exchange
+      i.attached.attached))))
 
   told-alone : (o : Option ℕ) (frames : List SessionFrame) (old new : LinkedSessions) → frames ≡ [] → new ≡ old
       → Q o (goes frames) old.talk new.talk
@@ -140,19 +147,22 @@ module _ {Allows : Batches → Type 0} (P : ℕ → List Wired → Talk → Talk
   called (call.AttachReceiver n settings) (attaching link events) old new limit frames may first c =
       attached old.talk new.talk old.links new.links limit n _ link events frames (first tt) c
   called (call.Detach link) done old new limit frames may first c =
-      done-at (detaches false) (link_place old.links link) old.talk new.talk frames (detaches-inside false) c.is_done
+      done-at (detaches false) (link_place old.links link) old.talk new.talk frames (detaches-inside false)
+      (detaches-keep false) c.is_done
   called (call.CloseLink link) (link_closed events) old new limit frames may first c =
       closed-at (link_place old.links link) link events old.talk new.talk old.links new.links frames c
   called (call.Grant link n) (credit_is left) old new limit frames may first c =
-      done-at (gives_credit n left) (link_place old.links link) old.talk new.talk frames (gives-inside n left) c.is_done
+      done-at (gives_credit n left) (link_place old.links link) old.talk new.talk frames (gives-inside n left)
+      (gives-keeps n left) c.is_done
   called (call.Drain link) done old new limit frames may first c =
-      done-at wants_drain (link_place old.links link) old.talk new.talk frames drains-inside c.is_done
+      done-at wants_drain (link_place old.links link) old.talk new.talk frames drains-inside drains-keep
+      c.is_done
   called (call.Send link message) (message_sent tag outcome) old new limit frames may first c =
       sent-at limit (tag_of old.sent) message c.sends.settled (link_place old.links link) old.talk new.talk frames
       (may tt) c.sends.sent
   called (call.Dispose link message disposal) done old new limit frames may first c =
       done-at (disposes_of_one limit message disposal) (link_place old.links link) old.talk new.talk frames
-      (disposes-one-inside limit message disposal) c.disposes
+      (disposes-one-inside limit message disposal) (disposes-one-keeps limit message disposal) c.disposes
   called (call.DisposeAll link messages disposal) done old new limit frames may first c =
       disposed-at limit (link_place old.links link) messages disposal old.talk new.talk frames c.disposes
   called (call.Credit link) (credit_is left) old new limit frames may first c =

@@ -1,5 +1,5 @@
 -- What passes in a session as its peer says something in it.
-use Rattle.std.proofs.Common.{◌≡◌, ◌≢◌, inl, inr, ℕ, Bool, true, false, List, [], ◌∷◌, ◌++◌, Option, Some, None}
+use Rattle.std.proofs.Common.{◌≡◌, inl, inr, ℕ, Bool, true, false, List, [], ◌∷◌, ◌++◌, Option, Some, None}
 use Rattle.std.proofs.Common.{Ok, Err, ap, append-nil, refl, sym, subst, ◌∙◌}
 use Rattle.std.specs.Prelude.{Result, if◌then◌else◌, option_to_list}
 use Rattle.std.specs.Global.{Box}
@@ -8,7 +8,7 @@ use Rattle.std.proofs.lemmas.Option.{none-some, same_Some}
 use Rattle.amqp_session_types.specs.declared.channels.IncomingChannel.{IncomingChannel}
 use Rattle.amqp_session_types.specs.declared.handles.OutputHandle.{OutputHandle}
 use Rattle.amqp_session_types.specs.declared.refusals.SessionError.{SessionError}
-use Rattle.amqp_session_types.specs.declared.refusals.SessionError.TheVariants.{IllegalState, Memory}
+use Rattle.amqp_session_types.specs.declared.refusals.SessionError.TheVariants.{IllegalState}
 use Rattle.amqp_session_performatives.specs.declared.attach.Attach.{Attach}
 use Rattle.amqp_session_performatives.specs.declared.begin.Begin.{Begin}
 use Rattle.amqp_session_performatives.specs.declared.detach.Detach.{Detach}
@@ -46,8 +46,6 @@ use Rattle.amqp_endpoint_conversation.specs.declared.beginning.BeginRefusal.TheV
 use Rattle.amqp_endpoint_conversation.specs.declared.hearing.HearRefusal.TheVariants as refused
 use Rattle.amqp_endpoint_conversation.specs.declared.hearing.Heard.TheVariants as heard
 use Rattle.amqp_endpoint_conversation.specs.Beginning.{BeginAnswered}
-use Rattle.amqp_endpoint_conversation.specs.Ending.{end_frame}
-use Rattle.amqp_endpoint_conversation.specs.Faults.{fault_error}
 use Rattle.amqp_endpoint_conversation.specs.Hearing.{Answered, AnsweredAt, AnsweredIn, AskedAnswered, LiveAnswered}
 use Rattle.amqp_endpoint_conversation.specs.Hearing.{LiveFails}
 use Rattle.amqp_endpoint_model.specs.declared.event.Event.{Event}
@@ -75,17 +73,16 @@ use Rattle.amqp_endpoint_talk.specs.Inside.{AreOn, Batches, DoneInside, said_in}
 use Rattle.amqp_endpoint_talk.specs.Windows.{body_said}
 use Rattle.amqp_endpoint_talk.proofs.Inside.{alike-inside, both-on, said-both}
 use Rattle.amqp_endpoint_laws.specs.Passed.{begun_by, session_taking}
+use Rattle.amqp_endpoint_laws.proofs.AskedCameInside.{closes-keeps, echoes-keep, leave-keeps, parts-keep}
+use Rattle.amqp_endpoint_laws.proofs.AskedCameInside.{remembers-keeps}
 use Rattle.amqp_endpoint_laws.proofs.PassedJudged.{live-begun}
-use Rattle.amqp_endpoint_laws.proofs.PassedPlaces.{eq-same}
+use Rattle.amqp_endpoint_laws.proofs.PassedPlaces.{KeepsAsked, eq-same}
 use Rattle.amqp_endpoint_laws.proofs.PassedWalk.{Walk}
 
 abbrev pub number_of : LinkHeard → ℕ
 number_of (heard.Asked n) = n
 number_of (heard.Live n taken) = n
 number_of (heard.Dropped n) = n
-
-no-memory : {X : Type 0} (t : X) → Ok t ≢ Err Memory
-no-memory t is = let clash = is in absurd cc
 
 -- frames by which no link says anything are to go in a session that goes on, on its channel
 record Due (talk : Talk) (n : ℕ) (frames : List SessionFrame) : Type 0 where
@@ -163,7 +160,7 @@ due-in None it payload old n t frames new (wrong, same, none) = let clash = wron
 due-in (Some number) it payload old n t frames new a = due-at _ _ it payload old number n t frames new a
 
 -- frames behind others
-behind-others : (frames more : List SessionFrame) → goes (frames ++ more) ≡ goes frames ++ goes more
+pub behind-others : (frames more : List SessionFrame) → goes (frames ++ more) ≡ goes frames ++ goes more
 behind-others frames more = map-append Goes frames more
 
 -- they go behind what is done inside of a session
@@ -214,9 +211,7 @@ module _ {Allows : Batches → Type 0} (P : ℕ → List Wired → Talk → Talk
         subst (λ (k : ℕ). There k frames new) (sym same)
         (record {
           reaches = reaches;
-          passed =
-              w.hears number channel it (Ok told_so) frames before t.after old new reaches (no-memory told_so) t.hears
-              t.rest;
+          passed = w.hears number channel it told_so frames before t.after old new reaches t.hears t.rest;
         })
     live-ok number before (heard.Asked n) frames new reaches a = absurd a
     live-ok number before (heard.Dropped n) frames new reaches a = absurd a
@@ -256,22 +251,10 @@ module _ {Allows : Batches → Type 0} (P : ℕ → List Wired → Talk → Talk
         (frames : List SessionFrame) (new : Talk) → reached old.sessions channel ≡ Some number → n ≡ number
         → LiveFails gives old [] number before it fault session new frames → There n frames new
     live-fails number n before fault session frames new reaches same f =
-        let first : P number (comes channel (body_said it) ∷ goes f.out_mid) old f.mid =
-        w.hears number channel it (Err fault) f.out_mid before session old f.mid reaches
-        (λ (is : Err fault ≡ Err Memory). f.refuses.is_fault (let x : fault ≡ Memory = cc in x)) f.refuses.hears
-        f.refuses.rest in
-        let end : List SessionFrame = end_frame f.ends.channel (Some (fault_error fault)) ∷ [] in
-        let later : P number (goes end) f.mid new = w.ends number _ session f.out_mid frames f.mid new f.ends in
-        let both : P number (comes channel (body_said it) ∷ goes (f.out_mid ++ end)) old new =
-        subst (λ (ws : List Wired). P number (comes channel (body_said it) ∷ ws) old new)
-        (sym (behind-others f.out_mid end))
-        (w.on number (comes channel (body_said it) ∷ goes f.out_mid) (goes end) old f.mid new first later) in
         subst (λ (k : ℕ). There k frames new) (sym same)
         (record {
           reaches = reaches;
-          passed =
-              subst (λ (fs : List SessionFrame). P number (comes channel (body_said it) ∷ goes fs) old new)
-              (sym f.ends.queued) both;
+          passed = w.fails number channel it fault frames before session old new reaches f;
         })
 
     fails-at : (asked : Option (Box AskedSession)) (live : Option Session) (number n : ℕ) (fault : SessionError)
@@ -305,22 +288,25 @@ module _ {Allows : Batches → Type 0} (P : ℕ → List Wired → Talk → Talk
   -- what comes of it in the session
   goes-passed : (Does : Linked → Linked → Type 0) (old : Talk) (session : ℕ) (new : Talk) (frames : List SessionFrame)
       → ((before after : Linked) → Does before after → DoneInside gives before.session frames after.session)
+      → ((before after : Linked) → Does before after → KeepsAsked before after)
       → GoesOn Does old session new → P session (goes frames) old new
-  goes-passed Does old session new frames inside g =
+  goes-passed Does old session new frames inside keeps g =
       w.inside session [] frames g.before g.after old new w.quiet g.stepped g.rest
-      (inside g.before.value g.after.value g.done)
+      (inside g.before.value g.after.value g.done) (keeps g.before.value g.after.value g.done)
 
   -- and what is due goes behind it
   due-passed : (Does : Linked → Linked → Type 0) (old : Talk) (session : ℕ) (new : Talk)
       (frames more : List SessionFrame) → Due old session more
       → ((before after : Linked) → Does before after → DoneInside gives before.session frames after.session)
+      → ((before after : Linked) → Does before after → KeepsAsked before after)
       → GoesOn Does old session new → P session (goes (frames ++ more)) old new
-  due-passed Does old session new frames more due inside g =
+  due-passed Does old session new frames more due inside keeps g =
       let same : due.session ≡ g.before = same_Some due.session g.before (sym due.live ∙ (g.stepped).0) in
       w.inside session [] (frames ++ more) g.before g.after old new w.quiet g.stepped g.rest
       (more-inside g.before.value g.after.value frames more due.free
       (subst (λ (s : Session). AreOn s.value.session.fields.channel.0 more) same due.on)
       (inside g.before.value g.after.value g.done))
+      (keeps g.before.value g.after.value g.done)
 
   alone-passed : (session : ℕ) (old new : Talk) (frames more : List SessionFrame) → Due old session more → frames ≡ []
       → new ≡ old → P session (goes (frames ++ more)) old new
@@ -345,7 +331,8 @@ module _ {Allows : Batches → Type 0} (P : ℕ → List Wired → Talk → Talk
   attach-taken (Ok made) old new session handle link left frames events t =
       nothing-passed session frames old new t.1 t.3
   attach-taken (Err error) old new session handle link left frames events t =
-      goes-passed _ old session new frames (λ a b c. closes-inside _ handle frames a b c) t.1
+      goes-passed _ old session new frames (λ a b c. closes-inside _ handle frames a b c)
+      (λ a b c. closes-keeps _ handle frames a b c) t.1
 
   attach-comes : (h : LinkHeard) (named : NamedLink) (old new : Talk) (attach : Attach) (left : Option LinkAttached)
       (frames : List SessionFrame) (events : List Event)
@@ -378,7 +365,8 @@ module _ {Allows : Batches → Type 0} (P : ℕ → List Wired → Talk → Talk
   flow-comes (heard.Asked n) frames mid new links links_new l = w.none n mid new l.0
   flow-comes (heard.Dropped n) frames mid new links links_new l = w.none n mid new l.0
   flow-comes (heard.Live n told_so) frames mid new links links_new g =
-      goes-passed _ mid n new [] (λ a b l. leave-inside frames a links b links_new l) g
+      goes-passed _ mid n new [] (λ a b l. leave-inside frames a links b links_new l)
+      (λ a b l. leave-keeps frames a links b links_new l) g
 
   -- a Transfer, behind which a Flow may be due
   remembered : (settled : Bool) (handle : OutputHandle) (tag : List ℕ) (number : ℕ) (old : Talk) (session : ℕ)
@@ -388,7 +376,8 @@ module _ {Allows : Batches → Type 0} (P : ℕ → List Wired → Talk → Talk
       alone-passed session old new frames more due none same
   remembered false handle tag number old session new frames more due none g =
       subst (λ (fs : List SessionFrame). P session (goes (fs ++ more)) old new) (sym none)
-      (due-passed _ old session new [] more due (λ a b r. remembers-inside handle tag number a b r) g)
+      (due-passed _ old session new [] more due (λ a b r. remembers-inside handle tag number a b r)
+      (λ a b r. remembers-keeps handle tag number a b r) g)
 
   transfer-tells : (it_told : Told) (old mid new : Talk) (given session : ℕ) (it : Transfer)
       (frames more : List SessionFrame) (events : List Event) (given_new : ℕ) → Due mid session more
@@ -397,7 +386,8 @@ module _ {Allows : Batches → Type 0} (P : ℕ → List Wired → Talk → Talk
       remembered message.settled c.handle message.delivery_tag given mid session new frames more due c.silent
       c.remembers
   transfer-tells (told.Refused error) old mid new given session it frames more events given_new due (c, g) =
-      due-passed _ mid session new frames more due (λ a b d. closes-inside _ c.handle frames a b d) c.closes
+      due-passed _ mid session new frames more due (λ a b d. closes-inside _ c.handle frames a b d)
+      (λ a b d. closes-keeps _ c.handle frames a b d) c.closes
   transfer-tells other old mid new given session it frames more events given_new due c =
       alone-passed session mid new frames more due c.silent c.stays
 
@@ -422,7 +412,8 @@ module _ {Allows : Batches → Type 0} (P : ℕ → List Wired → Talk → Talk
       (events : List Event) → disposing.Follows (runs_of h) limit old it mid frames events new
       → P (number_of h) (goes frames) mid new
   disposition-comes (heard.Live n (taken.Disposition back runs)) limit old mid new it frames events d =
-      goes-passed _ mid n new frames (λ a b t. tells-echoes-inside d.deliveries _ runs.items frames events a b t) d.done
+      goes-passed _ mid n new frames (λ a b t. tells-echoes-inside d.deliveries _ runs.items frames events a b t)
+      (λ a b t. echoes-keep d.deliveries _ runs.items frames events a b t) d.done
   disposition-comes (heard.Asked n) limit old mid new it frames events r =
       nothing-passed n frames mid new r.silent r.stays
   disposition-comes (heard.Dropped n) limit old mid new it frames events r =
@@ -443,7 +434,8 @@ module _ {Allows : Batches → Type 0} (P : ℕ → List Wired → Talk → Talk
       → P (number_of h) (goes frames) mid new
   detach-comes (heard.Live n (taken.Detach (detach_answer.ByLink told_so))) old mid new links links_new it frames
       events b =
-      goes-passed _ mid n new frames (λ a c t. tells-parts-inside _ b.handle _ _ _ b.left frames a c t) b.parts
+      goes-passed _ mid n new frames (λ a c t. tells-parts-inside _ b.handle _ _ _ b.left frames a c t)
+      (λ a c t. parts-keep _ b.handle _ _ _ b.left frames a c t) b.parts
   detach-comes (heard.Live n (taken.Detach detach_answer.Withdrawn)) old mid new links links_new it frames events w =
       nothing-passed n frames mid new w.silent w.stays
   detach-comes (heard.Asked n) old mid new links links_new it frames events w =

@@ -1,11 +1,13 @@
 -- What all that a session does keeps is kept as frames pass in it.
-use Rattle.std.proofs.Common.{◌≡◌, ◌==◌, ℕ, Bool, true, false, List, [], ◌∷◌, ◌++◌, Option, Some, None, Ok, Err}
+use Rattle.std.proofs.Common.{◌≡◌, ◌≢◌, ◌==◌, ℕ, Bool, true, false, List, [], ◌∷◌, ◌++◌, Option, Some, None, Ok, Err}
 use Rattle.std.proofs.Common.{ap, refl, sym, subst, ◌∙◌}
 use Rattle.std.specs.Prelude.{IsSome, Result, ⊤, map}
 use Rattle.std.proofs.lemmas.List.{map-append}
 use Rattle.std.proofs.lemmas.Option.{none-some, same_Some}
 use Rattle.amqp_session_types.specs.declared.channels.IncomingChannel.{IncomingChannel}
 use Rattle.amqp_session_types.specs.declared.error.Error.{Error}
+use Rattle.amqp_session_types.specs.declared.refusals.SessionError.{SessionError}
+use Rattle.amqp_session_types.specs.declared.refusals.SessionError.TheVariants.{Memory}
 use Rattle.amqp_session_types.specs.declared.refusals.TryEndError.{TryEndError}
 use Rattle.amqp_session_performatives.specs.declared.begin.Begin.{Begin}
 use Rattle.amqp_session_performatives.specs.declared.end.End.{End}
@@ -13,13 +15,15 @@ use Rattle.amqp_session_performatives.specs.declared.session_frame.SessionFrame.
 use Rattle.amqp_session_frames.specs.declared.frame.FrameBody.{FrameBody}
 use Rattle.amqp_session_frames.specs.declared.frame.FrameBody.TheVariants as body
 use Rattle.amqp_session_connection.specs.Steps.{named_session}
+use Rattle.amqp_session_core.specs.Steps.{TakesBegin as SessionTakesBegin}
 use Rattle.amqp_endpoint_attached.specs.Linked.{gives}
 use Rattle.amqp_endpoint_attached.specs.Links.{attach_frame}
 use Rattle.amqp_endpoint_links.specs.declared.hearing.LinkPerformative.{LinkPerformative}
 use Rattle.amqp_endpoint_sessions.specs.State.{asked_at, asked_in, asked_of, asked_on, ended_place, first_of, live_at}
 use Rattle.amqp_endpoint_sessions.specs.State.{live_of, peer_end_of, place_at, reached, routed, routed_in, told_place}
-use Rattle.amqp_endpoint_sessions.specs.State.{when_asked, with_channel}
-use Rattle.amqp_endpoint_sessions.specs.Steps.{Accepts, Asks, Begins, EndTold, Ends, TakesBegin, TakesEnd, TellsEnd}
+use Rattle.amqp_endpoint_sessions.specs.State.{when_asked, with_channel, with_live}
+use Rattle.amqp_endpoint_sessions.specs.Steps.{Accepts, Asks, Begins, ChangesLive, EndTold, Ends, TakesBegin, TakesEnd}
+use Rattle.amqp_endpoint_sessions.specs.Steps.{TellsEnd}
 use Rattle.amqp_endpoint_sessions.specs.declared.place.PeerEnd.TheVariants.{Missing, Received}
 use Rattle.amqp_endpoint_sessions.specs.declared.place.Place.TheVariants.{Asked, Live, Ending, Over}
 use Rattle.amqp_endpoint_sessions.proofs.Owning.{at, same_number}
@@ -27,17 +31,20 @@ use Rattle.amqp_endpoint_conversation.specs.declared.ending.EndHeard.{EndHeard}
 use Rattle.amqp_endpoint_conversation.specs.Beginning.{AcceptsHere, AsksFor, BeginBarred, BeginDropped, BeginsHere}
 use Rattle.amqp_endpoint_conversation.specs.Beginning.{BeginsThere, Leads, with_links}
 use Rattle.amqp_endpoint_conversation.specs.Ending.{EndReply, EndsHere, EndsThere, end_frame}
+use Rattle.amqp_endpoint_conversation.specs.Faults.{fault_error}
+use Rattle.amqp_endpoint_conversation.specs.Hearing.{LiveFails}
 use Rattle.amqp_endpoint_linking.specs.Linking.{Link, Session, Sessions, Stood, Talk}
 use Rattle.amqp_endpoint_reading.specs.Following.{comes, goes}
 use Rattle.amqp_endpoint_reading.specs.Reading.{Wired}
 use Rattle.amqp_endpoint_talk.specs.Inside.{Batches, said_in}
 use Rattle.amqp_endpoint_talk.specs.Windows.{Came, Passing, Went, body_said, went}
-use Rattle.amqp_endpoint_talk.proofs.Inside.{none-inside}
 use Rattle.amqp_endpoint_laws.specs.Passed.{begun_by, sent_in}
 use Rattle.amqp_endpoint_laws.specs.Seen.{passing_of}
-use Rattle.amqp_endpoint_laws.proofs.PassedPlaces.{AllPassed, GoesBy, IsGone, Keeping, Passed, all-passed, asked-passed}
-use Rattle.amqp_endpoint_laws.proofs.PassedPlaces.{by-step, by-steps, eq-same, free-passed, going-passed, hears}
-use Rattle.amqp_endpoint_laws.proofs.PassedPlaces.{judged-at, live-passed, none-at-all, none-passed, opens, passed-on}
+use Rattle.amqp_endpoint_laws.proofs.AskedCameInside.{step-keeps}
+use Rattle.amqp_endpoint_laws.proofs.PassedPlaces.{AllPassed, AreBeside, AskedBy, GoesBy, IsGone, Keeping, Passed}
+use Rattle.amqp_endpoint_laws.proofs.PassedPlaces.{all-passed, asked-passed, by-step, by-steps, eq-same, free-passed}
+use Rattle.amqp_endpoint_laws.proofs.PassedPlaces.{going-passed, hears, judged-at, live-passed, none-at-all, none-came}
+use Rattle.amqp_endpoint_laws.proofs.PassedPlaces.{none-passed, opens, passed-on, stays-asked, stays-by, takes-said}
 use Rattle.amqp_endpoint_laws.proofs.PassedWalk.{AttachGoes, IsRest, Walk}
 
 -- a session that a channel of the peer's reaches stands somewhere
@@ -147,6 +154,9 @@ live-begun old channel begin number mid before l live =
     ∙ has-channel number (place_at old.sessions number) before
     (ap live_of (sym (led-same old channel begin number mid l number)) ∙ live)
 
+no-memory : {X : Type 0} (t : X) → Ok t ≢ Err Memory
+no-memory t is = let clash = is in absurd cc
+
 -- frames that go, as they pass
 pub goes-pass : (frames : List SessionFrame) → map passing_of (goes frames) ≡ went frames
 goes-pass [] = refl
@@ -245,8 +255,15 @@ module _ {Allows : Batches → Type 0} (J : ℕ → Option Stood → List Passin
         let g : GoesBy [] t.before.value.session t.after.value.session (Came beginning ∷ went frames) =
         opens refl channel begin taken_so.base taken_so.left taken_so.frames taken_so.stepped
         (ap (λ (fs : List SessionFrame). Came beginning ∷ went fs) taken_so.added) in
+        let a : AskedBy t.before.value t.after.value (Came beginning ∷ went frames) =
+        stays-asked
+        (step-keeps (SessionTakesBegin channel begin taken_so.base taken_so.left taken_so.frames) t.before.value
+        t.after.value (t.taken).1 refl taken_so.stepped)
+        (λ theirs.
+        subst (λ (came : List FrameBody). AreBeside theirs (beginning ∷ came)) (sym (none-came frames))
+        ((tt, tt), refl)) in
         passed-on J k number [] (Came beginning ∷ went frames) old there new (led number old b.mid b.led)
-        (live-passed J k number t.before t.after there new (Came beginning ∷ went frames) t.stepped b.rest g)
+        (live-passed J k number t.before t.after there new (Came beginning ∷ went frames) t.stepped b.rest g a)
 
     -- one that doesn't go on drops it
     dropped-passed : (old new : Talk) → BeginDropped gives old channel begin new
@@ -319,27 +336,67 @@ module _ {Allows : Batches → Type 0} (J : ℕ → Option Stood → List Passin
       subst (λ (fs : List SessionFrame). Passed J k number (went fs) old new)
       (sym b.queued) p
 
-  -- or one that the peer asked for
+  -- or one that the peer asked for, to which the links go over that are asked for in it
   accepts-passed : (channel : IncomingChannel) (number : ℕ) (frames : List SessionFrame) (old new : Talk)
       → AcceptsHere gives old [] channel number new frames → Passed J k number (went frames) old new
   accepts-passed channel number frames old new a =
       let first : ℕ = old.first_transfer_number in
-      let there : Talk = record old { sessions = a.mid } in
+      let taken : Session = with_links a.session a.wanted.value.links in
       let (was, is) =
       (at number old.sessions (Accepts number a.incoming a.wanted a.outgoing a.session) a.mid a.stepped).about
       (eq-same number) in
+      let (stood, stands, lives, becomes) =
+      (at number a.mid (ChangesLive number a.session taken) new.sessions a.taken_over).about (eq-same number) in
+      let same : stood ≡ Live a.outgoing a.session = same_Some stood (Live a.outgoing a.session) (sym stands ∙ is) in
       let ps : List Passing = went (a.frame ∷ []) in
-      let j : J first (Some (Asked a.incoming a.wanted)) ps (Some (Live a.outgoing a.session)) =
-      k.accepts first old.incoming_window a.incoming channel a.wanted a.outgoing a.session a.frame a.accepted in
-      let p : Passed J k number ps old there =
-      by-step J k number (Accepts number a.incoming a.wanted a.outgoing a.session) old there ps (λ n e. e) a.stepped
-      refl
-      (judged-at J k first (Some (Asked a.incoming a.wanted)) (Some (Live a.outgoing a.session)) _ _ ps was is j) in
-      let q : Passed J k number [] there new =
-      live-passed J k number a.session (with_links a.session a.wanted.value.links) there new [] a.taken_over a.rest
-      (by-steps [] (none-inside gives _ _ refl) refl) in
-      subst (λ (fs : List SessionFrame). Passed J k number (went fs) old new)
-      (sym a.queued) (passed-on J k number ps [] old there new p q)
+      let p : Passed J k number ps old new =
+      record {
+        here =
+            judged-at J k first (Some (Asked a.incoming a.wanted)) (Some (Live a.outgoing taken)) _ _ ps was
+            (becomes ∙ ap (λ (x : Stood). Some (with_live x taken)) same)
+            (k.accepts first old.incoming_window a.incoming channel a.wanted a.outgoing a.session a.frame a.accepted);
+        others = λ n e.
+            k.still _ _ _
+            ((at n a.mid (ChangesLive number a.session taken) new.sessions a.taken_over).other e
+            ∙ (at n old.sessions (Accepts number a.incoming a.wanted a.outgoing a.session) a.mid a.stepped).other e);
+        first = ap (λ (t : Talk). t.first_transfer_number) a.rest;
+      } in
+      subst (λ (fs : List SessionFrame). Passed J k number (went fs) old new) (sym a.queued) p
+
+  -- a session that refuses what it hears is ending by its fault
+  fails-passed : (number : ℕ) (it : LinkPerformative) (fault : SessionError) (frames : List SessionFrame)
+      (before session : Session) (old new : Talk) → LiveFails gives old [] number before it fault session new frames
+      → Passed J k number (Came (body_said it) ∷ went frames) old new
+  fails-passed number it fault frames before session old new f =
+      let h = f.refuses.hears in
+      let e = f.ends in
+      let (stood, was, lives, becomes) =
+      (at number old.sessions (ChangesLive number before session) f.mid.sessions h.stepped).about (eq-same number) in
+      let (stands, is) =
+      (at number f.mid.sessions (Ends number e.channel session) new.sessions e.stepped).about (eq-same number) in
+      let end : SessionFrame = end_frame e.channel (Some (fault_error fault)) in
+      let ps : List Passing = Came (body_said it) ∷ went f.out_mid in
+      let g : GoesBy [] before.value.session session.value.session ps =
+      hears refl it (Err fault) f.out_mid before.value session.value
+      (λ (same : Err fault ≡ Err Memory). f.refuses.is_fault (let x : fault ≡ Memory = cc in x)) h.heard refl refl
+      refl in
+      let p : Passed J k number (ps ++ went (end ∷ [])) old new =
+      record {
+        here =
+            judged-at J k old.first_transfer_number (Some stood) (Some (Ending e.channel)) _ _
+            (ps ++ went (end ∷ [])) was is
+            (k.fails old.first_transfer_number stood before session ps (went (end ∷ [])) (Some (Ending e.channel)) lives
+            g refl tt);
+        others = λ n other.
+            k.still _ _ _
+            ((at n f.mid.sessions (Ends number e.channel session) new.sessions e.stepped).other other
+            ∙ (at n old.sessions (ChangesLive number before session) f.mid.sessions h.stepped).other other);
+        first =
+            ap (λ (t : Talk). t.first_transfer_number) e.rest
+            ∙ ap (λ (t : Talk). t.first_transfer_number) f.refuses.rest;
+      } in
+      subst (λ (qs : List Passing). Passed J k number (Came (body_said it) ∷ qs) old new)
+      (sym (ap went e.queued ∙ map-append Went f.out_mid (end ∷ []))) p
 
   -- the caller is told of the peer's End
   told-passed : (number : ℕ) (result : Result ⊤ TryEndError) (old new : Talk)
@@ -366,13 +423,18 @@ module _ {Allows : Batches → Type 0} (J : ℕ → Option Stood → List Passin
         at = λ m ws old new p. all-passed J k m (map passing_of ws) old new p;
         silent = λ o m old new p. none-at-all J k o old new (passed-each m old new p) p.first;
         free = λ m frames session talk live said on. by-going m frames talk talk (free-passed J k m frames talk said);
-        inside = λ m accepted frames before after old new allowed s rest d.
+        inside = λ m accepted frames before after old new allowed s rest d keeps.
             by-going m frames old new
-            (going-passed J k m accepted before after old new (went frames) allowed s rest (by-steps frames d refl));
-        hears = λ m channel it told frames before after old new reaches memory h rest.
+            (going-passed J k m accepted before after old new (went frames) allowed s rest (by-steps frames d refl)
+            (stays-by before.value after.value frames keeps));
+        hears = λ m channel it told frames before after old new reaches h rest.
             by-coming m frames old new channel (body_said it)
             (live-passed J k m before after old new (Came (body_said it) ∷ went frames) h.stepped rest
-            (hears refl it told frames before.value after.value memory h.heard refl refl refl));
+            (hears refl it (Ok told) frames before.value after.value (no-memory told) h.heard refl refl refl)
+            (takes-said it told frames h.heard refl));
+        fails = λ m channel it fault frames before session old new reaches f.
+            by-coming m frames old new channel (body_said it)
+            (fails-passed m it fault frames before session old new f);
         asked = λ m channel it before old new reaches t.
             asked-passed J k m before t.after it old new t.stepped t.rest t.heard;
         unheard = unheard;

@@ -2,6 +2,7 @@
 use Rattle.std.proofs.Common.{◌≡◌, ◌≢◌, ◌==◌, ◌⊎◌, inl, inr, ℕ, Bool}
 use Rattle.std.proofs.Common.{true, false, List, [], ◌∷◌, ◌++◌, Option, Some, None}
 use Rattle.std.proofs.Common.{Ok, Err, ap, refl, sym, subst, ◌∙◌}
+use Rattle.std.specs.FinMap as map
 use Rattle.std.specs.Prelude.{Result, if◌then◌else◌}
 use Rattle.std.specs.Global.{Box}
 use Rattle.std.proofs.lemmas.Bool.Decides.{eqb_tells}
@@ -11,6 +12,7 @@ use Rattle.amqp_session_types.specs.declared.refusals.SessionError.{SessionError
 use Rattle.amqp_session_types.specs.declared.refusals.SessionError.TheVariants.{Memory}
 use Rattle.amqp_session_performatives.specs.declared.begin.Begin.{Begin}
 use Rattle.amqp_session_performatives.specs.declared.session_frame.SessionFrame.{SessionFrame}
+use Rattle.amqp_session_frames.specs.declared.frame.FrameBody.{FrameBody}
 use Rattle.amqp_session_frames.specs.declared.frame.FrameBody.TheVariants as body
 use Rattle.amqp_session_core.specs.Frames.{Left}
 use Rattle.amqp_session_core.specs.State.{State}
@@ -18,9 +20,12 @@ use Rattle.amqp_session_core.specs.Steps.{Step, TakesBegin}
 use Rattle.amqp_link_base.specs.declared.detached.Detached.{Detached}
 use Rattle.amqp_link_ends.specs.declared.relay.AttachTold.{AttachTold}
 use Rattle.amqp_link_receiving.specs.declared.answer.Told.{Told}
+use Rattle.amqp_endpoint_asked.specs.Asked.{Asked as AskedLinks}
 use Rattle.amqp_endpoint_asked.specs.AskedSession.{asked_by}
+use Rattle.amqp_endpoint_asked.specs.declared.links.AskedLink.{AskedLink}
 use Rattle.amqp_endpoint_asked.specs.declared.session.AskedSession.{AskedSession}
 use Rattle.amqp_endpoint_attached.specs.Linked.{Linked, gives}
+use Rattle.amqp_endpoint_conversation.specs.Beginning.{with_links}
 use Rattle.amqp_endpoint_links.specs.Beginning.{Accepted, Begun}
 use Rattle.amqp_endpoint_links.specs.Hearing.{Hears, HearsAsked}
 use Rattle.amqp_endpoint_links.specs.declared.hearing.LinkPerformative.{LinkPerformative}
@@ -31,10 +36,11 @@ use Rattle.amqp_endpoint_sessions.specs.State.{asked_of, live_of, place_at, with
 use Rattle.amqp_endpoint_sessions.specs.Steps.{ChangesAsked, ChangesLive, Step as SessionsStep}
 use Rattle.amqp_endpoint_sessions.specs.declared.place.Place.TheVariants.{Asked, Live, Ending, Over}
 use Rattle.amqp_endpoint_sessions.proofs.Owning.{at, same_number}
-use Rattle.amqp_endpoint_talk.specs.Inside.{AcceptsInside, Batches, DoneInside, said_in}
+use Rattle.amqp_endpoint_talk.specs.Inside.{AcceptsInside, Batches, said_in}
 use Rattle.amqp_endpoint_talk.specs.Windows.{Came, Passing, body_said, went}
 use Rattle.amqp_endpoint_laws.specs.Conversing.{SessionsAct}
 use Rattle.amqp_endpoint_laws.specs.Passed.{is_it, sent_in}
+use Rattle.amqp_endpoint_laws.specs.Taken.{NoneAttaches, came_in, pieces_come}
 
 -- a session that is ending, or over
 abbrev pub IsGone : Option Stood → Type 0
@@ -57,6 +63,41 @@ pub data GoesBy (accepted : Batches) (old new : State Link) (ps : List Passing) 
       → Step gives old (TakesBegin channel begin base left frames) new
       → ps ≡ Came (body.Begin begin) ∷ went frames → GoesBy accepted old new ps
 
+-- a link that is asked for by a handle was so before, by the same Attach
+pub record WasAsked (asked : AskedLinks) (theirs : ℕ) (link : AskedLink) : Type 0 where
+  pub was : AskedLink
+  pub there : map.get asked theirs ≡ Some was
+  pub same : was.attach ≡ link.attach
+
+-- so it is with each, and its handle leads to no link where it led to none
+pub record KeepsAsked (old new : Linked) : Type 0 where
+  pub asked : (theirs : ℕ) (link : AskedLink) → map.get new.asked theirs ≡ Some link → WasAsked old.asked theirs link
+  pub unled :
+      (theirs : ℕ) (link : AskedLink) → map.get new.asked theirs ≡ Some link
+      → map.get old.session.routes theirs ≡ None → map.get new.session.routes theirs ≡ None
+
+-- by none of these frames a link attaches by this handle, and none is a transfer on it
+abbrev pub AreBeside : ℕ → List FrameBody → Type 0
+AreBeside theirs came = NoneAttaches theirs came × (pieces_come theirs came ≡ [])
+
+-- what becomes of the links that are asked for in a session: they stay, and what comes is beside them, or it takes what
+-- its peer says
+pub data AskedBy (old new : Linked) (ps : List Passing) : Type 0 where
+  stays-asked : KeepsAsked old new → ((theirs : ℕ) → AreBeside theirs (came_in ps)) → AskedBy old new ps
+  takes-said : (it : LinkPerformative) (told : PerformativeTaken AttachTold Told Detached)
+      (frames : List SessionFrame) → Hears gives old [] it (Ok told) new frames
+      → ps ≡ Came (body_said it) ∷ went frames → AskedBy old new ps
+
+-- nothing comes as frames are handed out
+pub none-came : (frames : List SessionFrame) → came_in (went frames) ≡ []
+none-came [] = refl
+none-came (frame ∷ frames) = none-came frames
+
+pub stays-by : (old new : Linked) (frames : List SessionFrame) → KeepsAsked old new → AskedBy old new (went frames)
+stays-by old new frames keeps =
+    stays-asked keeps
+    (λ theirs. subst (λ (came : List FrameBody). AreBeside theirs came) (sym (none-came frames)) (tt, refl))
+
 -- a relation of where a session stands, of what passes in it, and of where it stands then, which all that it does keeps
 -- by which it accepts such transfers
 pub record Keeping (Allows : Batches → Type 0) (J : ℕ → Option Stood → List Passing → Option Stood → Type 0)
@@ -73,8 +114,12 @@ pub record Keeping (Allows : Batches → Type 0) (J : ℕ → Option Stood → L
       → J first stood (went frames) stood
   pub live : (first : ℕ) (stood : Stood) (accepted : Batches) (before after : Session) (ps : List Passing)
       → Allows accepted → live_of (Some stood) ≡ Some before
-      → GoesBy accepted before.value.session after.value.session ps
+      → GoesBy accepted before.value.session after.value.session ps → AskedBy before.value after.value ps
       → J first (Some stood) ps (Some (with_live stood after))
+  -- it refuses what its peer says, and its own side ends by that
+  pub fails : (first : ℕ) (stood : Stood) (before after : Session) (ps qs : List Passing) (over : Option Stood)
+      → live_of (Some stood) ≡ Some before → GoesBy [] before.value.session after.value.session ps
+      → said_in (sent_in qs) ≡ [] → IsGone over → J first (Some stood) (ps ++ qs) over
   pub told : (first : ℕ) (stood : Stood) (before after : Box AskedSession) (it : LinkPerformative)
       → asked_of (Some stood) ≡ Some before → HearsAsked before.value it (Ok tt) after.value
       → J first (Some stood) (Came (body_said it) ∷ []) (Some (with_asked stood after))
@@ -86,7 +131,8 @@ pub record Keeping (Allows : Batches → Type 0) (J : ℕ → Option Stood → L
   pub accepts : (first window : ℕ) (incoming channel : IncomingChannel) (asked : Box AskedSession)
       (outgoing : OutgoingChannel) (session : Session) (frame : SessionFrame)
       → Accepted gives asked.value outgoing channel first window frame session.value
-      → J first (Some (Asked incoming asked)) (went (frame ∷ [])) (Some (Live outgoing session))
+      → J first (Some (Asked incoming asked)) (went (frame ∷ []))
+      (Some (Live outgoing (with_links session asked.value.links)))
 
 pub eq-same : (n : ℕ) → (n == n) ≡ true
 eq-same n = by (eqb_tells n n)
@@ -157,27 +203,23 @@ module _ {Allows : Batches → Type 0} (J : ℕ → Option Stood → List Passin
   pub going-passed : (m : ℕ) (accepted : Batches) (before after : Session) (old new : Talk) (ps : List Passing)
       → Allows accepted → SessionsStep old.sessions (ChangesLive m before after) new.sessions
       → new ≡ record old { sessions = new.sessions }
-      → GoesBy accepted before.value.session after.value.session ps → Passed m ps old new
-  going-passed m accepted before after old new ps allowed s rest g =
+      → GoesBy accepted before.value.session after.value.session ps → AskedBy before.value after.value ps
+      → Passed m ps old new
+  going-passed m accepted before after old new ps allowed s rest g asked =
       let (stood, was, lives, becomes) =
       (at m old.sessions (ChangesLive m before after) new.sessions s).about (eq-same m) in
       by-step m (ChangesLive m before after) old new ps (λ n e. e) s rest
       (judged-at old.first_transfer_number (Some stood) (Some (with_live stood after)) _ _ ps was becomes
-      (k.live old.first_transfer_number stood accepted before after ps allowed lives g))
+      (k.live old.first_transfer_number stood accepted before after ps allowed lives g asked))
 
   -- it accepts no transfers
   pub live-passed : (m : ℕ) (before after : Session) (old new : Talk) (ps : List Passing)
       → SessionsStep old.sessions (ChangesLive m before after) new.sessions
       → new ≡ record old { sessions = new.sessions }
-      → GoesBy [] before.value.session after.value.session ps → Passed m ps old new
-  live-passed m before after old new ps s rest g = going-passed m [] before after old new ps k.quiet s rest g
-
-  pub inside-passed : (m : ℕ) (before after : Session) (old new : Talk) (frames : List SessionFrame)
-      → SessionsStep old.sessions (ChangesLive m before after) new.sessions
-      → new ≡ record old { sessions = new.sessions }
-      → DoneInside gives before.value.session frames after.value.session → Passed m (went frames) old new
-  inside-passed m before after old new frames s rest d =
-      live-passed m before after old new (went frames) s rest (by-steps frames d refl)
+      → GoesBy [] before.value.session after.value.session ps → AskedBy before.value after.value ps
+      → Passed m ps old new
+  live-passed m before after old new ps s rest g asked =
+      going-passed m [] before after old new ps k.quiet s rest g asked
 
   pub asked-passed : (m : ℕ) (before after : Box AskedSession) (it : LinkPerformative) (old new : Talk)
       → SessionsStep old.sessions (ChangesAsked m before after) new.sessions

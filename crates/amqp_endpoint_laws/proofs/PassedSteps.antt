@@ -36,6 +36,7 @@ use Rattle.amqp_endpoint_asked.specs.AskedSession.{asked_by}
 use Rattle.amqp_endpoint_asked.specs.declared.session.AskedSession.{AskedSession}
 use Rattle.amqp_endpoint_asked.specs.declared.session.SessionFlow.{SessionFlow}
 use Rattle.amqp_endpoint_attached.specs.Linked.{Linked, gives}
+use Rattle.amqp_endpoint_conversation.specs.Beginning.{with_links}
 use Rattle.amqp_endpoint_deeds.specs.Deeds.{Deed}
 use Rattle.amqp_endpoint_fitting.specs.Handed.{handed_of}
 use Rattle.amqp_endpoint_links.specs.Asking.{FlowAt, FlowInSession}
@@ -386,7 +387,8 @@ accepted-hands first channel begin (Some flow) frame = refl
 comes-accepts : (first window : ℕ) (incoming channel : IncomingChannel) (asked : Box AskedSession)
     (outgoing : OutgoingChannel) (session : Session) (frame : SessionFrame)
     → Accepted gives asked.value outgoing channel first window frame session.value
-    → Comes first (Some (Asked incoming asked)) (went (frame ∷ [])) (Some (Live outgoing session))
+    → Comes first (Some (Asked incoming asked)) (went (frame ∷ []))
+    (Some (Live outgoing (with_links session asked.value.links)))
 comes-accepts first window incoming channel asked outgoing session frame a =
     record {
       by = λ qs c. record {
@@ -408,7 +410,11 @@ steps-keep =
       on = comes-on;
       gone = comes-gone;
       free = comes-free;
-      live = comes-live;
+      live = λ first stood accepted before after ps any is g asked.
+          comes-live first stood accepted before after ps any is g;
+      fails = λ first stood before after ps qs over is g none gone. record {
+        by = λ rs c. gone-comes over gone first (rs ++ (ps ++ qs));
+      };
       told = comes-told;
       asks = comes-asks;
       begins = comes-begins;

@@ -1,11 +1,10 @@
 -- What an endpoint's sessions do, one thing after the other, and which frames pass by it.
-use Rattle.std.proofs.Common.{◌≡◌, ◌≢◌, ℕ, List, [], ◌∷◌, ◌++◌, Option, Some, None, Err}
+use Rattle.std.proofs.Common.{◌≡◌, ℕ, List, [], ◌∷◌, ◌++◌, Option, Some, None, Ok}
 use Rattle.std.specs.Prelude.{Result, ⊤}
 use Rattle.std.specs.Global.{Box}
 use Rattle.amqp_session_types.specs.declared.channels.IncomingChannel.{IncomingChannel}
 use Rattle.amqp_session_types.specs.declared.error.Error.{Error}
 use Rattle.amqp_session_types.specs.declared.refusals.SessionError.{SessionError}
-use Rattle.amqp_session_types.specs.declared.refusals.SessionError.TheVariants.{Memory}
 use Rattle.amqp_session_types.specs.declared.refusals.TryEndError.{TryEndError}
 use Rattle.amqp_session_performatives.specs.declared.attach.Attach.{Attach}
 use Rattle.amqp_session_performatives.specs.declared.begin.Begin.{Begin}
@@ -26,13 +25,14 @@ use Rattle.amqp_endpoint_conversation.specs.declared.ending.EndHeard.{EndHeard}
 use Rattle.amqp_endpoint_conversation.specs.Beginning.{AcceptsHere, AsksFor, BeginBarred, BeginDropped, BeginsHere}
 use Rattle.amqp_endpoint_conversation.specs.Beginning.{BeginsThere}
 use Rattle.amqp_endpoint_conversation.specs.Ending.{EndsHere, EndsThere, end_frame}
-use Rattle.amqp_endpoint_conversation.specs.Hearing.{AskedTakes, LiveHears}
+use Rattle.amqp_endpoint_conversation.specs.Hearing.{AskedTakes, LiveFails, LiveHears}
 use Rattle.amqp_endpoint_linking.specs.Linking.{Link, Session, Talk}
 use Rattle.amqp_endpoint_reading.specs.Following.{comes, goes}
 use Rattle.amqp_endpoint_reading.specs.Reading.{Wired}
 use Rattle.amqp_endpoint_talk.specs.Inside.{AcceptsInside, AreOn, Batches, said_in}
 use Rattle.amqp_endpoint_talk.specs.Windows.{body_said}
 use Rattle.amqp_endpoint_laws.specs.Passed.{begun_by}
+use Rattle.amqp_endpoint_laws.proofs.PassedPlaces.{KeepsAsked}
 
 -- the same sessions with others in their place
 abbrev pub IsRest : Talk → Talk → Type 0
@@ -59,16 +59,21 @@ pub record Walk (Allows : Batches → Type 0) (P : ℕ → List Wired → Talk �
   pub free : (m : ℕ) (frames : List SessionFrame) (session : Session) (talk : Talk)
       → live_at talk.sessions m ≡ Some session → said_in frames ≡ []
       → AreOn session.value.session.fields.channel.0 frames → P m (goes frames) talk talk
-  -- a session goes on by itself
+  -- a session goes on by itself, and no link is asked for by that
   pub inside : (m : ℕ) (accepted : Batches) (frames : List SessionFrame) (before after : Session) (old new : Talk)
       → Allows accepted → Step old.sessions (ChangesLive m before after) new.sessions → IsRest old new
-      → AcceptsInside gives accepted before.value.session frames after.value.session → P m (goes frames) old new
+      → AcceptsInside gives accepted before.value.session frames after.value.session
+      → KeepsAsked before.value after.value → P m (goes frames) old new
   -- the one that a channel reaches hears its peer: one that has begun, one that is asked for, or one that is over
-  pub hears : (m channel : ℕ) (it : LinkPerformative)
-      (told : Result (PerformativeTaken AttachTold Told Detached) SessionError)
+  pub hears : (m channel : ℕ) (it : LinkPerformative) (told : PerformativeTaken AttachTold Told Detached)
       (frames : List SessionFrame) (before after : Session) (old new : Talk)
-      → reached old.sessions channel ≡ Some m → told ≢ Err Memory
-      → LiveHears gives old.sessions [] m before it told after new.sessions frames → IsRest old new
+      → reached old.sessions channel ≡ Some m
+      → LiveHears gives old.sessions [] m before it (Ok told) after new.sessions frames → IsRest old new
+      → P m (comes channel (body_said it) ∷ goes frames) old new
+  -- or one that refuses what it hears, and ends by its fault
+  pub fails : (m channel : ℕ) (it : LinkPerformative) (fault : SessionError) (frames : List SessionFrame)
+      (before session : Session) (old new : Talk) → reached old.sessions channel ≡ Some m
+      → LiveFails gives old [] m before it fault session new frames
       → P m (comes channel (body_said it) ∷ goes frames) old new
   pub asked : (m channel : ℕ) (it : LinkPerformative) (before : Box AskedSession) (old new : Talk)
       → reached old.sessions channel ≡ Some m → AskedTakes old m before it new

@@ -18,6 +18,7 @@ use Rattle.amqp_endpoint_asked.specs.AskedSession as wanted
 use Rattle.amqp_endpoint_asked.specs.declared.session.AskedSession.{AskedSession}
 use Rattle.amqp_endpoint_asked.specs.declared.session.SessionFlow.{SessionFlow}
 use Rattle.amqp_endpoint_attached.specs.Linked.{gives}
+use Rattle.amqp_endpoint_conversation.specs.Beginning.{with_links}
 use Rattle.amqp_endpoint_deeds.specs.Deeds.{Deed}
 use Rattle.amqp_endpoint_links.specs.Beginning.{Accepted, Begun, accepted_with, begin_frame}
 use Rattle.amqp_endpoint_links.specs.Hearing.{HearsAsked}
@@ -244,11 +245,13 @@ judges-begins first window channel session frame b =
 judges-accepts : (first window : ℕ) (incoming channel : IncomingChannel) (asked : Box AskedSession)
     (outgoing : OutgoingChannel) (session : Session) (frame : SessionFrame)
     → Accepted gives asked.value outgoing channel first window frame session.value
-    → Judges first (Some (Asked incoming asked)) (went (frame ∷ [])) (Some (Live outgoing session))
+    → Judges first (Some (Asked incoming asked)) (went (frame ∷ []))
+    (Some (Live outgoing (with_links session asked.value.links)))
 judges-accepts first window incoming channel asked outgoing session frame a =
     let (stands, says) = accepted-stands gives asked.value outgoing channel first window frame session.value a in
+    let linked_so : Session = with_links session asked.value.links in
     let j : Judges first (Some (Asked incoming asked))
-    (went (begin_frame outgoing (Some channel.0) first window ∷ [])) (Some (Live outgoing session)) =
+    (went (begin_frame outgoing (Some channel.0) first window ∷ [])) (Some (Live outgoing linked_so)) =
     record {
       each = λ c e. (tt, tt);
       behind = λ c e.
@@ -258,7 +261,7 @@ judges-accepts first window incoming channel asked outgoing session frame a =
           ∙ kept-counts outgoing channel asked.value.begin asked.value.flow first window);
     } in
     subst
-    (λ (f : SessionFrame). Judges first (Some (Asked incoming asked)) (went (f ∷ [])) (Some (Live outgoing session)))
+    (λ (f : SessionFrame). Judges first (Some (Asked incoming asked)) (went (f ∷ [])) (Some (Live outgoing linked_so)))
     (sym says) j
 
 windows-keep : Keeping (λ accepted. Unit {0}) Judges
@@ -269,7 +272,12 @@ windows-keep =
       on = judges-on;
       gone = judges-gone;
       free = judges-free;
-      live = judges-live;
+      live = λ first stood accepted before after ps any is g asked.
+          judges-live first stood accepted before after ps any is g;
+      fails = λ first stood before after ps qs over is g none gone.
+          judges-on first (Some stood) (Some (with_live stood after)) over ps qs
+          (judges-live first stood [] before after ps tt is g)
+          (judges-gone first (Some (with_live stood after)) over qs gone none);
       told = judges-told;
       asks = judges-asks;
       begins = judges-begins;

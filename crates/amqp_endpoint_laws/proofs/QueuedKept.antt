@@ -17,6 +17,7 @@ use Rattle.amqp_link_place.specs.Readings.{Piece}
 use Rattle.amqp_endpoint_asked.specs.AskedSession.{asked_by}
 use Rattle.amqp_endpoint_asked.specs.declared.session.AskedSession.{AskedSession}
 use Rattle.amqp_endpoint_attached.specs.Linked.{gives}
+use Rattle.amqp_endpoint_conversation.specs.Beginning.{with_links}
 use Rattle.amqp_endpoint_fitting.specs.Handed.{handed_of}
 use Rattle.amqp_endpoint_links.specs.Beginning.{Accepted, Begun}
 use Rattle.amqp_endpoint_links.specs.Hearing.{HearsAsked}
@@ -197,7 +198,8 @@ module _ (h : ℕ) where
   queued-accepts : (first window : ℕ) (incoming channel : IncomingChannel) (asked : Box AskedSession)
       (outgoing : OutgoingChannel) (session : Session) (frame : SessionFrame)
       → Accepted gives asked.value outgoing channel first window frame session.value
-      → StaysQueued h first (Some (Asked incoming asked)) (went (frame ∷ [])) (Some (Live outgoing session))
+      → StaysQueued h first (Some (Asked incoming asked)) (went (frame ∷ []))
+      (Some (Live outgoing (with_links session asked.value.links)))
   queued-accepts first window incoming channel asked outgoing session frame a = record { by = λ w qs q. absurd q }
 
   pub queues-keep : Keeping (λ accepted. accepted ≡ []) (StaysQueued h)
@@ -208,7 +210,11 @@ module _ (h : ℕ) where
         on = queued-on;
         gone = queued-gone;
         free = queued-free;
-        live = queued-live;
+        live = λ first stood accepted before after ps none is g asked.
+            queued-live first stood accepted before after ps none is g;
+        fails = λ first stood before after ps qs over is g none gone. record {
+          by = λ w rs q. gone-queued over gone w (rs ++ (ps ++ qs));
+        };
         told = queued-told;
         asks = queued-asks;
         begins = queued-begins;

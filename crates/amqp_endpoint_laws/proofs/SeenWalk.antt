@@ -1,6 +1,6 @@
 -- What an endpoint's sessions do by a call, or by a frame of the peer's, is read off the frames that pass.
 use Rattle.std.proofs.Common.{◌≡◌, ◌≢◌, ◌==◌, ◌⊎◌, inl, inr, ℕ, ◌+◌, Bool, true, false, List, [], ◌∷◌, ◌++◌, Option}
-use Rattle.std.proofs.Common.{Some, None, Ok, ap, arith, refl, sym, subst, ◌∙◌}
+use Rattle.std.proofs.Common.{Some, None, Ok, Err, ap, arith, refl, sym, subst, ◌∙◌}
 use Rattle.std.specs.Prelude.{IsSome, if◌then◌else◌, map}
 use Rattle.std.specs.FinMap as tables
 use Rattle.std.specs.Global.{Box}
@@ -8,6 +8,8 @@ use Rattle.std.proofs.lemmas.Bool.Decides.{eqb_tells}
 use Rattle.std.proofs.lemmas.Option.{none-some, same_Some}
 use Rattle.amqp_session_types.specs.declared.channels.IncomingChannel.{IncomingChannel}
 use Rattle.amqp_session_types.specs.declared.channels.OutgoingChannel.{OutgoingChannel}
+use Rattle.amqp_session_types.specs.declared.refusals.SessionError.{SessionError}
+use Rattle.amqp_session_types.specs.declared.refusals.SessionError.TheVariants.{Memory}
 use Rattle.amqp_session_performatives.specs.declared.begin.Begin.{Begin}
 use Rattle.amqp_session_performatives.specs.declared.session_frame.SessionFrame.{SessionFrame}
 use Rattle.amqp_session_performatives.specs.declared.session_frame.SessionFrameBody.{SessionFrameBody}
@@ -25,22 +27,30 @@ use Rattle.amqp_endpoint_links.specs.Hearing.{HearsAsked}
 use Rattle.amqp_endpoint_links.specs.declared.hearing.LinkPerformative.{LinkPerformative}
 use Rattle.amqp_endpoint_links.specs.declared.hearing.LinkPerformative.TheVariants as said
 use Rattle.amqp_endpoint_links.proofs.Standing.{accepted-stands, begun-stands}
-use Rattle.amqp_endpoint_sessions.specs.State.{asked_of, live_of, place_at, with_asked, with_channel, with_live}
+use Rattle.amqp_endpoint_sessions.specs.State.{asked_of, live_of, place_at, reached, with_asked, with_channel}
+use Rattle.amqp_endpoint_sessions.specs.State.{with_live}
+use Rattle.amqp_endpoint_sessions.specs.Steps.{ChangesLive}
 use Rattle.amqp_endpoint_sessions.specs.declared.place.Place.TheVariants.{Asked, Live, Ending, Over}
+use Rattle.amqp_endpoint_sessions.proofs.Owning.{at}
 use Rattle.amqp_endpoint_conversation.specs.Beginning.{BeginDropped, Leads}
+use Rattle.amqp_endpoint_conversation.specs.Ending.{end_frame}
+use Rattle.amqp_endpoint_conversation.specs.Faults.{fault_error}
+use Rattle.amqp_endpoint_conversation.specs.Hearing.{LiveFails, LiveRefuses}
 use Rattle.amqp_endpoint_linking.specs.Linking.{Link, Session, Sessions, Stood, Talk}
 use Rattle.amqp_endpoint_reading.specs.Agreeing.{Agrees, AskedOn, Gone, Has, InTables, Nowhere, from, role_of}
 use Rattle.amqp_endpoint_reading.specs.Following.{AreFor, AreOf, Follows, IsForReached, IsNoBegin, IsWithin, comes}
+use Rattle.amqp_endpoint_reading.specs.Following.{goes}
 use Rattle.amqp_endpoint_reading.specs.Reading.{Comes, Goes, Reader, Speaks, Wired, behind, is_of, read_on, whose}
 use Rattle.amqp_endpoint_reading.proofs.Seeing.{OnOwn, Sees, sees-accepts, sees-asked, sees-asks, sees-barred}
 use Rattle.amqp_endpoint_reading.proofs.Seeing.{sees-begins, sees-begun, sees-comes, sees-ended, sees-ends, sees-free}
 use Rattle.amqp_endpoint_reading.proofs.Seeing.{sees-hears, sees-inside, sees-led, sees-none, sees-on, sees-told}
 use Rattle.amqp_endpoint_talk.specs.Inside.{AreOn, Batches, IsPlain}
-use Rattle.amqp_endpoint_talk.specs.Windows.{Passing, body_said}
+use Rattle.amqp_endpoint_talk.specs.Windows.{Came, Passing, body_said, went}
 use Rattle.amqp_endpoint_laws.specs.Passed.{begun_by, is_it}
 use Rattle.amqp_endpoint_laws.specs.Seen.{AreOnes, IsOnes, passing_in, passing_of}
+use Rattle.amqp_endpoint_laws.proofs.PassedHeard.{behind-others}
 use Rattle.amqp_endpoint_laws.proofs.PassedJudged.{AllPassedBy, PassedBy, attach-judged, judging, led-by}
-use Rattle.amqp_endpoint_laws.proofs.PassedPlaces.{GoesBy, IsGone, Keeping, all-passed}
+use Rattle.amqp_endpoint_laws.proofs.PassedPlaces.{GoesBy, IsGone, Keeping, all-passed, hears}
 use Rattle.amqp_endpoint_laws.proofs.PassedSteps.{goes-did}
 use Rattle.amqp_endpoint_laws.proofs.PassedWalk.{AttachGoes, Walk}
 
@@ -96,7 +106,9 @@ own-channels =
       on = λ first a b d ps qs j k own. k (j own);
       gone = λ first old new ps gone said own. gone-own new gone;
       free = λ first stood frames said own. own;
-      live = live-own;
+      live = λ first stood accepted before after ps any is g asked.
+          live-own first stood accepted before after ps any is g;
+      fails = λ first stood before after ps qs over is g none gone own. gone-own over gone;
       told = told-own;
       asks = λ first channel asked begin is own. tt;
       begins = λ first window channel s frame b own.
@@ -279,6 +291,43 @@ seen-dropped channel begin old new d =
       ones = λ base r stands own agrees speaks. (tt, tt);
     }
 
+-- a session that refuses what it hears stays on its channel
+refused-own : (m : ℕ) (it : LinkPerformative) (fault : SessionError) (frames : List SessionFrame)
+    (before after : Session) (old mid : Talk) → LiveRefuses gives old [] m before it fault after mid frames
+    → OnOwn old.sessions → OnOwn mid.sessions
+refused-own m it fault frames before after old mid r own n channel s e = subst IsOwn e (by (n == m) refl)
+  where
+    by : (b : Bool) → (n == m) ≡ b → IsOwn (place_at mid.sessions n)
+    by true this =
+        let (stood, was, lives, becomes) =
+        (at n old.sessions (ChangesLive m before after) mid.sessions r.hears.stepped).about this in
+        subst IsOwn (sym becomes)
+        (live-own 0 stood [] before after (Came (body_said it) ∷ went frames) tt lives
+        (hears refl it (Err fault) frames before.value after.value
+        (λ (same : Err fault ≡ Err Memory). r.is_fault (let x : fault ≡ Memory = cc in x)) r.hears.heard refl refl refl)
+        (subst IsOwn was (is-own (place_at old.sessions n) (own n))))
+    by false other =
+        subst IsOwn (sym ((at n old.sessions (ChangesLive m before after) mid.sessions r.hears.stepped).other other))
+        (is-own (place_at old.sessions n) (own n))
+
+-- and ends by its fault
+sees-fails : (m channel : ℕ) (it : LinkPerformative) (fault : SessionError) (frames : List SessionFrame)
+    (before s : Session) (old new : Talk) → reached old.sessions channel ≡ Some m
+    → LiveFails gives old [] m before it fault s new frames
+    → Sees m (comes channel (body_said it) ∷ goes frames) old.sessions new.sessions
+sees-fails m channel it fault frames before s old new reaches f =
+    let end : List SessionFrame = end_frame f.ends.channel (Some (fault_error fault)) ∷ [] in
+    let first : List Wired = comes channel (body_said it) ∷ goes f.out_mid in
+    subst (λ (fs : List SessionFrame). Sees m (comes channel (body_said it) ∷ goes fs) old.sessions new.sessions)
+    (sym f.ends.queued)
+    (subst (λ (ws : List Wired). Sees m (comes channel (body_said it) ∷ ws) old.sessions new.sessions)
+    (sym (behind-others f.out_mid end))
+    (sees-on m first (goes end) old.sessions f.mid.sessions new.sessions
+    (refused-own m it fault f.out_mid before s old f.mid f.refuses)
+    (sees-hears m channel (body_said it) (said-within it) (said-for it) gives it (Err fault) f.out_mid before s
+    old.sessions f.mid.sessions reaches f.refuses.hears)
+    (sees-ends m (Some (fault_error fault)) s f.out_mid frames f.mid new f.ends)))
+
 pub attach-seen : AttachGoes SeenIn
 attach-seen m attach s talk live =
     record {
@@ -309,15 +358,19 @@ seeing =
         kept = owning.free m frames s talk live said on;
         sees = sees-free m frames s (of-on _ frames on) talk.sessions live;
       };
-      inside = λ m accepted frames before after old new allowed stepped rest d. record {
-        kept = owning.inside m accepted frames before after old new allowed stepped rest d;
+      inside = λ m accepted frames before after old new allowed stepped rest d keeps. record {
+        kept = owning.inside m accepted frames before after old new allowed stepped rest d keeps;
         sees = sees-inside m frames before (of-on _ frames d.on) after old.sessions new.sessions stepped;
       };
-      hears = λ m channel it told frames before after old new reaches memory h rest. record {
-        kept = owning.hears m channel it told frames before after old new reaches memory h rest;
+      hears = λ m channel it told frames before after old new reaches h rest. record {
+        kept = owning.hears m channel it told frames before after old new reaches h rest;
         sees =
-            sees-hears m channel (body_said it) (said-within it) (said-for it) gives it told frames before after
+            sees-hears m channel (body_said it) (said-within it) (said-for it) gives it (Ok told) frames before after
             old.sessions new.sessions reaches h;
+      };
+      fails = λ m channel it fault frames before s old new reaches f. record {
+        kept = owning.fails m channel it fault frames before s old new reaches f;
+        sees = sees-fails m channel it fault frames before s old new reaches f;
       };
       asked = λ m channel it before old new reaches t. record {
         kept = owning.asked m channel it before old new reaches t;

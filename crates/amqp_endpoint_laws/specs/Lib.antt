@@ -10,3 +10,4 @@ pub mod Queued
 pub mod Seen
 pub mod Attachments
 pub mod Judged
+pub mod Taken

@@ -1,7 +1,9 @@
 //! The laws. A function here does nothing but name the laws that it rests on: its contract is the law.
 ghost use Rattle.std.specs.Prelude.{◌≡◌, ◌+◌, ◌∷◌, ◌++◌, [], ℕ, List, false, length, map, slice_get, Option, Some, ◌⊎◌};
 ghost use Rattle.std.specs.Prelude.{true};
+ghost use Rattle.std.specs.FinMap as tables;
 ghost use Rattle.amqp_session_performatives.specs.declared.session_frame.SessionFrame.{SessionFrame};
+ghost use Rattle.amqp_session_frames.specs.declared.frame.FrameBody.{FrameBody};
 ghost use Rattle.amqp_session_types.specs.declared.channels.OutgoingChannel.{OutgoingChannel};
 ghost use Rattle.amqp_session_types.specs.declared.handles.OutputHandle.{OutputHandle};
 ghost use Rattle.amqp_link_place.specs.Readings.{Piece, nothing, readings};
@@ -11,13 +13,14 @@ ghost use Rattle.amqp_link_receiving.specs.Readings.{held_said};
 ghost use Rattle.amqp_endpoint_names.specs.State.{AreApart, place_at};
 ghost use Rattle.amqp_endpoint_names.specs.declared.place.LinkPlace.TheVariants.{Held};
 ghost use Rattle.amqp_endpoint_linking.specs.Linking.{Session};
-ghost use Rattle.amqp_endpoint_sessions.specs.State.{channel_at, live_at};
+ghost use Rattle.amqp_endpoint_asked.specs.declared.links.AskedLink.{AskedLink};
+ghost use Rattle.amqp_endpoint_sessions.specs.State.{channel_at, live_at, place_at as session_place};
 ghost use Rattle.amqp_endpoint_model.specs.History.{Run};
 ghost use Rattle.amqp_endpoint_model.specs.Relay.{IsNew};
 ghost use Rattle.amqp_endpoint_model.specs.Said.{Told, attaching};
 ghost use Rattle.amqp_endpoint_model.specs.State.{State, fresh, is_unconnected};
 ghost use Rattle.amqp_endpoint_model.specs.declared.call.Call.{Call};
-ghost use Rattle.amqp_endpoint_model.specs.declared.call.Call.TheVariants.{AttachSender};
+ghost use Rattle.amqp_endpoint_model.specs.declared.call.Call.TheVariants.{AttachReceiver, AttachSender};
 ghost use Rattle.amqp_endpoint_model.specs.declared.event.Event.{Event};
 ghost use Rattle.amqp_endpoint_model.specs.declared.settings.Settings.{Settings};
 ghost use Rattle.amqp_endpoint_linked.specs.Does.{linked};
@@ -30,18 +33,20 @@ ghost use Rattle.amqp_endpoint_deeds.specs.Telling.{calls_done, events_told};
 ghost use Rattle.amqp_endpoint_settings.specs.declared.link.LinkSettings.{LinkSettings};
 ghost use Rattle.amqp_endpoint_talk.specs.Windows.{KeepsWindow, Passing, begins_with};
 ghost use Rattle.amqp_endpoint_reading.specs.Reading.{nothing_read};
-ghost use Rattle.amqp_endpoint_laws.specs.Attachments.{attached_in, attachment, gone_in, names_in, uses};
+ghost use Rattle.amqp_endpoint_laws.specs.Attachments.{attached_in, attachment, bodies_of, gone_in, names_in, uses};
 ghost use Rattle.amqp_endpoint_laws.specs.Conversing.{SessionsGoOn};
 ghost use Rattle.amqp_endpoint_laws.specs.Handed.{IsReceiving, NoneResumes, PassesOn, ReachIn, handed_as};
-ghost use Rattle.amqp_endpoint_laws.specs.Handed.{handed_by, leads_there, pieces_on};
+ghost use Rattle.amqp_endpoint_laws.specs.Handed.{Handed, handed_by, leads_there, pieces_on};
 ghost use Rattle.amqp_endpoint_laws.specs.Held.{IsHeldThere, number_at};
 ghost use Rattle.amqp_endpoint_laws.specs.Judged.{Judged};
 ghost use Rattle.amqp_endpoint_laws.specs.Linking.{HaveCome};
 ghost use Rattle.amqp_endpoint_laws.specs.Passed.{HasCome, PassesIn, sent_in};
-ghost use Rattle.amqp_endpoint_laws.specs.Queued.{AttachesFirst, SayMessages, SaysSince, messages_by, messages_done};
+ghost use Rattle.amqp_endpoint_laws.specs.Queued.{AttachesFirst, Message, SayMessages, SaysSince, messages_by};
+ghost use Rattle.amqp_endpoint_laws.specs.Queued.{messages_done};
 ghost use Rattle.amqp_endpoint_laws.specs.Queued.{pieces_waiting, queued};
 ghost use Rattle.amqp_endpoint_laws.specs.Seen.{AreOnes, passing_in, wired_by};
 ghost use Rattle.amqp_endpoint_laws.specs.Life.{Reach, StaysSomewhere};
+ghost use Rattle.amqp_endpoint_laws.specs.Taken.{CameLast, HandsOut, asked_in, came_in, message_handed};
 ghost use Rattle.amqp_endpoint_laws.specs.Telling.{numbers_told, numbers_under, tags_given};
 
 use amqp_endpoint_linking::laws::links_given_back_go_on;
@@ -211,9 +216,10 @@ pub fn what_is_handed_out_is_what_was_said()
     links_given_back_go_on();
 }
 
-/// No two handles of the peer's lead to one receiving link that is attached, whichever deeds an endpoint's run consists
-/// of, and behind each run (part 2, 2.6.2, 2.6.3).
-pub fn no_two_handles_lead_to_an_attached_link()
+/// One handle of the peer's leads to a receiving link that is attached, whichever deeds an endpoint's run consists of.
+/// No two do so then, nor behind each run (part 2, 2.6.2, 2.6.3). And by a deed by which the link stays attached the
+/// handle leads there still: so it is one and the same as long as the link is attached.
+pub fn one_handle_leads_to_an_attached_link()
     ensures by_deeds { (sessions end : LinkedSessions) (settings : Settings) (deeds : List Deed) (link session : ℕ)
         (own : OutputHandle) (held : Option Incoming) (m n : ℕ) → IsNew linked settings sessions →
         AreDone linked sessions deeds end → IsReceiving end link session own held →
@@ -225,6 +231,15 @@ pub fn no_two_handles_lead_to_an_attached_link()
         IsReceiving end.sessions link session own held →
         leads_there (live_at end.sessions.talk.sessions session) m own ≡ true →
         leads_there (live_at end.sessions.talk.sessions session) n own ≡ true → m ≡ n }
+    ensures some { (sessions end : LinkedSessions) (settings : Settings) (deeds : List Deed) (link session : ℕ)
+        (own : OutputHandle) (held : Option Incoming) → IsNew linked settings sessions →
+        AreDone linked sessions deeds end → IsReceiving end link session own held →
+        (theirs : ℕ) × (leads_there (live_at end.talk.sessions session) theirs own ≡ true) }
+    ensures stays { (old new : LinkedSessions) (deed : Deed) (link session : ℕ) (own : OutputHandle)
+        (held later : Option Incoming) (theirs : ℕ) → IsDeed linked old deed new →
+        IsReceiving old link session own held → IsReceiving new link session own later →
+        leads_there (live_at old.talk.sessions session) theirs own ≡ true →
+        leads_there (live_at new.talk.sessions session) theirs own ≡ true }
 {}
 
 /// An endpoint hands a message out by a link only in a deed before and behind which the link is attached as a receiving
@@ -311,12 +326,12 @@ pub fn attaches_are_calls()
         attached_in deed ≡ name ∷ [] → (handle : OutputHandle) × AttachesFirst handle name (gone_in deed) }
 {}
 
-/// What a sending link is given to send is read off the frames of its session, by the link's name and a count: how
-/// often this name was attached with in the session before the link attached. The transfers of the attachment with this
-/// name and this count, among all frames that were handed out in the session since it was new, and behind them those
-/// that wait there, say the messages that the link accepted since it attached, in order, each whole (part 2, 2.6.2,
-/// 2.6.3, 2.6.12, 2.6.14). So it is whatever else the endpoint does and hears, as long as the session holds the link
-/// and goes on.
+/// What a sending link is given to send is read off the frames of its session, by the link's name and a count: how often
+/// a sending end attached with this name in the session before the link did. The transfers of the attachment with this
+/// name and this count, among all frames that were handed out in the session since it was new, as they come to the peer,
+/// and behind them those that wait there, say the messages that the link accepted since it attached, in order, each whole
+/// (part 2, 2.6.2, 2.6.3, 2.6.12, 2.6.14). So it is whatever else the endpoint does and hears, as long as the session
+/// holds the link and goes on.
 pub fn what_an_attachment_sends_is_what_it_accepted()
     ensures { (sessions old new end : LinkedSessions) (settings : Settings) (before since : List Deed)
         (number link limit : ℕ) (its : LinkSettings) (events : List Event) (frames : List SessionFrame)
@@ -325,13 +340,64 @@ pub fn what_an_attachment_sends_is_what_it_accepted()
         IsDeed linked old (Does limit (AttachSender number its) (attaching link events) frames) new →
         PassesIn number new since end passings → place_at end.links link ≡ Some (Held number handle) →
         live_at end.talk.sessions number ≡ Some session →
-        let read = attachment its.name (uses its.name (sent_in first))
-        (sent_in first ++ frames ++ sent_in passings) in
+        let read = attachment its.name (uses its.name (bodies_of (sent_in first)))
+        (bodies_of (sent_in first ++ frames ++ sent_in passings)) in
         SayMessages (read ++ pieces_waiting handle.0 session.value.session) (messages_by link since) }
 {
     links_given_back_go_on();
     no_two_links_share_a_handle();
 }
+
+/// Each link that the peer asks for in a session is asked for by an Attach that came in the session, on the handle that
+/// it says. By that handle no other Attach came since, and no transfer (part 2, 2.6.2, 2.6.3). So it is whichever deeds
+/// the endpoint's run consists of, in a session that is itself only asked for too.
+pub fn links_are_asked_for_by_an_attach()
+    ensures { (sessions end : LinkedSessions) (settings : Settings) (deeds : List Deed) (number theirs : ℕ)
+        (passings : List Passing) (link : AskedLink) → IsNew linked settings sessions →
+        PassesIn number sessions deeds end passings →
+        tables.get (asked_in (session_place end.talk.sessions number)) theirs ≡ Some link →
+        CameLast theirs link.attach (came_in passings) }
+{}
+
+/// What a receiving link hands out is read off the frames that come in its session, by the link's name and a count: how
+/// often a sending end attached there with this name before the Attach by which the link is attached. That is the last
+/// one on the handle of the peer's that leads to the link, whether it came before the link's own or behind. What the
+/// link hands out since the call by which it attaches is what the transfers of the attachment with this name and this
+/// count say, where none of them resumes a delivery (part 2, 2.6.2, 2.6.3, 2.6.12, 2.6.14). So it is whatever else the
+/// endpoint does and hears, as long as the link is attached.
+pub fn what_an_attachment_hands_out_is_what_it_took()
+    ensures { (sessions old new end : LinkedSessions) (settings : Settings) (before since : List Deed)
+        (number link limit : ℕ) (its : LinkSettings) (events : List Event) (frames : List SessionFrame)
+        (first passings : List Passing) (own : OutputHandle) (held : Option Incoming) → IsNew linked settings sessions →
+        PassesIn number sessions before old first →
+        IsDeed linked old (Does limit (AttachReceiver number its) (attaching link events) frames) new →
+        PassesIn number new since end passings → IsReceiving end link number own held →
+        HandsOut end number own its.name (came_in first ++ came_in passings) (handed_by link (told_by since)) }
+{
+    links_given_back_go_on();
+}
+
+/// Of a beginning of the frames that come in a session a beginning of the messages of an attachment is read (part 2,
+/// 2.6.3, 2.6.14).
+pub fn a_beginning_is_read_as_a_beginning()
+    ensures { (name : List ℕ) (others : ℕ) (first later : List FrameBody) → (rest : List Said) ×
+        ((readings nothing (attachment name others (first ++ later))).messages ≡
+        (readings nothing (attachment name others first)).messages ++ rest) }
+{}
+
+/// What is handed out is a beginning of what was accepted, message for message, with tag, format and bytes, and settled
+/// as it was sent. Of one end is told: the transfers of its attachment with a name and a count, among the frames that it
+/// handed out in a session, and behind them those that wait, say what its link accepted. Of the other: its link hands
+/// out what the transfers of the attachment with that name and that count say, among the frames that came there in the
+/// session. And what came are the first of what was handed out (part 2, 2.6.12, 2.6.14).
+pub fn what_is_handed_out_begins_what_was_accepted()
+    ensures { (name : List ℕ) (others link : ℕ) (own : OutputHandle) (sent : List SessionFrame)
+        (waiting : List Piece) (since : List Deed) (came more : List FrameBody) (handed : List Handed) →
+        SayMessages (attachment name others (bodies_of sent) ++ waiting) (messages_by link since) →
+        bodies_of sent ≡ came ++ more →
+        handed ≡ map (handed_as own) (readings nothing (attachment name others came)).messages →
+        (rest : List Message) × (messages_by link since ≡ map message_handed handed ++ rest) }
+{}
 
 /// What passes in a session of a connection is what one reads who has the connection's frames alone, and tells sessions
 /// apart by the channels on which these come and go and by what Begins and Ends say (part 2, 2.5.1, 2.5.2). The frames

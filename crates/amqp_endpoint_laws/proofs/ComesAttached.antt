@@ -1,0 +1,181 @@
+-- A receiving link that waits comes to be attached by an Attach of the peer's that names it.
+use Rattle.std.proofs.Common.{◌≡◌, ◌==◌, inl, inr, ℕ, Bool, true, false, List, Option, Some, Ok}
+use Rattle.std.proofs.Common.{ap, refl, subst, sym, ◌∙◌}
+use Rattle.std.proofs.lemmas.Option.{same_Some}
+use Rattle.amqp_session_types.specs.declared.handles.OutputHandle.{OutputHandle}
+use Rattle.amqp_session_types.specs.declared.modes.Role.{Role}
+use Rattle.amqp_session_types.specs.declared.modes.Role.TheVariants as role
+use Rattle.amqp_session_performatives.specs.declared.attach.Attach.{Attach}
+use Rattle.amqp_session_performatives.specs.declared.session_frame.SessionFrame.{SessionFrame}
+use Rattle.amqp_session_frames.specs.declared.frame.Frame.{Frame}
+use Rattle.amqp_session_frames.specs.declared.frame.FrameBody.{FrameBody}
+use Rattle.amqp_session_frames.specs.declared.frame.FrameBody.TheVariants as body
+use Rattle.amqp_link_ends.specs.declared.end.End.{End}
+use Rattle.amqp_link_ends.specs.Gives.{attaches}
+use Rattle.amqp_link_receiving.specs.Deliveries.{Delivery}
+use Rattle.amqp_endpoint_attached.specs.Ends.{role_of}
+use Rattle.amqp_endpoint_deeds.specs.Deeds.{IsDeed, Takes}
+use Rattle.amqp_endpoint_link_hearing.specs.Attaching.{HearsAttach}
+use Rattle.amqp_endpoint_link_hearing.specs.Naming.{IsNamedIn, is_other, link_in}
+use Rattle.amqp_endpoint_link_hearing.specs.declared.attaching.LinkAttached.{LinkAttached as Left}
+use Rattle.amqp_endpoint_linked.specs.Does.{linked}
+use Rattle.amqp_endpoint_linked.specs.Hearing.{Hears as HearsFrame}
+use Rattle.amqp_endpoint_linked.specs.declared.linked.LinkedSessions.{LinkedSessions}
+use Rattle.amqp_endpoint_linking.specs.Linking.{Link, Session, Talk}
+use Rattle.amqp_endpoint_links.specs.declared.asking.NamedLink.{NamedLink}
+use Rattle.amqp_endpoint_links.specs.declared.hearing.LinkPerformative.TheVariants as said
+use Rattle.amqp_endpoint_model.specs.declared.event.Event.{Event}
+use Rattle.amqp_endpoint_names.specs.State.{name_at}
+use Rattle.amqp_endpoint_sessions.specs.State.{live_at, reached}
+use Rattle.amqp_endpoint_sessions.proofs.Owning.{same_number}
+use Rattle.amqp_endpoint_laws.specs.Agreeing.{Agree}
+use Rattle.amqp_endpoint_laws.specs.Handed.{IsReceiving, leads_there}
+use Rattle.amqp_endpoint_laws.specs.Held.{number_live, number_of}
+use Rattle.amqp_endpoint_laws.specs.Passed.{session_taking}
+use Rattle.amqp_endpoint_laws.proofs.ComesAttachedHeard.{TakesHere, heard-here, others-stay, takes-leads, took-held}
+use Rattle.amqp_endpoint_laws.proofs.ComesAttachedHeld.{IsHeld, holding-receives, received-before, receiving-holds}
+use Rattle.amqp_endpoint_laws.proofs.ComesAttachedNamed.{IsNamedSo, named-so, peer-sends, still-receiver}
+use Rattle.amqp_endpoint_laws.proofs.HandedBy.{frame-leads}
+use Rattle.amqp_endpoint_laws.proofs.HandedOut.{HearsOne}
+use Rattle.amqp_endpoint_laws.proofs.HoldingDeeds.{deed-rests}
+use Rattle.amqp_endpoint_laws.proofs.HoldingEnds.{Part, Stays}
+use Rattle.amqp_endpoint_laws.proofs.HoldingTalk.{fails-stay, held_in}
+
+-- a link came to be attached by an Attach of the peer's: that came in its session, its handle leads to the link, and it
+-- says the link's name; and the peer sends
+pub record ComesBy (old : LinkedSessions) (channel : ℕ) (it : FrameBody) (new : LinkedSessions) (link session : ℕ)
+    (own : OutputHandle) : Type 0 where
+  pub attach : Attach
+  pub is : it ≡ body.Attach attach
+  pub taken : session_taking old channel it ≡ Some session
+  pub leads : leads_there (live_at new.talk.sessions session) attach.handle.0 own ≡ true
+  pub named : name_at old.links link ≡ Some attach.name
+  pub sends : attach.role ≡ role.Sender
+
+module _ (old new : LinkedSessions) (limit channel : ℕ) (frames : List SessionFrame) (events : List Event)
+    (agree : Agree old) (link session : ℕ) (own : OutputHandle) (held : Option Delivery)
+    (r : IsReceiving new link session own held)
+    (unattached : (h : Option Delivery) → IsReceiving old link session own h → ⊥) where
+  is-held : held_in (live_at new.talk.sessions session) own.0 ≡ Some (link, (true, held))
+  is-held = receiving-holds new link session own held r
+
+  -- what it holds didn't stay
+  moved : Stays (held_in (live_at old.talk.sessions session) own.0) (held_in (live_at new.talk.sessions session) own.0)
+      → ⊥
+  moved stays = unattached held (received-before old new link session own held stays r)
+
+  module _ (attach : Attach) (named : NamedLink) (mid : Talk) (left : Option Left)
+      (here : TakesHere old.talk (record { 0 = channel }) attach named mid left frames events new.talk session)
+      (is_named : IsNamedIn (reached old.talk.sessions channel) old.talk old.links attach named)
+      (e : (own.0 == here.handle.0) ≡ true) where
+    here-held : held_in (live_at new.talk.sessions session) here.handle.0 ≡ Some (link, (true, held))
+    here-held =
+        ap (λ (h : ℕ). held_in (live_at new.talk.sessions session) h) (sym (same_number own.0 here.handle.0 e))
+        ∙ is-held
+
+    its : IsHeld here.took.stepped.after.number here.took.stepped.after.link link held
+    its =
+        took-held old.talk (record { 0 = channel }) attach mid left frames events new.talk named session here link held
+        here-held
+
+    so : IsNamedSo old.talk old.links session attach here.handle
+    so =
+        named-so old.talk old.links session attach named here.handle
+        (subst (λ (o : Option ℕ). IsNamedIn o old.talk old.links attach named) here.reaches is_named) here.waits
+
+    abbrev before : Link
+    before = here.took.stepped.before
+
+    -- it is the one that was named
+    its-number : so.number ≡ link
+    its-number =
+        same_Some so.number link
+        (sym (agree.held so.number session here.handle so.waits.held)
+        ∙ ap (λ (o : Option Session). number_live o here.handle.0) here.live ∙ ap number_of here.took.stepped.had
+        ∙ ap (λ (k : ℕ). Some k) (sym here.took.stepped.stepped.1 ∙ its.numbered))
+
+    its-role : role_of so.waits.link.link ≡ role.Receiver
+    its-role =
+        ap (λ (l : Link). role_of l.link)
+        (same_Some so.waits.link before
+        (sym so.waits.there ∙ ap (λ (o : Option Session). link_in o here.handle) here.live ∙ here.took.stepped.had))
+        ∙ still-receiver before.link attach here.took.told its.receiver
+        (subst (λ (x : End). attaches before.link attach (Ok here.took.told) x) its.is here.took.stepped.stepped.0)
+
+    comes-here : ComesBy old channel (body.Attach attach) new link session own
+    comes-here =
+        record {
+          attach = attach;
+          is = refl;
+          taken = here.reaches;
+          leads =
+              takes-leads old.talk (record { 0 = channel }) attach mid left frames events new.talk named session here
+              own (link, (true, held)) e here-held;
+          named = ap (λ (k : ℕ). name_at old.links k) (sym its-number) ∙ so.named;
+          sends =
+              peer-sends attach.role (sym (ap (λ (x : Role). is_other x attach.role) its-role) ∙ so.waits.other);
+        }
+
+  attach-comes : (attach : Attach)
+      → HearsFrame old.talk old.links old.given limit (record { 0 = channel }) (body.Attach attach) frames events
+      new.talk new.links new.given
+      → ComesBy old channel (body.Attach attach) new link session own
+  attach-comes attach (a, g) = by a.hears
+    where
+      by : HearsAttach old.talk old.links (record { 0 = channel }) attach a.left frames events new.talk new.links
+          → ComesBy old channel (body.Attach attach) new link session own
+      by (inr f) =
+          absurd
+          (moved
+          ((fails-stay (said.Attach attach f.named) old.talk new.talk f.fails.number f.fails.fault f.fails.session
+          frames (record { 0 = channel }) f.fails.answered session).holds own.0))
+      by (inl t) =
+          elim
+          (heard-here old.talk (record { 0 = channel }) attach t.mid a.left frames events new.talk t.named t.heard
+          t.answered t.becomes session) [
+            | inl keeps ↦ absurd (moved (keeps own.0))
+            | inr here ↦ at-handle here (own.0 == here.handle.0) refl
+          ]
+        where
+          at-handle :
+              (here : TakesHere old.talk (record { 0 = channel }) attach t.named t.mid a.left frames events new.talk
+              session) (b : Bool)
+              → (own.0 == here.handle.0) ≡ b → ComesBy old channel (body.Attach attach) new link session own
+          at-handle here false e =
+              absurd
+              (moved
+              (others-stay old.talk (record { 0 = channel }) attach t.mid a.left frames events new.talk t.named session
+              here own.0 e))
+          at-handle here true e = comes-here attach t.named t.mid a.left here t.is_named e
+
+  frame-comes : (it : FrameBody)
+      → IsDeed linked old (Takes limit (record { channel = channel; body = it }) frames events) new
+      → ComesBy old channel it new link session own
+  frame-comes (body.Attach attach) d = attach-comes attach d.0
+  frame-comes (body.Transfer transfer payload) d =
+      absurd (by ((frame-leads transfer payload limit channel frames events old new d session).hears own.0))
+    where
+      by : HearsOne (held_in (live_at old.talk.sessions session) own.0)
+          (held_in (live_at new.talk.sessions session) own.0) → ⊥
+      by (inl t) =
+          unattached t.held
+          (holding-receives old link session own t.held
+          (t.was
+          ∙ ap (λ (k : ℕ). Some (k, (true, t.held)))
+          (ap (λ (x : ℕ × Part). x.0)
+          (same_Some (t.number, (true, t.later)) (link, (true, held)) (sym t.is ∙ is-held)))))
+      by (inr stays) = moved stays
+  frame-comes it d =
+      absurd
+      (moved
+      ((deed-rests (Takes limit (record { channel = channel; body = it }) frames events) tt old new d
+      session).holds own.0))
+
+-- a link that waits comes to be attached by a frame
+pub takes-attach : (limit : ℕ) (f : Frame) (frames : List SessionFrame) (events : List Event)
+    (old new : LinkedSessions) → IsDeed linked old (Takes limit f frames events) new → Agree old → (link session : ℕ)
+    (own : OutputHandle) (held : Option Delivery) → IsReceiving new link session own held
+    → ((h : Option Delivery) → IsReceiving old link session own h → ⊥)
+    → ComesBy old f.channel f.body new link session own
+takes-attach limit f frames events old new d agree link session own held r unattached =
+    frame-comes old new limit f.channel frames events agree link session own held r unattached f.body d
