@@ -68,3 +68,4 @@ mod Judged
 mod TakenRead
 mod TakenOver
 mod TakenJoining
+mod Paired

@@ -11,3 +11,4 @@ pub mod Seen
 pub mod Attachments
 pub mod Judged
 pub mod Taken
+pub mod Paired

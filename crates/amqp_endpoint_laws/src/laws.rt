@@ -3,6 +3,7 @@ ghost use Rattle.std.specs.Prelude.{◌≡◌, ◌+◌, ◌∷◌, ◌++◌, [],
 ghost use Rattle.std.specs.Prelude.{true};
 ghost use Rattle.std.specs.FinMap as tables;
 ghost use Rattle.amqp_session_performatives.specs.declared.session_frame.SessionFrame.{SessionFrame};
+ghost use Rattle.amqp_session_frames.specs.declared.frame.Frame.{Frame};
 ghost use Rattle.amqp_session_frames.specs.declared.frame.FrameBody.{FrameBody};
 ghost use Rattle.amqp_session_types.specs.declared.channels.OutgoingChannel.{OutgoingChannel};
 ghost use Rattle.amqp_session_types.specs.declared.handles.OutputHandle.{OutputHandle};
@@ -18,7 +19,7 @@ ghost use Rattle.amqp_endpoint_sessions.specs.State.{channel_at, live_at, place_
 ghost use Rattle.amqp_endpoint_model.specs.History.{Run};
 ghost use Rattle.amqp_endpoint_model.specs.Relay.{IsNew};
 ghost use Rattle.amqp_endpoint_model.specs.Said.{Told, attaching};
-ghost use Rattle.amqp_endpoint_model.specs.State.{State, fresh, is_unconnected};
+ghost use Rattle.amqp_endpoint_model.specs.State.{State, frame_of, fresh, is_unconnected};
 ghost use Rattle.amqp_endpoint_model.specs.declared.call.Call.{Call};
 ghost use Rattle.amqp_endpoint_model.specs.declared.call.Call.TheVariants.{AttachReceiver, AttachSender};
 ghost use Rattle.amqp_endpoint_model.specs.declared.event.Event.{Event};
@@ -32,7 +33,8 @@ ghost use Rattle.amqp_endpoint_deeds.specs.Deeds.{told_since, up_behind};
 ghost use Rattle.amqp_endpoint_deeds.specs.Telling.{calls_done, events_told};
 ghost use Rattle.amqp_endpoint_settings.specs.declared.link.LinkSettings.{LinkSettings};
 ghost use Rattle.amqp_endpoint_talk.specs.Windows.{KeepsWindow, Passing, begins_with};
-ghost use Rattle.amqp_endpoint_reading.specs.Reading.{nothing_read};
+ghost use Rattle.amqp_endpoint_reading.specs.Channel.{comings, goings};
+ghost use Rattle.amqp_endpoint_reading.specs.Reading.{Wired, nothing_read};
 ghost use Rattle.amqp_endpoint_laws.specs.Attachments.{attached_in, attachment, bodies_of, gone_in, names_in, uses};
 ghost use Rattle.amqp_endpoint_laws.specs.Conversing.{SessionsGoOn};
 ghost use Rattle.amqp_endpoint_laws.specs.Handed.{IsReceiving, NoneResumes, PassesOn, ReachIn, handed_as};
@@ -40,6 +42,7 @@ ghost use Rattle.amqp_endpoint_laws.specs.Handed.{Handed, handed_by, leads_there
 ghost use Rattle.amqp_endpoint_laws.specs.Held.{IsHeldThere, number_at};
 ghost use Rattle.amqp_endpoint_laws.specs.Judged.{Judged};
 ghost use Rattle.amqp_endpoint_laws.specs.Linking.{HaveCome};
+ghost use Rattle.amqp_endpoint_laws.specs.Paired.{BeginsOn, BegunOn};
 ghost use Rattle.amqp_endpoint_laws.specs.Passed.{HasCome, PassesIn, sent_in};
 ghost use Rattle.amqp_endpoint_laws.specs.Queued.{AttachesFirst, Message, SayMessages, SaysSince, messages_by};
 ghost use Rattle.amqp_endpoint_laws.specs.Queued.{messages_done};
@@ -415,6 +418,19 @@ pub fn what_passes_is_read()
         AreDone linked start (Renews ∷ later) end →
         Throughout up_behind MayPass false (before ++ Renews ∷ later) → NoneRenews later →
         AreOnes nothing_read (wired_by later) }
+{}
+
+/// What comes in a session of one end is a beginning of what went in a session of the other: of that whose own Begin
+/// went on the channel on which the peer's came, behind as many others there. So it is where the frames that came on the
+/// connection are a beginning of those that went on it; and where the peer begins the session once, begins none on that
+/// channel as long as one goes on there, and each own Begin that names a channel answers a session for which the peer
+/// asks there (part 2, 2.5.1, 2.5.2).
+pub fn what_comes_in_a_session_begins_what_went_in_one()
+    ensures { (here there channel others : ℕ) (ours theirs : List Wired) (more : List Frame) →
+        BeginsOn here channel others ours → BegunOn there channel others theirs →
+        map frame_of (goings ours) ≡ comings theirs ++ more →
+        (rest : List FrameBody) × (bodies_of (sent_in (passing_in here nothing_read ours)) ≡
+        came_in (passing_in there nothing_read theirs) ++ rest) }
 {}
 
 /// Who reads the frames of a connection, and tells sessions apart by channels alone, finds each transfer that goes in a

@@ -6,3 +6,5 @@ pub mod Rows
 pub mod Views
 pub mod Whose
 pub mod Seeing
+pub mod Going
+pub mod Coming

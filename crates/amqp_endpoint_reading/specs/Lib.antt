@@ -1,3 +1,4 @@
 pub mod Reading
 pub mod Agreeing
 pub mod Following
+pub mod Channel

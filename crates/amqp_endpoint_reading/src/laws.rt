@@ -1,5 +1,5 @@
 //! The laws. A function here does nothing: its contract is the law.
-ghost use Rattle.std.specs.Prelude.{◌≡◌, ◌∷◌, ◌++◌, [], ℕ, List, length, Option, Result, Ok, Err};
+ghost use Rattle.std.specs.Prelude.{◌≡◌, ◌∷◌, ◌++◌, [], ℕ, List, false, length, Option, Result, Some, Ok, Err};
 ghost use Rattle.std.specs.FinMap as map;
 ghost use Rattle.std.specs.Global.{Box};
 ghost use Rattle.amqp_session_types.specs.declared.channels.IncomingChannel.{IncomingChannel};
@@ -8,6 +8,8 @@ ghost use Rattle.amqp_session_types.specs.declared.refusals.SessionError.{Sessio
 ghost use Rattle.amqp_session_performatives.specs.declared.begin.Begin.{Begin};
 ghost use Rattle.amqp_session_performatives.specs.declared.end.End.{End};
 ghost use Rattle.amqp_session_performatives.specs.declared.session_frame.SessionFrame.{SessionFrame};
+ghost use Rattle.amqp_session_performatives.specs.declared.session_frame.SessionFrameBody.TheVariants as sent;
+ghost use Rattle.amqp_session_frames.specs.declared.frame.Frame.{Frame};
 ghost use Rattle.amqp_session_frames.specs.declared.frame.FrameBody.{FrameBody};
 ghost use Rattle.amqp_session_frames.specs.declared.frame.FrameBody.TheVariants as body;
 ghost use Rattle.amqp_session_core.specs.History.{frames_in};
@@ -31,10 +33,12 @@ ghost use Rattle.amqp_endpoint_conversation.specs.Ending.{EndAnswered, EndsHere}
 ghost use Rattle.amqp_endpoint_conversation.specs.Hearing.{Answered, FlowTold};
 ghost use Rattle.amqp_endpoint_reading.specs.Agreeing.{Agrees, InTables, IsOff, Known, OnConnection, behind_steps};
 ghost use Rattle.amqp_endpoint_reading.specs.Agreeing.{from, role_at};
+ghost use Rattle.amqp_endpoint_reading.specs.Channel.{AllAnswer, Awaits, ByTurns, NoneBegins, begins_come, begins_sent};
+ghost use Rattle.amqp_endpoint_reading.specs.Channel.{come_on, comings, goings, sent_on};
 ghost use Rattle.amqp_endpoint_reading.specs.Following.{AreFor, AreOf, Follows, IsForReached, IsWithin, NoBegins};
 ghost use Rattle.amqp_endpoint_reading.specs.Following.{comes, goes};
-ghost use Rattle.amqp_endpoint_reading.specs.Reading.{Reader, Speaks, Wired, behind_all, comes_for, nothing_read};
-ghost use Rattle.amqp_endpoint_reading.specs.Reading.{reaches};
+ghost use Rattle.amqp_endpoint_reading.specs.Reading.{Comes, Goes, Reader, Speaks, Wired, begun_here, begun_there};
+ghost use Rattle.amqp_endpoint_reading.specs.Reading.{behind, behind_all, comes_for, nothing_read, reaches, read_of};
 
 use amqp_session_core::LinkRelay;
 
@@ -145,4 +149,29 @@ pub fn each_frame_is_read_as_its_sessions<R: LinkRelay>()
     ensures heard { (base : ℕ) (r : Reader) (talk : Conversation R) (channel : ℕ) (it : FrameBody) →
         IsForReached it → Agrees base r talk.sessions →
         from base (comes_for r channel it) ≡ reached talk.sessions channel }
+{}
+
+/// The frames that go in one session are read off the channel on which its own Begin goes, and a count: how many Begins
+/// went there before. They are those on the channel from that Begin on, up to the next (part 2, 2.5.1).
+pub fn what_goes_in_a_session_is_read_off_its_channel()
+    ensures { (number channel : ℕ) (first later : List Wired) (frame : SessionFrame) (begin : Begin) →
+        frame.channel ≡ channel → frame.body ≡ sent.Begin begin →
+        begun_here (behind_all nothing_read first) begin.remote_channel ≡ Some number →
+        let all = first ++ Goes frame ∷ later in
+        goings (read_of number all) ≡ sent_on channel (Awaits (begins_sent channel (goings first))) (goings all) }
+{}
+
+/// The frames that come in one session are read off the channel on which the peer's Begin comes, and a count: how many
+/// Begins came there before. They are those on the channel from that Begin on, up to its End or the next Begin. So it is
+/// where the peer begins no session twice, begins none on a channel on which one goes on, and the own Begins that name a
+/// channel answer a session for which the peer asks there (part 2, 2.5.1, 2.5.2).
+pub fn what_comes_in_a_session_is_read_off_its_channel()
+    ensures { (number channel : ℕ) (first later : List Wired) (frame : Frame) (begin : Begin) →
+        frame.channel ≡ channel → frame.body ≡ body.Begin begin →
+        begun_there (behind_all nothing_read first) begin.remote_channel ≡ Some number →
+        NoneBegins number nothing_read first →
+        NoneBegins number (behind (behind_all nothing_read first) (Comes frame)) later →
+        let all = first ++ Comes frame ∷ later in
+        ByTurns channel false (comings all) → AllAnswer nothing_read all →
+        comings (read_of number all) ≡ come_on channel (Awaits (begins_come channel (comings first))) (comings all) }
 {}
