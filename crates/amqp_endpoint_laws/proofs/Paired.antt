@@ -1,6 +1,6 @@
 -- What comes in a session of one end is a beginning of what went in the session of the other that it belongs to.
 use Rattle.std.proofs.Common.{◌≡◌, ◌==◌, ◌&&◌, ℕ, Bool, true, false, List, [], ◌∷◌, ◌++◌, ap, append_assoc, map, refl}
-use Rattle.std.proofs.Common.{if◌then◌else◌, sym, subst, ◌∙◌}
+use Rattle.std.proofs.Common.{IsSome, if◌then◌else◌, sym, subst, ◌∙◌}
 use Rattle.std.proofs.lemmas.List.{map-append}
 use Rattle.amqp_session_performatives.specs.declared.session_frame.SessionFrame.{SessionFrame}
 use Rattle.amqp_session_performatives.specs.declared.session_frame.SessionFrameBody.{SessionFrameBody}
@@ -9,16 +9,16 @@ use Rattle.amqp_session_frames.specs.declared.frame.Frame.{Frame}
 use Rattle.amqp_session_frames.specs.declared.frame.FrameBody.{FrameBody}
 use Rattle.amqp_session_frames.specs.declared.frame.FrameBody.TheVariants as body
 use Rattle.amqp_endpoint_model.specs.State.{body_of, frame_of}
-use Rattle.amqp_endpoint_reading.specs.Channel.{AllAnswer, Awaits, Behind, ByTurns, Turn, Within, begun_behind, come_on}
+use Rattle.amqp_endpoint_reading.specs.Channel.{AllAnswer, AnswersAsked, Awaits, Behind, ByTurns, Turn, Within, begun_behind, come_on}
 use Rattle.amqp_endpoint_reading.specs.Channel.{comings, ended_behind, goings, is_its, is_within, sent_on, turn_come}
 use Rattle.amqp_endpoint_reading.specs.Channel.{turn_sent}
-use Rattle.amqp_endpoint_reading.specs.Reading.{Comes, Goes, Wired, nothing_read, read_of}
+use Rattle.amqp_endpoint_reading.specs.Reading.{Comes, Goes, Reader, Wired, behind, goes_for, nothing_read, read_of}
 use Rattle.amqp_endpoint_reading.proofs.Coming.{all-come}
 use Rattle.amqp_endpoint_reading.proofs.Going.{going-read}
 use Rattle.amqp_endpoint_laws.specs.Attachments.{bodies_of}
 use Rattle.amqp_endpoint_laws.specs.Paired.{BeginsOn, BegunOn}
 use Rattle.amqp_endpoint_laws.specs.Passed.{sent_in}
-use Rattle.amqp_endpoint_laws.specs.Seen.{passing_in, passing_of}
+use Rattle.amqp_endpoint_laws.specs.Seen.{AreOnes, passing_in, passing_of}
 use Rattle.amqp_endpoint_laws.specs.Taken.{came_in}
 
 module _ (channel : ℕ) where
@@ -185,3 +185,13 @@ module _ (here there channel others : ℕ) (ours theirs : List Wired) (more : Li
             ∙ ap (λ (fs : List Frame). map body_in fs) is ∙ map-append body_in (comings (read_of there theirs)) rest
             ∙ ap (λ (xs : List FrameBody). xs ++ map body_in rest) (sym (comings-came (read_of there theirs))),
       )
+
+-- where each frame that goes is read as a session's, each own Begin that names a channel answers one that is asked for
+pub ones-answer : (ws : List Wired) (r : Reader) → AreOnes r ws → AllAnswer r ws
+ones-answer [] r are = tt
+ones-answer (Comes frame ∷ ws) r (one, are) = (tt, ones-answer ws (behind r (Comes frame)) are)
+ones-answer (Goes frame ∷ ws) r (one, are) = (by frame.body one, ones-answer ws (behind r (Goes frame)) are)
+  where
+    by : (it : SessionFrameBody) → IsSome (goes_for r frame.channel it) → AnswersAsked r it
+    by (session.Begin begin) some = some
+    by it some = tt

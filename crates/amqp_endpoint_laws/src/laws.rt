@@ -33,7 +33,7 @@ ghost use Rattle.amqp_endpoint_deeds.specs.Deeds.{told_since, up_behind};
 ghost use Rattle.amqp_endpoint_deeds.specs.Telling.{calls_done, events_told};
 ghost use Rattle.amqp_endpoint_settings.specs.declared.link.LinkSettings.{LinkSettings};
 ghost use Rattle.amqp_endpoint_talk.specs.Windows.{KeepsWindow, Passing, begins_with};
-ghost use Rattle.amqp_endpoint_reading.specs.Channel.{comings, goings};
+ghost use Rattle.amqp_endpoint_reading.specs.Channel.{AllAnswer, comings, goings};
 ghost use Rattle.amqp_endpoint_reading.specs.Reading.{Wired, nothing_read};
 ghost use Rattle.amqp_endpoint_laws.specs.Attachments.{attached_in, attachment, bodies_of, gone_in, names_in, uses};
 ghost use Rattle.amqp_endpoint_laws.specs.Conversing.{SessionsGoOn};
@@ -406,7 +406,8 @@ pub fn what_is_handed_out_begins_what_was_accepted()
 /// apart by the channels on which these come and go and by what Begins and Ends say (part 2, 2.5.1, 2.5.2). The frames
 /// are those of the peer that are taken and those that sessions hand out, in order, from where the connection begins
 /// anew on; and the session is the one that is asked for on it behind so many others, at whichever end. Each frame that
-/// sessions hand out is so read as a session's.
+/// sessions hand out is so read as a session's; and an own Begin that names a channel answers a session for which the
+/// peer asks there.
 pub fn what_passes_is_read()
     ensures passes { (sessions start end : LinkedSessions) (settings : Settings) (before later : List Deed) (number : ℕ)
         (passings : List Passing) → IsNew linked settings sessions → AreDone linked sessions before start →
@@ -418,6 +419,11 @@ pub fn what_passes_is_read()
         AreDone linked start (Renews ∷ later) end →
         Throughout up_behind MayPass false (before ++ Renews ∷ later) → NoneRenews later →
         AreOnes nothing_read (wired_by later) }
+    ensures answers { (sessions start end : LinkedSessions) (settings : Settings) (before later : List Deed) →
+        IsNew linked settings sessions → AreDone linked sessions before start →
+        AreDone linked start (Renews ∷ later) end →
+        Throughout up_behind MayPass false (before ++ Renews ∷ later) → NoneRenews later →
+        AllAnswer nothing_read (wired_by later) }
 {}
 
 /// What comes in a session of one end is a beginning of what went in a session of the other: of that whose own Begin
