@@ -39,7 +39,7 @@ use Rattle.amqp_endpoint_reading.proofs.Views.{stays, unless-other, unless-same,
 use Rattle.amqp_endpoint_reading.proofs.Views as views
 
 -- a number is itself
-itself : (n : ℕ) → (n == n) ≡ true
+pub itself : (n : ℕ) → (n == n) ≡ true
 itself n = by (eqb_tells n n)
   where
     by : (((n == n) ≡ true) × (n ≡ n)) ⊎ (((n == n) ≡ false) × (n ≢ n)) → (n == n) ≡ true

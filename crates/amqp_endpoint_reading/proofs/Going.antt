@@ -18,6 +18,7 @@ use Rattle.amqp_endpoint_reading.specs.Reading.{behind_coming, behind_going, goe
 use Rattle.amqp_endpoint_reading.specs.Reading.{peer_begins, peer_ends, reaches, read_of, read_on, whose, with_at}
 use Rattle.amqp_endpoint_reading.proofs.Rows.{goes}
 use Rattle.amqp_endpoint_reading.proofs.Views.{Found, apart, found, here, unless-some}
+use Rattle.amqp_endpoint_reading.proofs.Agreeing.{itself}
 
 -- a number is not another
 differs : (o : Option ℕ) (m : ℕ) → o ≢ Some m → is_of o m ≡ false
@@ -27,14 +28,6 @@ differs (Some n) m ne = by (eqb_tells n m)
     by : (((n == m) ≡ true) × (n ≡ m)) ⊎ (((n == m) ≡ false) × (n ≢ m)) → (n == m) ≡ false
     by (inl p) = absurd (ne (ap Some p.1))
     by (inr p) = p.0
-
--- a number is itself
-itself : (n : ℕ) → (n == n) ≡ true
-itself n = by (eqb_tells n n)
-  where
-    by : (((n == n) ≡ true) × (n ≡ n)) ⊎ (((n == n) ≡ false) × (n ≢ n)) → (n == n) ≡ true
-    by (inl p) = p.0
-    by (inr p) = absurd (p.1 refl)
 
 -- an entry of a table is the one that was put, or one from before
 put-entry : (old : ByChannel) (n : ℕ) (x : Option ℕ) (c : ℕ) → Found old n x (with_at old n x) c
