@@ -439,6 +439,24 @@ pub fn what_comes_in_a_session_begins_what_went_in_one()
         came_in (passing_in there nothing_read theirs) ++ rest) }
 {}
 
+/// Between two ends what is handed out of an attachment is a beginning of what was accepted for it, message for message
+/// and in order: in sessions that belong together, as the law before says, of an attachment with the same name and the
+/// same count at both ends. The one is that by which the link hands out that does (`HandsOut`), and the other that whose
+/// transfers, with those that still wait, say what the sending link accepted; and none of the transfers that came
+/// resumes a delivery (part 2, 2.6.12, 2.6.14).
+pub fn messages_are_handed_out_in_order_between_two_ends()
+    ensures { (here there channel others : ℕ) (ours theirs : List Wired) (more : List Frame) (s : LinkedSessions)
+        (session link : ℕ) (own : OutputHandle) (name : List ℕ) (handed : List Handed) (waiting : List Piece)
+        (since : List Deed) → BeginsOn here channel others ours → BegunOn there channel others theirs →
+        map frame_of (goings ours) ≡ comings theirs ++ more →
+        let sent = bodies_of (sent_in (passing_in here nothing_read ours)) in
+        let came = came_in (passing_in there nothing_read theirs) in
+        (out : HandsOut s session own name came handed) →
+        SayMessages (attachment name (uses name out.earlier) sent ++ waiting) (messages_by link since) →
+        NoneResumes (attachment name (uses name out.earlier) came) →
+        (rest : List Message) × (messages_by link since ≡ map message_handed handed ++ rest) }
+{}
+
 /// Who reads the frames of a connection, and tells sessions apart by channels alone, finds each transfer that goes in a
 /// session in the window that the peer gave it (part 2, 2.5.1, 2.5.6). So it is whatever is done on a connection; and
 /// so it is, unless the connection is broken off, with the deeds of a run since the latest connect: those by which its
