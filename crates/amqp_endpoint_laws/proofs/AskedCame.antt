@@ -34,8 +34,8 @@ use Rattle.amqp_endpoint_sessions.specs.State.{asked_of, live_of, place_at, with
 use Rattle.amqp_endpoint_sessions.specs.declared.place.Place.TheVariants.{Asked, Live, Ending, Over}
 use Rattle.amqp_endpoint_talk.specs.Inside.{Batches}
 use Rattle.amqp_endpoint_talk.specs.Windows.{Came, Passing, body_said, went}
-use Rattle.amqp_endpoint_laws.specs.Passed.{PassesIn}
-use Rattle.amqp_endpoint_laws.specs.Taken.{CameLast, asked_in, came_in}
+use Rattle.amqp_endpoint_laws.specs.Passed.{PassesIn, came_in}
+use Rattle.amqp_endpoint_laws.specs.Taken.{CameLast, asked_in}
 use Rattle.amqp_endpoint_laws.proofs.AskedCameHeard.{AllCame, AreAsked, asked-came, keep-asked, takes-asked}
 use Rattle.amqp_endpoint_laws.proofs.PassedKept.{new-judges}
 use Rattle.amqp_endpoint_laws.proofs.PassedPlaces.{AskedBy, GoesBy, IsGone, Keeping, none-came, stays-asked, takes-said}

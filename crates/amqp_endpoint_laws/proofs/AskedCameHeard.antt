@@ -49,7 +49,8 @@ use Rattle.amqp_endpoint_links.specs.declared.hearing.PerformativeTaken.TheVaria
 use Rattle.amqp_endpoint_links.proofs.Projecting.{Done, detach-done, flow-done}
 use Rattle.amqp_endpoint_links.proofs.Routing.{Routed, none-stays}
 use Rattle.amqp_endpoint_talk.specs.Windows.{body_said}
-use Rattle.amqp_endpoint_laws.specs.Taken.{CameLast, pieces_come}
+use Rattle.amqp_endpoint_laws.specs.Handed.{pieces_come}
+use Rattle.amqp_endpoint_laws.specs.Taken.{CameLast}
 use Rattle.amqp_endpoint_laws.proofs.AskedCameInside.{same-was, step-keeps, taken-was}
 use Rattle.amqp_endpoint_laws.proofs.PassedPlaces.{AreBeside, KeepsAsked, WasAsked}
 use Rattle.amqp_endpoint_laws.proofs.TakenRead.{come-both, none-both}

@@ -8,9 +8,9 @@ use Rattle.amqp_session_frames.specs.declared.frame.FrameBody.{FrameBody}
 use Rattle.amqp_link_place.specs.Readings.{Piece}
 use Rattle.amqp_endpoint_model.specs.State.{body_of}
 use Rattle.amqp_endpoint_laws.specs.Attachments.{attach_in, attaches_in, bodies_of}
-use Rattle.amqp_endpoint_laws.specs.Handed.{piece_on as come_on}
+use Rattle.amqp_endpoint_laws.specs.Handed.{piece_on as come_on, pieces_come}
 use Rattle.amqp_endpoint_laws.specs.Queued.{piece_on, pieces_on}
-use Rattle.amqp_endpoint_laws.specs.Taken.{NoneAttaches, pieces_come}
+use Rattle.amqp_endpoint_laws.specs.Taken.{NoneAttaches}
 
 pub attaches-both : (first later : List SessionFrame)
     → attaches_in (first ++ later) ≡ attaches_in first ++ attaches_in later

@@ -32,7 +32,8 @@ use Rattle.amqp_endpoint_talk.specs.Windows.{Came, Passing, went}
 use Rattle.amqp_endpoint_laws.specs.Attachments.{attaches_in, attachment, bodies_of, uses}
 use Rattle.amqp_endpoint_laws.specs.Passed.{PassesIn, called_in, is_it, passes_in, sent_in, session_taking}
 use Rattle.amqp_endpoint_laws.specs.Queued.{SayMessages, messages_by, pieces_on, pieces_waiting}
-use Rattle.amqp_endpoint_laws.specs.Taken.{NoneAttaches, pieces_come}
+use Rattle.amqp_endpoint_laws.specs.Handed.{pieces_come}
+use Rattle.amqp_endpoint_laws.specs.Taken.{NoneAttaches}
 use Rattle.amqp_endpoint_laws.proofs.Attachments.{NoneTakes, attaches-both, bodies-both, none-both, none-comes}
 use Rattle.amqp_endpoint_laws.proofs.Attachments.{pieces-alike}
 use Rattle.amqp_endpoint_laws.proofs.AttachmentsCalled.{attaches-once, call-none, take-none}

@@ -1,6 +1,6 @@
 -- The transfers that reach a link are those that pass in its session on the handle of the peer's that leads to it.
 use Rattle.std.proofs.Common.{◌≡◌, ◌==◌, ◌&&◌, Option, ℕ, Bool, true, false, List, [], ◌∷◌, ◌++◌, ap, refl, sym, ◌∙◌}
-use Rattle.std.proofs.Common.{append_assoc, if◌then◌else◌}
+use Rattle.std.proofs.Common.{if◌then◌else◌}
 use Rattle.std.proofs.lemmas.List.{append-nil}
 use Rattle.amqp_session_types.specs.declared.handles.OutputHandle.{OutputHandle}
 use Rattle.amqp_session_performatives.specs.declared.session_frame.SessionFrame.{SessionFrame}
@@ -14,12 +14,14 @@ use Rattle.amqp_endpoint_deeds.specs.Deeds.{Renews, Takes}
 use Rattle.amqp_endpoint_linked.specs.Does.{linked}
 use Rattle.amqp_endpoint_linked.specs.declared.linked.LinkedSessions.{LinkedSessions}
 use Rattle.amqp_endpoint_sessions.specs.State.{live_at, reached}
-use Rattle.amqp_endpoint_talk.specs.Windows.{Came, Passing, Went, went}
+use Rattle.amqp_endpoint_talk.specs.Windows.{Came, Passing, went}
 use Rattle.amqp_endpoint_laws.specs.Handed.{IsReceiving, PassesOn, ReachIn, leads_there, piece_of, piece_on}
 use Rattle.amqp_endpoint_laws.specs.Handed.{pieces_in}
-use Rattle.amqp_endpoint_laws.specs.Handed.{pieces_on}
-use Rattle.amqp_endpoint_laws.specs.Passed.{called_in, is_it, passes_in, session_taking}
+use Rattle.amqp_endpoint_laws.specs.Handed.{pieces_come, pieces_on}
+use Rattle.amqp_endpoint_laws.specs.Passed.{called_in, came_in, is_it, passes_in, session_taking}
 use Rattle.amqp_endpoint_laws.proofs.HoldingDeeds.{IsNotTransfer}
+use Rattle.amqp_endpoint_laws.proofs.PassedPlaces.{none-came}
+use Rattle.amqp_endpoint_laws.proofs.TakenRead.{came-both, come-both}
 
 -- of the peer's handles this one leads to the link, and no other
 abbrev pub LeadsOnly : LinkedSessions → ℕ → OutputHandle → ℕ → Type 0
@@ -28,16 +30,13 @@ LeadsOnly s session own theirs =
 
 module _ (session : ℕ) (own : OutputHandle) (theirs : ℕ) where
   pieces-both : (ps qs : List Passing) → pieces_on theirs (ps ++ qs) ≡ pieces_on theirs ps ++ pieces_on theirs qs
-  pieces-both [] qs = refl
-  pieces-both (Came it ∷ ps) qs =
-      ap (λ (xs : List Piece). piece_on theirs it ++ xs) (pieces-both ps qs)
-      ∙ sym (append_assoc (piece_on theirs it) (pieces_on theirs ps) (pieces_on theirs qs))
-  pieces-both (Went frame ∷ ps) qs = pieces-both ps qs
+  pieces-both ps qs =
+      ap (λ (came : List FrameBody). pieces_come theirs came) (came-both ps qs)
+      ∙ come-both theirs (came_in ps) (came_in qs)
 
   -- what goes is none of them
   went-none : (frames : List SessionFrame) → pieces_on theirs (went frames) ≡ []
-  went-none [] = refl
-  went-none (frame ∷ frames) = went-none frames
+  went-none frames = ap (λ (came : List FrameBody). pieces_come theirs came) (none-came frames)
 
   if-went : (b : Bool) (frames : List SessionFrame) → pieces_on theirs (if b then went frames else []) ≡ []
   if-went true frames = went-none frames

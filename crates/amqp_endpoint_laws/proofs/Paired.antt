@@ -17,9 +17,8 @@ use Rattle.amqp_endpoint_reading.proofs.Coming.{all-come}
 use Rattle.amqp_endpoint_reading.proofs.Going.{going-read}
 use Rattle.amqp_endpoint_laws.specs.Attachments.{bodies_of}
 use Rattle.amqp_endpoint_laws.specs.Paired.{BeginsOn, BegunOn}
-use Rattle.amqp_endpoint_laws.specs.Passed.{sent_in}
+use Rattle.amqp_endpoint_laws.specs.Passed.{came_in, sent_in}
 use Rattle.amqp_endpoint_laws.specs.Seen.{AreOnes, passing_in, passing_of}
-use Rattle.amqp_endpoint_laws.specs.Taken.{came_in}
 
 module _ (channel : ℕ) where
   -- what comes first says the same however much comes behind it

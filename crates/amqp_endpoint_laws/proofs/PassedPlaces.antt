@@ -39,8 +39,9 @@ use Rattle.amqp_endpoint_sessions.proofs.Owning.{at, same_number}
 use Rattle.amqp_endpoint_talk.specs.Inside.{AcceptsInside, Batches, said_in}
 use Rattle.amqp_endpoint_talk.specs.Windows.{Came, Passing, body_said, went}
 use Rattle.amqp_endpoint_laws.specs.Conversing.{SessionsAct}
-use Rattle.amqp_endpoint_laws.specs.Passed.{is_it, sent_in}
-use Rattle.amqp_endpoint_laws.specs.Taken.{NoneAttaches, came_in, pieces_come}
+use Rattle.amqp_endpoint_laws.specs.Passed.{came_in, is_it, sent_in}
+use Rattle.amqp_endpoint_laws.specs.Handed.{pieces_come}
+use Rattle.amqp_endpoint_laws.specs.Taken.{NoneAttaches}
 
 -- a session that is ending, or over
 abbrev pub IsGone : Option Stood → Type 0

@@ -32,10 +32,10 @@ use Rattle.amqp_endpoint_settings.specs.declared.link.LinkSettings.{LinkSettings
 use Rattle.amqp_endpoint_talk.specs.Windows.{Came, Passing, went}
 use Rattle.amqp_endpoint_laws.specs.Agreeing.{Agree}
 use Rattle.amqp_endpoint_laws.specs.Attachments.{attachment, is_named, uses}
-use Rattle.amqp_endpoint_laws.specs.Handed.{Handed, IsReceiving, NoneResumes, PassesOn, handed_as, handed_by}
+use Rattle.amqp_endpoint_laws.specs.Handed.{Handed, IsReceiving, NoneResumes, PassesOn, handed_as, handed_by, pieces_come}
 use Rattle.amqp_endpoint_laws.specs.Handed.{leads_there, pieces_on}
-use Rattle.amqp_endpoint_laws.specs.Passed.{PassesIn, called_in, is_it, passes_in, session_taking}
-use Rattle.amqp_endpoint_laws.specs.Taken.{HandsOut, IsOther, NoneAttaches, came_in, pieces_come}
+use Rattle.amqp_endpoint_laws.specs.Passed.{PassesIn, called_in, came_in, is_it, passes_in, session_taking}
+use Rattle.amqp_endpoint_laws.specs.Taken.{HandsOut, IsOther, NoneAttaches}
 use Rattle.amqp_endpoint_laws.proofs.AskedCame.{links-came}
 use Rattle.amqp_endpoint_laws.proofs.ComesAttached.{takes-attach}
 use Rattle.amqp_endpoint_laws.proofs.ComesAttachedCalled.{IsApart, call-attaches, other-calls}
@@ -54,7 +54,6 @@ use Rattle.amqp_endpoint_laws.proofs.PassedPlaces.{eq-same, none-came}
 use Rattle.amqp_endpoint_laws.proofs.QueuedAttached.{Reached, link-entered, reached-on}
 use Rattle.amqp_endpoint_laws.proofs.QueuedSince.{done-of}
 use Rattle.amqp_endpoint_laws.proofs.TakenRead.{attachment-read, came-both, come-both, named-so, none-both}
-use Rattle.amqp_endpoint_laws.proofs.TakenRead.{pieces-come}
 
 abbrev Slot : Type 0
 Slot = Option (Option (Named End))
@@ -276,10 +275,8 @@ module _ (back_on : BackGoesOn) (left_on : LeftGoesOn) (finished_on : FinishedGo
         let reach =
         reach-alone r.sessions s end r.settings r.deeds deeds link number own None theirs ps r.fresh r.done q
         stays.passes in
-        let is : pieces_come theirs (came_in ps) ≡ pieces_on theirs ps = pieces-come theirs ps in
         (handed-so back_on left_on finished_on r.sessions s end r.settings r.deeds deeds link number own None
-        (pieces_on theirs ps) r.fresh r.done q reach (subst NoneResumes is fresh)).0
-        ∙ ap (λ (xs : List Piece). map (handed_as own) (readings nothing xs).messages) (sym is)
+        (pieces_on theirs ps) r.fresh r.done q reach fresh).0
 
   -- a link that waits, and is attached once these deeds are done: by which Attach among what came by them
   record ComesOn (name : List ℕ) (deeds : List Deed) (end : LinkedSessions) (ps : List Passing) : Type 0 where

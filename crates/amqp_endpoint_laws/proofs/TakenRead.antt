@@ -13,8 +13,9 @@ use Rattle.amqp_link_place.specs.Said.{Said, whole}
 use Rattle.amqp_endpoint_talk.specs.Windows.{Came, Passing, Went}
 use Rattle.amqp_endpoint_laws.specs.Attachments.{Follows, Past, Stand, Waits, attachment, is_named, is_sending}
 use Rattle.amqp_endpoint_laws.specs.Attachments.{named_behind, piece_at, pieces_from, stand_behind, uses}
-use Rattle.amqp_endpoint_laws.specs.Handed.{piece_on, pieces_on}
-use Rattle.amqp_endpoint_laws.specs.Taken.{IsOther, NoneAttaches, came_in, pieces_come}
+use Rattle.amqp_endpoint_laws.specs.Handed.{piece_on, pieces_come}
+use Rattle.amqp_endpoint_laws.specs.Passed.{came_in}
+use Rattle.amqp_endpoint_laws.specs.Taken.{IsOther, NoneAttaches}
 use Rattle.amqp_endpoint_laws.proofs.HandedOut.{readings-both}
 
 -- what comes among both of two lists of what passes
@@ -23,12 +24,7 @@ came-both [] qs = refl
 came-both (Came it ∷ ps) qs = ap (λ (xs : List FrameBody). it ∷ xs) (came-both ps qs)
 came-both (Went frame ∷ ps) qs = came-both ps qs
 
--- transfers on a handle are told from what passes as from what comes
-pub pieces-come : (theirs : ℕ) (ps : List Passing) → pieces_come theirs (came_in ps) ≡ pieces_on theirs ps
-pieces-come theirs [] = refl
-pieces-come theirs (Came it ∷ ps) = ap (λ (xs : List Piece). piece_on theirs it ++ xs) (pieces-come theirs ps)
-pieces-come theirs (Went frame ∷ ps) = pieces-come theirs ps
-
+-- and the transfers on a handle among both of two lists of what comes
 pub come-both : (theirs : ℕ) (first later : List FrameBody)
     → pieces_come theirs (first ++ later) ≡ pieces_come theirs first ++ pieces_come theirs later
 come-both theirs [] later = refl

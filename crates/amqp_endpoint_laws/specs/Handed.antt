@@ -25,9 +25,9 @@ use Rattle.amqp_endpoint_model.specs.declared.event.Event.{Event}
 use Rattle.amqp_endpoint_model.specs.declared.event.Event.TheVariants.{Message}
 use Rattle.amqp_endpoint_names.specs.declared.place.LinkPlace.TheVariants.{Held}
 use Rattle.amqp_endpoint_sessions.specs.State.{live_at, reached}
-use Rattle.amqp_endpoint_talk.specs.Windows.{Came, Passing, Went}
+use Rattle.amqp_endpoint_talk.specs.Windows.{Passing}
 use Rattle.amqp_endpoint_laws.specs.Held.{number_at}
-use Rattle.amqp_endpoint_laws.specs.Passed.{is_it, passes_in}
+use Rattle.amqp_endpoint_laws.specs.Passed.{came_in, is_it, passes_in}
 
 -- in a session that goes on the receiving link with this number has this own handle, and is attached, and this is the
 -- delivery of which transfers are still to come to it, if there is one (part 2, 2.6.2, 2.6.3, 2.6.14)
@@ -72,10 +72,12 @@ piece_on theirs (body.Transfer transfer payload) =
     if transfer.handle.0 == theirs then record { performative = transfer; payload = payload } ∷ [] else []
 piece_on theirs it = []
 
+abbrev pub pieces_come : ℕ → List FrameBody → List Piece
+pieces_come theirs [] = []
+pieces_come theirs (it ∷ others) = piece_on theirs it ++ pieces_come theirs others
+
 abbrev pub pieces_on : ℕ → List Passing → List Piece
-pieces_on theirs [] = []
-pieces_on theirs (Came it ∷ passings) = piece_on theirs it ++ pieces_on theirs passings
-pieces_on theirs (Went frame ∷ passings) = pieces_on theirs passings
+pieces_on theirs passings = pieces_come theirs (came_in passings)
 
 -- deeds are done one after the other, by each of which the link stays attached as it is, and before each of which this
 -- handle leads to it; and this passes in its session by them

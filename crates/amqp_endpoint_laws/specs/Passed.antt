@@ -72,6 +72,12 @@ sent_in [] = []
 sent_in (Came it ∷ passings) = sent_in passings
 sent_in (Went frame ∷ passings) = frame ∷ sent_in passings
 
+-- and those of the peer's that come
+abbrev pub came_in : List Passing → List FrameBody
+came_in [] = []
+came_in (Came it ∷ passings) = it ∷ came_in passings
+came_in (Went frame ∷ passings) = came_in passings
+
 -- what passes in the session with this number by one deed
 abbrev pub passes_in : ℕ → LinkedSessions → Deed → List Passing
 passes_in number s (Takes limit frame frames events) =

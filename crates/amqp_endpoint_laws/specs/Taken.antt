@@ -5,29 +5,17 @@ use Rattle.amqp_session_types.specs.declared.handles.OutputHandle.{OutputHandle}
 use Rattle.amqp_session_performatives.specs.declared.attach.Attach.{Attach}
 use Rattle.amqp_session_frames.specs.declared.frame.FrameBody.{FrameBody}
 use Rattle.amqp_session_frames.specs.declared.frame.FrameBody.TheVariants as body
-use Rattle.amqp_link_place.specs.Readings.{Piece, nothing, readings}
+use Rattle.amqp_link_place.specs.Readings.{nothing, readings}
 use Rattle.amqp_endpoint_asked.specs.Asked.{Asked}
 use Rattle.amqp_endpoint_linked.specs.declared.linked.LinkedSessions.{LinkedSessions}
 use Rattle.amqp_endpoint_linking.specs.Linking.{Stood}
 use Rattle.amqp_endpoint_sessions.specs.State.{live_at}
 use Rattle.amqp_endpoint_sessions.specs.declared.place.Place.TheVariants as place
-use Rattle.amqp_endpoint_talk.specs.Windows.{Came, Passing, Went}
 use Rattle.amqp_endpoint_laws.specs.Attachments.{attachment, is_named, uses}
-use Rattle.amqp_endpoint_laws.specs.Handed.{Handed, NoneResumes, handed_as, leads_there, piece_on}
+use Rattle.amqp_endpoint_laws.specs.Handed.{Handed, NoneResumes, handed_as, leads_there, pieces_come}
 use Rattle.amqp_endpoint_laws.specs.Queued.{Message}
 
--- the frames of the peer's among what passes, in order
-abbrev pub came_in : List Passing → List FrameBody
-came_in [] = []
-came_in (Came it ∷ passings) = it ∷ came_in passings
-came_in (Went frame ∷ passings) = came_in passings
-
--- the transfers among them on a handle of the peer's
-abbrev pub pieces_come : ℕ → List FrameBody → List Piece
-pieces_come theirs [] = []
-pieces_come theirs (it ∷ others) = piece_on theirs it ++ pieces_come theirs others
-
--- none of them attaches by this handle
+-- none of these frames of the peer's attaches by this handle
 abbrev pub IsOther : ℕ → FrameBody → Type 0
 IsOther theirs (body.Attach attach) = (attach.handle.0 == theirs) ≡ false
 IsOther theirs it = Unit {0}

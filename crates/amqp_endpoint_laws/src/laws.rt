@@ -43,13 +43,13 @@ ghost use Rattle.amqp_endpoint_laws.specs.Held.{IsHeldThere, number_at};
 ghost use Rattle.amqp_endpoint_laws.specs.Judged.{Judged};
 ghost use Rattle.amqp_endpoint_laws.specs.Linking.{HaveCome};
 ghost use Rattle.amqp_endpoint_laws.specs.Paired.{BeginsOn, BegunOn};
-ghost use Rattle.amqp_endpoint_laws.specs.Passed.{HasCome, PassesIn, sent_in};
+ghost use Rattle.amqp_endpoint_laws.specs.Passed.{HasCome, PassesIn, came_in, sent_in};
 ghost use Rattle.amqp_endpoint_laws.specs.Queued.{AttachesFirst, Message, SayMessages, SaysSince, messages_by};
 ghost use Rattle.amqp_endpoint_laws.specs.Queued.{messages_done};
 ghost use Rattle.amqp_endpoint_laws.specs.Queued.{pieces_waiting, queued};
 ghost use Rattle.amqp_endpoint_laws.specs.Seen.{AreOnes, passing_in, wired_by};
 ghost use Rattle.amqp_endpoint_laws.specs.Life.{Reach, StaysSomewhere};
-ghost use Rattle.amqp_endpoint_laws.specs.Taken.{CameLast, HandsOut, asked_in, came_in, message_handed};
+ghost use Rattle.amqp_endpoint_laws.specs.Taken.{CameLast, HandsOut, asked_in, message_handed};
 ghost use Rattle.amqp_endpoint_laws.specs.Telling.{numbers_told, numbers_under, tags_given};
 
 use amqp_endpoint_linking::laws::links_given_back_go_on;

@@ -92,7 +92,8 @@ begins_come channel [] = 0
 begins_come channel (frame ∷ frames) =
     (if frame.channel == channel then one_come frame.body else 0) + begins_come channel frames
 
--- on a channel Begins and Ends come by turns, a Begin first (part 2, 2.5.1, 2.5.2)
+-- on a channel no Begin comes as long as a session goes on there: between two Begins comes an End (part 2, 2.5.1,
+-- 2.5.2)
 abbrev pub is_open : Bool → FrameBody → Bool
 is_open on (body.Begin begin) = true
 is_open on (body.End end) = false

@@ -2,9 +2,9 @@ use Rattle.std.proofs.Common.{List, ap, map, sym, ◌++◌, ◌∙◌}
 use Rattle.amqp_endpoint_reading.specs.Reading.{nothing_read}
 use Rattle.amqp_endpoint_laws.specs.Attachments.{uses}
 use Rattle.amqp_endpoint_laws.specs.Handed.{Handed}
-use Rattle.amqp_endpoint_laws.specs.Passed.{sent_in}
+use Rattle.amqp_endpoint_laws.specs.Passed.{came_in, sent_in}
 use Rattle.amqp_endpoint_laws.specs.Seen.{passing_in}
-use Rattle.amqp_endpoint_laws.specs.Taken.{came_in, message_handed}
+use Rattle.amqp_endpoint_laws.specs.Taken.{message_handed}
 use Rattle.amqp_endpoint_laws.proofs.Paired.{paired}
 use Rattle.amqp_endpoint_laws.proofs.TakenJoining.{joined}
 use Rattle.amqp_endpoint_laws.proofs.laws.messages_are_handed_out_in_order_between_two_ends.Goals as goal
