@@ -46,13 +46,13 @@ edits:
 
 # Counts the instructions that the codec, the frames of a session, sessions, the endpoint and links take, by valgrind.
 bench:
-	@crates/amqp_bench/measure
+	@crates/amqp_scenario/measure
 	@crates/amqp_script/measure
 
 # Proves and builds the program, and runs the script once for each of its requests for memory, with that request refused.
 memory:
 	@tools/refuse_memory "$(SCENARIO)"
 
-# Runs random scripts of two endpoints, and of one, and judges what they print. Both programs are built once, and nothing is proved.
+# Runs random scripts of two endpoints, and of one, and judges what they print. The program is built once, and nothing is proved.
 soak:
 	@tools/soak "$(SEEDS)" "$(STEPS)"

@@ -4,8 +4,9 @@ ghost use Rattle.std.specs.Prelude.{◌<◌};
 
 use crate::links::{attach_and_detach, begin_and_end, open};
 use crate::messages::{send_and_receive, send_in_turn};
-use amqp_endpoint::{EndpointError, Event, Fed, SessionRelay, Settings, Text};
 use amqp_endpoint_core::Endpoint;
+use amqp_endpoint_model::{EndpointError, Event, Fed, SessionRelay, Settings};
+use serde_amqp_types::Text;
 use std::alloc::Global;
 use std::fmt;
 

@@ -1,11 +1,12 @@
 //! Two endpoints, and the bytes between them: their sessions begin and end, their links attach and are detached.
 use crate::endpoint::Found;
 use crate::termini::{source, target};
-use amqp_endpoint::{
-    Attaching, EndpointError, IncomingChannel, LinkSettings, ReceiverSettleMode, SenderSettleMode,
-    SessionRelay, TargetArchetype, Text,
-};
 use amqp_endpoint_core::Endpoint;
+use amqp_endpoint_model::{Attaching, EndpointError, SessionRelay};
+use amqp_endpoint_settings::LinkSettings;
+use amqp_session_states::TargetArchetype;
+use amqp_session_types::{IncomingChannel, ReceiverSettleMode, SenderSettleMode};
+use serde_amqp_types::Text;
 use std::alloc::Global;
 
 /// All that an end has queued is fed to the other, in one piece.

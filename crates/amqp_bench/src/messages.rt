@@ -1,8 +1,9 @@
 //! Two endpoints, and the messages that one sends to the other.
 use crate::endpoint::Found;
 use crate::links::{attach, begin, exchange, move_all};
-use amqp_endpoint::{Accepted, DeliveryState, Disposal, EndpointError, Sending, SessionRelay};
 use amqp_endpoint_core::Endpoint;
+use amqp_endpoint_model::{Disposal, EndpointError, Sending, SessionRelay};
+use amqp_session_states::{Accepted, DeliveryState};
 use bytes::Bytes;
 use std::alloc::Global;
 

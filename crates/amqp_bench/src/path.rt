@@ -4,7 +4,7 @@ mod taking;
 mod wire;
 
 use crate::path::ends::Ends;
-use amqp_endpoint::Data;
+use amqp_link_sections::Data;
 use anyhow::Result;
 use serde_amqp_types::ByteBuf;
 use std::alloc::Global;

@@ -11,7 +11,7 @@ use Rattle.amqp_session_performatives.specs.declared.link_flow.LinkFlow.{LinkFlo
 use Rattle.amqp_endpoint_asked.specs.declared.links.AskedLink.{AskedLink}
 use Rattle.amqp_endpoint_asked.specs.Asked.{Asked, HasName, IsNewName}
 use Rattle.amqp_endpoint_asked.specs.Inside.{AreNamed}
-use Rattle.amqp_endpoint_asked.proofs.Tables.{get-put, get-take, get-put-other, get-take-other}
+use Rattle.amqp_session_types.proofs.Tables.{get-put, get-take, get-put-other, get-take-other}
 
 abbrev Handles : Type 0
 Handles = List (List ℕ × ℕ)

@@ -32,7 +32,7 @@ use Rattle.amqp_endpoint_asked.specs.declared.links.AskRefusal.{AskRefusal}
 use Rattle.amqp_endpoint_asked.specs.declared.links.AskRefusal.TheVariants as ask
 use Rattle.amqp_endpoint_asked.specs.declared.links.AskedLink.{AskedLink}
 use Rattle.amqp_endpoint_asked.specs.declared.session.AskedSession.{AskedSession}
-use Rattle.amqp_endpoint_asked.proofs.Tables.{get-put}
+use Rattle.amqp_session_types.proofs.Tables.{get-put}
 use Rattle.amqp_endpoint_attached.specs.Linked.{Linked, LinksIn, gives}
 use Rattle.amqp_endpoint_linking.specs.Linking.{Link}
 use Rattle.amqp_endpoint_links.specs.Asking.{AttachAt, DetachAt, FlowAt, asked_answer, by_link, in_use}

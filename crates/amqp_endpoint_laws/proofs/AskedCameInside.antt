@@ -23,7 +23,7 @@ use Rattle.amqp_link_ends.specs.declared.relay.AttachTold.{AttachTold}
 use Rattle.amqp_link_receiving.specs.declared.answer.Told.{Told}
 use Rattle.amqp_endpoint_asked.specs.Asked.{Asked}
 use Rattle.amqp_endpoint_asked.specs.declared.links.AskedLink.{AskedLink}
-use Rattle.amqp_endpoint_asked.proofs.Tables.{get-take, get-take-other}
+use Rattle.amqp_session_types.proofs.Tables.{get-take, get-take-other}
 use Rattle.amqp_endpoint_attached.specs.Answering.{Replies}
 use Rattle.amqp_endpoint_attached.specs.Detaching.{is_there}
 use Rattle.amqp_endpoint_attached.specs.Linked.{Linked, LinksIn, end_at, gives}

@@ -24,7 +24,7 @@ use Rattle.amqp_endpoint_attached.specs.Linked.{Linked, gives}
 use Rattle.amqp_endpoint_attached.specs.Links.{own_attach, receiver_by, sender_by}
 use Rattle.amqp_endpoint_conversation.specs.Ending.{EndReply, end_frame}
 use Rattle.amqp_endpoint_conversation.specs.Faults.{fault_error}
-use Rattle.amqp_endpoint_deeds.specs.Deeds.{Deed, Does, IsDeed, Takes}
+use Rattle.amqp_endpoint_laws.specs.Deeds.{Deed, Does, IsDeed, Takes}
 use Rattle.amqp_endpoint_link_attaching.proofs.Inside.{attaches-inside}
 use Rattle.amqp_endpoint_linked.specs.Attaching.{LinkAttached}
 use Rattle.amqp_endpoint_linked.specs.Does.{linked}
@@ -41,8 +41,8 @@ use Rattle.amqp_endpoint_model.specs.Said.{Said, attaching}
 use Rattle.amqp_endpoint_model.specs.declared.call.Call.{Call}
 use Rattle.amqp_endpoint_model.specs.declared.call.Call.TheVariants as call
 use Rattle.amqp_endpoint_model.specs.declared.event.Event.{Event}
-use Rattle.amqp_endpoint_reading.specs.Following.{goes}
-use Rattle.amqp_endpoint_reading.specs.Reading.{Comes, Goes, Wired}
+use Rattle.amqp_endpoint_laws.specs.Following.{goes}
+use Rattle.amqp_endpoint_laws.specs.Reading.{Comes, Goes, Wired}
 use Rattle.amqp_endpoint_sessions.specs.declared.place.Place.TheVariants.{Asked, Live, Ending, Over}
 use Rattle.amqp_endpoint_talk.specs.Inside.{AreOn, IsPlain}
 use Rattle.amqp_endpoint_talk.proofs.Inside.{at-once-on, both-on, left-on}

@@ -10,7 +10,7 @@ use Rattle.amqp_session_frames.specs.declared.frame.FrameBody.{FrameBody}
 use Rattle.amqp_link_ends.specs.declared.end.End.{End}
 use Rattle.amqp_link_place.specs.Readings.{Piece}
 use Rattle.amqp_endpoint_attached.specs.Links.{own_attach, receiver_by, sender_by}
-use Rattle.amqp_endpoint_deeds.specs.Deeds.{AreDone, Deed, Does, IsDeed, Takes}
+use Rattle.amqp_endpoint_laws.specs.Deeds.{AreDone, Deed, Does, IsDeed, Takes}
 use Rattle.amqp_endpoint_linked.specs.Attaching.{LinkAttached}
 use Rattle.amqp_endpoint_linked.specs.Does.{linked}
 use Rattle.amqp_endpoint_linked.specs.declared.linked.LinkedSessions.{LinkedSessions}

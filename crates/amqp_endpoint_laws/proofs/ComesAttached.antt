@@ -14,7 +14,7 @@ use Rattle.amqp_link_ends.specs.declared.end.End.{End}
 use Rattle.amqp_link_ends.specs.Gives.{attaches}
 use Rattle.amqp_link_receiving.specs.Deliveries.{Delivery}
 use Rattle.amqp_endpoint_attached.specs.Ends.{role_of}
-use Rattle.amqp_endpoint_deeds.specs.Deeds.{IsDeed, Takes}
+use Rattle.amqp_endpoint_laws.specs.Deeds.{IsDeed, Takes}
 use Rattle.amqp_endpoint_link_hearing.specs.Attaching.{HearsAttach}
 use Rattle.amqp_endpoint_link_hearing.specs.Naming.{IsNamedIn, is_other, link_in}
 use Rattle.amqp_endpoint_link_hearing.specs.declared.attaching.LinkAttached.{LinkAttached as Left}

@@ -14,13 +14,13 @@ use Rattle.amqp_link_attach.specs.declared.exchange.AttachExchange.{AttachExchan
 use Rattle.amqp_link_ends.specs.Ends.{state_of, with_handle}
 use Rattle.amqp_link_ends.specs.declared.end.End.{End}
 use Rattle.amqp_link_receiving.specs.Deliveries.{Delivery}
-use Rattle.amqp_endpoint_asked.proofs.Tables.{get-put}
+use Rattle.amqp_session_types.proofs.Tables.{get-put}
 use Rattle.amqp_endpoint_asked.specs.Asked.{Asked as AskedLinks}
 use Rattle.amqp_endpoint_asked.specs.declared.links.AskedLink.{AskedLink}
 use Rattle.amqp_endpoint_attached.specs.Answering.{Replies}
 use Rattle.amqp_endpoint_attached.specs.Linked.{LinksIn, gives}
 use Rattle.amqp_endpoint_attached.specs.Links.{attach_frame, attach_sent, receiver_by, sender_by, with_number}
-use Rattle.amqp_endpoint_deeds.specs.Deeds.{Deed, Does, IsDeed, Takes}
+use Rattle.amqp_endpoint_laws.specs.Deeds.{Deed, Does, IsDeed, Takes}
 use Rattle.amqp_endpoint_link_attaching.specs.Attaching.{AttachedBy}
 use Rattle.amqp_endpoint_link_attaching.specs.Places.{Meets}
 use Rattle.amqp_endpoint_linked.specs.Attaching.{LinkAttached}

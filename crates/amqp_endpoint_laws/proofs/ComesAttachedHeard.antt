@@ -17,7 +17,7 @@ use Rattle.amqp_link_ends.specs.declared.relay.AttachTold.{AttachTold}
 use Rattle.amqp_link_receiving.specs.Deliveries.{Delivery}
 use Rattle.amqp_link_sender.specs.declared.attaching.Attaching.{Attaching}
 use Rattle.amqp_link_types.specs.declared.link_error.LinkError.{LinkError}
-use Rattle.amqp_endpoint_asked.proofs.Tables.{get-put}
+use Rattle.amqp_session_types.proofs.Tables.{get-put}
 use Rattle.amqp_endpoint_attached.specs.Detaching.{is_there}
 use Rattle.amqp_endpoint_attached.specs.Linked.{Linked, LinksIn, end_at, gives}
 use Rattle.amqp_endpoint_conversation.specs.Hearing.{Answered, AnsweredAt, AnsweredIn}

@@ -20,7 +20,7 @@ use Rattle.amqp_endpoint_attached.specs.Linked.{Linked, gives}
 use Rattle.amqp_endpoint_conversation.specs.Hearing.{Answered, AnsweredAt, AnsweredIn, LiveAnswered}
 use Rattle.amqp_endpoint_conversation.specs.declared.hearing.HearRefusal.TheVariants as refused
 use Rattle.amqp_endpoint_conversation.specs.declared.hearing.Heard.TheVariants as heard_as
-use Rattle.amqp_endpoint_deeds.specs.Deeds.{IsDeed, Takes}
+use Rattle.amqp_endpoint_laws.specs.Deeds.{IsDeed, Takes}
 use Rattle.amqp_endpoint_link_hearing.specs.Attaching.{HearsAttach}
 use Rattle.amqp_endpoint_link_hearing.specs.Saying.{LinkHeard, LinkRefusal}
 use Rattle.amqp_endpoint_link_hearing.specs.declared.attaching.LinkAttached.{LinkAttached as Left}

@@ -29,7 +29,7 @@ use Rattle.amqp_endpoint_linked.specs.Counting.{Counted, CountsStay}
 use Rattle.amqp_endpoint_linked.specs.Does.{linked}
 use Rattle.amqp_endpoint_linked.specs.Sending.{tag_of}
 use Rattle.amqp_endpoint_linked.specs.declared.linked.LinkedSessions.{LinkedSessions}
-use Rattle.amqp_endpoint_deeds.specs.Telling.{events_of, events_told}
+use Rattle.amqp_endpoint_laws.specs.CallsDone.{events_of, events_told}
 use Rattle.amqp_endpoint_laws.specs.Telling.{numbers_told, numbers_under, tag_given, tags_given}
 use Rattle.amqp_endpoint_laws.proofs.Keeping.{IsOfConnection, Keeps}
 use Rattle.amqp_endpoint_laws.proofs.Kept.{run-keeps}

@@ -3,8 +3,8 @@ use Rattle.std.proofs.Common.{◌≡◌, ◌⊎◌, inl, inr, Some, ap, refl, sy
 use Rattle.amqp_session_connection.specs.State as channels
 use Rattle.amqp_session_frames.specs.declared.frame.FrameBody.{FrameBody}
 use Rattle.amqp_session_frames.specs.declared.frame.FrameBody.TheVariants as body
-use Rattle.amqp_endpoint_deeds.specs.Deeds.{Closes, Deed, Does, Finishes, HeaderComes, Hears, IsDeed, Moves}
-use Rattle.amqp_endpoint_deeds.specs.Deeds.{MovesByFrame, OwnCloseGoes, Queues, Refuses, Renews, Takes}
+use Rattle.amqp_endpoint_laws.specs.Deeds.{Closes, Deed, Does, Finishes, HeaderComes, Hears, IsDeed, Moves}
+use Rattle.amqp_endpoint_laws.specs.Deeds.{MovesByFrame, OwnCloseGoes, Queues, Refuses, Renews, Takes}
 use Rattle.amqp_endpoint_model.specs.Relay.{Relations}
 use Rattle.amqp_endpoint_model.specs.declared.call.Call.{Call}
 use Rattle.amqp_endpoint_model.specs.declared.call.Call.TheVariants.{AcceptBegin, Begin}

@@ -22,8 +22,8 @@ use Rattle.amqp_endpoint_attached.specs.Linked.{gives}
 use Rattle.amqp_endpoint_conversation.specs.Hearing.{Answered, AnsweredAt, AnsweredIn, AskedAnswered, LiveAnswered}
 use Rattle.amqp_endpoint_conversation.specs.declared.hearing.HearRefusal.TheVariants as refused
 use Rattle.amqp_endpoint_conversation.specs.declared.hearing.Heard.TheVariants as heard_as
-use Rattle.amqp_endpoint_deeds.specs.Deeds.{Closes, Deed, Does, Finishes, Hears, IsDeed, Moves, MovesByFrame, Queues}
-use Rattle.amqp_endpoint_deeds.specs.Deeds.{Refuses, Renews, Takes, told_by, told_in}
+use Rattle.amqp_endpoint_laws.specs.Deeds.{Closes, Deed, Does, Finishes, Hears, IsDeed, Moves, MovesByFrame, Queues}
+use Rattle.amqp_endpoint_laws.specs.Deeds.{Refuses, Renews, Takes, told_by, told_in}
 use Rattle.amqp_endpoint_link_hearing.specs.Naming.{link_in}
 use Rattle.amqp_endpoint_link_hearing.specs.Saying.{LinkHeard}
 use Rattle.amqp_endpoint_link_hearing.specs.Transferring.{Becomes, Comes, HearsTransfer, transfer_of}

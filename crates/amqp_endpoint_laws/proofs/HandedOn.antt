@@ -9,8 +9,8 @@ use Rattle.amqp_session_frames.specs.declared.frame.FrameBody.{FrameBody}
 use Rattle.amqp_session_frames.specs.declared.frame.FrameBody.TheVariants as body
 use Rattle.amqp_link_place.specs.Readings.{Piece}
 use Rattle.amqp_link_receiving.specs.Deliveries.{Delivery}
-use Rattle.amqp_endpoint_deeds.specs.Deeds.{Closes, Deed, Does, Finishes, Hears, IsDeed, Moves, Queues, Refuses}
-use Rattle.amqp_endpoint_deeds.specs.Deeds.{Renews, Takes}
+use Rattle.amqp_endpoint_laws.specs.Deeds.{Closes, Deed, Does, Finishes, Hears, IsDeed, Moves, Queues, Refuses}
+use Rattle.amqp_endpoint_laws.specs.Deeds.{Renews, Takes}
 use Rattle.amqp_endpoint_linked.specs.Does.{linked}
 use Rattle.amqp_endpoint_linked.specs.declared.linked.LinkedSessions.{LinkedSessions}
 use Rattle.amqp_endpoint_sessions.specs.State.{live_at, reached}

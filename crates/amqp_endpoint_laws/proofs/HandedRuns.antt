@@ -5,7 +5,7 @@ use Rattle.amqp_link_place.specs.Readings.{Piece, nothing, readings}
 use Rattle.amqp_link_place.specs.Said.{Said}
 use Rattle.amqp_link_receiving.specs.Deliveries.{Delivery}
 use Rattle.amqp_link_receiving.specs.Readings.{held_said}
-use Rattle.amqp_endpoint_deeds.specs.Deeds.{AreDone, Deed, told_by}
+use Rattle.amqp_endpoint_laws.specs.Deeds.{AreDone, Deed, told_by}
 use Rattle.amqp_endpoint_linked.specs.Does.{linked}
 use Rattle.amqp_endpoint_linked.specs.declared.linked.LinkedSessions.{LinkedSessions}
 use Rattle.amqp_endpoint_model.specs.Relay.{IsNew}

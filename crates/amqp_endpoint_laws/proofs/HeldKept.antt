@@ -11,9 +11,9 @@ use Rattle.amqp_session_frames.specs.declared.frame.Frame.{Frame}
 use Rattle.amqp_session_frames.specs.declared.frame.FrameBody.{FrameBody}
 use Rattle.amqp_session_frames.specs.declared.frame.FrameBody.TheVariants as body
 use Rattle.amqp_link_ends.specs.declared.end.End.{End}
-use Rattle.amqp_endpoint_deeds.specs.Deeds.{AreDone, Closes, Deed, Does, EndsBy, Finishes, Hears, IsDeed, Moves}
-use Rattle.amqp_endpoint_deeds.specs.Deeds.{MovesByFrame, Queues, Refuses, Renews, Takes}
-use Rattle.amqp_endpoint_deeds.proofs.Runs.{is-done}
+use Rattle.amqp_endpoint_laws.specs.Deeds.{AreDone, Closes, Deed, Does, EndsBy, Finishes, Hears, IsDeed, Moves}
+use Rattle.amqp_endpoint_laws.specs.Deeds.{MovesByFrame, Queues, Refuses, Renews, Takes}
+use Rattle.amqp_endpoint_laws.proofs.Runs.{is-done}
 use Rattle.amqp_endpoint_linked.specs.Does.{linked}
 use Rattle.amqp_endpoint_linked.specs.declared.linked.LinkedSessions.{LinkedSessions}
 use Rattle.amqp_endpoint_linking.specs.Ending.{FinishesFirst, LeavesFirst, session_of}

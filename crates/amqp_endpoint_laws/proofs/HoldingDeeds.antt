@@ -35,8 +35,8 @@ use Rattle.amqp_endpoint_conversation.specs.declared.beginning.BeginHeard.{Begin
 use Rattle.amqp_endpoint_conversation.specs.declared.beginning.BeginHeard.TheVariants as begin_heard
 use Rattle.amqp_endpoint_conversation.specs.declared.beginning.BeginRefusal.TheVariants as begin_refused
 use Rattle.amqp_endpoint_conversation.specs.declared.hearing.Heard.TheVariants as heard
-use Rattle.amqp_endpoint_deeds.specs.Deeds.{Closes, Deed, Does, EndsBy, Finishes, Hears, IsDeed, Moves, Queues}
-use Rattle.amqp_endpoint_deeds.specs.Deeds.{Refuses, Renews, Takes}
+use Rattle.amqp_endpoint_laws.specs.Deeds.{Closes, Deed, Does, EndsBy, Finishes, Hears, IsDeed, Moves, Queues}
+use Rattle.amqp_endpoint_laws.specs.Deeds.{Refuses, Renews, Takes}
 use Rattle.amqp_endpoint_link_attaching.specs.Attaching.{with_room}
 use Rattle.amqp_endpoint_link_calls.specs.Calling.{Does as DoesTo, DoneAt, DoneIn, detaches, gives_credit, wants_drain}
 use Rattle.amqp_endpoint_link_calls.specs.Closing.{ClosedAt, closes}

@@ -33,7 +33,7 @@ use Rattle.amqp_link_base.specs.declared.detached.Detached.{Detached}
 use Rattle.amqp_link_ends.specs.declared.relay.AttachTold.{AttachTold}
 use Rattle.amqp_link_receiving.specs.declared.answer.Told.{Told}
 use Rattle.amqp_link_receiving.specs.Deliveries.{Delivery}
-use Rattle.amqp_endpoint_asked.proofs.Tables.{get-put, get-take}
+use Rattle.amqp_session_types.proofs.Tables.{get-put, get-take}
 use Rattle.amqp_endpoint_links.specs.History.{routed_in}
 use Rattle.amqp_endpoint_links.proofs.Routing.{Change, Frees, Puts, Same, Takes, change}
 use Rattle.amqp_endpoint_attached.specs.Linked.{LinksIn, gives}

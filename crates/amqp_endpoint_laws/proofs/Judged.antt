@@ -11,22 +11,22 @@ use Rattle.amqp_endpoint_model.specs.History.{Run}
 use Rattle.amqp_endpoint_model.specs.Relay.{IsNew}
 use Rattle.amqp_endpoint_model.specs.Said.{Told}
 use Rattle.amqp_endpoint_model.specs.State.{State, fresh, is_unconnected}
-use Rattle.amqp_endpoint_deeds.specs.Deeds.{AreDone, Closes, Deed, Does, Finishes, Hears, IsDeed, IsDone, IsInOrder}
-use Rattle.amqp_endpoint_deeds.specs.Deeds.{MayPass, Moves, NoneRenews, Queues, Refuses, Renews, Takes, Throughout}
-use Rattle.amqp_endpoint_deeds.specs.Deeds.{come_to, done_since, fed_since, opened_behind, pulled_since, told_since}
-use Rattle.amqp_endpoint_deeds.specs.Deeds.{up_behind}
-use Rattle.amqp_endpoint_deeds.specs.Telling.{calls_done, events_told}
-use Rattle.amqp_endpoint_deeds.proofs.Runs.{is-done}
+use Rattle.amqp_endpoint_laws.specs.Deeds.{AreDone, Closes, Deed, Does, Finishes, Hears, IsDeed, IsDone, IsInOrder}
+use Rattle.amqp_endpoint_laws.specs.Deeds.{MayPass, Moves, NoneRenews, Queues, Refuses, Renews, Takes, Throughout}
+use Rattle.amqp_endpoint_laws.specs.Deeds.{come_to, done_since, fed_since, opened_behind, pulled_since, told_since}
+use Rattle.amqp_endpoint_laws.specs.Deeds.{up_behind}
+use Rattle.amqp_endpoint_laws.specs.CallsDone.{calls_done, events_told}
+use Rattle.amqp_endpoint_laws.proofs.Runs.{is-done}
 use Rattle.amqp_endpoint_linked.specs.Does.{linked}
 use Rattle.amqp_endpoint_linked.specs.declared.linked.LinkedSessions.{LinkedSessions}
 use Rattle.amqp_endpoint_sessions.specs.State.{place_at}
 use Rattle.amqp_endpoint_talk.specs.Windows.{KeepsWindow, Passing, begins_with}
-use Rattle.amqp_endpoint_reading.specs.Agreeing.{Agrees, InTables}
-use Rattle.amqp_endpoint_reading.specs.Following.{goes}
-use Rattle.amqp_endpoint_reading.specs.Reading.{Reader, Speaks, Wired, behind, behind_all, is_of, nothing_read, read_on}
-use Rattle.amqp_endpoint_reading.specs.Reading.{whose}
-use Rattle.amqp_endpoint_reading.proofs.Beginning.{all-speak, speaks-there}
-use Rattle.amqp_endpoint_reading.proofs.Following.{follows-keeps}
+use Rattle.amqp_endpoint_laws.specs.Beside.{Agrees, InTables}
+use Rattle.amqp_endpoint_laws.specs.Following.{goes}
+use Rattle.amqp_endpoint_laws.specs.Reading.{Reader, Speaks, Wired, behind, behind_all, is_of, nothing_read, read_on}
+use Rattle.amqp_endpoint_laws.specs.Reading.{whose}
+use Rattle.amqp_endpoint_laws.proofs.Beginning.{all-speak, speaks-there}
+use Rattle.amqp_endpoint_laws.proofs.Following.{follows-keeps}
 use Rattle.amqp_endpoint_laws.specs.Judged.{Judged}
 use Rattle.amqp_endpoint_laws.specs.Passed.{PassesIn, passes_in}
 use Rattle.amqp_endpoint_laws.specs.Seen.{AreOnes, OnOwnChannels, passing_in, passing_of, wired_by, wired_in}

@@ -15,8 +15,8 @@ use Rattle.amqp_endpoint_model.specs.declared.settings.Settings.{Settings}
 use Rattle.amqp_endpoint_model.specs.Relay.{IsNew}
 use Rattle.amqp_endpoint_model.specs.Said.{Said, session_begun}
 use Rattle.amqp_endpoint_model.specs.Step.{anew}
-use Rattle.amqp_endpoint_deeds.specs.Deeds.{AreDone, Closes, Deed, Does, Finishes, Hears, IsDeed, MayPass, Moves}
-use Rattle.amqp_endpoint_deeds.specs.Deeds.{Queues, Refuses, Renews, Takes, Throughout, come_to, up_behind}
+use Rattle.amqp_endpoint_laws.specs.Deeds.{AreDone, Closes, Deed, Does, Finishes, Hears, IsDeed, MayPass, Moves}
+use Rattle.amqp_endpoint_laws.specs.Deeds.{Queues, Refuses, Renews, Takes, Throughout, come_to, up_behind}
 use Rattle.amqp_endpoint_linked.specs.Calling.{Calls}
 use Rattle.amqp_endpoint_linked.specs.Does.{linked}
 use Rattle.amqp_endpoint_linked.specs.declared.linked.LinkedSessions.{LinkedSessions}
@@ -25,9 +25,9 @@ use Rattle.amqp_endpoint_linking.specs.Linking.{Session, Sessions, Stood}
 use Rattle.amqp_endpoint_sessions.specs.State.{channel_in, place_at, with_asked, with_live}
 use Rattle.amqp_endpoint_sessions.specs.declared.place.Place.TheVariants.{Asked, Live, Ending, Over}
 use Rattle.amqp_endpoint_talk.specs.Windows.{Passing, Went, went}
-use Rattle.amqp_endpoint_reading.specs.Agreeing.{Agrees, InTables, IsOff, Known, role_at, role_of}
-use Rattle.amqp_endpoint_reading.specs.Reading.{nothing_read}
-use Rattle.amqp_endpoint_reading.proofs.Beginning.{anew-agrees, anew-stands, steps-known}
+use Rattle.amqp_endpoint_laws.specs.Beside.{Agrees, InTables, IsOff, Known, role_at, role_of}
+use Rattle.amqp_endpoint_laws.specs.Reading.{nothing_read}
+use Rattle.amqp_endpoint_laws.proofs.Beginning.{anew-agrees, anew-stands, steps-known}
 use Rattle.amqp_endpoint_laws.specs.Conversing.{SessionsGoOn}
 use Rattle.amqp_endpoint_laws.proofs.DeedsKept.{deed-keeps}
 use Rattle.amqp_endpoint_laws.proofs.Keeping.{MayDo}

@@ -13,7 +13,7 @@ use Rattle.amqp_endpoint_model.specs.declared.phase.Phase.TheVariants.{Unconnect
 use Rattle.amqp_endpoint_model.specs.Relay.{Relations}
 use Rattle.amqp_endpoint_model.specs.Said.{Said}
 use Rattle.amqp_endpoint_model.specs.Step.{anew}
-use Rattle.amqp_endpoint_deeds.specs.Telling.{events_of}
+use Rattle.amqp_endpoint_laws.specs.CallsDone.{events_of}
 use Rattle.amqp_endpoint_laws.specs.Telling.{tag_given}
 
 -- this is so of them in each phase where it was so before, behind each thing that they do without telling anything: as

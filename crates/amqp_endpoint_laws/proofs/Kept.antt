@@ -35,7 +35,7 @@ use Rattle.amqp_endpoint_model.specs.Step.{EndsRunning, FeedsIn, FrontBarred, Fr
 use Rattle.amqp_endpoint_model.specs.Step.{MovesBy, MovesByOpen, ReadsOn, RefusesBody, SendsClose, Step, TakesAll}
 use Rattle.amqp_endpoint_model.specs.Step.{SessionsDo, TakesBody, at_state, condition_of, opened}
 use Rattle.amqp_endpoint_model.specs.History.{Run}
-use Rattle.amqp_endpoint_deeds.specs.Telling.{events_of, events_told}
+use Rattle.amqp_endpoint_laws.specs.CallsDone.{events_of, events_told}
 use Rattle.amqp_endpoint_laws.specs.Telling.{tag_given, tags_given}
 use Rattle.amqp_endpoint_laws.proofs.Keeping.{IsOfConnection, Keeps, KeepsSilent, MayDo}
 

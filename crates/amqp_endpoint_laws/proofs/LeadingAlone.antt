@@ -15,7 +15,7 @@ use Rattle.amqp_link_receiving.specs.Deliveries.{Delivery}
 use Rattle.amqp_endpoint_attached.specs.Linked.{gives}
 use Rattle.amqp_endpoint_attached.specs.Links.{receiver_by, sender_by}
 use Rattle.amqp_endpoint_attached.specs.Receiving.{receiving}
-use Rattle.amqp_endpoint_deeds.specs.Deeds.{AreDone, Deed, Does, IsDeed, Takes}
+use Rattle.amqp_endpoint_laws.specs.Deeds.{AreDone, Deed, Does, IsDeed, Takes}
 use Rattle.amqp_endpoint_link_hearing.specs.Naming.{link_in}
 use Rattle.amqp_endpoint_linked.specs.Does.{linked}
 use Rattle.amqp_endpoint_linked.specs.declared.linked.LinkedSessions.{LinkedSessions}

@@ -38,7 +38,7 @@ use Rattle.amqp_link_receiver.specs.State.{ReceiverState}
 use Rattle.amqp_link_receiving.specs.Deliveries.{Delivery}
 use Rattle.amqp_link_sender.specs.Attaching as sending
 use Rattle.amqp_link_sender.specs.Sending.{Sending}
-use Rattle.amqp_endpoint_asked.proofs.Tables.{get-put, get-put-other, get-take-other}
+use Rattle.amqp_session_types.proofs.Tables.{get-put, get-put-other, get-take-other}
 use Rattle.amqp_endpoint_attached.specs.Linked.{LinksIn, gives}
 use Rattle.amqp_endpoint_attached.specs.Links.{attach_sent}
 use Rattle.amqp_endpoint_link_hearing.proofs.Heard.{stepped-there}

@@ -69,3 +69,17 @@ mod TakenRead
 mod TakenOver
 mod TakenJoining
 mod Paired
+mod Runs
+mod Beside
+mod Beginning
+mod Following
+mod Handing
+mod Rows
+mod Views
+mod Whose
+mod Seeing
+mod Going
+mod Coming
+mod Connecting
+mod Sending
+mod Joining

@@ -8,7 +8,7 @@ use Rattle.amqp_session_types.specs.declared.handles.OutputHandle.{OutputHandle}
 use Rattle.amqp_link_place.specs.Readings.{Piece, Reading, nothing, readings}
 use Rattle.amqp_link_receiving.specs.Deliveries.{Delivery}
 use Rattle.amqp_link_receiving.specs.Readings.{held_said}
-use Rattle.amqp_endpoint_deeds.specs.Deeds.{AreDone, Deed, IsDeed, told_by, told_in}
+use Rattle.amqp_endpoint_laws.specs.Deeds.{AreDone, Deed, IsDeed, told_by, told_in}
 use Rattle.amqp_endpoint_linked.specs.Does.{linked}
 use Rattle.amqp_endpoint_linked.specs.declared.linked.LinkedSessions.{LinkedSessions}
 use Rattle.amqp_endpoint_sessions.specs.State.{live_at}

@@ -7,7 +7,7 @@ use Rattle.amqp_session_core.specs.State.{link_at}
 use Rattle.amqp_link_ends.specs.declared.end.End.{End}
 use Rattle.amqp_link_ends.specs.declared.end.End.TheVariants.{Receiver, Sender}
 use Rattle.amqp_link_receiving.specs.Deliveries.{Delivery}
-use Rattle.amqp_endpoint_deeds.specs.Deeds.{AreDone, Deed, IsDeed}
+use Rattle.amqp_endpoint_laws.specs.Deeds.{AreDone, Deed, IsDeed}
 use Rattle.amqp_endpoint_linked.specs.Does.{linked}
 use Rattle.amqp_endpoint_linked.specs.declared.linked.LinkedSessions.{LinkedSessions}
 use Rattle.amqp_endpoint_linking.specs.Linking.{Link, Session}

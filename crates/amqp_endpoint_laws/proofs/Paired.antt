@@ -9,12 +9,13 @@ use Rattle.amqp_session_frames.specs.declared.frame.Frame.{Frame}
 use Rattle.amqp_session_frames.specs.declared.frame.FrameBody.{FrameBody}
 use Rattle.amqp_session_frames.specs.declared.frame.FrameBody.TheVariants as body
 use Rattle.amqp_endpoint_model.specs.State.{body_of, frame_of}
-use Rattle.amqp_endpoint_reading.specs.Channel.{AllAnswer, AnswersAsked, Awaits, Behind, ByTurns, Turn, Within, begun_behind, come_on}
-use Rattle.amqp_endpoint_reading.specs.Channel.{comings, ended_behind, goings, is_its, is_within, sent_on, turn_come}
-use Rattle.amqp_endpoint_reading.specs.Channel.{turn_sent}
-use Rattle.amqp_endpoint_reading.specs.Reading.{Comes, Goes, Reader, Wired, behind, goes_for, nothing_read, read_of}
-use Rattle.amqp_endpoint_reading.proofs.Coming.{all-come}
-use Rattle.amqp_endpoint_reading.proofs.Going.{going-read}
+use Rattle.amqp_endpoint_laws.specs.Channel.{AllAnswer, AnswersAsked, Awaits, Behind, ByTurns, Turn, Within}
+use Rattle.amqp_endpoint_laws.specs.Channel.{begun_behind, come_on}
+use Rattle.amqp_endpoint_laws.specs.Channel.{comings, ended_behind, goings, is_its, is_within, sent_on, turn_come}
+use Rattle.amqp_endpoint_laws.specs.Channel.{turn_sent}
+use Rattle.amqp_endpoint_laws.specs.Reading.{Comes, Goes, Reader, Wired, behind, goes_for, nothing_read, read_of}
+use Rattle.amqp_endpoint_laws.proofs.Coming.{all-come}
+use Rattle.amqp_endpoint_laws.proofs.Going.{going-read}
 use Rattle.amqp_endpoint_laws.specs.Attachments.{bodies_of}
 use Rattle.amqp_endpoint_laws.specs.Paired.{BeginsOn, BegunOn}
 use Rattle.amqp_endpoint_laws.specs.Passed.{came_in, sent_in}

@@ -27,8 +27,8 @@ use Rattle.amqp_endpoint_linked.specs.Attaching.{LinkAttached}
 use Rattle.amqp_endpoint_linked.specs.Calling.{Calls, answer_of}
 use Rattle.amqp_endpoint_linked.specs.Sending.{tag_of}
 use Rattle.amqp_endpoint_linked.specs.declared.linked.LinkedSessions.{LinkedSessions}
-use Rattle.amqp_endpoint_reading.specs.Following.{goes}
-use Rattle.amqp_endpoint_reading.specs.Reading.{Wired}
+use Rattle.amqp_endpoint_laws.specs.Following.{goes}
+use Rattle.amqp_endpoint_laws.specs.Reading.{Wired}
 use Rattle.amqp_endpoint_talk.specs.Inside.{Batches}
 use Rattle.amqp_endpoint_laws.specs.Passed.{called_in, holder}
 use Rattle.amqp_endpoint_laws.proofs.AskedCameInside.{KeepsBy, attached-keeps, closing-keeps, detaches-keep}

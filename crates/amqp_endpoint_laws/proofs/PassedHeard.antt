@@ -67,8 +67,8 @@ use Rattle.amqp_endpoint_link_hearing.proofs.Inside.{closes-inside, leave-inside
 use Rattle.amqp_endpoint_link_hearing.proofs.Inside.{tells-parts-inside}
 use Rattle.amqp_endpoint_linked.specs.Hearing.{Hears as HearsFrame}
 use Rattle.amqp_endpoint_linked.specs.declared.linked.LinkedSessions.{LinkedSessions}
-use Rattle.amqp_endpoint_reading.specs.Following.{comes, goes}
-use Rattle.amqp_endpoint_reading.specs.Reading.{Goes, Wired}
+use Rattle.amqp_endpoint_laws.specs.Following.{comes, goes}
+use Rattle.amqp_endpoint_laws.specs.Reading.{Goes, Wired}
 use Rattle.amqp_endpoint_talk.specs.Inside.{AreOn, Batches, DoneInside, said_in}
 use Rattle.amqp_endpoint_talk.specs.Windows.{body_said}
 use Rattle.amqp_endpoint_talk.proofs.Inside.{alike-inside, both-on, said-both}

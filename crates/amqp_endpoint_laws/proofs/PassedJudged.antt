@@ -34,8 +34,8 @@ use Rattle.amqp_endpoint_conversation.specs.Ending.{EndReply, EndsHere, EndsTher
 use Rattle.amqp_endpoint_conversation.specs.Faults.{fault_error}
 use Rattle.amqp_endpoint_conversation.specs.Hearing.{LiveFails}
 use Rattle.amqp_endpoint_linking.specs.Linking.{Link, Session, Sessions, Stood, Talk}
-use Rattle.amqp_endpoint_reading.specs.Following.{comes, goes}
-use Rattle.amqp_endpoint_reading.specs.Reading.{Wired}
+use Rattle.amqp_endpoint_laws.specs.Following.{comes, goes}
+use Rattle.amqp_endpoint_laws.specs.Reading.{Wired}
 use Rattle.amqp_endpoint_talk.specs.Inside.{Batches, said_in}
 use Rattle.amqp_endpoint_talk.specs.Windows.{Came, Passing, Went, body_said, went}
 use Rattle.amqp_endpoint_laws.specs.Passed.{begun_by, sent_in}

@@ -25,8 +25,8 @@ use Rattle.amqp_endpoint_conversation.specs.declared.beginning.BeginRefusal.TheV
 use Rattle.amqp_endpoint_conversation.specs.declared.hearing.HearRefusal.TheVariants as refused
 use Rattle.amqp_endpoint_conversation.specs.declared.hearing.Heard.TheVariants as heard
 use Rattle.amqp_endpoint_links.specs.declared.hearing.LinkPerformative.{LinkPerformative}
-use Rattle.amqp_endpoint_deeds.specs.Deeds.{AreDone, Closes, Deed, Does, EndsBy, Finishes, Hears, IsDeed, Moves}
-use Rattle.amqp_endpoint_deeds.specs.Deeds.{MovesByFrame, Queues, Refuses, Renews, Takes}
+use Rattle.amqp_endpoint_laws.specs.Deeds.{AreDone, Closes, Deed, Does, EndsBy, Finishes, Hears, IsDeed, Moves}
+use Rattle.amqp_endpoint_laws.specs.Deeds.{MovesByFrame, Queues, Refuses, Renews, Takes}
 use Rattle.amqp_endpoint_link_hearing.specs.Saying.{LinkHeard, LinkRefusal, RefusesSaid}
 use Rattle.amqp_endpoint_linked.specs.Does.{linked}
 use Rattle.amqp_endpoint_linked.specs.Hearing.{RefusesBody}

@@ -37,7 +37,7 @@ use Rattle.amqp_endpoint_asked.specs.declared.session.AskedSession.{AskedSession
 use Rattle.amqp_endpoint_asked.specs.declared.session.SessionFlow.{SessionFlow}
 use Rattle.amqp_endpoint_attached.specs.Linked.{Linked, gives}
 use Rattle.amqp_endpoint_conversation.specs.Beginning.{with_links}
-use Rattle.amqp_endpoint_deeds.specs.Deeds.{Deed}
+use Rattle.amqp_endpoint_laws.specs.Deeds.{Deed}
 use Rattle.amqp_endpoint_fitting.specs.Handed.{handed_of}
 use Rattle.amqp_endpoint_links.specs.Asking.{FlowAt, FlowInSession}
 use Rattle.amqp_endpoint_links.specs.Beginning.{Accepted, Begun, accept_steps}

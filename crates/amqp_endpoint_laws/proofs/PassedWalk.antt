@@ -27,8 +27,8 @@ use Rattle.amqp_endpoint_conversation.specs.Beginning.{BeginsThere}
 use Rattle.amqp_endpoint_conversation.specs.Ending.{EndsHere, EndsThere, end_frame}
 use Rattle.amqp_endpoint_conversation.specs.Hearing.{AskedTakes, LiveFails, LiveHears}
 use Rattle.amqp_endpoint_linking.specs.Linking.{Link, Session, Talk}
-use Rattle.amqp_endpoint_reading.specs.Following.{comes, goes}
-use Rattle.amqp_endpoint_reading.specs.Reading.{Wired}
+use Rattle.amqp_endpoint_laws.specs.Following.{comes, goes}
+use Rattle.amqp_endpoint_laws.specs.Reading.{Wired}
 use Rattle.amqp_endpoint_talk.specs.Inside.{AcceptsInside, AreOn, Batches, said_in}
 use Rattle.amqp_endpoint_talk.specs.Windows.{body_said}
 use Rattle.amqp_endpoint_laws.specs.Passed.{begun_by}

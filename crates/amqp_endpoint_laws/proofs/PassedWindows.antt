@@ -19,7 +19,7 @@ use Rattle.amqp_endpoint_asked.specs.declared.session.AskedSession.{AskedSession
 use Rattle.amqp_endpoint_asked.specs.declared.session.SessionFlow.{SessionFlow}
 use Rattle.amqp_endpoint_attached.specs.Linked.{gives}
 use Rattle.amqp_endpoint_conversation.specs.Beginning.{with_links}
-use Rattle.amqp_endpoint_deeds.specs.Deeds.{Deed}
+use Rattle.amqp_endpoint_laws.specs.Deeds.{Deed}
 use Rattle.amqp_endpoint_links.specs.Beginning.{Accepted, Begun, accepted_with, begin_frame}
 use Rattle.amqp_endpoint_links.specs.Hearing.{HearsAsked}
 use Rattle.amqp_endpoint_links.specs.declared.hearing.LinkPerformative.{LinkPerformative}

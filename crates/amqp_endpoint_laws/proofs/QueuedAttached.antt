@@ -12,7 +12,7 @@ use Rattle.amqp_link_ends.specs.declared.end.End.{End}
 use Rattle.amqp_link_place.specs.Readings.{Piece}
 use Rattle.amqp_endpoint_attached.specs.Linked.{Linked, gives}
 use Rattle.amqp_endpoint_attached.specs.Links.{attach_frame, sender_by}
-use Rattle.amqp_endpoint_deeds.specs.Deeds.{AreDone, Deed, Does, IsDeed}
+use Rattle.amqp_endpoint_laws.specs.Deeds.{AreDone, Deed, Does, IsDeed}
 use Rattle.amqp_endpoint_link_attaching.specs.Attaching.{AttachedBy, with_room}
 use Rattle.amqp_endpoint_link_attaching.specs.Places.{name_of}
 use Rattle.amqp_endpoint_link_attaching.specs.declared.placed.Placed.{Placed}

@@ -5,11 +5,11 @@ use Rattle.std.proofs.lemmas.Bool.Decides.{eqb_tells}
 use Rattle.std.proofs.lemmas.Option.{none-some, same_Some}
 use Rattle.amqp_session_types.specs.declared.handles.OutputHandle.{OutputHandle}
 use Rattle.amqp_session_performatives.specs.declared.session_frame.SessionFrame.{SessionFrame}
-use Rattle.amqp_endpoint_deeds.specs.Deeds.{AreDone, Closes, Deed, Does, Finishes, Hears, IsDeed, IsDone, Moves, Queues}
-use Rattle.amqp_endpoint_deeds.specs.Deeds.{Refuses, Renews, Takes, done_by, done_since, fed_since, pulled_since}
-use Rattle.amqp_endpoint_deeds.specs.Deeds.{told_since}
-use Rattle.amqp_endpoint_deeds.specs.Telling.{calls_done, events_told}
-use Rattle.amqp_endpoint_deeds.proofs.Runs.{is-done}
+use Rattle.amqp_endpoint_laws.specs.Deeds.{AreDone, Closes, Deed, Does, Finishes, Hears, IsDeed, IsDone, Moves, Queues}
+use Rattle.amqp_endpoint_laws.specs.Deeds.{Refuses, Renews, Takes, done_by, done_since, fed_since, pulled_since}
+use Rattle.amqp_endpoint_laws.specs.Deeds.{told_since}
+use Rattle.amqp_endpoint_laws.specs.CallsDone.{calls_done, events_told}
+use Rattle.amqp_endpoint_laws.proofs.Runs.{is-done}
 use Rattle.amqp_endpoint_link_attaching.specs.Attaching.{with_room}
 use Rattle.amqp_endpoint_link_calls.specs.Calling.{Does as DoesTo, DoneAt}
 use Rattle.amqp_endpoint_link_calls.specs.Places.{Where}

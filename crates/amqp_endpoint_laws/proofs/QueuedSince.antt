@@ -12,7 +12,7 @@ use Rattle.amqp_link_place.specs.Readings.{Piece}
 use Rattle.amqp_link_place.specs.Said.{begun, whole}
 use Rattle.amqp_link_split.specs.Saying.{pieces_of}
 use Rattle.amqp_link_split.proofs.SayingLemmas.{split-read}
-use Rattle.amqp_endpoint_deeds.specs.Deeds.{AreDone, Deed, Does, IsDeed}
+use Rattle.amqp_endpoint_laws.specs.Deeds.{AreDone, Deed, Does, IsDeed}
 use Rattle.amqp_endpoint_link_calls.specs.Calling.{DoneAt, DoneIn}
 use Rattle.amqp_endpoint_link_messages.specs.Sending.{sends}
 use Rattle.amqp_endpoint_link_messages.proofs.Inside.{sends-inside}

@@ -37,13 +37,13 @@ use Rattle.amqp_endpoint_conversation.specs.Ending.{end_frame}
 use Rattle.amqp_endpoint_conversation.specs.Faults.{fault_error}
 use Rattle.amqp_endpoint_conversation.specs.Hearing.{LiveFails, LiveRefuses}
 use Rattle.amqp_endpoint_linking.specs.Linking.{Link, Session, Sessions, Stood, Talk}
-use Rattle.amqp_endpoint_reading.specs.Agreeing.{Agrees, AskedOn, Gone, Has, InTables, Nowhere, from, role_of}
-use Rattle.amqp_endpoint_reading.specs.Following.{AreFor, AreOf, Follows, IsForReached, IsNoBegin, IsWithin, comes}
-use Rattle.amqp_endpoint_reading.specs.Following.{goes}
-use Rattle.amqp_endpoint_reading.specs.Reading.{Comes, Goes, Reader, Speaks, Wired, behind, is_of, read_on, whose}
-use Rattle.amqp_endpoint_reading.proofs.Seeing.{OnOwn, Sees, sees-accepts, sees-asked, sees-asks, sees-barred}
-use Rattle.amqp_endpoint_reading.proofs.Seeing.{sees-begins, sees-begun, sees-comes, sees-ended, sees-ends, sees-free}
-use Rattle.amqp_endpoint_reading.proofs.Seeing.{sees-hears, sees-inside, sees-led, sees-none, sees-on, sees-told}
+use Rattle.amqp_endpoint_laws.specs.Beside.{Agrees, AskedOn, Gone, Has, InTables, Nowhere, from, role_of}
+use Rattle.amqp_endpoint_laws.specs.Following.{AreFor, AreOf, Follows, IsForReached, IsNoBegin, IsWithin, comes}
+use Rattle.amqp_endpoint_laws.specs.Following.{goes}
+use Rattle.amqp_endpoint_laws.specs.Reading.{Comes, Goes, Reader, Speaks, Wired, behind, is_of, read_on, whose}
+use Rattle.amqp_endpoint_laws.proofs.Seeing.{OnOwn, Sees, sees-accepts, sees-asked, sees-asks, sees-barred}
+use Rattle.amqp_endpoint_laws.proofs.Seeing.{sees-begins, sees-begun, sees-comes, sees-ended, sees-ends, sees-free}
+use Rattle.amqp_endpoint_laws.proofs.Seeing.{sees-hears, sees-inside, sees-led, sees-none, sees-on, sees-told}
 use Rattle.amqp_endpoint_talk.specs.Inside.{AreOn, Batches, IsPlain}
 use Rattle.amqp_endpoint_talk.specs.Windows.{Came, Passing, body_said, went}
 use Rattle.amqp_endpoint_laws.specs.Passed.{begun_by, is_it}

@@ -8,7 +8,7 @@ use Rattle.amqp_session_frames.specs.declared.frame.FrameBody.{FrameBody}
 use Rattle.amqp_link_place.specs.Readings.{Piece, Reading, nothing, readings}
 use Rattle.amqp_link_place.specs.Said.{Said}
 use Rattle.amqp_link_receiving.specs.Reading.{says}
-use Rattle.amqp_endpoint_deeds.specs.Deeds.{Deed, Does}
+use Rattle.amqp_endpoint_laws.specs.Deeds.{Deed, Does}
 use Rattle.amqp_endpoint_model.specs.Said.{Said as Answer, message_sent}
 use Rattle.amqp_endpoint_model.specs.declared.call.Call.{Call}
 use Rattle.amqp_endpoint_model.specs.declared.call.Call.TheVariants.{Send}

@@ -11,7 +11,7 @@ use Rattle.amqp_link_ends.specs.declared.end.End.{End}
 use Rattle.amqp_link_place.specs.Readings.{Piece, nothing, readings}
 use Rattle.amqp_link_receiving.specs.Deliveries.{Delivery}
 use Rattle.amqp_endpoint_attached.specs.Links.{receiver_by, sender_by}
-use Rattle.amqp_endpoint_deeds.specs.Deeds.{AreDone, Deed, Does, IsDeed, Takes, told_by, told_in}
+use Rattle.amqp_endpoint_laws.specs.Deeds.{AreDone, Deed, Does, IsDeed, Takes, told_by, told_in}
 use Rattle.amqp_endpoint_linked.specs.Does.{linked}
 use Rattle.amqp_endpoint_linked.specs.declared.linked.LinkedSessions.{LinkedSessions}
 use Rattle.amqp_endpoint_linking.specs.Linking.{Links}

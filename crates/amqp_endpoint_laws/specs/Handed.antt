@@ -15,7 +15,7 @@ use Rattle.amqp_link_receiver.specs.State.{ReceiverState}
 use Rattle.amqp_link_receiving.specs.Deliveries.{Delivery as Incoming}
 use Rattle.amqp_link_receiving.specs.Readings.{message_said}
 use Rattle.amqp_link_receiving.specs.declared.answer.Message.{Message as Whole}
-use Rattle.amqp_endpoint_deeds.specs.Deeds.{Deed, IsDeed, Takes}
+use Rattle.amqp_endpoint_laws.specs.Deeds.{Deed, IsDeed, Takes}
 use Rattle.amqp_endpoint_link_calls.specs.Places.{end_held}
 use Rattle.amqp_endpoint_link_hearing.specs.Transferring.{delivery_of}
 use Rattle.amqp_endpoint_linked.specs.Does.{linked}

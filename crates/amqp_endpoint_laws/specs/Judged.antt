@@ -1,7 +1,7 @@
 -- What one finds who reads along what passes on an endpoint's connection (part 2, 2.4, 2.5.6).
 use Rattle.std.specs.Prelude.{ℕ, List, None}
-use Rattle.amqp_endpoint_deeds.specs.Deeds.{Deed, IsInOrder, Throughout, opened_behind}
-use Rattle.amqp_endpoint_reading.specs.Reading.{nothing_read}
+use Rattle.amqp_endpoint_laws.specs.Deeds.{Deed, IsInOrder, Throughout, opened_behind}
+use Rattle.amqp_endpoint_laws.specs.Reading.{nothing_read}
 use Rattle.amqp_endpoint_talk.specs.Windows.{KeepsWindow, begins_with}
 use Rattle.amqp_endpoint_laws.specs.Seen.{AreOnes, passing_in, wired_by}
 

@@ -12,3 +12,10 @@ pub mod Attachments
 pub mod Judged
 pub mod Taken
 pub mod Paired
+pub mod CallsDone
+pub mod Deeds
+pub mod Reading
+pub mod Beside
+pub mod Following
+pub mod Channel
+pub mod Between

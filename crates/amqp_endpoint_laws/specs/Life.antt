@@ -4,7 +4,7 @@ use Rattle.std.specs.Prelude.{◌≡◌, ◌⊎◌, ℕ, List, [], ◌∷◌, �
 use Rattle.amqp_session_types.specs.declared.handles.OutputHandle.{OutputHandle}
 use Rattle.amqp_link_place.specs.Readings.{Piece}
 use Rattle.amqp_link_receiving.specs.Deliveries.{Delivery as Incoming}
-use Rattle.amqp_endpoint_deeds.specs.Deeds.{Deed, IsDeed}
+use Rattle.amqp_endpoint_laws.specs.Deeds.{Deed, IsDeed}
 use Rattle.amqp_endpoint_linked.specs.Does.{linked}
 use Rattle.amqp_endpoint_linked.specs.declared.linked.LinkedSessions.{LinkedSessions}
 use Rattle.amqp_endpoint_laws.specs.Handed.{IsReceiving, pieces_in}

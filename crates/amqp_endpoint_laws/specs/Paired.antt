@@ -5,9 +5,9 @@ use Rattle.amqp_session_performatives.specs.declared.session_frame.SessionFrame.
 use Rattle.amqp_session_performatives.specs.declared.session_frame.SessionFrameBody.TheVariants as session
 use Rattle.amqp_session_frames.specs.declared.frame.Frame.{Frame}
 use Rattle.amqp_session_frames.specs.declared.frame.FrameBody.TheVariants as body
-use Rattle.amqp_endpoint_reading.specs.Channel.{AllAnswer, ByTurns, NoneBegins, begins_come, begins_sent, comings, goings}
-use Rattle.amqp_endpoint_reading.specs.Reading.{Comes, Goes, Wired, begun_here, begun_there, behind, behind_all}
-use Rattle.amqp_endpoint_reading.specs.Reading.{nothing_read}
+use Rattle.amqp_endpoint_laws.specs.Channel.{AllAnswer, ByTurns, NoneBegins, begins_come, begins_sent, comings, goings}
+use Rattle.amqp_endpoint_laws.specs.Reading.{Comes, Goes, Wired, begun_here, begun_there, behind, behind_all}
+use Rattle.amqp_endpoint_laws.specs.Reading.{nothing_read}
 
 -- among the frames of a connection the own Begin of the session with this number goes on this channel, behind so many
 -- others there

@@ -10,7 +10,7 @@ use Rattle.amqp_session_core.specs.State.{State}
 use Rattle.amqp_link_place.specs.Readings.{Piece, nothing, readings}
 use Rattle.amqp_link_place.specs.Said.{Said}
 use Rattle.amqp_link_split.specs.Saying.{pieces_of}
-use Rattle.amqp_endpoint_deeds.specs.Deeds.{AreDone, Deed, Does, IsDeed}
+use Rattle.amqp_endpoint_laws.specs.Deeds.{AreDone, Deed, Does, IsDeed}
 use Rattle.amqp_endpoint_model.specs.Said.{Said as Answer, attaching, message_sent}
 use Rattle.amqp_endpoint_model.specs.declared.call.Call.{Call}
 use Rattle.amqp_endpoint_model.specs.declared.call.Call.TheVariants.{AttachSender, Send}

@@ -21,7 +21,7 @@ use Rattle.amqp_session_core.specs.Steps.{SendsBehind, SendsTransfers, SendsDisp
 use Rattle.amqp_session_core.specs.Steps.{Deallocates, Reserves, Changes, Step, SendsDispositionStep, with_table}
 use Rattle.amqp_session_core.specs.Tables.{RouteTable, unless_to}
 use Rattle.amqp_session_core.proofs.Owning.{own-history}
-use Rattle.amqp_endpoint_asked.proofs.Tables.{get-put, get-put-other, get-take}
+use Rattle.amqp_session_types.proofs.Tables.{get-put, get-put-other, get-take}
 use Rattle.amqp_endpoint_links.specs.History.{routed_in}
 
 -- where a link stands, the list reaches

@@ -6,8 +6,9 @@ use crate::body::{ReadBody, RoundTripBody, WriteBody};
 use crate::parts::{read_one, read_several};
 use crate::several::{OneOrMore, put_several};
 use amqp_link_sections::{AmqpSequence, AmqpValue, Data, Footer};
-use serde_amqp_de::{Deserialize, RoundTrip};
+use serde_amqp_de::Deserialize;
 use serde_amqp_item::Error;
+use serde_amqp_round_trip::RoundTrip;
 use serde_amqp_ser::{Serialize, Serializer, Sink};
 use std::alloc::Global;
 

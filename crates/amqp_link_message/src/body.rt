@@ -21,8 +21,9 @@ ghost use Rattle.amqp_link_message.specs.CodeLaws.{data_of_body, amqp_sequence_o
 use crate::parts::read_one;
 use amqp_link_sections::{AmqpSequence, AmqpValue, Data, Footer};
 use bytes::Bytes;
-use serde_amqp_de::{Deserialize, RoundTrip};
+use serde_amqp_de::Deserialize;
 use serde_amqp_item::Error;
+use serde_amqp_round_trip::RoundTrip;
 use serde_amqp_ser::{Serialize, Serializer, Sink};
 use std::alloc::Global;
 

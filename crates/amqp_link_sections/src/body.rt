@@ -13,8 +13,9 @@ ghost use Rattle.amqp_link_sections.specs.BodyLaws.{amqp_value_again, amqp_value
 ghost use Rattle.amqp_link_sections.specs.BodyLaws.{amqp_value_same_item};
 
 use crate::described::read_described;
-use serde_amqp_de::{Deserialize, Deserializer, Faithful, NeverNull, Read, RoundTrip, read_list};
+use serde_amqp_de::{Deserialize, Deserializer, NeverNull, Read, read_list};
 use serde_amqp_item::Error;
+use serde_amqp_round_trip::{Faithful, RoundTrip};
 use serde_amqp_ser::{Serialize, Serializer, Sink};
 use serde_amqp_types::ByteBuf;
 use std::alloc::{AllocError, Global};

@@ -5,8 +5,9 @@ ghost use Rattle.amqp_link_sections.specs.AnnotationLaws.{footer_again, footer_d
 
 use crate::annotations::Annotations;
 use crate::described::read_described;
-use serde_amqp_de::{Deserialize, Deserializer, Faithful, NeverNull, Read, RoundTrip};
+use serde_amqp_de::{Deserialize, Deserializer, NeverNull, Read};
 use serde_amqp_item::Error;
+use serde_amqp_round_trip::{Faithful, RoundTrip};
 use serde_amqp_ser::{Serialize, Serializer, Sink};
 use std::alloc::{AllocError, Global};
 

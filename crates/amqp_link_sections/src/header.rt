@@ -3,8 +3,9 @@ ghost use Rattle.std.specs.Prelude.{◌≡◌, refl};
 ghost use Rattle.amqp_link_sections.specs.Header.{default_header, header_item, header_taken};
 ghost use Rattle.amqp_link_sections.specs.HeaderLaws.{header_again, header_decided, header_same};
 
-use serde_amqp_de::{Deserialize, Deserializer, Faithful, NeverNull, Read, RoundTrip, read_record};
+use serde_amqp_de::{Deserialize, Deserializer, NeverNull, Read, read_record};
 use serde_amqp_item::Error;
+use serde_amqp_round_trip::{Faithful, RoundTrip};
 use serde_amqp_ser::{Serialize, Serializer, Sink, serialize_record};
 use serde_amqp_types::{BoolOr, UByteOr, UIntOr};
 use std::alloc::Global;

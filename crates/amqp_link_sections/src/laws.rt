@@ -23,7 +23,7 @@ ghost use Rattle.amqp_link_sections.specs.declared.footer.Footer.{Footer};
 ghost use Rattle.amqp_link_sections.specs.declared.section.Section.{Section};
 ghost use Rattle.amqp_link_sections.specs.declared.section.Section.TheVariants as is;
 
-use serde_amqp_de::Faithful;
+use serde_amqp_round_trip::Faithful;
 
 /// What a header is written as is read as it, and two headers are written as two items. What is read as it says by its
 /// descriptor that it is that section.

@@ -4,8 +4,9 @@ ghost use Rattle.amqp_link_sections.specs.MessageId.{message_id_item, message_id
 ghost use Rattle.amqp_link_sections.specs.MessageIdLaws.{message_id_again, message_id_decided, message_id_present};
 ghost use Rattle.amqp_link_sections.specs.MessageIdLaws.{message_id_same};
 
-use serde_amqp_de::{Deserialize, Deserializer, Faithful, NeverNull, Read, RoundTrip};
+use serde_amqp_de::{Deserialize, Deserializer, NeverNull, Read};
 use serde_amqp_item::{EncodingCodes, Error};
+use serde_amqp_round_trip::{Faithful, RoundTrip};
 use serde_amqp_ser::{Serialize, Serializer, Sink};
 use serde_amqp_types::{ByteBuf, Text, Uuid};
 use std::alloc::{AllocError, Global};

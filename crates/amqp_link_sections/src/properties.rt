@@ -5,8 +5,9 @@ ghost use Rattle.amqp_link_sections.specs.PropertiesLaws.{properties_again, prop
 
 use crate::both::both;
 use crate::message_id::MessageId;
-use serde_amqp_de::{Deserialize, Deserializer, Faithful, NeverNull, Read, RoundTrip, read_record};
+use serde_amqp_de::{Deserialize, Deserializer, NeverNull, Read, read_record};
 use serde_amqp_item::Error;
+use serde_amqp_round_trip::{Faithful, RoundTrip};
 use serde_amqp_ser::{Serialize, Serializer, Sink, serialize_record};
 use serde_amqp_types::{ByteBuf, Symbol, Text, Timestamp};
 use std::alloc::{AllocError, Global};

@@ -25,7 +25,8 @@ use Rattle.amqp_session_connection.specs.Steps.{DeallocatesSession, TakesBegin, 
 use Rattle.amqp_session_connection.specs.Told.{without, still_live, live_after, learned, peer_channel_max}
 use Rattle.amqp_session_connection.proofs.Histories.{last_step}
 use Rattle.amqp_session_connection.proofs.States.{is_settled, send_header_moves, incoming_header_moves, send_open_moves, send_close_moves, incoming_close_moves, open_comes_first, begun_settled}
-use Rattle.amqp_session_connection.proofs.Tables.{get-put, get-take, get-none}
+use Rattle.amqp_session_types.proofs.Tables.{get-put, get-take}
+use Rattle.amqp_session_connection.proofs.Tables.{get-none}
 
 -- no live session has a channel above this
 abbrev Below : ℕ → List (ℕ × ℕ) → Type 0

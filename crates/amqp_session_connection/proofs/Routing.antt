@@ -14,7 +14,8 @@ use Rattle.amqp_session_connection.specs.Steps.{SendsEnd, AllocatesSession, Deal
 use Rattle.amqp_session_connection.specs.Steps.{AcceptsRoute, TakesEnd, FindsSession}
 use Rattle.amqp_session_connection.specs.Told.{rerouted, routed}
 use Rattle.amqp_session_connection.proofs.Histories.{last_step}
-use Rattle.amqp_session_connection.proofs.Tables.{get-put, get-take, get-none}
+use Rattle.amqp_session_types.proofs.Tables.{get-put, get-take}
+use Rattle.amqp_session_connection.proofs.Tables.{get-none}
 
 module _ (q : ℕ) where
   abbrev at : State → Option ℕ

@@ -8,7 +8,7 @@ use Rattle.amqp_session_unsettled.specs.declared.delivery.Delivery.{Delivery}
 use Rattle.amqp_session_unsettled.specs.Outside.{names, outside}
 use Rattle.amqp_session_unsettled.specs.declared.range.DeliveryRange.{DeliveryRange}
 use Rattle.amqp_session_unsettled.proofs.Lacking.{get-outside}
-use Rattle.amqp_session_unsettled.proofs.Tables.{get-put, get-take}
+use Rattle.amqp_session_types.proofs.Tables.{get-put, get-take}
 use Rattle.amqp_session_outgoing.specs.Queues.{Queues, TakesTurn, TakesTurnOf, units_of, joined, followed, rejoined, trailed}
 use Rattle.amqp_session_outgoing.specs.State as sending
 use Rattle.amqp_session_outgoing.specs.History as history

@@ -8,7 +8,7 @@ use Rattle.std.specs.Ordering.{nat_cmp}
 use Rattle.std.specs.FinMap as map
 use Rattle.std.specs.FinMap.{get-empty}
 use Rattle.amqp_session_core.specs.Tables.{RouteTable, IsSole, is_to, leads, leads_by, unless_to}
-use Rattle.amqp_session_core.proofs.Tables.{get-put, get-put-other, get-take}
+use Rattle.amqp_session_types.proofs.Tables.{get-put, get-put-other, get-take}
 
 which : (a b : ℕ) → (a ≡ b) ⊎ (a ≢ b)
 which a b = ⊎_elim (λ p. inl p.1) (λ p. inr p.1) (eqb_tells a b)

@@ -13,7 +13,7 @@ use Rattle.amqp_session_unsettled.specs.Range.{ahead, count_of, range_of}
 use Rattle.amqp_session_unsettled.specs.declared.range.DeliveryRange.{DeliveryRange}
 use Rattle.amqp_session_unsettled.specs.declared.delivery.Delivery.{Delivery}
 use Rattle.amqp_session_unsettled.proofs.Lacking.{get-outside, outside-none, settled-more}
-use Rattle.amqp_session_unsettled.proofs.Tables.{get-take, same_tables}
+use Rattle.amqp_session_types.proofs.Tables.{get-take, same_tables}
 use Rattle.amqp_session_unsettled.proofs.Walking.{walked-none, walked-more, walked-past}
 use Rattle.amqp_session_core.specs.declared.dispositions.Touched.{Touched as TouchedDelivery}
 use Rattle.amqp_session_types.specs.declared.modes.Role.{Role}

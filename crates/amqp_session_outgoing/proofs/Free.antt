@@ -9,7 +9,7 @@ use Rattle.amqp_session_unsettled.specs.declared.delivery.Delivery.{Delivery}
 use Rattle.amqp_session_unsettled.specs.Outside.{names, outside}
 use Rattle.amqp_session_unsettled.specs.declared.range.DeliveryRange.{DeliveryRange}
 use Rattle.amqp_session_unsettled.proofs.Lacking.{get-outside}
-use Rattle.amqp_session_unsettled.proofs.Tables.{get-put-other, get-take-none}
+use Rattle.amqp_session_types.proofs.Tables.{get-put-other, get-take-none}
 use Rattle.amqp_session_outgoing.specs.Frames.{is_first, first_count, firsts_of}
 use Rattle.amqp_session_outgoing.specs.Queues.{Queues, firsts_in}
 use Rattle.amqp_session_outgoing.specs.State.{State, Leaves, Sends, with_batch, with_window, registered}

@@ -6,7 +6,7 @@ use Rattle.serde_amqp_item.specs.Item.{Item, scalar, null, raw, boolean, ushort,
 use Rattle.serde_amqp_item.specs.Wire.{IsCapped}
 use Rattle.serde_amqp_item.specs.Canon.{AllWithin, EachWithin, EachPairWithin}
 use Rattle.serde_amqp_item.specs.Record.{option_item, all_null, trimmed, record_item}
-use Rattle.serde_amqp_ser.specs.Open.{pair_items, map_item}
+use Rattle.serde_amqp_item.specs.Entries.{pair_items, map_item}
 use Rattle.serde_amqp_de.specs.Takes.{or_null, is_boolean, is_ushort, is_uint}
 use Rattle.serde_amqp_types.specs.Takes.{is_ubyte}
 use Rattle.serde_amqp_map.specs.Items.{are_apart, no_map, ordered_item}

@@ -14,8 +14,9 @@ use amqp_session_types::{
     SenderSettleMode,
 };
 use serde_amqp_choice::read_fields_of;
-use serde_amqp_de::{Deserialize, Deserializer, Faithful, NeverNull, Read, RoundTrip};
+use serde_amqp_de::{Deserialize, Deserializer, NeverNull, Read};
 use serde_amqp_map::OrderedMap;
+use serde_amqp_round_trip::{Faithful, RoundTrip};
 use serde_amqp_ser::{Serialize, Serializer, Sink, serialize_record};
 use serde_amqp_types::{Array, BoolOr, Multiple, Symbol, Text};
 use std::alloc::{AllocError, Global};

@@ -23,8 +23,9 @@ use crate::open::{self, Open};
 use crate::transfer::{self, Transfer};
 use amqp_session_types::Boxed;
 use serde_amqp_choice::{Choice, read_choice};
-use serde_amqp_de::{Deserialize, Deserializer, Faithful, NeverNull, Read, RoundTrip};
+use serde_amqp_de::{Deserialize, Deserializer, NeverNull, Read};
 use serde_amqp_item::Error;
+use serde_amqp_round_trip::{Faithful, RoundTrip};
 use serde_amqp_ser::{Serialize, Serializer, Sink};
 use std::alloc::{AllocError, Global};
 

@@ -5,8 +5,9 @@ ghost use Rattle.amqp_session_states.specs.Again.{accepted_again};
 ghost use Rattle.amqp_session_states.specs.Deciding.{accepted_decided};
 ghost use Rattle.amqp_session_states.specs.Faithful.{accepted_same};
 
-use serde_amqp_de::{Deserialize, Deserializer, Faithful, NeverNull, Read, RoundTrip, read_record};
+use serde_amqp_de::{Deserialize, Deserializer, NeverNull, Read, read_record};
 use serde_amqp_item::Error;
+use serde_amqp_round_trip::{Faithful, RoundTrip};
 use serde_amqp_ser::{Serialize, Serializer, Sink, serialize_record};
 use std::alloc::Global;
 

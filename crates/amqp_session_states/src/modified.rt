@@ -7,8 +7,9 @@ ghost use Rattle.amqp_session_states.specs.Faithful.{modified_same};
 
 use amqp_session_types::definitions::Fields as Annotations;
 use amqp_session_types::{Aside, Boxed};
-use serde_amqp_de::{Deserialize, Deserializer, Faithful, NeverNull, Read, RoundTrip, read_record};
+use serde_amqp_de::{Deserialize, Deserializer, NeverNull, Read, read_record};
 use serde_amqp_item::Error;
+use serde_amqp_round_trip::{Faithful, RoundTrip};
 use serde_amqp_ser::{Serialize, Serializer, Sink, serialize_record};
 use std::alloc::{AllocError, Global};
 

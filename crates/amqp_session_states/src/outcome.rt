@@ -13,8 +13,9 @@ use crate::rejected::{self, Rejected};
 use crate::released::{self, Released};
 use amqp_session_types::Aside;
 use serde_amqp_choice::{Choice, read_choice, read_fields_of};
-use serde_amqp_de::{Deserialize, Deserializer, Faithful, NeverNull, Read, RoundTrip};
+use serde_amqp_de::{Deserialize, Deserializer, NeverNull, Read};
 use serde_amqp_item::Error;
+use serde_amqp_round_trip::{Faithful, RoundTrip};
 use serde_amqp_ser::{Serialize, Serializer, Sink};
 use std::alloc::{AllocError, Global};
 

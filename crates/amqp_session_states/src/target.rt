@@ -6,8 +6,9 @@ ghost use Rattle.amqp_session_states.specs.TargetLaws.{target_again, target_deci
 use crate::terminus::{TerminusDurability, TerminusExpiryPolicy};
 use amqp_session_types::OrDefault;
 use amqp_session_types::definitions::{Fields as Properties, Seconds};
-use serde_amqp_de::{Deserialize, Deserializer, Faithful, NeverNull, Read, RoundTrip, read_record};
+use serde_amqp_de::{Deserialize, Deserializer, NeverNull, Read, read_record};
 use serde_amqp_item::Error;
+use serde_amqp_round_trip::{Faithful, RoundTrip};
 use serde_amqp_ser::{Serialize, Serializer, Sink, serialize_record};
 use serde_amqp_types::{Array, BoolOr, Multiple, Symbol, Text, UIntOr};
 use std::alloc::{AllocError, Global};

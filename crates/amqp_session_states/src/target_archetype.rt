@@ -6,9 +6,10 @@ ghost use Rattle.amqp_session_states.specs.TargetArchetype.{begins_with_one, is_
 ghost use Rattle.amqp_session_states.specs.TargetArchetype.{target_archetype_taken, target_descriptors};
 
 use crate::target::Target;
-use serde_amqp_de::{Deserialize, Deserializer, Faithful, NeverNull, Read, RoundTrip};
+use serde_amqp_de::{Deserialize, Deserializer, NeverNull, Read};
 use serde_amqp_item::Error;
 use serde_amqp_raw::RawValue;
+use serde_amqp_round_trip::{Faithful, RoundTrip};
 use serde_amqp_ser::{Serialize, Serializer, Sink};
 use std::alloc::{AllocError, Global};
 

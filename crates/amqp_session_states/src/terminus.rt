@@ -14,8 +14,9 @@ ghost use Rattle.amqp_session_states.specs.TerminusLaws.{expiry_policy_one, dist
 ghost use Rattle.amqp_session_states.specs.TerminusLaws.{distribution_mode_same};
 
 use amqp_session_types::HasDefault;
-use serde_amqp_de::{Deserialize, Deserializer, Faithful, NeverNull, Read, RoundTrip};
+use serde_amqp_de::{Deserialize, Deserializer, NeverNull, Read};
 use serde_amqp_item::Error;
+use serde_amqp_round_trip::{Faithful, RoundTrip};
 use serde_amqp_ser::{Serialize, Serializer, Sink};
 use serde_amqp_types::Symbol;
 use std::alloc::Global;

@@ -1,3 +1,4 @@
 pub mod Limiting
 pub mod Defaults
 pub mod Clones
+pub mod Tables

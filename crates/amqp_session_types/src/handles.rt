@@ -6,8 +6,9 @@ ghost use Rattle.serde_amqp_de.specs.Takes.{uint_taken};
 ghost use Rattle.serde_amqp_de.specs.Deciding.{uint_decided};
 ghost use Rattle.serde_amqp_de.specs.Again.{uint_faithful};
 
-use serde_amqp_de::{Deserialize, Deserializer, Faithful, NeverNull, Read, RoundTrip};
+use serde_amqp_de::{Deserialize, Deserializer, NeverNull, Read};
 use serde_amqp_item::Error;
+use serde_amqp_round_trip::{Faithful, RoundTrip};
 use serde_amqp_ser::{Serialize, Serializer, Sink};
 use std::alloc::Global;
 

@@ -14,8 +14,9 @@ ghost use Rattle.amqp_session_types.specs.ModeLaws.{receiver_mode_again, receive
 ghost use Rattle.amqp_session_types.specs.ModeLaws.{receiver_mode_one};
 
 use crate::or_default::HasDefault;
-use serde_amqp_de::{Deserialize, Deserializer, Faithful, NeverNull, Read, RoundTrip};
+use serde_amqp_de::{Deserialize, Deserializer, NeverNull, Read};
 use serde_amqp_item::Error;
+use serde_amqp_round_trip::{Faithful, RoundTrip};
 use serde_amqp_ser::{Serialize, Serializer, Sink};
 use std::alloc::Global;
 

@@ -6,8 +6,9 @@ ghost use Rattle.serde_amqp_de.specs.Takes.{option_taken, mapped, or_null};
 ghost use Rattle.serde_amqp_de.specs.Deciding.{option_decided, mapped_decided};
 ghost use Rattle.serde_amqp_de.specs.Again.{default_again, default_faithful};
 
-use serde_amqp_de::{Deserialize, Deserializer, Faithful, NeverNull, Read, RoundTrip};
+use serde_amqp_de::{Deserialize, Deserializer, NeverNull, Read};
 use serde_amqp_item::Error;
+use serde_amqp_round_trip::{Faithful, RoundTrip};
 use serde_amqp_ser::{Serialize, Serializer, Sink};
 use std::alloc::Global;
 

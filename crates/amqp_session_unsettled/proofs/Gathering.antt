@@ -18,7 +18,7 @@ use Rattle.amqp_session_unsettled.specs.Touched.{number_at, Touches}
 use Rattle.amqp_session_unsettled.specs.Noted.{Notes}
 use Rattle.amqp_session_unsettled.specs.declared.range.DeliveryRange.{DeliveryRange}
 use Rattle.amqp_session_unsettled.specs.declared.delivery.Delivery.{Delivery}
-use Rattle.amqp_session_unsettled.proofs.Tables.{get-deliveries}
+use Rattle.amqp_session_types.proofs.Tables.{get-entries}
 
 -- what is gathered is of unsettled deliveries
 abbrev pub Sound : Table → ℕ → ℕ → BTreeSet ℕ → Type 0
@@ -79,7 +79,7 @@ complete-each entries first count i set f l whole complete d is = found (lookup 
     same = forth first d f (omega (arith, is.0, l))
 
     found : (o : Option Delivery) → lookup (nat_eq (number_at first d)) entries ≡ o → IsTrue (contains nat_cmp set d)
-    found None none = absurd (true≢false (sym is.1 ∙ ap is_some (get-deliveries entries (number_at first d) ∙ none)))
+    found None none = absurd (true≢false (sym is.1 ∙ ap is_some (get-entries entries (number_at first d) ∙ none)))
     found (Some v) some =
         let place = place_from_lookup (nat_eq (number_at first d)) entries v some in
         let key : number_at first d ≡ place.1 = same_number (number_at first d) place.1 place.3 in

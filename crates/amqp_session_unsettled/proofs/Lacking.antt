@@ -13,7 +13,7 @@ use Rattle.amqp_session_unsettled.specs.Touched.{number_at}
 use Rattle.amqp_session_unsettled.specs.Outside.{names, outside}
 use Rattle.amqp_session_unsettled.specs.declared.range.DeliveryRange.{DeliveryRange}
 use Rattle.amqp_session_unsettled.specs.declared.delivery.Delivery.{Delivery}
-use Rattle.amqp_session_unsettled.proofs.Tables.{get-deliveries, get-take, same_tables}
+use Rattle.amqp_session_types.proofs.Tables.{get-entries, get-take, same_tables}
 
 -- what a table has without the deliveries of a range
 pub get-outside : (range : DeliveryRange) (table : Table) (number : ℕ) → map.get (outside range table) number ≡ cond (not (names range number)) (map.get table number) None
@@ -80,10 +80,10 @@ settled-more first count table f c = same_tables _ _ (λ number.
 -- what is kept of a map's entries
 pub outside-kept : (es kept : List (ℕ × Delivery)) (range : DeliveryRange) → kept ≡ filter (λ e. not (names range e.0)) es → map.from_entries {R = nat_cmp} kept ≡ outside range (map.from_entries es)
 outside-kept es kept range are = same_tables _ _ (λ number.
-    get-deliveries kept number
+    get-entries kept number
     ∙ ap (λ (xs : List (ℕ × Delivery)). lookup (nat_eq number) xs) are
     ∙ lookup-filter-keys (nat_eq number) (λ (n : ℕ). not (names range n)) (not (names range number)) (λ n e. ap (λ (k : ℕ). not (names range k)) (sym (same number n e))) es
-    ∙ ap (λ (o : Option Delivery). cond (not (names range number)) o None) (sym (get-deliveries es number))
+    ∙ ap (λ (o : Option Delivery). cond (not (names range number)) o None) (sym (get-entries es number))
     ∙ sym (get-outside range (map.from_entries es) number))
   where
     same : (x y : ℕ) → (x == y) ≡ true → x ≡ y

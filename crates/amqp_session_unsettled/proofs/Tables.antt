@@ -1,65 +1,25 @@
 -- The entries of a map of deliveries, as a table.
-use Rattle.std.proofs.lemmas.Bool.{ne_eqb}
 use Rattle.std.specs.Prelude.{IsSome, IsTrue}
-use Rattle.std.proofs.Common.{◌≡◌, ◌≢◌, ℕ, length, arith, subst, Bool, true, false, cond, List, [], ◌∷◌, filter, nat_eq, not, is_some, if◌then◌else◌, Option, Some, None, refl, sym, ap, ◌∙◌, ◌==◌}
-use Rattle.std.specs.Cmp.{nat_cmp_total, unsigned_tied, nat_eq_equiv}
+use Rattle.std.proofs.Common.{◌≡◌, ℕ, length, arith, subst, Bool, true, false, cond, List, [], ◌∷◌, filter, nat_eq}
+use Rattle.std.proofs.Common.{not, is_some, if◌then◌else◌, Option, Some, None, refl, ap, ◌∙◌, ◌==◌}
 use Rattle.std.specs.Ordering.{nat_cmp}
 use Rattle.std.specs.FinMap as map
-use Rattle.std.specs.FinMap.{find, same_map, nat_cmp-IsAntisymmetric, get-from_entries, get-insert, get-remove}
 use Rattle.std.specs.Map.{lookup, keys_of}
 use Rattle.std.specs.List.{IsDistinct}
-use Rattle.std.proofs.lemmas.Map.Entries.{lookup-filter-values, option_filter}
-use Rattle.amqp_session_unsettled.specs.Table.{Table, IsUnsettled, unless_of}
+use Rattle.std.proofs.lemmas.Map.Entries.{option_filter}
+use Rattle.amqp_session_types.proofs.Tables.{get-entries, entered, taken_out, those_kept}
+use Rattle.amqp_session_unsettled.specs.Table.{IsUnsettled, unless_of}
 use Rattle.amqp_session_unsettled.specs.declared.delivery.Delivery.{Delivery}
 
--- what a table has at a key, where it is put or taken
-module _ (t : Table) (key q : ℕ) where
-  pub get-put : (v : Delivery) → map.get (map.insert t key v) q ≡ cond (q == key) (Some v) (map.get t q)
-  get-put v = get-insert nat_cmp_total t key v q ∙ ap (λ (b : Bool). cond b (Some v) (map.get t q)) (unsigned_tied q key)
-
-  pub get-take : map.get (map.remove t key) q ≡ cond (q == key) None (map.get t q)
-  get-take = get-remove nat_cmp_total t key q ∙ ap (λ (b : Bool). cond b None (map.get t q)) (unsigned_tied q key)
-
-pub same_tables : (t u : Table) → ((q : ℕ) → map.get t q ≡ map.get u q) → t ≡ u
-same_tables t u is = same_map nat_cmp_total nat_cmp-IsAntisymmetric t u is
-
-pub get-deliveries : (es : List (ℕ × Delivery)) (q : ℕ) → map.get {R = nat_cmp} (map.from_entries es) q ≡ lookup (nat_eq q) es
-get-deliveries es q = get-from_entries nat_cmp_total es q ∙ looked_up es
-  where
-    looked_up : (ps : List (ℕ × Delivery)) → find nat_cmp q ps ≡ lookup (nat_eq q) ps
-    looked_up [] = refl
-    looked_up (p ∷ ps) = ap (λ (b : Bool). cond b (Some p.1) (find nat_cmp q ps)) (unsigned_tied q p.0) ∙ ap (λ (o : Option Delivery). cond (q == p.0) (Some p.1) o) (looked_up ps)
-
-module _ (old new : List (ℕ × Delivery)) (key : ℕ) where
-  pub registered : (v : Delivery) → ((q : ℕ) → lookup (nat_eq q) new ≡ cond (nat_eq key q) (Some v) (lookup (nat_eq q) old)) → map.from_entries {R = nat_cmp} new ≡ map.insert (map.from_entries old) key v
-  registered v u = same_tables _ _ (λ q. get-deliveries new q ∙ u q ∙ ap (λ (b : Bool). cond b (Some v) (lookup (nat_eq q) old)) (nat_eq_equiv.symm key q) ∙ ap (λ (o : Option Delivery). cond (nat_eq q key) (Some v) o) (sym (get-deliveries old q)) ∙ sym (get-put (map.from_entries old) key q v))
-
-  pub settled : ((q : ℕ) → lookup (nat_eq q) new ≡ cond (nat_eq key q) None (lookup (nat_eq q) old)) → map.from_entries {R = nat_cmp} new ≡ map.remove (map.from_entries old) key
-  settled u = same_tables _ _ (λ q. get-deliveries new q ∙ u q ∙ ap (λ (b : Bool). cond b None (lookup (nat_eq q) old)) (nat_eq_equiv.symm key q) ∙ ap (λ (o : Option Delivery). cond (nat_eq q key) None o) (sym (get-deliveries old q)) ∙ sym (get-take (map.from_entries old) key q))
-
-pub ruleset rules = (get-deliveries, registered, settled)
-
--- what is under another number
-pub get-put-other : (t : Table) (key q : ℕ) (v : Delivery) → q ≢ key → map.get (map.insert t key v) q ≡ map.get t q
-get-put-other t key q v ne = get-put t key q v ∙ ap (λ (b : Bool). cond b (Some v) (map.get t q)) (ne_eqb q key ne)
-
--- what isn't there isn't there without another
-pub get-take-none : (t : Table) (key q : ℕ) → map.get t q ≡ None → map.get (map.remove t key) q ≡ None
-get-take-none t key q none = get-take t key q ∙ by (q == key)
-  where
-    by : (b : Bool) → cond b None (map.get t q) ≡ None
-    by true = refl
-    by false = none
+pub ruleset rules = (get-entries, entered, taken_out)
 
 -- what is left without the deliveries of a link
-pub others_kept : (es kept : List (ℕ × Delivery)) (handle q : ℕ) → IsDistinct nat_eq (keys_of es) → kept ≡ filter (λ e. not ((e.1.handle).0 == handle)) es
+pub others_kept : (es kept : List (ℕ × Delivery)) (handle q : ℕ) → IsDistinct nat_eq (keys_of es)
+    → kept ≡ filter (λ e. not ((e.1.handle).0 == handle)) es
     → map.get {R = nat_cmp} (map.from_entries kept) q ≡ unless_of handle (map.get {R = nat_cmp} (map.from_entries es) q)
 others_kept es kept handle q unique are =
-    get-deliveries kept q
-    ∙ ap (λ (xs : List (ℕ × Delivery)). lookup (nat_eq q) xs) are
-    ∙ lookup-filter-values nat_eq_equiv (λ (d : Delivery). not ((d.handle).0 == handle)) q es unique
-    ∙ same (lookup (nat_eq q) es)
-    ∙ ap (λ (o : Option Delivery). unless_of handle o) (sym (get-deliveries es q))
+    those_kept (λ (d : Delivery). not ((d.handle).0 == handle)) es kept q unique are
+    ∙ same (map.get {R = nat_cmp} (map.from_entries es) q)
   where
     negated : (b : Bool) (d : Delivery) → cond (not b) (Some d) None ≡ (if b then None else Some d)
     negated true d = refl
@@ -69,10 +29,11 @@ others_kept es kept handle q unique are =
     same None = refl
     same (Some d) = negated ((d.handle).0 == handle) d
 
-pub unsettled-at : (es : List (ℕ × Delivery)) (q : ℕ) (v : Delivery) → lookup (nat_eq q) es ≡ Some v → IsUnsettled (map.from_entries es) q
-unsettled-at es q v is = ap is_some (get-deliveries es q ∙ is)
+pub unsettled-at : (es : List (ℕ × Delivery)) (q : ℕ) (v : Delivery) → lookup (nat_eq q) es ≡ Some v
+    → IsUnsettled (map.from_entries es) q
+unsettled-at es q v is = ap is_some (get-entries es q ∙ is)
 
 -- without entries nothing is unsettled
 pub none-unsettled : (es : List (ℕ × Delivery)) (q : ℕ) → length es ≡ 0 → IsUnsettled (map.from_entries es) q → IsTrue false
-none-unsettled [] q e some = subst (λ (o : Option Delivery). IsSome o) (get-deliveries [] q) some
+none-unsettled [] q e some = subst (λ (o : Option Delivery). IsSome o) (get-entries [] q) some
 none-unsettled (x ∷ es) q e some = absurd (omega (arith, e))

@@ -4,9 +4,10 @@ ghost use Rattle.amqp_trace_lines.specs.Reread.{IsReread};
 
 use crate::refusal::Refusal;
 use amqp_trace_text::text_of;
-use serde_amqp_de::{RoundTrip, from_reader};
+use serde_amqp_de::from_reader;
 use serde_amqp_item::Error;
 use serde_amqp_read::SliceReader;
+use serde_amqp_round_trip::RoundTrip;
 use serde_amqp_ser::to_vec;
 use std::alloc::Global;
 

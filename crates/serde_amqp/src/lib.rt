@@ -6,19 +6,19 @@
 #![tactic(auto)]
 
 pub use serde_amqp_de::{
-    ArrayAccess, BorrowDeserialize, DescribedAccess, Deserialize, Deserializer, Faithful, InMemory,
-    IoReader, ListAccess, MapAccess, NeverNull, Read, ReadFields, RoundTrip, SliceReader,
-    SortedKey, VariantAccess, borrow_from_slice, from_reader, from_slice, one_value, read_array,
-    read_descriptor, read_list, read_map, read_multiple, read_record, written_is_read,
-    written_is_read_equal,
+    ArrayAccess, BorrowDeserialize, DescribedAccess, Deserialize, Deserializer, InMemory, IoReader,
+    ListAccess, MapAccess, MapKey, NeverNull, Read, ReadFields, SliceReader, SortedKey,
+    VariantAccess, borrow_from_slice, from_reader, from_slice, one_value, read_array,
+    read_descriptor, read_list, read_map, read_multiple, read_record,
 };
 pub use serde_amqp_item::{
     Category, DESCRIBED_BASIC, DESCRIBED_LIST, DESCRIBED_MAP, DESCRIPTOR, Double, EncodingCodes,
     Error, Float, IsDescribed, MAX_ARRAY_COUNT, OFFSET_ARRAY8, OFFSET_ARRAY32, OFFSET_LIST8,
     OFFSET_LIST32, OFFSET_MAP8, OFFSET_MAP32, UNTAGGED_ENUM, VALUE,
 };
-pub use serde_amqp_map::{MapKey, OrderedMap};
+pub use serde_amqp_map::OrderedMap;
 pub use serde_amqp_raw::{RawValue, raw_value_is_strict};
+pub use serde_amqp_round_trip::{Faithful, RoundTrip, written_is_read, written_is_read_equal};
 pub use serde_amqp_ser::{
     Counter, Fields, IsArrayElement, MapSerializer, SeqSerializer, Serialize, Serializer, Sink,
     StructEncoding, StructSerializer, TupleSerializer, TupleStructSerializer, VariantSerializer,

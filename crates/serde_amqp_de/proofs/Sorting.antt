@@ -4,10 +4,10 @@ use Rattle.std.specs.Cmp.{IsTotalOrder}
 use Rattle.std.specs.declared.cmp.Ordering.{Ordering}
 use Rattle.serde_amqp_item.specs.Item.{Item}
 use Rattle.serde_amqp_item.specs.Canon.{◌>>=◌}
-use Rattle.serde_amqp_ser.specs.Placed.{all_placed, sorted_item}
-use Rattle.serde_amqp_ser.proofs.Placing.{placed_once}
+use Rattle.serde_amqp_item.specs.Entries.{map_item, all_placed, sorted_item}
+use Rattle.serde_amqp_item.proofs.Placing.{placed_once}
 use Rattle.serde_amqp_de.specs.Reads.{At, Refuses, Took}
-use Rattle.serde_amqp_de.specs.Maps.{pairs_taken, map_item}
+use Rattle.serde_amqp_de.specs.Maps.{pairs_taken}
 use Rattle.serde_amqp_de.specs.Sorted.{item_order, by_key, sorted_taken}
 use Rattle.serde_amqp_de.specs.SortedLaws.{placed_item}
 

@@ -13,3 +13,4 @@ pub mod Open
 pub mod Kept
 pub mod Sorted
 pub mod SortedLaws
+pub mod Same

@@ -5,7 +5,8 @@ use Rattle.serde_amqp_item.specs.Item.{Item, map, Pairs, no_pairs, more_pairs, p
 use Rattle.serde_amqp_item.specs.Wire.{Row, map_of, row_of, own, field, Wire, Form, PairForms, IsCapped, IsStrict}
 use Rattle.serde_amqp_item.specs.Canon.{◌>>=◌}
 use Rattle.serde_amqp_item.proofs.Forms.{wire_same, sized_same, field_same}
-use Rattle.serde_amqp_de.specs.Maps.{each_pair_taken, pairs_taken, pair_items, map_item}
+use Rattle.serde_amqp_item.specs.Entries.{pair_items, map_item}
+use Rattle.serde_amqp_de.specs.Maps.{each_pair_taken, pairs_taken}
 use Rattle.serde_amqp_de.specs.Decides.{Decided}
 use Rattle.serde_amqp_de.specs.Apart.{both_forms}
 

@@ -1,5 +1,5 @@
 -- Maps: keys and values in turn (part 1, section 1.6.23).
-use Rattle.std.specs.Prelude.{◌≡◌, ℕ, List, [], ◌∷◌, ◌++◌, length, map as each, Option, Some, None}
+use Rattle.std.specs.Prelude.{◌≡◌, ℕ, List, [], ◌∷◌, ◌++◌, length, Option, Some, None}
 use Rattle.serde_amqp_item.specs.Item.{Item, map, Items, no_items, more_items, Pairs, no_pairs, more_pairs, pairs_of}
 use Rattle.serde_amqp_item.specs.Item.{pair_count}
 use Rattle.serde_amqp_item.specs.Wire.{PairForms, IsCapped, IsStrict}
@@ -30,14 +30,6 @@ each_pair_taken key value (more_pairs x y ps) =
 unfoldable pub pairs_taken : (Item → Option Item) → (Item → Option Item) → Item → Option Item
 pairs_taken key value (map ps) = each_pair_taken key value ps >>= λ qs. Some (map (pairs_of qs))
 pairs_taken key value _ = None
-
--- the items of keys with their values
-abbrev pub pair_items : {X Y : Type 0} → (X → Item) → (Y → Item) → List (X × Y) → List (Item × Item)
-pair_items key value ps = each (λ p. (key p.0, value p.1)) ps
-
--- the map of keys with their values
-abbrev pub map_item : {X Y : Type 0} → (X → Item) → (Y → Item) → List (X × Y) → Item
-map_item key value ps = map (pairs_of (pair_items key value ps))
 
 -- pairs were read one behind the other, and are taken as these
 pub record TookPairs (key value : Item → Option Item) (count : ℕ) (old new : At) (ys : List (Item × Item)) : Type

@@ -8,7 +8,7 @@ use Rattle.serde_amqp_item.specs.Item.{Scalar, boolean, ubyte, ushort, uint, ulo
 use Rattle.serde_amqp_item.specs.Item.{timestamp, uuid, binary, string, symbol, Item, scalar, map, Pairs, no_pairs}
 use Rattle.serde_amqp_item.specs.Item.{more_pairs, pairs_of}
 use Rattle.serde_amqp_item.specs.Canon.{◌>>=◌}
-use Rattle.serde_amqp_ser.specs.Placed.{all_placed}
+use Rattle.serde_amqp_item.specs.Entries.{all_placed}
 use Rattle.serde_amqp_de.specs.Maps.{pairs_taken}
 
 -- numbers by their value, characters by their code point, and bytes by the first that differ and else by their

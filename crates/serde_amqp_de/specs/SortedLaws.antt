@@ -8,10 +8,10 @@ use Rattle.std.specs.declared.cmp.Ordering.{Ordering}
 use Rattle.std.specs.declared.cmp.Ordering.TheVariants.{Less, Equal, Greater}
 use Rattle.serde_amqp_item.specs.Item.{Item, map, pairs_of}
 use Rattle.serde_amqp_item.specs.Canon.{◌>>=◌}
-use Rattle.serde_amqp_ser.specs.Placed.{all_placed, sorted_item}
-use Rattle.serde_amqp_ser.proofs.Placing.{placed_once}
+use Rattle.serde_amqp_item.specs.Entries.{pair_items, map_item, all_placed, sorted_item}
+use Rattle.serde_amqp_item.proofs.Placing.{placed_once}
 use Rattle.serde_amqp_de.specs.Decides.{Decided}
-use Rattle.serde_amqp_de.specs.Maps.{pairs_taken, pair_items, map_item}
+use Rattle.serde_amqp_de.specs.Maps.{pairs_taken}
 use Rattle.serde_amqp_de.specs.MapLaws.{pairs_decided, pairs_again, map_item_same}
 use Rattle.serde_amqp_de.specs.Sorted.{item_order, pairs_in_row, by_key, sorted_taken}
 

@@ -12,13 +12,10 @@ ghost use Rattle.serde_amqp_de.specs.Takes.{string_taken, option_taken, reads_as
 ghost use Rattle.serde_amqp_de.specs.Decides.{Decided};
 ghost use Rattle.serde_amqp_de.specs.Deciding.{null_decided, boolean_decided, ushort_decided, uint_decided};
 ghost use Rattle.serde_amqp_de.specs.Deciding.{ulong_decided, string_decided, option_decided};
-ghost use Rattle.serde_amqp_de.specs.Again.{option_same_item, option_again, option_faithful, boolean_faithful};
-ghost use Rattle.serde_amqp_de.specs.Again.{ushort_faithful, uint_faithful, ulong_faithful};
 
 use crate::deserializer::Deserializer;
 use serde_amqp_item::{EncodingCodes, Error};
 use serde_amqp_read::{Read, SliceReader};
-use serde_amqp_ser::Serialize;
 use std::alloc::Global;
 
 /// A type whose values are read from wire forms of items (part 1).
@@ -68,20 +65,6 @@ pub trait Deserialize: Sized {
 
     /// Bytes give one value, whichever of the items that they are a form of is taken.
     ghost decided: { Decided take };
-}
-
-/// A value that is written is read back as the same item.
-pub trait RoundTrip: Serialize + Deserialize {
-    /// What is written is the item that the value is.
-    ghost same: { (x : Self) → Self.Serialize.item x ≡ Self.Deserialize.item x };
-
-    /// The item of a value is taken as it is.
-    ghost again: { (x : Self) → Self.take (Self.Deserialize.item x) ≡ Some (Self.Deserialize.item x) };
-}
-
-/// No two values have the same item, so that a value that is written is read back equal.
-pub trait Faithful: RoundTrip {
-    ghost faithful: { (x y : Self) → Self.Deserialize.item x ≡ Self.Deserialize.item y → x ≡ y };
 }
 
 /// No value is read as null.
@@ -245,56 +228,6 @@ impl<R: Read> Deserializer<R> {
     }
 }
 
-impl RoundTrip for () {
-    ghost same = { λ _. refl };
-
-    ghost again = { λ _. refl };
-}
-
-impl Faithful for () {
-    ghost faithful = { λ _ _ _. refl };
-}
-
-impl RoundTrip for bool {
-    ghost same = { λ _. refl };
-
-    ghost again = { λ _. refl };
-}
-
-impl Faithful for bool {
-    ghost faithful = { boolean_faithful };
-}
-
-impl RoundTrip for u16 {
-    ghost same = { λ _. refl };
-
-    ghost again = { λ _. refl };
-}
-
-impl Faithful for u16 {
-    ghost faithful = { ushort_faithful };
-}
-
-impl RoundTrip for u32 {
-    ghost same = { λ _. refl };
-
-    ghost again = { λ _. refl };
-}
-
-impl Faithful for u32 {
-    ghost faithful = { uint_faithful };
-}
-
-impl RoundTrip for u64 {
-    ghost same = { λ _. refl };
-
-    ghost again = { λ _. refl };
-}
-
-impl Faithful for u64 {
-    ghost faithful = { ulong_faithful };
-}
-
 impl NeverNull for bool {
     ghost present = { λ _. refl };
 }
@@ -313,22 +246,6 @@ impl NeverNull for u64 {
 
 impl NeverNull for String {
     ghost present = { λ _. refl };
-}
-
-impl RoundTrip for String {
-    ghost same = { λ _. refl };
-
-    ghost again = { λ _. refl };
-}
-
-impl<T: RoundTrip + NeverNull> RoundTrip for Option<T> {
-    ghost same = { option_same_item T.Serialize.item T.Deserialize.item T.same };
-
-    ghost again = { option_again T.take T.Deserialize.item T.again T.present };
-}
-
-impl<T: Faithful + NeverNull> Faithful for Option<T> {
-    ghost faithful = { option_faithful T.Deserialize.item T.faithful T.present };
 }
 
 /// Reads a value from the front of the bytes.

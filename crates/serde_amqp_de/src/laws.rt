@@ -1,35 +1,12 @@
 //! Laws of reading. The functions do nothing: their contracts are the laws.
-ghost use Rattle.std.specs.Prelude.{◌≡◌, ℕ, List, ◌++◌, Option, Some, None};
+ghost use Rattle.std.specs.Prelude.{◌≡◌, ℕ, List, ◌++◌, Option, Some};
 ghost use Rattle.serde_amqp_item.specs.Item.{Item};
-ghost use Rattle.serde_amqp_item.specs.Wire.{Wire, IsCapped, IsStrict};
-ghost use Rattle.serde_amqp_item.specs.Canon.{canon, AllWithin, RawKept};
+ghost use Rattle.serde_amqp_item.specs.Wire.{Wire};
 
-use crate::deserialize::{Deserialize, Faithful, RoundTrip};
+use crate::deserialize::Deserialize;
 
 /// Bytes give a type one value, whichever of the items that a front of them is a form of is taken.
 pub fn one_value<T: Deserialize>()
     ensures { (x y : Item) (k : Option ℕ) (a b s t : List ℕ) (u v : Item) → Wire x k a →
         Wire y k b → a ++ s ≡ b ++ t → T.take x ≡ Some u → T.take y ≡ Some v → u ≡ v }
-{}
-
-/// A value that was written is read back (part 1): the canonical text of its item, with anything behind it, begins
-/// with a wire form that the type takes, and what it makes of it is of the same item. The premises say that the
-/// item's counts are in their bounds, and that its raw items are wire forms.
-pub fn written_is_read<T: RoundTrip>()
-    ensures there { (v : T) (text : List ℕ) → AllWithin IsCapped (T.Serialize.item v) →
-        RawKept IsStrict (T.Serialize.item v) → canon (T.Serialize.item v) ≡ Some text →
-        Wire (T.Deserialize.item v) None text
-        × (T.take (T.Deserialize.item v) ≡ Some (T.Deserialize.item v)) }
-    ensures same { (v : T) (text more front rest : List ℕ) (x u : Item) →
-        AllWithin IsCapped (T.Serialize.item v) → RawKept IsStrict (T.Serialize.item v) →
-        canon (T.Serialize.item v) ≡ Some text → Wire x None front → text ++ more ≡ front ++ rest →
-        T.take x ≡ Some u → u ≡ T.Serialize.item v }
-{}
-
-/// Where no two values have the same item, the value that is read is the one that was written.
-pub fn written_is_read_equal<T: Faithful>()
-    ensures { (v w : T) (text more front rest : List ℕ) (x : Item) →
-        AllWithin IsCapped (T.Serialize.item v) → RawKept IsStrict (T.Serialize.item v) →
-        canon (T.Serialize.item v) ≡ Some text → Wire x None front → text ++ more ≡ front ++ rest →
-        T.take x ≡ Some (T.Deserialize.item w) → w ≡ v }
 {}

@@ -5,7 +5,8 @@ ghost use Rattle.serde_amqp_item.specs.Kind.{map_kind};
 ghost use Rattle.serde_amqp_read.specs.Reads.{Unless};
 ghost use Rattle.serde_amqp_de.specs.Reads.{At, Opens, Took, Refuses, HasFailed, at_of};
 ghost use Rattle.serde_amqp_de.specs.Names.{Names, Named, Led, Says};
-ghost use Rattle.serde_amqp_de.specs.Maps.{map_in, map_taken, pairs_taken, pair_items, map_item, TookPairs};
+ghost use Rattle.serde_amqp_item.specs.Entries.{pair_items, map_item};
+ghost use Rattle.serde_amqp_de.specs.Maps.{map_in, map_taken, pairs_taken, TookPairs};
 ghost use Rattle.serde_amqp_de.specs.Maps.{RefusesPairs, TookSizedPairs, RefusesSizedPairs};
 
 use crate::deserialize::Deserialize;

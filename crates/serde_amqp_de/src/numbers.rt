@@ -5,10 +5,8 @@ ghost use Rattle.serde_amqp_de.specs.Takes.{ubyte_taken, byte_taken, short_taken
 ghost use Rattle.serde_amqp_de.specs.Takes.{double_taken, char_taken};
 ghost use Rattle.serde_amqp_de.specs.Deciding.{ubyte_decided, byte_decided, short_decided, int_decided, long_decided};
 ghost use Rattle.serde_amqp_de.specs.Deciding.{float_decided, double_decided, char_decided};
-ghost use Rattle.serde_amqp_de.specs.Again.{ubyte_faithful, byte_faithful, short_faithful, int_faithful, long_faithful};
-ghost use Rattle.serde_amqp_de.specs.Again.{float_faithful, double_faithful, char_faithful};
 
-use crate::deserialize::{Deserialize, Faithful, NeverNull, RoundTrip};
+use crate::deserialize::{Deserialize, NeverNull};
 use crate::deserializer::Deserializer;
 use serde_amqp_item::{Double, Error, Float};
 use serde_amqp_read::Read;
@@ -29,16 +27,6 @@ impl Deserialize for u8 {
     }
 
     ghost decided = { ubyte_decided };
-}
-
-impl RoundTrip for u8 {
-    ghost same = { λ _. refl };
-
-    ghost again = { λ _. refl };
-}
-
-impl Faithful for u8 {
-    ghost faithful = { ubyte_faithful };
 }
 
 impl NeverNull for u8 {
@@ -62,16 +50,6 @@ impl Deserialize for i8 {
     ghost decided = { byte_decided };
 }
 
-impl RoundTrip for i8 {
-    ghost same = { λ _. refl };
-
-    ghost again = { λ _. refl };
-}
-
-impl Faithful for i8 {
-    ghost faithful = { byte_faithful };
-}
-
 impl NeverNull for i8 {
     ghost present = { λ _. refl };
 }
@@ -91,16 +69,6 @@ impl Deserialize for i16 {
     }
 
     ghost decided = { short_decided };
-}
-
-impl RoundTrip for i16 {
-    ghost same = { λ _. refl };
-
-    ghost again = { λ _. refl };
-}
-
-impl Faithful for i16 {
-    ghost faithful = { short_faithful };
 }
 
 impl NeverNull for i16 {
@@ -124,16 +92,6 @@ impl Deserialize for i32 {
     ghost decided = { int_decided };
 }
 
-impl RoundTrip for i32 {
-    ghost same = { λ _. refl };
-
-    ghost again = { λ _. refl };
-}
-
-impl Faithful for i32 {
-    ghost faithful = { int_faithful };
-}
-
 impl NeverNull for i32 {
     ghost present = { λ _. refl };
 }
@@ -153,16 +111,6 @@ impl Deserialize for i64 {
     }
 
     ghost decided = { long_decided };
-}
-
-impl RoundTrip for i64 {
-    ghost same = { λ _. refl };
-
-    ghost again = { λ _. refl };
-}
-
-impl Faithful for i64 {
-    ghost faithful = { long_faithful };
 }
 
 impl NeverNull for i64 {
@@ -186,16 +134,6 @@ impl Deserialize for Float {
     ghost decided = { float_decided };
 }
 
-impl RoundTrip for Float {
-    ghost same = { λ _. refl };
-
-    ghost again = { λ _. refl };
-}
-
-impl Faithful for Float {
-    ghost faithful = { float_faithful };
-}
-
 impl NeverNull for Float {
     ghost present = { λ _. refl };
 }
@@ -217,16 +155,6 @@ impl Deserialize for Double {
     ghost decided = { double_decided };
 }
 
-impl RoundTrip for Double {
-    ghost same = { λ _. refl };
-
-    ghost again = { λ _. refl };
-}
-
-impl Faithful for Double {
-    ghost faithful = { double_faithful };
-}
-
 impl NeverNull for Double {
     ghost present = { λ _. refl };
 }
@@ -246,16 +174,6 @@ impl Deserialize for char {
     }
 
     ghost decided = { char_decided };
-}
-
-impl RoundTrip for char {
-    ghost same = { λ _. refl };
-
-    ghost again = { λ _. refl };
-}
-
-impl Faithful for char {
-    ghost faithful = { char_faithful };
 }
 
 impl NeverNull for char {

@@ -7,9 +7,8 @@ ghost use Rattle.serde_amqp_de.specs.Reads.{RefusesSized};
 ghost use Rattle.serde_amqp_de.specs.Takes.{each_taken, elements_taken, items_taken, sequence_taken, several};
 ghost use Rattle.serde_amqp_de.specs.Takes.{multiple_taken};
 ghost use Rattle.serde_amqp_de.specs.Deciding.{sequence_decided};
-ghost use Rattle.serde_amqp_de.specs.Again.{list_same_item, sequence_again};
 
-use crate::deserialize::{Deserialize, RoundTrip};
+use crate::deserialize::Deserialize;
 use crate::deserializer::Deserializer;
 use serde_amqp_item::{EncodingCodes, Error};
 use serde_amqp_read::Read;
@@ -167,10 +166,4 @@ impl<T: Deserialize + Drop> Deserialize for Vec<T> {
     }
 
     ghost decided = { sequence_decided T.take T.decided };
-}
-
-impl<T: RoundTrip + Drop> RoundTrip for Vec<T> {
-    ghost same = { λ v. list_same_item T.Serialize.item T.Deserialize.item T.same v.items };
-
-    ghost again = { λ v. sequence_again T.take T.Deserialize.item T.again v.items };
 }

@@ -1,10 +1,10 @@
 //! Maps in the order of their keys.
 ghost use Rattle.std.specs.Prelude.{◌≡◌, [], IfOk, refl};
-ghost use Rattle.serde_amqp_ser.specs.Placed.{all_placed, sorted_item};
+ghost use Rattle.serde_amqp_item.specs.Entries.{all_placed, sorted_item};
 ghost use Rattle.serde_amqp_de.specs.Sorted.{item_order, sorted_taken};
-ghost use Rattle.serde_amqp_de.specs.SortedLaws.{sorted_decided, sorted_same, sorted_again};
+ghost use Rattle.serde_amqp_de.specs.SortedLaws.{sorted_decided};
 
-use crate::deserialize::{Deserialize, NeverNull, RoundTrip};
+use crate::deserialize::{Deserialize, NeverNull};
 use crate::deserializer::Deserializer;
 use crate::map::read_map;
 use serde_amqp_item::Error;
@@ -98,12 +98,6 @@ impl<K: SortedKey + Drop, V: Deserialize + Drop> Deserialize for BTreeMap<K, V> 
     }
 
     ghost decided = { sorted_decided K.take V.take K.decided V.decided };
-}
-
-impl<K: SortedKey + RoundTrip + Drop, V: RoundTrip + Drop> RoundTrip for BTreeMap<K, V> {
-    ghost same = { λ m. sorted_same K.cmp K.Serialize.item K.Deserialize.item V.Serialize.item V.Deserialize.item K.same V.same m.entries };
-
-    ghost again = { λ m. sorted_again K.cmp K.take V.take K.Deserialize.item V.Deserialize.item K.total K.ordered K.again V.again m.entries };
 }
 
 impl<K: SortedKey + Drop, V: Deserialize + Drop> NeverNull for BTreeMap<K, V> {

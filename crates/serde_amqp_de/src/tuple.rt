@@ -5,10 +5,8 @@ ghost use Rattle.serde_amqp_read.specs.Reads.{Unless};
 ghost use Rattle.serde_amqp_de.specs.Reads.{Took, Refuses, at_of, TookAll, RefusesAll, TookSized, RefusesSized};
 ghost use Rattle.serde_amqp_de.specs.Takes.{row_taken, tuple_taken};
 ghost use Rattle.serde_amqp_de.specs.Deciding.{tuple_decided};
-ghost use Rattle.serde_amqp_de.specs.Again.{tuple_same_item, tuple_again, one_faithful, two_faithful, three_faithful};
-ghost use Rattle.serde_amqp_de.specs.Again.{four_faithful};
 
-use crate::deserialize::{Deserialize, Faithful, NeverNull, RoundTrip};
+use crate::deserialize::{Deserialize, NeverNull};
 use crate::deserializer::Deserializer;
 use serde_amqp_item::Error;
 use serde_amqp_read::Read;
@@ -124,16 +122,6 @@ impl<A: Deserialize + Drop> Deserialize for (A,) {
     ghost decided = { tuple_decided (A.take ∷ []) (A.decided, tt) };
 }
 
-impl<A: RoundTrip + Drop> RoundTrip for (A,) {
-    ghost same = { λ p. tuple_same_item (A.Serialize.item p.0 ∷ []) (A.Deserialize.item p.0 ∷ []) (A.same p.0, tt) };
-
-    ghost again = { λ p. tuple_again (A.take ∷ []) (A.Deserialize.item p.0 ∷ []) (A.again p.0, tt) };
-}
-
-impl<A: Faithful + Drop> Faithful for (A,) {
-    ghost faithful = { one_faithful A.Deserialize.item A.faithful };
-}
-
 impl<A: Deserialize + Drop> NeverNull for (A,) {
     ghost present = { λ _. refl };
 }
@@ -158,16 +146,6 @@ impl<A: Deserialize + Drop, B: Deserialize + Drop> Deserialize for (A, B) {
     }
 
     ghost decided = { tuple_decided (A.take ∷ B.take ∷ []) (A.decided, (B.decided, tt)) };
-}
-
-impl<A: RoundTrip + Drop, B: RoundTrip + Drop> RoundTrip for (A, B) {
-    ghost same = { λ p. tuple_same_item (A.Serialize.item p.0 ∷ B.Serialize.item p.1 ∷ []) (A.Deserialize.item p.0 ∷ B.Deserialize.item p.1 ∷ []) (A.same p.0, (B.same p.1, tt)) };
-
-    ghost again = { λ p. tuple_again (A.take ∷ B.take ∷ []) (A.Deserialize.item p.0 ∷ B.Deserialize.item p.1 ∷ []) (A.again p.0, (B.again p.1, tt)) };
-}
-
-impl<A: Faithful + Drop, B: Faithful + Drop> Faithful for (A, B) {
-    ghost faithful = { two_faithful A.Deserialize.item B.Deserialize.item A.faithful B.faithful };
 }
 
 impl<A: Deserialize + Drop, B: Deserialize + Drop> NeverNull for (A, B) {
@@ -195,16 +173,6 @@ impl<A: Deserialize + Drop, B: Deserialize + Drop, C: Deserialize + Drop> Deseri
     }
 
     ghost decided = { tuple_decided (A.take ∷ B.take ∷ C.take ∷ []) (A.decided, (B.decided, (C.decided, tt))) };
-}
-
-impl<A: RoundTrip + Drop, B: RoundTrip + Drop, C: RoundTrip + Drop> RoundTrip for (A, B, C) {
-    ghost same = { λ p. tuple_same_item (A.Serialize.item p.0 ∷ B.Serialize.item p.1 ∷ C.Serialize.item p.2 ∷ []) (A.Deserialize.item p.0 ∷ B.Deserialize.item p.1 ∷ C.Deserialize.item p.2 ∷ []) (A.same p.0, (B.same p.1, (C.same p.2, tt))) };
-
-    ghost again = { λ p. tuple_again (A.take ∷ B.take ∷ C.take ∷ []) (A.Deserialize.item p.0 ∷ B.Deserialize.item p.1 ∷ C.Deserialize.item p.2 ∷ []) (A.again p.0, (B.again p.1, (C.again p.2, tt))) };
-}
-
-impl<A: Faithful + Drop, B: Faithful + Drop, C: Faithful + Drop> Faithful for (A, B, C) {
-    ghost faithful = { three_faithful A.Deserialize.item B.Deserialize.item C.Deserialize.item A.faithful B.faithful C.faithful };
 }
 
 impl<A: Deserialize + Drop, B: Deserialize + Drop, C: Deserialize + Drop> NeverNull for (A, B, C) {
@@ -238,18 +206,6 @@ impl<
     }
 
     ghost decided = { tuple_decided (A.take ∷ B.take ∷ C.take ∷ D.take ∷ []) (A.decided, (B.decided, (C.decided, (D.decided, tt)))) };
-}
-
-impl<A: RoundTrip + Drop, B: RoundTrip + Drop, C: RoundTrip + Drop, D: RoundTrip + Drop> RoundTrip
-    for (A, B, C, D) {
-    ghost same = { λ p. tuple_same_item (A.Serialize.item p.0 ∷ B.Serialize.item p.1 ∷ C.Serialize.item p.2 ∷ D.Serialize.item p.3 ∷ []) (A.Deserialize.item p.0 ∷ B.Deserialize.item p.1 ∷ C.Deserialize.item p.2 ∷ D.Deserialize.item p.3 ∷ []) (A.same p.0, (B.same p.1, (C.same p.2, (D.same p.3, tt)))) };
-
-    ghost again = { λ p. tuple_again (A.take ∷ B.take ∷ C.take ∷ D.take ∷ []) (A.Deserialize.item p.0 ∷ B.Deserialize.item p.1 ∷ C.Deserialize.item p.2 ∷ D.Deserialize.item p.3 ∷ []) (A.again p.0, (B.again p.1, (C.again p.2, (D.again p.3, tt)))) };
-}
-
-impl<A: Faithful + Drop, B: Faithful + Drop, C: Faithful + Drop, D: Faithful + Drop> Faithful
-    for (A, B, C, D) {
-    ghost faithful = { four_faithful A.Deserialize.item B.Deserialize.item C.Deserialize.item D.Deserialize.item A.faithful B.faithful C.faithful D.faithful };
 }
 
 impl<

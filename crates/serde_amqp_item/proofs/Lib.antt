@@ -7,3 +7,4 @@ pub mod Scalars
 pub mod Sizes
 pub mod StandardFacts
 pub mod Texts
+pub mod Placing

@@ -3,3 +3,4 @@ pub mod Wire
 pub mod Canon
 pub mod Kind
 pub mod Record
+pub mod Entries

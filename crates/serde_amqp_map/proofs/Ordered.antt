@@ -5,7 +5,7 @@ use Rattle.std.specs.List.{IsDistinct, AllByRecursion, list_any}
 use Rattle.std.specs.Map.{keys_of}
 use Rattle.serde_amqp_item.specs.Item.{Item}
 use Rattle.serde_amqp_item.specs.Record.{is_null}
-use Rattle.serde_amqp_ser.specs.Open.{map_item}
+use Rattle.serde_amqp_item.specs.Entries.{map_item}
 use Rattle.serde_amqp_map.specs.Items.{are_apart, no_map, ordered_item}
 use Rattle.serde_amqp_map.specs.Pairs.{KeysApart}
 

@@ -4,12 +4,13 @@ use Rattle.std.specs.Cmp.{IsEquivalence}
 use Rattle.serde_amqp_item.specs.Item.{Item}
 use Rattle.serde_amqp_item.specs.Canon.{◌>>=◌}
 use Rattle.serde_amqp_de.specs.Reads.{At, Refuses, Took}
-use Rattle.serde_amqp_de.specs.Maps.{pairs_taken, map_item}
+use Rattle.serde_amqp_item.specs.Entries.{map_item}
+use Rattle.serde_amqp_de.specs.Maps.{pairs_taken}
 use Rattle.serde_amqp_map.specs.Again.{merged_item}
 use Rattle.serde_amqp_map.specs.Deciding.{plainly}
 use Rattle.serde_amqp_map.specs.Items.{ordered_item}
 use Rattle.serde_amqp_map.specs.Pairs.{KeysApart, all_inserted}
-use Rattle.serde_amqp_map.specs.Same.{item_same}
+use Rattle.serde_amqp_de.specs.Same.{item_same}
 use Rattle.serde_amqp_map.specs.Takes.{merged, ordered_taken}
 use Rattle.serde_amqp_map.proofs.Ordered.{is_map}
 

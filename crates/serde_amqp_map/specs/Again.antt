@@ -3,13 +3,14 @@ use Rattle.std.proofs.Common.{◌≡◌, Bool, true, false, List, [], ◌∷◌,
 use Rattle.std.specs.Map.{keys_of}
 use Rattle.serde_amqp_item.specs.Item.{Item, map, pairs_of}
 use Rattle.serde_amqp_item.specs.Canon.{◌>>=◌}
-use Rattle.serde_amqp_de.specs.Maps.{pairs_taken, pair_items, map_item}
+use Rattle.serde_amqp_item.specs.Entries.{pair_items, map_item}
+use Rattle.serde_amqp_de.specs.Maps.{pairs_taken}
 use Rattle.serde_amqp_de.specs.MapLaws.{pairs_again, map_item_same, map_item_faithful}
 use Rattle.serde_amqp_de.specs.Takes.{reads_as_null}
 use Rattle.serde_amqp_map.specs.Items.{are_apart, no_map, ordered_item}
 use Rattle.serde_amqp_map.specs.Merging.{all_behind, items_apart, items_inserted}
 use Rattle.serde_amqp_map.specs.Pairs.{all_inserted}
-use Rattle.serde_amqp_map.specs.Same.{item_same}
+use Rattle.serde_amqp_de.specs.Same.{item_same}
 use Rattle.serde_amqp_map.specs.Takes.{pairs_listed, merged, ordered_taken}
 
 pub listed_same : (qs : List (Item × Item)) → pairs_listed (pairs_of qs) ≡ qs

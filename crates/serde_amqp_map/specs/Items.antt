@@ -3,7 +3,7 @@ use Rattle.std.specs.Prelude.{◌&&◌, Bool, true, not, List, [], ◌∷◌, if
 use Rattle.std.specs.List.{list_any}
 use Rattle.std.specs.Map.{keys_of}
 use Rattle.serde_amqp_item.specs.Item.{Item, raw, described}
-use Rattle.serde_amqp_ser.specs.Open.{map_item}
+use Rattle.serde_amqp_item.specs.Entries.{map_item}
 
 -- whether no two keys are equal
 abbrev pub are_apart : {K : Type 0} → (K → K → Bool) → List K → Bool

@@ -6,5 +6,4 @@ pub mod Items
 pub mod Lends
 pub mod Merging
 pub mod Pairs
-pub mod Same
 pub mod Takes

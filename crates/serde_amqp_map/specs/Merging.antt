@@ -4,10 +4,10 @@ use Rattle.std.proofs.Common.{None, if◌then◌else◌, sym, ◌∙◌, ap, ref
 use Rattle.std.specs.List.{list_any}
 use Rattle.std.specs.Map.{keys_of, lookup, set_value}
 use Rattle.serde_amqp_item.specs.Item.{Item}
-use Rattle.serde_amqp_de.specs.Maps.{pair_items}
+use Rattle.serde_amqp_item.specs.Entries.{pair_items}
 use Rattle.serde_amqp_map.specs.Items.{are_apart}
 use Rattle.serde_amqp_map.specs.Pairs.{pairs_inserted, all_inserted}
-use Rattle.serde_amqp_map.specs.Same.{item_same}
+use Rattle.serde_amqp_de.specs.Same.{item_same}
 
 neither : (a b : Bool) → (a || b) ≡ false → (a ≡ false) × (b ≡ false)
 neither true b e = absurd cc

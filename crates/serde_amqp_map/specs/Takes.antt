@@ -5,7 +5,7 @@ use Rattle.serde_amqp_item.specs.Canon.{◌>>=◌}
 use Rattle.serde_amqp_de.specs.Maps.{pairs_taken}
 use Rattle.serde_amqp_map.specs.Items.{no_map}
 use Rattle.serde_amqp_map.specs.Pairs.{all_inserted}
-use Rattle.serde_amqp_map.specs.Same.{item_same}
+use Rattle.serde_amqp_de.specs.Same.{item_same}
 
 -- the pairs in a row
 abbrev pub pairs_listed : Pairs → List (Item × Item)

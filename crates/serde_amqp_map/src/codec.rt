@@ -7,11 +7,11 @@ ghost use Rattle.serde_amqp_map.specs.Deciding.{ordered_decided};
 ghost use Rattle.serde_amqp_map.specs.Items.{ordered_item};
 ghost use Rattle.serde_amqp_map.specs.Takes.{ordered_taken};
 
-use super::key::MapKey;
 use super::map::OrderedMap;
-use serde_amqp_de::{Deserialize, Deserializer, Faithful, NeverNull, RoundTrip, read_map};
+use serde_amqp_de::{Deserialize, Deserializer, MapKey, NeverNull, read_map};
 use serde_amqp_item::Error;
 use serde_amqp_read::Read;
+use serde_amqp_round_trip::{Faithful, RoundTrip};
 use serde_amqp_ser::{Serialize, Serializer, Sink};
 use std::alloc::Global;
 use std::hash::Hash;

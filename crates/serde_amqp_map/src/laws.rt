@@ -7,7 +7,7 @@ ghost use Rattle.serde_amqp_item.specs.Item.{Item};
 ghost use Rattle.serde_amqp_item.specs.Wire.{Wire};
 ghost use Rattle.serde_amqp_map.specs.Items.{no_map};
 ghost use Rattle.serde_amqp_map.specs.Pairs.{KeysApart};
-ghost use Rattle.serde_amqp_map.specs.Same.{item_same};
+ghost use Rattle.serde_amqp_de.specs.Same.{item_same};
 
 use std::hash::Hash;
 

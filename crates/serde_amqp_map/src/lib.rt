@@ -4,13 +4,11 @@
 mod change;
 mod codec;
 mod compare;
-mod key;
 mod laws;
 mod lexical;
 mod look;
 mod map;
 mod walk;
 
-pub use key::MapKey;
 pub use laws::{clone_is_equal, each_pair_once, no_map_has_no_form, same_items_are_equal};
 pub use map::OrderedMap;

@@ -12,10 +12,10 @@ ghost use Rattle.serde_amqp_item.specs.Canon.{canon};
 ghost use Rattle.serde_amqp_read.specs.Reads.{StrictBytes, Unless, faultless};
 ghost use Rattle.serde_amqp_de.specs.Kept.{raw_taken, raw_decided, raw_faithful};
 
-use serde_amqp_de::{Deserialize, Deserializer, Faithful, RoundTrip, from_slice};
+use serde_amqp_de::{Deserialize, Deserializer, MapKey, from_slice};
 use serde_amqp_item::Error;
-use serde_amqp_map::MapKey;
 use serde_amqp_read::{Read, SliceReader};
+use serde_amqp_round_trip::{Faithful, RoundTrip};
 use serde_amqp_ser::{Serialize, Serializer, Sink, to_vec};
 use std::alloc::{AllocError, Global};
 use std::fmt;

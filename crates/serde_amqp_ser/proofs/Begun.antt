@@ -8,7 +8,8 @@ use Rattle.serde_amqp_item.proofs.Places.{canon_pairs_stuck}
 use Rattle.serde_amqp_item.proofs.PairRows.{canon_in_turn}
 use Rattle.serde_amqp_ser.specs.Written.{Written, extended, inside, Keeps}
 use Rattle.serde_amqp_ser.specs.Puts.{State, behind, serialized, counted_placed, place_of}
-use Rattle.serde_amqp_ser.specs.Open.{IsOpen, IsMark, in_turn, pair_items}
+use Rattle.serde_amqp_item.specs.Entries.{pair_items}
+use Rattle.serde_amqp_ser.specs.Open.{IsOpen, IsMark, in_turn}
 use Rattle.serde_amqp_ser.specs.declared.opened.Opened.{Opened}
 use Rattle.serde_amqp_ser.proofs.Listed.{item_count-items_of, alone_stays, alone_none_of, listed_text, listed_more, listed_stuck, listed_keeps}
 use Rattle.serde_amqp_ser.proofs.Counted.{counted_long}

@@ -7,7 +7,6 @@ pub mod Grown
 pub mod Heads
 pub mod Held
 pub mod Listed
-pub mod Placing
 pub mod Texts
 pub mod Ends
 pub mod Roomy

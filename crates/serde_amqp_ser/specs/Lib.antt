@@ -4,5 +4,4 @@ pub mod Whole
 pub mod Sizes
 pub mod Open
 pub mod Content
-pub mod Placed
 pub mod Composite

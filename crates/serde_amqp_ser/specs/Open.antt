@@ -1,7 +1,6 @@
 -- A list or a map that is being written, item by item.
 use Rattle.std.specs.Prelude.{◌≡◌, ℕ, List, [], ◌∷◌, length, Some}
-use Rattle.std.specs.Prelude.{map as each}
-use Rattle.serde_amqp_item.specs.Item.{Item, Items, map, items_of, pairs_of}
+use Rattle.serde_amqp_item.specs.Item.{Item, Items, items_of}
 use Rattle.serde_amqp_item.specs.Canon.{alone}
 use Rattle.serde_amqp_ser.specs.Written.{Written, extended, inside}
 use Rattle.serde_amqp_ser.specs.Puts.{State, listed, place_of}
@@ -29,11 +28,3 @@ pub record IsMark (s : State) (o : Opened) : Type 0 where
 abbrev pub in_turn : List (Item × Item) → List Item
 in_turn [] = []
 in_turn (p ∷ ps) = p.0 ∷ p.1 ∷ in_turn ps
-
--- the items of keys and values
-abbrev pub pair_items : {K V : Type 0} → (K → Item) → (V → Item) → List (K × V) → List (Item × Item)
-pair_items key value es = each (λ e. (key e.0, value e.1)) es
-
--- a map of these keys and values, in order
-abbrev pub map_item : {K V : Type 0} → (K → Item) → (V → Item) → List (K × V) → Item
-map_item key value es = map (pairs_of (pair_items key value es))

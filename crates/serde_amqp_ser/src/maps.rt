@@ -1,6 +1,6 @@
 //! Maps.
 ghost use Rattle.std.specs.Prelude.{◌≡◌, Some, OnOk};
-ghost use Rattle.serde_amqp_ser.specs.Placed.{sorted_item};
+ghost use Rattle.serde_amqp_item.specs.Entries.{sorted_item};
 ghost use Rattle.serde_amqp_ser.specs.Written.{Keeps};
 ghost use Rattle.serde_amqp_ser.specs.Puts.{serialized, OnlyWhere, WantsMemory, state_of};
 

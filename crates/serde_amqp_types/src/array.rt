@@ -17,8 +17,9 @@ ghost use Rattle.serde_amqp_types.specs.Takes.{array_or_one_taken};
 ghost use Rattle.serde_amqp_types.specs.Deciding.{array_or_one_decided};
 ghost use Rattle.serde_amqp_types.specs.Again.{array_again};
 
-use serde_amqp_de::{Deserialize, Deserializer, Faithful, Read, RoundTrip, read_array};
+use serde_amqp_de::{Deserialize, Deserializer, Read, read_array};
 use serde_amqp_item::{EncodingCodes, Error};
+use serde_amqp_round_trip::{Faithful, RoundTrip};
 use serde_amqp_ser::{Serialize, Serializer, Sink};
 use std::alloc::{AllocError, Global};
 use std::cmp::Ordering;

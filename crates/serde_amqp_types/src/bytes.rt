@@ -12,8 +12,9 @@ ghost use Rattle.serde_amqp_de.specs.Takes.{binary_taken};
 ghost use Rattle.serde_amqp_de.specs.Deciding.{binary_decided};
 ghost use Rattle.serde_amqp_types.specs.Faithful.{binary_faithful};
 
-use serde_amqp_de::{Deserialize, Deserializer, Faithful, NeverNull, Read, RoundTrip, ShortBytes};
+use serde_amqp_de::{Deserialize, Deserializer, MapKey, NeverNull, Read, ShortBytes};
 use serde_amqp_item::Error;
+use serde_amqp_round_trip::{Faithful, RoundTrip};
 use serde_amqp_ser::{Serialize, Serializer, Sink};
 use std::alloc::{AllocError, Global};
 use std::cmp::Ordering;
@@ -239,4 +240,8 @@ impl Faithful for ByteBuf {
 
 impl NeverNull for ByteBuf {
     ghost present = { λ _. refl };
+}
+
+impl MapKey for ByteBuf {
+    ghost equal = { λ _ _. refl };
 }

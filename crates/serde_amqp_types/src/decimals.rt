@@ -6,8 +6,9 @@ ghost use Rattle.serde_amqp_de.specs.Takes.{decimal32_taken, decimal64_taken, de
 ghost use Rattle.serde_amqp_de.specs.Deciding.{decimal32_decided, decimal64_decided, decimal128_decided};
 ghost use Rattle.serde_amqp_types.specs.Faithful.{decimal32_faithful, decimal64_faithful, decimal128_faithful};
 
-use serde_amqp_de::{Deserialize, Deserializer, Faithful, NeverNull, Read, RoundTrip};
+use serde_amqp_de::{Deserialize, Deserializer, NeverNull, Read};
 use serde_amqp_item::Error;
+use serde_amqp_round_trip::{Faithful, RoundTrip};
 use serde_amqp_ser::{Serialize, Serializer, Sink};
 use std::alloc::Global;
 use std::marker::Model;

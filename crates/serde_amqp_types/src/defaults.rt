@@ -11,8 +11,9 @@ ghost use Rattle.serde_amqp_de.specs.Deciding.{option_decided, mapped_decided};
 ghost use Rattle.serde_amqp_types.specs.Takes.{is_ubyte};
 ghost use Rattle.serde_amqp_types.specs.Again.{one_ubyte};
 
-use serde_amqp_de::{Deserialize, Deserializer, Faithful, Read, RoundTrip};
+use serde_amqp_de::{Deserialize, Deserializer, Read};
 use serde_amqp_item::Error;
+use serde_amqp_round_trip::{Faithful, RoundTrip};
 use serde_amqp_ser::{Serialize, Serializer, Sink};
 use std::alloc::Global;
 

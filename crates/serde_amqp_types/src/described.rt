@@ -11,8 +11,9 @@ ghost use Rattle.serde_amqp_types.specs.Deciding.{any_descriptor_decided, descri
 ghost use Rattle.std.proofs.Common.{ap, ◌∙◌};
 
 use crate::symbol::Symbol;
-use serde_amqp_de::{Deserialize, Deserializer, Faithful, NeverNull, Read, RoundTrip};
+use serde_amqp_de::{Deserialize, Deserializer, NeverNull, Read};
 use serde_amqp_item::{EncodingCodes, Error};
+use serde_amqp_round_trip::{Faithful, RoundTrip};
 use serde_amqp_ser::{IsArrayElement, Serialize, Serializer, Sink};
 use std::alloc::Global;
 

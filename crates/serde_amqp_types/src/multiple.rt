@@ -7,8 +7,9 @@ ghost use Rattle.serde_amqp_de.specs.Deciding.{multiple_decided};
 ghost use Rattle.serde_amqp_de.specs.Again.{multiple_again, several_faithful, several_same_item};
 
 use crate::array::Array;
-use serde_amqp_de::{Deserialize, Deserializer, Faithful, Read, RoundTrip, read_multiple};
+use serde_amqp_de::{Deserialize, Deserializer, Read, read_multiple};
 use serde_amqp_item::Error;
+use serde_amqp_round_trip::{Faithful, RoundTrip};
 use serde_amqp_ser::{Serialize, Serializer, Sink};
 use std::alloc::Global;
 

@@ -12,8 +12,9 @@ ghost use Rattle.serde_amqp_de.specs.Takes.{symbol_taken};
 ghost use Rattle.serde_amqp_de.specs.Deciding.{symbol_decided};
 ghost use Rattle.serde_amqp_types.specs.Faithful.{symbol_faithful};
 
-use serde_amqp_de::{Deserialize, Deserializer, Faithful, NeverNull, Read, RoundTrip};
+use serde_amqp_de::{Deserialize, Deserializer, MapKey, NeverNull, Read};
 use serde_amqp_item::Error;
+use serde_amqp_round_trip::{Faithful, RoundTrip};
 use serde_amqp_ser::{Serialize, Serializer, Sink};
 use std::alloc::{AllocError, Global};
 use std::cmp::Ordering;
@@ -207,4 +208,8 @@ impl Faithful for Symbol {
 
 impl NeverNull for Symbol {
     ghost present = { λ _. refl };
+}
+
+impl MapKey for Symbol {
+    ghost equal = { λ _ _. refl };
 }

@@ -5,8 +5,9 @@ ghost use Rattle.serde_amqp_de.specs.Takes.{timestamp_taken};
 ghost use Rattle.serde_amqp_de.specs.Deciding.{timestamp_decided};
 ghost use Rattle.serde_amqp_types.specs.Faithful.{timestamp_faithful};
 
-use serde_amqp_de::{Deserialize, Deserializer, Faithful, NeverNull, Read, RoundTrip};
+use serde_amqp_de::{Deserialize, Deserializer, NeverNull, Read};
 use serde_amqp_item::Error;
+use serde_amqp_round_trip::{Faithful, RoundTrip};
 use serde_amqp_ser::{Serialize, Serializer, Sink};
 use std::alloc::Global;
 use std::marker::Model;

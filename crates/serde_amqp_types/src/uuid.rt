@@ -6,8 +6,9 @@ ghost use Rattle.serde_amqp_de.specs.Takes.{uuid_taken};
 ghost use Rattle.serde_amqp_de.specs.Deciding.{uuid_decided};
 ghost use Rattle.serde_amqp_types.specs.Faithful.{uuid_faithful};
 
-use serde_amqp_de::{Deserialize, Deserializer, Faithful, NeverNull, Read, RoundTrip};
+use serde_amqp_de::{Deserialize, Deserializer, NeverNull, Read};
 use serde_amqp_item::Error;
+use serde_amqp_round_trip::{Faithful, RoundTrip};
 use serde_amqp_ser::{Serialize, Serializer, Sink};
 use std::alloc::{AllocError, Global};
 use std::marker::Model;

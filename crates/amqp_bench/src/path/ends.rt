@@ -1,7 +1,7 @@
 //! Two sessions, and what they send to each other.
 use crate::path::wire;
 use crate::sessions::{Bench, frames};
-use amqp_endpoint::Data;
+use amqp_link_sections::Data;
 use amqp_session_performatives::SessionFrame;
 use amqp_session_types::{OutputHandle, Role};
 use anyhow::Result;

@@ -5,7 +5,7 @@ use Rattle.amqp_endpoint_asked.specs.Inside.{AreNamed, PutsUnder}
 use Rattle.amqp_endpoint_asked.specs.declared.links.AskRefusal.{AskRefusal}
 use Rattle.amqp_endpoint_asked.specs.declared.links.AskRefusal.TheVariants.{Memory}
 use Rattle.amqp_endpoint_asked.proofs.Naming.{asked-named, no_handle}
-use Rattle.amqp_endpoint_asked.proofs.Tables.{taken-back}
+use Rattle.amqp_session_types.proofs.Tables.{taken-back}
 use Rattle.amqp_endpoint_asked.proofs.links.enter.Goals as goal
 
 pub returns-in_default-clause-named : goal.returns-in_default-clause-named

@@ -3,7 +3,7 @@ use Rattle.std.specs.FinMap as map
 use Rattle.amqp_endpoint_asked.specs.Asked.{Asked}
 use Rattle.amqp_endpoint_asked.specs.Inside.{AreNamed, TakesAway}
 use Rattle.amqp_endpoint_asked.proofs.Naming.{taken-named}
-use Rattle.amqp_endpoint_asked.proofs.Tables.{not-there}
+use Rattle.amqp_session_types.proofs.Tables.{not-there}
 use Rattle.amqp_endpoint_asked.proofs.links.take_out.Goals as goal
 
 pub returns-in_err-link-clause-named : goal.returns-in_err-link-clause-named

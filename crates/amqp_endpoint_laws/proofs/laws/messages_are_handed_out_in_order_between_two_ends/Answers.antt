@@ -1,5 +1,5 @@
 use Rattle.std.proofs.Common.{List, ap, map, sym, ◌++◌, ◌∙◌}
-use Rattle.amqp_endpoint_reading.specs.Reading.{nothing_read}
+use Rattle.amqp_endpoint_laws.specs.Reading.{nothing_read}
 use Rattle.amqp_endpoint_laws.specs.Attachments.{uses}
 use Rattle.amqp_endpoint_laws.specs.Handed.{Handed}
 use Rattle.amqp_endpoint_laws.specs.Passed.{came_in, sent_in}

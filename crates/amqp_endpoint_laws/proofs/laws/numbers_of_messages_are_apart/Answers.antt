@@ -1,4 +1,4 @@
-use Rattle.amqp_endpoint_deeds.specs.Telling.{events_told}
+use Rattle.amqp_endpoint_laws.specs.CallsDone.{events_told}
 use Rattle.amqp_endpoint_laws.specs.Telling.{numbers_told}
 use Rattle.amqp_endpoint_laws.proofs.Counted.{numbers-apart}
 use Rattle.amqp_endpoint_laws.proofs.laws.numbers_of_messages_are_apart.Goals as goal

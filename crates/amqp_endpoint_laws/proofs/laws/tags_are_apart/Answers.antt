@@ -1,4 +1,4 @@
-use Rattle.amqp_endpoint_deeds.specs.Telling.{events_told}
+use Rattle.amqp_endpoint_laws.specs.CallsDone.{events_told}
 use Rattle.amqp_endpoint_laws.specs.Telling.{tags_given}
 use Rattle.amqp_endpoint_laws.proofs.Counted.{counts, tags-apart}
 use Rattle.amqp_endpoint_laws.proofs.laws.tags_are_apart.Goals as goal

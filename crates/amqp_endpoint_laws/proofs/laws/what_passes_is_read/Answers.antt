@@ -1,4 +1,4 @@
-use Rattle.amqp_endpoint_reading.specs.Reading.{nothing_read}
+use Rattle.amqp_endpoint_laws.specs.Reading.{nothing_read}
 use Rattle.amqp_endpoint_laws.specs.Seen.{wired_by}
 use Rattle.amqp_endpoint_laws.proofs.Judged.{ones-read, passes-read}
 use Rattle.amqp_endpoint_laws.proofs.Paired.{ones-answer}

@@ -1,7 +1,7 @@
 use Rattle.std.proofs.Common.{rules, ◌≡◌, ◌∙◌, ap}
 use Rattle.std.specs.FinMap as map
 use Rattle.amqp_session_core.specs.Tables.{RouteTable}
-use Rattle.amqp_session_core.proofs.Tables.{taken-back}
+use Rattle.amqp_session_types.proofs.Tables.{taken-back}
 use Rattle.amqp_session_core.proofs.incoming.route_link.Goals as goal
 
 pub returns-in-Err-clause-err : goal.returns-in-Err-clause-err

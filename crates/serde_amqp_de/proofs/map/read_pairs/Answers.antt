@@ -2,7 +2,8 @@ use Rattle.std.proofs.Common.{arith, sym, ap, ◌∙◌, subst, suc, ◌≡◌, 
 use Rattle.std.proofs.lemmas.List.{map-append}
 use Rattle.serde_amqp_item.specs.Item.{Item}
 use Rattle.serde_amqp_de.specs.Reads.{at_of, Took, Refuses}
-use Rattle.serde_amqp_de.specs.Maps.{pair_items, TookPairs, RefusesPairs}
+use Rattle.serde_amqp_item.specs.Entries.{pair_items}
+use Rattle.serde_amqp_de.specs.Maps.{TookPairs, RefusesPairs}
 use Rattle.serde_amqp_de.proofs.Heads.{carried}
 use Rattle.serde_amqp_de.proofs.Pairs.{no_pair_taken, took_pair, refuses_key, refuses_value, refuses_pairs}
 use Rattle.serde_amqp_de.proofs.map.read_pairs.Goals as goal

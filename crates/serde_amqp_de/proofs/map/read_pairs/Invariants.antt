@@ -1,7 +1,8 @@
 use Rattle.std.proofs.Common.{◌≡◌, ◌-◌, ◌++◌, List, None}
 use Rattle.serde_amqp_item.specs.Item.{Item}
 use Rattle.serde_amqp_de.specs.Reads.{At, at_of}
-use Rattle.serde_amqp_de.specs.Maps.{pair_items, TookPairs, RefusesPairs}
+use Rattle.serde_amqp_item.specs.Entries.{pair_items}
+use Rattle.serde_amqp_de.specs.Maps.{TookPairs, RefusesPairs}
 use Rattle.serde_amqp_de.proofs.map.read_pairs.Given as goal
 
 -- what is read of the others completes what was read, and where they are refused all is

@@ -1,5 +1,5 @@
 use Rattle.serde_amqp_de.specs.Reads.{at_of}
-use Rattle.serde_amqp_de.specs.Maps.{pair_items}
+use Rattle.serde_amqp_item.specs.Entries.{pair_items}
 use Rattle.serde_amqp_de.proofs.Pairs.{pairs_sized}
 use Rattle.serde_amqp_de.proofs.map.read_sized_pairs.Goals as goal
 

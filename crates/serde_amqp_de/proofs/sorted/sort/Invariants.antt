@@ -1,5 +1,5 @@
 use Rattle.std.proofs.Common.{◌≡◌, []}
-use Rattle.serde_amqp_ser.specs.Placed.{all_placed}
+use Rattle.serde_amqp_item.specs.Entries.{all_placed}
 use Rattle.serde_amqp_de.proofs.sorted.sort.Given as goal
 
 abbrev pub invariant-loop-key : goal.invariant-loop-key

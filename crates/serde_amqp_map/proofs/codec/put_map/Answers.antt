@@ -2,7 +2,8 @@ use Rattle.std.proofs.Common.{◌≡◌, ◌++◌, ◌∷◌, [], length, sym, �
 use Rattle.std.proofs.lemmas.List.{length-map}
 use Rattle.std.proofs.lemmas.Result.{on_ok_weaker, err_from_is_err_and}
 use Rattle.serde_amqp_ser.specs.Puts.{state_of}
-use Rattle.serde_amqp_ser.specs.Open.{IsOpen, in_turn, pair_items}
+use Rattle.serde_amqp_item.specs.Entries.{pair_items}
+use Rattle.serde_amqp_ser.specs.Open.{IsOpen, in_turn}
 use Rattle.serde_amqp_ser.proofs.Grown.{keeps_then}
 use Rattle.serde_amqp_ser.proofs.Begun.{open_keeps, pair_items_more, pair_items_split}
 use Rattle.serde_amqp_map.proofs.Ordered.{is_map}

@@ -1,6 +1,7 @@
 use Rattle.std.proofs.Common.{◌≡◌, List, ◌++◌}
 use Rattle.serde_amqp_ser.specs.Puts.{state_of}
-use Rattle.serde_amqp_ser.specs.Open.{IsOpen, in_turn, pair_items}
+use Rattle.serde_amqp_item.specs.Entries.{pair_items}
+use Rattle.serde_amqp_ser.specs.Open.{IsOpen, in_turn}
 use Rattle.serde_amqp_map.proofs.codec.put_map.Given as goal
 
 abbrev pub invariant-loop-key : goal.invariant-loop-key

@@ -2,10 +2,11 @@ use Rattle.std.proofs.Common.{◌≡◌, ◌++◌, ◌∷◌, [], length, sym, �
 use Rattle.std.proofs.lemmas.List.{length-map}
 use Rattle.std.proofs.lemmas.Result.{on_ok_weaker, err_from_is_err_and}
 use Rattle.serde_amqp_ser.specs.Puts.{serialized, OnlyWhere, state_of}
-use Rattle.serde_amqp_ser.specs.Open.{IsOpen, in_turn, pair_items, map_item}
+use Rattle.serde_amqp_item.specs.Entries.{pair_items, map_item}
+use Rattle.serde_amqp_ser.specs.Open.{IsOpen, in_turn}
 use Rattle.serde_amqp_ser.proofs.Grown.{keeps_then}
 use Rattle.serde_amqp_ser.proofs.Begun.{open_keeps, pair_items_more, pair_items_split}
-use Rattle.serde_amqp_ser.proofs.Placing.{sorted_stays}
+use Rattle.serde_amqp_item.proofs.Placing.{sorted_stays}
 use Rattle.serde_amqp_ser.proofs.maps.put_map.Goals as goal
 
 pub loop-key-init : goal.loop-key-init

@@ -1,3 +1,0 @@
-pub mod Connecting
-pub mod Sending
-pub mod Joining

@@ -1,9 +1,0 @@
-use Rattle.amqp_endpoint_reading.proofs.Agreeing.{channels-tell, reaches-it}
-use Rattle.amqp_endpoint_reading.proofs.laws.channels_tell_the_sessions.Goals as goal
-
-pub returns-clause-goes_on : goal.returns-clause-goes_on
-returns-clause-goes_on g c = λ base r start end steps h on stands agrees.
-    channels-tell base r start end steps h on stands agrees
-
-pub returns-clause-reached : goal.returns-clause-reached
-returns-clause-reached g c = λ base r s channel agrees. reaches-it base r s channel agrees

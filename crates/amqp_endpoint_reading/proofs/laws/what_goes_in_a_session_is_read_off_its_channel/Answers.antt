@@ -1,6 +1,0 @@
-use Rattle.amqp_endpoint_reading.proofs.Going.{going-read}
-use Rattle.amqp_endpoint_reading.proofs.laws.what_goes_in_a_session_is_read_off_its_channel.Goals as goal
-
-pub returns : goal.returns
-returns c = λ number channel first later frame begin on is begun.
-    going-read number channel first later frame begin on is begun

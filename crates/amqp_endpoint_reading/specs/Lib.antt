@@ -1,4 +1,0 @@
-pub mod Reading
-pub mod Agreeing
-pub mod Following
-pub mod Channel

@@ -1,4 +1,0 @@
-pub mod Choices
-pub mod Ends
-pub mod Lends
-pub mod Script
