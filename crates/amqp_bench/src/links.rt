@@ -2,8 +2,7 @@
 use crate::endpoint::Found;
 use crate::termini::{source, target};
 use amqp_endpoint_core::Endpoint;
-use amqp_endpoint_model::{Attaching, EndpointError, SessionRelay};
-use amqp_endpoint_settings::LinkSettings;
+use amqp_endpoint_model::{Attaching, EndpointError, LinkSettings, SessionRelay};
 use amqp_session_states::TargetArchetype;
 use amqp_session_types::{IncomingChannel, ReceiverSettleMode, SenderSettleMode};
 use serde_amqp_types::Text;

@@ -1,11 +1,11 @@
+pub mod Counting
+pub mod Hearing
+pub mod Attaching
+pub mod Sending
+pub mod Calling
+pub mod Does
 pub mod Performed
 pub use Rattle.amqp_endpoint_core.specs.Messages
-pub use Rattle.amqp_endpoint_linked.specs.Attaching
-pub use Rattle.amqp_endpoint_linked.specs.Calling
-pub use Rattle.amqp_endpoint_linked.specs.Counting
-pub use Rattle.amqp_endpoint_linked.specs.Does
-pub use Rattle.amqp_endpoint_linked.specs.Hearing
-pub use Rattle.amqp_endpoint_linked.specs.Sending
 pub use Rattle.amqp_endpoint_model.specs.History
 pub use Rattle.amqp_endpoint_model.specs.Numbers
 pub use Rattle.amqp_endpoint_model.specs.Relay

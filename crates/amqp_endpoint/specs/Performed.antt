@@ -7,11 +7,11 @@ use Rattle.amqp_endpoint_model.specs.Said.{Told}
 use Rattle.amqp_endpoint_model.specs.State.{State, fresh}
 use Rattle.amqp_endpoint_model.specs.Step.{refusal_of_settings}
 use Rattle.amqp_endpoint_model.specs.History.{Run}
-use Rattle.amqp_endpoint_linked.specs.declared.linked.LinkedSessions.{LinkedSessions}
-use Rattle.amqp_endpoint_linked.specs.Does.{linked}
-use Rattle.amqp_endpoint_world.specs.WorldSaid.{WorldTold}
-use Rattle.amqp_endpoint_world.specs.WorldState.{IsNewWorld, WorldState}
-use Rattle.amqp_endpoint_world.specs.WorldStep.{WorldRun}
+use Rattle.amqp_endpoint.specs.declared.linked.LinkedSessions.{LinkedSessions}
+use Rattle.amqp_endpoint.specs.Does.{linked}
+use Rattle.amqp_endpoint_core.specs.WorldSaid.{WorldTold}
+use Rattle.amqp_endpoint_core.specs.WorldState.{IsNewWorld, WorldState}
+use Rattle.amqp_endpoint_core.specs.WorldStep.{WorldRun}
 use Rattle.amqp_endpoint_scripts.specs.Script.{Given, OneScript, TwoScript, Reading, nothing, unreadable, of_one}
 use Rattle.amqp_endpoint_scripts.specs.Script.{of_two, reading}
 use Rattle.amqp_endpoint_scripts.specs.Printed.{printed, world_printed, line_end}

@@ -9,14 +9,13 @@ ghost use Rattle.amqp_endpoint_model.specs.Numbers.{number};
 ghost use Rattle.amqp_endpoint_model.specs.Step.{refusal_of_settings};
 ghost use Rattle.amqp_endpoint_model.specs.declared.error.EndpointError.TheVariants.{Memory as NoMemory};
 
-use amqp_endpoint_core::play;
-use amqp_endpoint_linked::LinkedSessions;
+use crate::LinkedSessions;
+use amqp_endpoint_core::{play, world};
 use amqp_endpoint_model::{EndpointError, Settings};
 pub use amqp_endpoint_scripts::follows_grammar;
 use amqp_endpoint_scripts::{
     Given, OneScript, Parsed, TwoScript, parse, print_replies, print_world,
 };
-use amqp_endpoint_world::world;
 use std::alloc::{AllocError, Global};
 use std::io;
 use std::io::{ErrorKind, Read, Write};

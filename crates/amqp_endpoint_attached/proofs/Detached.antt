@@ -8,9 +8,9 @@ use Rattle.amqp_session_performatives.specs.declared.session_frame.SessionFrame.
 use Rattle.amqp_session_core.specs.declared.batch.BehindFrame.TheVariants as behind
 use Rattle.amqp_session_core.specs.State.{link_at}
 use Rattle.amqp_session_core.specs.Steps.{Step, SendsBehind}
-use Rattle.amqp_link_attach.specs.State.{after_send_detach, is_attached}
-use Rattle.amqp_link_attach.specs.declared.state.LinkState.{LinkState}
-use Rattle.amqp_link_attach.specs.declared.state.LinkState.TheVariants.{Attached, IncompleteAttachExchanged}
+use Rattle.amqp_link_base.specs.State.{after_send_detach, is_attached}
+use Rattle.amqp_link_base.specs.declared.state.LinkState.{LinkState}
+use Rattle.amqp_link_base.specs.declared.state.LinkState.TheVariants.{Attached, IncompleteAttachExchanged}
 use Rattle.amqp_link_base.specs.Moves.{sent_detach}
 use Rattle.amqp_link_base.specs.declared.base.IllegalState.{IllegalState}
 use Rattle.amqp_link_base.specs.declared.base.LinkBase.{LinkBase}

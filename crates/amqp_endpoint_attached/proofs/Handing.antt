@@ -19,7 +19,7 @@ use Rattle.amqp_session_core.specs.State.{State, link_at}
 use Rattle.amqp_session_core.specs.Steps.{Step, Allocates}
 use Rattle.amqp_link_ends.specs.declared.end.End.{End}
 use Rattle.amqp_link_sender.specs.declared.attaching.Attaching.{Attaching}
-use Rattle.amqp_endpoint_asked.specs.declared.links.AskedLink.{AskedLink}
+use Rattle.amqp_endpoint_links.specs.declared.links.AskedLink.{AskedLink}
 use Rattle.amqp_endpoint_links.specs.declared.numbered.Numbered.{Numbered}
 use Rattle.amqp_endpoint_attached.specs.Answering.{Answers, Exchanges, Replies}
 use Rattle.amqp_endpoint_attached.specs.Attaching.{Attaches, Sends}

@@ -3,16 +3,16 @@ use Rattle.std.proofs.Common.{◌≡◌, Bool, true, false, Option, Some, None, 
 use Rattle.std.specs.Prelude.{IsSome}
 use Rattle.amqp_session_types.specs.declared.handles.OutputHandle.{OutputHandle}
 use Rattle.amqp_session_performatives.specs.declared.link_flow.LinkFlow.{LinkFlow}
-use Rattle.amqp_link_attach.specs.State.{after_send_attach}
-use Rattle.amqp_link_attach.specs.declared.state.LinkState.{LinkState}
-use Rattle.amqp_link_attach.specs.declared.state.LinkState.TheVariants.{Unattached, AttachSent, IncompleteAttachSent, AttachReceived, IncompleteAttachReceived, Attached, IncompleteAttachExchanged, DetachSent, Detached, CloseSent, Closed}
+use Rattle.amqp_link_base.specs.State.{after_send_attach}
+use Rattle.amqp_link_base.specs.declared.state.LinkState.{LinkState}
+use Rattle.amqp_link_base.specs.declared.state.LinkState.TheVariants.{Unattached, AttachSent, IncompleteAttachSent, AttachReceived, IncompleteAttachReceived, Attached, IncompleteAttachExchanged, DetachSent, Detached, CloseSent, Closed}
 use Rattle.amqp_link_base.specs.Moves.{sent_attach}
 use Rattle.amqp_link_base.specs.declared.base.IllegalState.{IllegalState}
 use Rattle.amqp_link_base.specs.declared.base.LinkBase.{LinkBase}
 use Rattle.amqp_link_ends.specs.Ends.{flow_answer, flowed, state_of, with_handle}
 use Rattle.amqp_link_ends.specs.declared.end.End.{End}
 use Rattle.amqp_link_ends.specs.declared.end.End.TheVariants.{Sender, Receiver}
-use Rattle.amqp_link_flow.specs.Flows.{attached}
+use Rattle.amqp_link_base.specs.Flows.{attached}
 use Rattle.amqp_link_receiver.specs.Attaching as receiver
 use Rattle.amqp_link_receiver.specs.State.{ReceiverState, MovesLink as MovesReceiver}
 use Rattle.amqp_link_sender.specs.Attaching as sender

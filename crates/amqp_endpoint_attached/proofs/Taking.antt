@@ -5,10 +5,10 @@ use Rattle.amqp_session_performatives.specs.declared.attach.Attach.{Attach}
 use Rattle.amqp_link_types.specs.declared.attaching.ReceiverAttachError.{ReceiverAttachError}
 use Rattle.amqp_link_types.specs.declared.attaching.SenderAttachError.{SenderAttachError}
 use Rattle.amqp_link_types.specs.declared.link_error.LinkError.TheVariants.{SenderAttach, ReceiverAttach}
-use Rattle.amqp_link_attach.specs.State.{after_incoming_attach, after_send_attach}
-use Rattle.amqp_link_attach.specs.declared.exchange.AttachExchange.{AttachExchange}
-use Rattle.amqp_link_attach.specs.declared.state.LinkState.{LinkState}
-use Rattle.amqp_link_attach.specs.declared.state.LinkState.TheVariants.{Unattached, AttachSent, IncompleteAttachSent, AttachReceived, IncompleteAttachReceived, Attached, IncompleteAttachExchanged, DetachSent, Detached, CloseSent, Closed}
+use Rattle.amqp_link_base.specs.State.{after_incoming_attach, after_send_attach}
+use Rattle.amqp_link_base.specs.declared.exchange.AttachExchange.{AttachExchange}
+use Rattle.amqp_link_base.specs.declared.state.LinkState.{LinkState}
+use Rattle.amqp_link_base.specs.declared.state.LinkState.TheVariants.{Unattached, AttachSent, IncompleteAttachSent, AttachReceived, IncompleteAttachReceived, Attached, IncompleteAttachExchanged, DetachSent, Detached, CloseSent, Closed}
 use Rattle.amqp_link_base.specs.Moves.{moved_to}
 use Rattle.amqp_link_base.specs.declared.base.LinkBase.{LinkBase}
 use Rattle.amqp_link_ends.specs.Ends.{state_of}

@@ -6,7 +6,7 @@ use Rattle.amqp_session_performatives.specs.declared.detach.Detach.{Detach}
 use Rattle.amqp_session_performatives.specs.declared.session_frame.SessionFrame.{SessionFrame}
 use Rattle.amqp_session_core.specs.declared.batch.BehindFrame.TheVariants as behind
 use Rattle.amqp_session_core.specs.Steps.{Step, Changes}
-use Rattle.amqp_link_attach.specs.State.{is_attached}
+use Rattle.amqp_link_base.specs.State.{is_attached}
 use Rattle.amqp_link_sender.specs.Ending as sender
 use Rattle.amqp_link_receiver.specs.Ending as receiver
 use Rattle.amqp_link_ends.specs.Ends.{state_of}

@@ -6,19 +6,19 @@ use Rattle.amqp_session_performatives.specs.declared.session_frame.SessionFrame.
 use Rattle.amqp_session_performatives.specs.declared.session_frame.SessionFrameBody.TheVariants as body
 use Rattle.amqp_session_core.specs.Frames.{frame_of}
 use Rattle.amqp_session_core.specs.State.{State}
-use Rattle.amqp_link_attach.specs.declared.state.LinkState.{LinkState}
-use Rattle.amqp_link_attach.specs.declared.state.LinkState.TheVariants.{Unattached, Detached}
-use Rattle.amqp_link_attach.specs.declared.terms.Terms.{Terms}
+use Rattle.amqp_link_base.specs.declared.state.LinkState.{LinkState}
+use Rattle.amqp_link_base.specs.declared.state.LinkState.TheVariants.{Unattached, Detached}
+use Rattle.amqp_link_base.specs.declared.terms.Terms.{Terms}
 use Rattle.amqp_link_base.specs.declared.base.LinkBase.{LinkBase}
 use Rattle.amqp_link_ends.specs.declared.end.End.{End}
 use Rattle.amqp_link_ends.specs.declared.end.End.TheVariants.{Sender, Receiver}
 use Rattle.amqp_link_receiver.specs.Attaching as receiver
 use Rattle.amqp_link_receiver.specs.State.{credit_from, unattached}
 use Rattle.amqp_link_sender.specs.Attaching as sender
-use Rattle.amqp_link_sender_messages.specs.Messages.{no_messages}
+use Rattle.amqp_link_unsettled.specs.Messages.{no_messages}
 use Rattle.amqp_link_unsettled.specs.Listing.{Entries, FitsNowhere, Lists}
 use Rattle.amqp_endpoint_links.specs.declared.numbered.Numbered.{Numbered}
-use Rattle.amqp_endpoint_settings.specs.declared.link.LinkSettings.{LinkSettings}
+use Rattle.amqp_endpoint_model.specs.declared.link.LinkSettings.{LinkSettings}
 
 -- a link with its number
 abbrev pub with_number : ℕ → End → Numbered End

@@ -6,8 +6,8 @@ use Rattle.amqp_session_performatives.specs.declared.link_flow.LinkFlow.{LinkFlo
 use Rattle.amqp_session_performatives.specs.declared.session_frame.SessionFrame.{SessionFrame}
 use Rattle.amqp_session_core.specs.declared.batch.BehindFrame.TheVariants.{Flow}
 use Rattle.amqp_session_core.specs.Steps.{Step, Changes}
-use Rattle.amqp_link_attach.specs.State.{is_attached}
-use Rattle.amqp_link_flow.specs.Flows.{draining}
+use Rattle.amqp_link_base.specs.State.{is_attached}
+use Rattle.amqp_link_base.specs.Flows.{draining}
 use Rattle.amqp_link_receiver.specs.declared.flowing.Granted.{Granted}
 use Rattle.amqp_link_receiver.specs.Flowing.{credited, own_flow, with_flow}
 use Rattle.amqp_link_receiver.specs.State.{ReceiverState}

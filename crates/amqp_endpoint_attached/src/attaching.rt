@@ -1,7 +1,7 @@
 //! A link attaches that the peer doesn't ask for (part 2, 2.6.3).
 ghost use Rattle.std.specs.Prelude.{◌≡◌, ◌<◌, ◌⊎◌, false, None, IsSome, Err, IsOk, IfOk, IfErr, Ok, OnOk, OnErr};
 ghost use Rattle.std.specs.VecDeque.{deque_len, deque_capacity};
-ghost use Rattle.amqp_link_attach.specs.State.{after_send_attach};
+ghost use Rattle.amqp_link_base.specs.State.{after_send_attach};
 ghost use Rattle.amqp_link_ends.specs.Ends.{state_of};
 ghost use Rattle.amqp_session_core.specs.Steps.{Step, Allocates};
 ghost use Rattle.amqp_endpoint_attached.specs.Attaching.{Attaches, RefusesAttach, Sends};

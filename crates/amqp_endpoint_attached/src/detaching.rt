@@ -3,7 +3,7 @@ ghost use Rattle.std.specs.Prelude.{◌≡◌, ◌≤◌, ◌<◌, true, IsSome,
 ghost use Rattle.std.specs.VecDeque.{deque_len, deque_capacity};
 ghost use Rattle.amqp_session_outgoing.specs.Queues.{room_behind};
 ghost use Rattle.amqp_session_core.specs.State.{link_at};
-ghost use Rattle.amqp_link_attach.specs.State.{is_attached};
+ghost use Rattle.amqp_link_base.specs.State.{is_attached};
 ghost use Rattle.amqp_link_receiver.specs.Ending as receiver_ending;
 ghost use Rattle.amqp_link_sender.specs.Ending as sender_ending;
 ghost use Rattle.amqp_endpoint_attached.specs.Linked.{end_at, end_in};

@@ -2,7 +2,7 @@
 ghost use Rattle.std.specs.Prelude.{◌≡◌, ◌≤◌, ◌<◌, ◌^◌, true, IsSome, OnErr};
 ghost use Rattle.std.specs.VecDeque.{deque_capacity};
 ghost use Rattle.amqp_session_core.specs.State.{link_at};
-ghost use Rattle.amqp_link_attach.specs.State.{is_attached};
+ghost use Rattle.amqp_link_base.specs.State.{is_attached};
 ghost use Rattle.amqp_link_receiver.specs.Flowing.{credited, own_flow};
 ghost use Rattle.amqp_endpoint_attached.specs.Linked.{end_in};
 ghost use Rattle.amqp_endpoint_attached.specs.Receiving.{drained, is_receiving, DrainAnswered, DrainsIn, GivesCredit};

@@ -5,12 +5,12 @@ use Rattle.std.proofs.lemmas.List.{set-get_or}
 use Rattle.std.proofs.lemmas.Option.{none-some, same_Some, get_or_from_slice_get}
 use Rattle.amqp_session_types.specs.declared.channels.IncomingChannel.{IncomingChannel}
 use Rattle.amqp_session_types.specs.declared.channels.OutgoingChannel.{OutgoingChannel}
-use Rattle.amqp_endpoint_sessions.specs.declared.place.PeerEnd.TheVariants.{Missing}
-use Rattle.amqp_endpoint_sessions.specs.declared.place.Place.{Place}
-use Rattle.amqp_endpoint_sessions.specs.declared.place.Place.TheVariants.{Asked, Live, Ending, Over}
-use Rattle.amqp_endpoint_sessions.specs.Lends.{set_asked, set_live}
-use Rattle.amqp_endpoint_sessions.specs.State.{State, asked_at, asked_of, live_at, live_of, with_asked, with_live}
-use Rattle.amqp_endpoint_sessions.specs.Steps.{Accepts, Step}
+use Rattle.amqp_endpoint_tables.specs.declared.place.PeerEnd.TheVariants.{Missing}
+use Rattle.amqp_endpoint_tables.specs.declared.place.Place.{Place}
+use Rattle.amqp_endpoint_tables.specs.declared.place.Place.TheVariants.{Asked, Live, Ending, Over}
+use Rattle.amqp_endpoint_tables.specs.Lends.{set_asked, set_live}
+use Rattle.amqp_endpoint_tables.specs.State.{State, asked_at, asked_of, live_at, live_of, with_asked, with_live}
+use Rattle.amqp_endpoint_tables.specs.Steps.{Accepts, Step}
 
 module _ {A S : Type 0} (s : State A S) (n : ℕ) (x : S) where
   pub unlent : live_at s n ≡ Some x → set_live s n x ≡ s

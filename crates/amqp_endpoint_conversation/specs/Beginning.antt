@@ -10,18 +10,18 @@ use Rattle.amqp_session_types.specs.declared.refusals.ConnectionError.TheVariant
 use Rattle.amqp_session_types.specs.declared.refusals.SessionError.TheVariants.{IllegalState}
 use Rattle.amqp_session_performatives.specs.declared.begin.Begin.{Begin}
 use Rattle.amqp_session_performatives.specs.declared.session_frame.SessionFrame.{SessionFrame}
-use Rattle.amqp_session_connection.specs.Steps.{RefusesBegin, RefusesSession}
-use Rattle.amqp_session_connection.specs.Table.{refusal_of_begin}
+use Rattle.amqp_session_frames.specs.Steps.{RefusesBegin, RefusesSession}
+use Rattle.amqp_session_frames.specs.Table.{refusal_of_begin}
 use Rattle.amqp_session_core.specs.Relay.{Relations}
 use Rattle.amqp_session_core.specs.Table.{after_incoming_begin}
 use Rattle.amqp_session_core.specs.Told.{BeginTaken}
-use Rattle.amqp_endpoint_asked.specs.declared.session.AskedSession.{AskedSession}
-use Rattle.amqp_endpoint_asked.specs.AskedSession.{asked_by}
+use Rattle.amqp_endpoint_links.specs.declared.session.AskedSession.{AskedSession}
+use Rattle.amqp_endpoint_links.specs.AskedSession.{asked_by}
 use Rattle.amqp_endpoint_links.specs.declared.asking.AskingSession.{AskingSession}
-use Rattle.amqp_endpoint_asked.specs.Asked.{Asked as AskedLinks}
+use Rattle.amqp_endpoint_links.specs.Asked.{Asked as AskedLinks}
 use Rattle.amqp_endpoint_links.specs.Beginning.{Accepted, Begun as BegunSession}
-use Rattle.amqp_endpoint_sessions.specs.State.{State, asked_at, asked_on, live_at}
-use Rattle.amqp_endpoint_sessions.specs.Steps.{Step, Accepts, Begins, Asks, TakesBegin, ChangesLive, RefusesAsk}
+use Rattle.amqp_endpoint_tables.specs.State.{State, asked_at, asked_on, live_at}
+use Rattle.amqp_endpoint_tables.specs.Steps.{Step, Accepts, Begins, Asks, TakesBegin, ChangesLive, RefusesAsk}
 use Rattle.amqp_endpoint_conversation.specs.declared.beginning.AcceptRefusal.{AcceptRefusal}
 use Rattle.amqp_endpoint_conversation.specs.declared.beginning.AcceptRefusal.TheVariants.{NotAsked, Unbegun}
 use Rattle.amqp_endpoint_conversation.specs.declared.beginning.BeginHeard.{BeginHeard}

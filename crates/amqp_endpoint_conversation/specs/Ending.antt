@@ -13,12 +13,12 @@ use Rattle.amqp_session_performatives.specs.declared.session_frame.SessionFrame.
 use Rattle.amqp_session_performatives.specs.declared.session_frame.SessionFrameBody.TheVariants as body
 use Rattle.amqp_session_core.specs.declared.state.SessionState.{SessionState}
 use Rattle.amqp_session_core.specs.declared.state.SessionState.TheVariants.{Mapped}
-use Rattle.amqp_endpoint_asked.specs.declared.session.AskedSession.{AskedSession}
+use Rattle.amqp_endpoint_links.specs.declared.session.AskedSession.{AskedSession}
 use Rattle.amqp_endpoint_links.specs.declared.asking.AskingSession.{AskingSession}
-use Rattle.amqp_endpoint_sessions.specs.declared.place.Place.{Place}
-use Rattle.amqp_endpoint_sessions.specs.declared.place.Place.TheVariants.{Live}
-use Rattle.amqp_endpoint_sessions.specs.State.{live_at, reached}
-use Rattle.amqp_endpoint_sessions.specs.Steps.{Step, Ends, TakesEnd}
+use Rattle.amqp_endpoint_tables.specs.declared.place.Place.{Place}
+use Rattle.amqp_endpoint_tables.specs.declared.place.Place.TheVariants.{Live}
+use Rattle.amqp_endpoint_tables.specs.State.{live_at, reached}
+use Rattle.amqp_endpoint_tables.specs.Steps.{Step, Ends, TakesEnd}
 use Rattle.amqp_endpoint_conversation.specs.declared.ending.EndHeard.{EndHeard}
 use Rattle.amqp_endpoint_conversation.specs.declared.conversation.Conversation.{Conversation}
 

@@ -4,7 +4,7 @@ use Rattle.amqp_session_types.specs.declared.error.Error.{Error}
 use Rattle.amqp_session_types.specs.declared.refusals.SessionError.{SessionError}
 use Rattle.amqp_session_types.specs.declared.refusals.SessionError.TheVariants.{HandleInUse, IllegalState, Memory}
 use Rattle.amqp_session_types.specs.declared.refusals.SessionError.TheVariants.{UnattachedHandle}
-use Rattle.amqp_endpoint_sessions.specs.State.{live_at}
+use Rattle.amqp_endpoint_tables.specs.State.{live_at}
 use Rattle.amqp_endpoint_conversation.specs.declared.conversation.Conversation.{Conversation}
 
 -- what an End says of a fault (part 2, 2.8.15, 2.8.17)

@@ -8,13 +8,13 @@ use Rattle.amqp_session_types.specs.declared.refusals.SessionError.TheVariants.{
 use Rattle.amqp_session_performatives.specs.declared.session_frame.SessionFrame.{SessionFrame}
 use Rattle.amqp_session_core.specs.Relay.{Relations}
 use Rattle.amqp_session_core.specs.Steps as session_steps
-use Rattle.amqp_endpoint_asked.specs.declared.session.AskedSession.{AskedSession}
+use Rattle.amqp_endpoint_links.specs.declared.session.AskedSession.{AskedSession}
 use Rattle.amqp_endpoint_links.specs.declared.asking.AskingSession.{AskingSession}
 use Rattle.amqp_endpoint_links.specs.declared.hearing.LinkPerformative.{LinkPerformative}
 use Rattle.amqp_endpoint_links.specs.declared.hearing.PerformativeTaken.{PerformativeTaken}
 use Rattle.amqp_endpoint_links.specs.Hearing.{Hears, HearsAsked}
-use Rattle.amqp_endpoint_sessions.specs.State.{asked_at, live_at, reached}
-use Rattle.amqp_endpoint_sessions.specs.Steps.{Step, ChangesAsked, ChangesLive}
+use Rattle.amqp_endpoint_tables.specs.State.{asked_at, live_at, reached}
+use Rattle.amqp_endpoint_tables.specs.Steps.{Step, ChangesAsked, ChangesLive}
 use Rattle.amqp_endpoint_conversation.specs.declared.conversation.Conversation.{Conversation}
 use Rattle.amqp_endpoint_conversation.specs.declared.hearing.Heard.{Heard}
 use Rattle.amqp_endpoint_conversation.specs.declared.hearing.Heard.TheVariants.{Asked, Live, Dropped}

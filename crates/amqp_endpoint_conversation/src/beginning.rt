@@ -1,19 +1,18 @@
 //! How sessions begin (part 2, 2.5.1).
 ghost use Rattle.std.specs.Prelude.{◌≡◌, ◌<◌, ◌++◌, ◌∷◌, [], List, None, Some, IsSome, IfOk, IfErr, OnOk, OnErr};
 ghost use Rattle.amqp_session_performatives.specs.declared.session_frame.SessionFrame.{SessionFrame};
-ghost use Rattle.amqp_session_connection.specs.Steps.{RefusesSession};
-ghost use Rattle.amqp_session_connection.specs.Table.{refusal_of_begin};
+ghost use Rattle.amqp_session_frames.specs.Steps.{RefusesSession};
+ghost use Rattle.amqp_session_frames.specs.Table.{refusal_of_begin};
 ghost use Rattle.amqp_endpoint_links.specs.declared.asking.AskingSession.{AskingSession};
-ghost use Rattle.amqp_endpoint_sessions.specs.State.{asked_at, asked_on, live_at};
-ghost use Rattle.amqp_endpoint_sessions.specs.Steps.{Step, Begins, ChangesLive};
+ghost use Rattle.amqp_endpoint_tables.specs.State.{asked_at, asked_on, live_at};
+ghost use Rattle.amqp_endpoint_tables.specs.Steps.{Step, Begins, ChangesLive};
 ghost use Rattle.std.specs.Global.{Box};
 ghost use Rattle.std.specs.VecDeque.{deque_len, deque_capacity};
 ghost use Rattle.amqp_endpoint_conversation.specs.Beginning.{Accepting, AcceptsHere, BeginsHere, BeginAnswered};
 ghost use Rattle.amqp_endpoint_conversation.specs.Beginning.{HearsBegin, RefusesAccept, with_links};
 
 use crate::conversation::Conversation;
-use amqp_endpoint_asked::AskedSession;
-use amqp_endpoint_links::AskingSession;
+use amqp_endpoint_links::{AskedSession, AskingSession};
 use amqp_session_core::LinkRelay;
 use amqp_session_performatives::{Begin, SessionFrame};
 use amqp_session_types::{

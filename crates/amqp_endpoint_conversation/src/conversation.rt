@@ -1,7 +1,6 @@
 //! The sessions of an endpoint: they begin and end, by its calls and by its peer's Begin and End.
-use amqp_endpoint_asked::AskedSession;
-use amqp_endpoint_links::AskingSession;
-use amqp_endpoint_sessions::Sessions;
+use amqp_endpoint_links::{AskedSession, AskingSession};
+use amqp_endpoint_tables::Sessions;
 
 /// The sessions of an endpoint, and how each of them begins. What is said in it comes in as performatives, and is
 /// handed out as frames, in the order in which they are to be sent.

@@ -1,11 +1,11 @@
 //! How sessions end (part 2, 2.5.2).
 ghost use Rattle.std.specs.Prelude.{◌≡◌, IfOk, IfErr, IsSome, IsTrue, OnErr, ◌↔◌};
-ghost use Rattle.amqp_endpoint_sessions.specs.State.{live_at};
+ghost use Rattle.amqp_endpoint_tables.specs.State.{live_at};
 ghost use Rattle.amqp_endpoint_conversation.specs.Ending.{EndAnswered, EndsHere, IsMapped, RefusesEnd, end_frame};
 
 use crate::conversation::Conversation;
 use amqp_endpoint_links::AskingSession;
-use amqp_endpoint_sessions::Place;
+use amqp_endpoint_tables::Place;
 use amqp_session_core::{LinkRelay, SessionState};
 use amqp_session_performatives::{End, SessionFrame, SessionFrameBody};
 use amqp_session_types::{

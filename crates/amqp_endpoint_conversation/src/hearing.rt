@@ -2,10 +2,10 @@
 ghost use Rattle.std.specs.Prelude.{◌≡◌, ◌<◌, Err, false, IfOk, IsSome, List, OnOk, Some};
 ghost use Rattle.std.specs.Global.{Box};
 ghost use Rattle.std.specs.VecDeque.{deque_len, deque_capacity};
-ghost use Rattle.amqp_endpoint_asked.specs.declared.session.AskedSession.{AskedSession};
+ghost use Rattle.amqp_endpoint_links.specs.declared.session.AskedSession.{AskedSession};
 ghost use Rattle.amqp_endpoint_links.specs.Hearing.{says_flow};
 ghost use Rattle.amqp_endpoint_links.specs.declared.asking.AskingSession.{AskingSession};
-ghost use Rattle.amqp_endpoint_sessions.specs.State.{asked_at, live_at};
+ghost use Rattle.amqp_endpoint_tables.specs.State.{asked_at, live_at};
 ghost use Rattle.amqp_endpoint_conversation.specs.Hearing.{Answered, AskedAnswered, FlowTold, LiveAnswered, LiveHears};
 ghost use Rattle.amqp_endpoint_conversation.specs.Hearing.{Refuses};
 

@@ -4,7 +4,7 @@ use Rattle.amqp_session_frames.specs.declared.frame.Frame.{Frame}
 use Rattle.amqp_session_frames.specs.declared.frame.FrameBody.{FrameBody}
 use Rattle.amqp_session_frames.specs.declared.frame.FrameBody.TheVariants.{Empty, Open, Close}
 use Rattle.amqp_session_frames.specs.Cutting.{ReadsAs}
-use Rattle.amqp_session_connection.specs.declared.state.ConnectionState.TheVariants.{HeaderExchange}
+use Rattle.amqp_session_frames.specs.declared.state.ConnectionState.TheVariants.{HeaderExchange}
 use Rattle.amqp_endpoint_model.specs.declared.event.Event.{Event}
 use Rattle.amqp_endpoint_model.specs.declared.error.EndpointError.{EndpointError}
 use Rattle.amqp_endpoint_model.specs.declared.error.EndpointError.TheVariants.{Memory, NumbersUsedUp, ProtocolHeaderMismatch, PeerLimitUnder512, Connection, Session}

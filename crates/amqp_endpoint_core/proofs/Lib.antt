@@ -10,3 +10,10 @@ pub mod SessionLaws
 pub mod WithinLaws
 pub mod CallLaws
 pub mod NoSessionLaws
+pub mod Pullings
+pub mod WorldRuns
+pub mod Breakings
+pub mod EndLaws
+pub mod OnTheWay
+pub mod Connections
+pub mod MoveLaws

@@ -10,7 +10,7 @@ use Rattle.amqp_endpoint_model.specs.declared.event.Event.{Event}
 use Rattle.amqp_endpoint_model.specs.Relay.{IsOfSession, Relations, Taken}
 use Rattle.amqp_endpoint_model.specs.State.{State, Waiting, fits, frame_of, limit_of, own_close_with, the_frame}
 use Rattle.amqp_endpoint_model.specs.Step.{MovesBy, SendsClose, SessionsTake, TakesBody, with_close}
-use Rattle.amqp_session_connection.specs.Table.{after_send_close}
+use Rattle.amqp_session_frames.specs.Table.{after_send_close}
 use Rattle.amqp_endpoint_core.specs.Queue.{frames_waiting}
 use Rattle.amqp_endpoint_core.specs.Reading.{BodyTaken}
 use Rattle.amqp_endpoint_core.proofs.QueueLaws.{frames_waiting-append}

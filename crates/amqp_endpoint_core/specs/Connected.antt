@@ -1,14 +1,14 @@
 -- How an endpoint and its connection agree.
 use Rattle.std.specs.Prelude.{◌≡◌, ◌≤◌, ℕ, Bool, true, false, Option, Some, None}
 use Rattle.amqp_session_frames.specs.declared.frame.FrameBody.TheVariants as body
-use Rattle.amqp_session_connection.specs.declared.state.ConnectionState.{ConnectionState}
-use Rattle.amqp_session_connection.specs.declared.state.ConnectionState.TheVariants.{HeaderSent, HeaderExchange}
-use Rattle.amqp_session_connection.specs.declared.state.ConnectionState.TheVariants.{OpenClosePipe, OpenSent, ClosePipe}
-use Rattle.amqp_session_connection.specs.declared.state.ConnectionState.TheVariants.{Opened, CloseReceived, CloseSent}
-use Rattle.amqp_session_connection.specs.declared.state.ConnectionState.TheVariants.{Discarding, End}
+use Rattle.amqp_session_frames.specs.declared.state.ConnectionState.{ConnectionState}
+use Rattle.amqp_session_frames.specs.declared.state.ConnectionState.TheVariants.{HeaderSent, HeaderExchange}
+use Rattle.amqp_session_frames.specs.declared.state.ConnectionState.TheVariants.{OpenClosePipe, OpenSent, ClosePipe}
+use Rattle.amqp_session_frames.specs.declared.state.ConnectionState.TheVariants.{Opened, CloseReceived, CloseSent}
+use Rattle.amqp_session_frames.specs.declared.state.ConnectionState.TheVariants.{Discarding, End}
 use Rattle.amqp_session_performatives.specs.declared.open.Open.{Open}
-use Rattle.amqp_session_connection.specs.State.{State, fresh}
-use Rattle.amqp_session_connection.specs.Steps.{frame_on}
+use Rattle.amqp_session_frames.specs.State.{State, fresh}
+use Rattle.amqp_session_frames.specs.Steps.{frame_on}
 use Rattle.amqp_endpoint_model.specs.declared.phase.Phase.{Phase}
 use Rattle.amqp_endpoint_model.specs.declared.phase.Phase.TheVariants.{Unconnected, Greeting, Running, Over}
 use Rattle.amqp_endpoint_model.specs.declared.settings.Settings.{Settings}

@@ -3,3 +3,9 @@ pub mod Queue
 pub mod Reading
 pub mod NoSessions
 pub mod Messages
+pub mod WorldState
+pub mod WorldSaid
+pub mod WorldStep
+pub mod EndHistory
+pub mod Pulling
+pub mod Moves

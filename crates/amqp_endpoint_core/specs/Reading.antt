@@ -17,7 +17,7 @@ use Rattle.amqp_endpoint_model.specs.Step.{Admits, AfterFault, Breaks, TakesBody
 use Rattle.amqp_endpoint_model.specs.Step.{RefusesBody, Waits, at_state, opened, condition_of, framing_error}
 use Rattle.amqp_endpoint_model.specs.Step.{decode_error, not_allowed, not_found}
 use Rattle.amqp_endpoint_model.specs.Relay.{Relations}
-use Rattle.amqp_session_connection.specs.declared.state.ConnectionState.TheVariants.{HeaderExchange}
+use Rattle.amqp_session_frames.specs.declared.state.ConnectionState.TheVariants.{HeaderExchange}
 use Rattle.amqp_endpoint_core.specs.declared.condition.Condition.{Condition}
 use Rattle.amqp_endpoint_core.specs.declared.condition.Condition.TheVariants.{FramingError, DecodeError, NotAllowed}
 use Rattle.amqp_endpoint_core.specs.declared.condition.Condition.TheVariants.{NotFound}

@@ -2,7 +2,7 @@
 ghost use Rattle.std.specs.Prelude.{◌≡◌, ◌<◌, None, IfOk, IfErr};
 ghost use Rattle.amqp_session_frames.specs.Text.{FrameText};
 ghost use Rattle.amqp_session_frames.specs.Cutting.{IsPiece};
-ghost use Rattle.amqp_session_connection.specs.Steps.{frame_on};
+ghost use Rattle.amqp_session_frames.specs.Steps.{frame_on};
 ghost use Rattle.amqp_session_frames.specs.declared.frame.FrameBody.TheVariants as body;
 ghost use Rattle.amqp_endpoint_model.specs.State.{fits, own_open, error_of};
 ghost use Rattle.amqp_endpoint_model.specs.declared.error.EndpointError.TheVariants.{Memory};

@@ -1,11 +1,11 @@
 //! The connection of an endpoint: headers, Open and Close.
 ghost use Rattle.std.specs.Prelude.{◌≡◌, ◌⊎◌, true, false, None, Some, is_some, IfOk, IfErr, OnOk, OnErr};
 ghost use Rattle.amqp_session_types.specs.declared.refusals.ConnectionError.TheVariants.{IllegalState};
-ghost use Rattle.amqp_session_connection.specs.State.{fresh};
-ghost use Rattle.amqp_session_connection.specs.Steps.{frame_on};
-ghost use Rattle.amqp_session_connection.specs.Table.{after_incoming_close, after_incoming_open, after_send_close};
-ghost use Rattle.amqp_session_connection.specs.declared.state.ConnectionState.TheVariants.{Start, HeaderSent};
-ghost use Rattle.amqp_session_connection.specs.declared.state.ConnectionState.TheVariants.{HeaderExchange, OpenSent};
+ghost use Rattle.amqp_session_frames.specs.State.{fresh};
+ghost use Rattle.amqp_session_frames.specs.Steps.{frame_on};
+ghost use Rattle.amqp_session_frames.specs.Table.{after_incoming_close, after_incoming_open, after_send_close};
+ghost use Rattle.amqp_session_frames.specs.declared.state.ConnectionState.TheVariants.{Start, HeaderSent};
+ghost use Rattle.amqp_session_frames.specs.declared.state.ConnectionState.TheVariants.{HeaderExchange, OpenSent};
 ghost use Rattle.amqp_session_frames.specs.declared.frame.FrameBody.TheVariants as body;
 ghost use Rattle.amqp_endpoint_model.specs.State.{fits, own_close_with, own_open, the_frame};
 ghost use Rattle.amqp_endpoint_model.specs.Step as step;
@@ -16,7 +16,7 @@ ghost use Rattle.amqp_endpoint_core.specs.Connected.{took_close};
 use crate::coding::{goes_to_any, open_of};
 use crate::queued::Queued;
 use amqp_endpoint_model::{EndpointError, SessionRelay, Settings};
-use amqp_session_connection::{Connection, ConnectionState};
+use amqp_session_frames::{Connection, ConnectionState};
 use amqp_session_performatives::{Close, Open};
 use amqp_session_types::{ConnectionError, IncomingChannel, definitions};
 use std::alloc::Global;

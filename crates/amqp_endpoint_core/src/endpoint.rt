@@ -1,7 +1,7 @@
 //! An endpoint, and its calls of the connection.
 ghost use Rattle.std.specs.Prelude.{◌≡◌, ◌≤◌, ◌<◌, ◌==◌, ◌&&◌, ◌⊎◌, ◌++◌, ◌∷◌, [], true, false, length, drop, is_some};
 ghost use Rattle.std.specs.Prelude.{Some, None, IfOk, IfErr, OnOk, OnErr, MatchOption, MatchResult};
-ghost use Rattle.amqp_session_connection.specs.Table.{after_send_close};
+ghost use Rattle.amqp_session_frames.specs.Table.{after_send_close};
 ghost use Rattle.amqp_endpoint_model.specs.Relay.{IsNew};
 ghost use Rattle.amqp_endpoint_model.specs.State.{Waiting, fresh, has_opened, is_running, limit_of, text_of, the_frame};
 ghost use Rattle.amqp_endpoint_model.specs.State.{the_header, heartbeat, fits, own_close_with};
@@ -19,8 +19,7 @@ use crate::queued::{Queued, drop_first, first_bytes, gather};
 use amqp_endpoint_model::{
     Answer, Attaching, Call, EndpointError, Event, Phase, Sent, SessionRelay, Settings,
 };
-use amqp_session_connection::ConnectionState;
-use amqp_session_frames::Frame;
+use amqp_session_frames::{ConnectionState, Frame};
 use amqp_session_performatives::SessionFrame;
 use amqp_session_types::{TryCloseError, definitions};
 use bytes::BytesMut;

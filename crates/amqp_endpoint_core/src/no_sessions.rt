@@ -2,10 +2,10 @@
 ghost use Rattle.std.specs.Prelude.{◌≡◌};
 ghost use Rattle.amqp_endpoint_core.specs.NoSessions.{session_refusal};
 
-use amqp_endpoint_model::{Attaching, Disposal, EndpointError, Event, Sending, Sent, SessionRelay};
-use amqp_endpoint_settings::LinkSettings;
-use amqp_session_connection::Connection;
-use amqp_session_frames::FrameBody;
+use amqp_endpoint_model::{
+    Attaching, Disposal, EndpointError, Event, LinkSettings, Sending, Sent, SessionRelay,
+};
+use amqp_session_frames::{Connection, FrameBody};
 use amqp_session_performatives::SessionFrame;
 use amqp_session_types::{ConnectionError, IncomingChannel, TryEndError};
 use std::alloc::{AllocError, Global};

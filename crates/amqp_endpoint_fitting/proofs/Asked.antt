@@ -15,8 +15,8 @@ use Rattle.amqp_session_core.specs.Relay.{Relations}
 use Rattle.amqp_session_core.specs.State.{State, leads}
 use Rattle.amqp_session_core.specs.Steps.{Act, Step, Allocates}
 use Rattle.amqp_session_core.specs.Told.{FlowTaken}
-use Rattle.amqp_endpoint_asked.specs.Asked.{is_asked}
-use Rattle.amqp_endpoint_asked.specs.AskedSession.{session_part}
+use Rattle.amqp_endpoint_links.specs.Asked.{is_asked}
+use Rattle.amqp_endpoint_links.specs.AskedSession.{session_part}
 use Rattle.amqp_endpoint_links.specs.declared.asking.AskingSession.{AskingSession}
 use Rattle.amqp_endpoint_links.specs.declared.asking.NamedLink.{NamedLink}
 use Rattle.amqp_endpoint_links.specs.declared.hearing.LinkPerformative.{LinkPerformative}

@@ -6,7 +6,7 @@ use Rattle.amqp_session_types.specs.declared.channels.IncomingChannel.{IncomingC
 use Rattle.amqp_session_types.specs.declared.channels.OutgoingChannel.{OutgoingChannel}
 use Rattle.amqp_session_performatives.specs.declared.begin.Begin.{Begin}
 use Rattle.amqp_session_core.specs.State.{State}
-use Rattle.amqp_endpoint_asked.specs.declared.session.SessionFlow.{SessionFlow}
+use Rattle.amqp_endpoint_links.specs.declared.session.SessionFlow.{SessionFlow}
 use Rattle.amqp_endpoint_links.specs.Beginning.{accepted_with, begun_state}
 use Rattle.amqp_endpoint_fitting.specs.Fits.{QueueFits, QueuesFit}
 

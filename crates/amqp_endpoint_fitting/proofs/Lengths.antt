@@ -16,8 +16,8 @@ use Rattle.amqp_session_core.specs.Frames.{behind_frame, frames_behind, frames_l
 use Rattle.amqp_session_outgoing.specs.declared.frames.Outbound.{Outbound}
 use Rattle.amqp_session_frames.specs.Text.{frame_text}
 use Rattle.amqp_endpoint_model.specs.State.{frame_of, text_fits}
-use Rattle.amqp_endpoint_lengths.specs.Plain.{IsPlainFlow}
-use Rattle.amqp_endpoint_lengths.proofs.Frames.{begin_fits, flow_fits, larger_fits}
+use Rattle.amqp_endpoint_fitting.specs.Plain.{IsPlainFlow}
+use Rattle.amqp_endpoint_fitting.proofs.Frames.{begin_fits, flow_fits, larger_fits}
 use Rattle.amqp_endpoint_fitting.specs.Fits.{BehindFits, FrameFits, QueueFits, QueuesFit, UnitFits, numbered}
 use Rattle.amqp_endpoint_fitting.specs.Read.{IsRead, IsReadBegin, IsReadFlow}
 use Rattle.amqp_endpoint_fitting.proofs.Queueing.{Leaving, Lines, SentFits}

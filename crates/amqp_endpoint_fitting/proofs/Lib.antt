@@ -5,3 +5,8 @@ pub mod Asked
 pub mod Due
 pub mod FramesRead
 pub mod Begun
+pub mod Texts
+pub mod Fields
+pub mod Lists
+pub mod Frames
+pub mod AttachFrames

@@ -9,7 +9,7 @@ use Rattle.amqp_session_core.specs.declared.batch.BehindFrame.{BehindFrame}
 use Rattle.amqp_session_core.specs.declared.batch.BehindFrame.TheVariants as behind
 use Rattle.amqp_session_core.specs.declared.batch.TransferFrame.{TransferFrame}
 use Rattle.amqp_endpoint_model.specs.State.{fits, frame_of}
-use Rattle.amqp_endpoint_lengths.specs.Plain.{MayBeUint}
+use Rattle.amqp_endpoint_fitting.specs.Plain.{MayBeUint}
 
 -- a frame fits the limit
 abbrev pub FrameFits : ℕ → SessionFrame → Type 0

@@ -6,7 +6,7 @@ use Rattle.amqp_session_performatives.specs.declared.flow.Flow.{Flow}
 use Rattle.amqp_session_performatives.specs.declared.session_frame.SessionFrame.{SessionFrame}
 use Rattle.amqp_session_performatives.specs.declared.session_frame.SessionFrameBody.{SessionFrameBody}
 use Rattle.amqp_session_performatives.specs.declared.session_frame.SessionFrameBody.TheVariants as body
-use Rattle.amqp_endpoint_lengths.specs.Plain.{IsUint, MayBeUint}
+use Rattle.amqp_endpoint_fitting.specs.Plain.{IsUint, MayBeUint}
 
 -- the numbers of a Begin (2.7.2)
 pub record IsReadBegin (begin : Begin) : Type 0 where

@@ -11,7 +11,7 @@ ghost use Rattle.amqp_session_core.specs.declared.incoming.TransferTaken.{Transf
 ghost use Rattle.amqp_session_core.specs.History.{History, frames_in};
 ghost use Rattle.amqp_session_core.specs.State.{State, fresh};
 ghost use Rattle.amqp_session_core.specs.Steps.{Act, Step};
-ghost use Rattle.amqp_endpoint_asked.specs.declared.session.AskedSession.{AskedSession};
+ghost use Rattle.amqp_endpoint_links.specs.declared.session.AskedSession.{AskedSession};
 ghost use Rattle.amqp_endpoint_links.specs.Beginning.{Accepted, Begun};
 ghost use Rattle.amqp_endpoint_links.specs.Hearing.{Hears};
 ghost use Rattle.amqp_endpoint_links.specs.Numbering.{numbered};

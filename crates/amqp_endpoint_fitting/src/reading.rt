@@ -2,7 +2,7 @@
 //! contract is what it reads.
 ghost use Rattle.std.specs.Prelude.{All, IfSome, drop};
 ghost use Rattle.amqp_endpoint_fitting.specs.Read.{IsRead, IsReadBegin, IsReadDisposition, IsReadFlow};
-ghost use Rattle.amqp_endpoint_lengths.specs.Plain.{IsUint, MayBeUint};
+ghost use Rattle.amqp_endpoint_fitting.specs.Plain.{IsUint, MayBeUint};
 
 use amqp_session_performatives::{
     Begin, Detach, Disposition, Flow, SessionFrame, SessionFrameBody, Transfer,

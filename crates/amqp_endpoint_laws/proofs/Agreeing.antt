@@ -3,9 +3,9 @@ use Rattle.std.proofs.Common.{◌≡◌, ◌==◌, ◌⊎◌, inl, inr, ℕ, Boo
 use Rattle.std.proofs.Common.{subst, sym, ◌∙◌}
 use Rattle.std.proofs.lemmas.Option.{none-some, same_Some}
 use Rattle.amqp_session_types.specs.declared.handles.OutputHandle.{OutputHandle}
-use Rattle.amqp_endpoint_names.specs.Own.{slot_at}
-use Rattle.amqp_endpoint_names.specs.State.{State, held_at}
-use Rattle.amqp_endpoint_names.proofs.Owning.{same_number}
+use Rattle.amqp_endpoint_tables.specs.OwnLinks.{slot_at}
+use Rattle.amqp_endpoint_tables.specs.LinkState.{State, held_at}
+use Rattle.amqp_endpoint_tables.proofs.OwningLinks.{same_number}
 use Rattle.amqp_endpoint_laws.specs.Held.{Agrees, IsHeldThere, Numbers}
 use Rattle.amqp_endpoint_laws.proofs.Parted.{Entered, Parted, Shut, holder}
 

@@ -13,15 +13,15 @@ use Rattle.amqp_session_performatives.specs.declared.session_frame.SessionFrame.
 use Rattle.amqp_session_frames.specs.declared.frame.FrameBody.{FrameBody}
 use Rattle.amqp_session_frames.specs.declared.frame.FrameBody.TheVariants as body
 use Rattle.amqp_session_core.specs.Tables.{RouteTable}
-use Rattle.amqp_endpoint_asked.specs.Asked.{Asked as AskedLinks}
-use Rattle.amqp_endpoint_asked.specs.AskedSession.{asked_by}
-use Rattle.amqp_endpoint_asked.specs.declared.links.AskedLink.{AskedLink}
-use Rattle.amqp_endpoint_asked.specs.declared.session.AskedSession.{AskedSession}
+use Rattle.amqp_endpoint_links.specs.Asked.{Asked as AskedLinks}
+use Rattle.amqp_endpoint_links.specs.AskedSession.{asked_by}
+use Rattle.amqp_endpoint_links.specs.declared.links.AskedLink.{AskedLink}
+use Rattle.amqp_endpoint_links.specs.declared.session.AskedSession.{AskedSession}
 use Rattle.amqp_endpoint_attached.specs.Linked.{Linked, gives}
 use Rattle.amqp_endpoint_conversation.specs.Beginning.{with_links}
 use Rattle.amqp_endpoint_laws.specs.Deeds.{Deed}
-use Rattle.amqp_endpoint_linked.specs.Does.{linked}
-use Rattle.amqp_endpoint_linked.specs.declared.linked.LinkedSessions.{LinkedSessions}
+use Rattle.amqp_endpoint.specs.Does.{linked}
+use Rattle.amqp_endpoint.specs.declared.linked.LinkedSessions.{LinkedSessions}
 use Rattle.amqp_endpoint_linking.specs.Linking.{Session, Stood}
 use Rattle.amqp_endpoint_links.specs.Beginning.{Accepted, Begun}
 use Rattle.amqp_endpoint_links.specs.Hearing.{HearsAsked}
@@ -30,10 +30,10 @@ use Rattle.amqp_endpoint_links.proofs.Calls.{accepted-routes, begun-routes}
 use Rattle.amqp_endpoint_links.proofs.Routing.{Routed, none-routed, routed-on}
 use Rattle.amqp_endpoint_model.specs.Relay.{IsNew}
 use Rattle.amqp_endpoint_model.specs.declared.settings.Settings.{Settings}
-use Rattle.amqp_endpoint_sessions.specs.State.{asked_of, live_of, place_at, with_asked, with_live}
-use Rattle.amqp_endpoint_sessions.specs.declared.place.Place.TheVariants.{Asked, Live, Ending, Over}
-use Rattle.amqp_endpoint_talk.specs.Inside.{Batches}
-use Rattle.amqp_endpoint_talk.specs.Windows.{Came, Passing, body_said, went}
+use Rattle.amqp_endpoint_tables.specs.State.{asked_of, live_of, place_at, with_asked, with_live}
+use Rattle.amqp_endpoint_tables.specs.declared.place.Place.TheVariants.{Asked, Live, Ending, Over}
+use Rattle.amqp_endpoint_conversation.specs.Inside.{Batches}
+use Rattle.amqp_endpoint_conversation.specs.Windows.{Came, Passing, body_said, went}
 use Rattle.amqp_endpoint_laws.specs.Passed.{PassesIn, came_in}
 use Rattle.amqp_endpoint_laws.specs.Taken.{CameLast, asked_in}
 use Rattle.amqp_endpoint_laws.proofs.AskedCameHeard.{AllCame, AreAsked, asked-came, keep-asked, takes-asked}

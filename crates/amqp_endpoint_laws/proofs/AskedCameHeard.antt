@@ -23,15 +23,15 @@ use Rattle.amqp_session_core.specs.Told.{AttachTaken as SessionAttached, Transfe
 use Rattle.amqp_session_core.specs.declared.incoming.TransferTaken.{TransferTaken}
 use Rattle.amqp_link_base.specs.declared.detached.Detached.{Detached}
 use Rattle.amqp_link_ends.specs.declared.relay.AttachTold.{AttachTold}
-use Rattle.amqp_link_place.specs.Readings.{Piece}
-use Rattle.amqp_link_receiving.specs.declared.answer.Told.{Told}
-use Rattle.amqp_endpoint_asked.specs.Asked.{Asked, Asks, asked_with, is_asked, link_told, told_of, told_to}
-use Rattle.amqp_endpoint_asked.specs.AskedSession as wanted
-use Rattle.amqp_endpoint_asked.specs.AskedSession.{is_for_asked}
-use Rattle.amqp_endpoint_asked.specs.declared.links.AskRefusal.{AskRefusal}
-use Rattle.amqp_endpoint_asked.specs.declared.links.AskRefusal.TheVariants as ask
-use Rattle.amqp_endpoint_asked.specs.declared.links.AskedLink.{AskedLink}
-use Rattle.amqp_endpoint_asked.specs.declared.session.AskedSession.{AskedSession}
+use Rattle.amqp_link_base.specs.Readings.{Piece}
+use Rattle.amqp_link_receiver.specs.declared.answer.Told.{Told}
+use Rattle.amqp_endpoint_links.specs.Asked.{Asked, Asks, asked_with, is_asked, link_told, told_of, told_to}
+use Rattle.amqp_endpoint_links.specs.AskedSession as wanted
+use Rattle.amqp_endpoint_links.specs.AskedSession.{is_for_asked}
+use Rattle.amqp_endpoint_links.specs.declared.links.AskRefusal.{AskRefusal}
+use Rattle.amqp_endpoint_links.specs.declared.links.AskRefusal.TheVariants as ask
+use Rattle.amqp_endpoint_links.specs.declared.links.AskedLink.{AskedLink}
+use Rattle.amqp_endpoint_links.specs.declared.session.AskedSession.{AskedSession}
 use Rattle.amqp_session_types.proofs.Tables.{get-put}
 use Rattle.amqp_endpoint_attached.specs.Linked.{Linked, LinksIn, gives}
 use Rattle.amqp_endpoint_linking.specs.Linking.{Link}
@@ -48,7 +48,7 @@ use Rattle.amqp_endpoint_links.specs.declared.hearing.PerformativeTaken.{Perform
 use Rattle.amqp_endpoint_links.specs.declared.hearing.PerformativeTaken.TheVariants as taken
 use Rattle.amqp_endpoint_links.proofs.Projecting.{Done, detach-done, flow-done}
 use Rattle.amqp_endpoint_links.proofs.Routing.{Routed, none-stays}
-use Rattle.amqp_endpoint_talk.specs.Windows.{body_said}
+use Rattle.amqp_endpoint_conversation.specs.Windows.{body_said}
 use Rattle.amqp_endpoint_laws.specs.Handed.{pieces_come}
 use Rattle.amqp_endpoint_laws.specs.Taken.{CameLast}
 use Rattle.amqp_endpoint_laws.proofs.AskedCameInside.{same-was, step-keeps, taken-was}

@@ -17,20 +17,20 @@ use Rattle.amqp_session_core.specs.Steps.{Act, Allocates, Step}
 use Rattle.amqp_session_core.specs.declared.batch.BehindFrame.TheVariants as behind
 use Rattle.amqp_session_core.specs.declared.dispositions.Touched.{Touched}
 use Rattle.amqp_link_base.specs.declared.detached.Detached.{Detached}
-use Rattle.amqp_link_attach.specs.declared.exchange.AttachExchange.{AttachExchange}
+use Rattle.amqp_link_base.specs.declared.exchange.AttachExchange.{AttachExchange}
 use Rattle.amqp_link_ends.specs.declared.end.End.{End}
 use Rattle.amqp_link_ends.specs.declared.relay.AttachTold.{AttachTold}
-use Rattle.amqp_link_receiving.specs.declared.answer.Told.{Told}
-use Rattle.amqp_endpoint_asked.specs.Asked.{Asked}
-use Rattle.amqp_endpoint_asked.specs.declared.links.AskedLink.{AskedLink}
+use Rattle.amqp_link_receiver.specs.declared.answer.Told.{Told}
+use Rattle.amqp_endpoint_links.specs.Asked.{Asked}
+use Rattle.amqp_endpoint_links.specs.declared.links.AskedLink.{AskedLink}
 use Rattle.amqp_session_types.proofs.Tables.{get-take, get-take-other}
 use Rattle.amqp_endpoint_attached.specs.Answering.{Replies}
 use Rattle.amqp_endpoint_attached.specs.Detaching.{is_there}
 use Rattle.amqp_endpoint_attached.specs.Linked.{Linked, LinksIn, end_at, gives}
 use Rattle.amqp_endpoint_attached.specs.Links.{with_number}
 use Rattle.amqp_endpoint_attached.specs.TakenOut.{TakenOut}
-use Rattle.amqp_endpoint_link_attaching.specs.Attaching.{AttachedBy}
-use Rattle.amqp_endpoint_link_attaching.specs.declared.placed.Placed.{Placed}
+use Rattle.amqp_endpoint_link_calls.specs.Attaching.{AttachedBy}
+use Rattle.amqp_endpoint_link_calls.specs.declared.placed.Placed.{Placed}
 use Rattle.amqp_endpoint_link_calls.specs.Calling.{Does, detaches, gives_credit, wants_drain}
 use Rattle.amqp_endpoint_link_calls.specs.Closing.{closes}
 use Rattle.amqp_endpoint_link_hearing.specs.Detaching.{TellsAndParts}
@@ -38,8 +38,8 @@ use Rattle.amqp_endpoint_link_hearing.specs.Disposing.{TellsAndEchoes}
 use Rattle.amqp_endpoint_link_hearing.specs.Flowing.{LeaveWith, LeavesOnce, LeavesWith, ended_link}
 use Rattle.amqp_endpoint_link_hearing.specs.InSession.{AnswersIf, Closes, ClosesIf}
 use Rattle.amqp_endpoint_link_hearing.specs.Transferring.{Remembers}
-use Rattle.amqp_endpoint_link_messages.specs.Disposing.{disposes_of_all, disposes_of_one}
-use Rattle.amqp_endpoint_link_messages.specs.Sending.{sends}
+use Rattle.amqp_endpoint_link_calls.specs.Disposing.{disposes_of_all, disposes_of_one}
+use Rattle.amqp_endpoint_link_calls.specs.Sending.{sends}
 use Rattle.amqp_endpoint_linking.specs.Linking.{Link, Links}
 use Rattle.amqp_endpoint_links.specs.History.{routed_in}
 use Rattle.amqp_endpoint_links.proofs.Routing.{none-stays}

@@ -5,7 +5,7 @@ use Rattle.amqp_session_performatives.specs.declared.session_frame.SessionFrame.
 use Rattle.amqp_session_performatives.specs.declared.session_frame.SessionFrameBody.{SessionFrameBody}
 use Rattle.amqp_session_performatives.specs.declared.session_frame.SessionFrameBody.TheVariants as session
 use Rattle.amqp_session_frames.specs.declared.frame.FrameBody.{FrameBody}
-use Rattle.amqp_link_place.specs.Readings.{Piece}
+use Rattle.amqp_link_base.specs.Readings.{Piece}
 use Rattle.amqp_endpoint_model.specs.State.{body_of}
 use Rattle.amqp_endpoint_laws.specs.Attachments.{attach_in, attaches_in, bodies_of}
 use Rattle.amqp_endpoint_laws.specs.Handed.{piece_on as come_on, pieces_come}

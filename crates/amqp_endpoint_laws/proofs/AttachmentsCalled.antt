@@ -18,17 +18,17 @@ use Rattle.amqp_session_frames.specs.declared.frame.Frame.{Frame}
 use Rattle.amqp_link_base.specs.declared.detached.Detached.{Detached}
 use Rattle.amqp_link_ends.specs.declared.end.End.{End}
 use Rattle.amqp_link_ends.specs.declared.relay.AttachTold.{AttachTold}
-use Rattle.amqp_link_receiving.specs.declared.answer.Told.{Told}
-use Rattle.amqp_endpoint_asked.specs.Asked.{is_asked}
+use Rattle.amqp_link_receiver.specs.declared.answer.Told.{Told}
+use Rattle.amqp_endpoint_links.specs.Asked.{is_asked}
 use Rattle.amqp_endpoint_attached.specs.Linked.{Linked, gives}
 use Rattle.amqp_endpoint_attached.specs.Links.{own_attach, receiver_by, sender_by}
 use Rattle.amqp_endpoint_conversation.specs.Ending.{EndReply, end_frame}
 use Rattle.amqp_endpoint_conversation.specs.Faults.{fault_error}
 use Rattle.amqp_endpoint_laws.specs.Deeds.{Deed, Does, IsDeed, Takes}
-use Rattle.amqp_endpoint_link_attaching.proofs.Inside.{attaches-inside}
-use Rattle.amqp_endpoint_linked.specs.Attaching.{LinkAttached}
-use Rattle.amqp_endpoint_linked.specs.Does.{linked}
-use Rattle.amqp_endpoint_linked.specs.declared.linked.LinkedSessions.{LinkedSessions}
+use Rattle.amqp_endpoint_link_calls.proofs.AttachInside.{attaches-inside}
+use Rattle.amqp_endpoint.specs.Attaching.{LinkAttached}
+use Rattle.amqp_endpoint.specs.Does.{linked}
+use Rattle.amqp_endpoint.specs.declared.linked.LinkedSessions.{LinkedSessions}
 use Rattle.amqp_endpoint_linking.specs.Linking.{Link, Session, Stood, Talk}
 use Rattle.amqp_endpoint_links.proofs.Standing.{accepted-stands, begun-stands}
 use Rattle.amqp_endpoint_links.specs.Asking.{FlowAt, FlowInSession}
@@ -43,9 +43,9 @@ use Rattle.amqp_endpoint_model.specs.declared.call.Call.TheVariants as call
 use Rattle.amqp_endpoint_model.specs.declared.event.Event.{Event}
 use Rattle.amqp_endpoint_laws.specs.Following.{goes}
 use Rattle.amqp_endpoint_laws.specs.Reading.{Comes, Goes, Wired}
-use Rattle.amqp_endpoint_sessions.specs.declared.place.Place.TheVariants.{Asked, Live, Ending, Over}
-use Rattle.amqp_endpoint_talk.specs.Inside.{AreOn, IsPlain}
-use Rattle.amqp_endpoint_talk.proofs.Inside.{at-once-on, both-on, left-on}
+use Rattle.amqp_endpoint_tables.specs.declared.place.Place.TheVariants.{Asked, Live, Ending, Over}
+use Rattle.amqp_endpoint_conversation.specs.Inside.{AreOn, IsPlain}
+use Rattle.amqp_endpoint_conversation.proofs.Inside.{at-once-on, both-on, left-on}
 use Rattle.amqp_endpoint_laws.specs.Attachments.{attach_in, attached_in, attaches_in, gone_in, named_by, names_in}
 use Rattle.amqp_endpoint_laws.specs.Queued.{AttachesFirst}
 use Rattle.amqp_endpoint_laws.proofs.PassedCalled.{IsAttaching, called}

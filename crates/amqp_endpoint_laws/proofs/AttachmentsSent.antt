@@ -8,12 +8,12 @@ use Rattle.amqp_session_performatives.specs.declared.attach.Attach.{Attach}
 use Rattle.amqp_session_performatives.specs.declared.session_frame.SessionFrame.{SessionFrame}
 use Rattle.amqp_session_frames.specs.declared.frame.FrameBody.{FrameBody}
 use Rattle.amqp_link_ends.specs.declared.end.End.{End}
-use Rattle.amqp_link_place.specs.Readings.{Piece}
+use Rattle.amqp_link_base.specs.Readings.{Piece}
 use Rattle.amqp_endpoint_attached.specs.Links.{own_attach, receiver_by, sender_by}
 use Rattle.amqp_endpoint_laws.specs.Deeds.{AreDone, Deed, Does, IsDeed, Takes}
-use Rattle.amqp_endpoint_linked.specs.Attaching.{LinkAttached}
-use Rattle.amqp_endpoint_linked.specs.Does.{linked}
-use Rattle.amqp_endpoint_linked.specs.declared.linked.LinkedSessions.{LinkedSessions}
+use Rattle.amqp_endpoint.specs.Attaching.{LinkAttached}
+use Rattle.amqp_endpoint.specs.Does.{linked}
+use Rattle.amqp_endpoint.specs.declared.linked.LinkedSessions.{LinkedSessions}
 use Rattle.amqp_endpoint_linking.specs.Linking.{Session}
 use Rattle.amqp_endpoint_model.specs.Relay.{IsNew}
 use Rattle.amqp_endpoint_model.specs.Said.{Said, attaching}
@@ -21,14 +21,14 @@ use Rattle.amqp_endpoint_model.specs.declared.call.Call.{Call}
 use Rattle.amqp_endpoint_model.specs.declared.call.Call.TheVariants as call
 use Rattle.amqp_endpoint_model.specs.declared.event.Event.{Event}
 use Rattle.amqp_endpoint_model.specs.declared.settings.Settings.{Settings}
-use Rattle.amqp_endpoint_names.specs.Own.{slot_at}
-use Rattle.amqp_endpoint_names.specs.State.{open_of, place_at as link_place, place_of}
-use Rattle.amqp_endpoint_names.specs.declared.place.LinkPlace.TheVariants.{Held}
-use Rattle.amqp_endpoint_names.specs.declared.place.Named.{Named}
-use Rattle.amqp_endpoint_sessions.specs.State.{live_at}
-use Rattle.amqp_endpoint_sessions.proofs.Owning.{same_number}
-use Rattle.amqp_endpoint_settings.specs.declared.link.LinkSettings.{LinkSettings}
-use Rattle.amqp_endpoint_talk.specs.Windows.{Came, Passing, went}
+use Rattle.amqp_endpoint_tables.specs.OwnLinks.{slot_at}
+use Rattle.amqp_endpoint_tables.specs.LinkState.{open_of, place_at as link_place, place_of}
+use Rattle.amqp_endpoint_tables.specs.declared.link_place.LinkPlace.TheVariants.{Held}
+use Rattle.amqp_endpoint_tables.specs.declared.link_place.Named.{Named}
+use Rattle.amqp_endpoint_tables.specs.State.{live_at}
+use Rattle.amqp_endpoint_tables.proofs.Owning.{same_number}
+use Rattle.amqp_endpoint_model.specs.declared.link.LinkSettings.{LinkSettings}
+use Rattle.amqp_endpoint_conversation.specs.Windows.{Came, Passing, went}
 use Rattle.amqp_endpoint_laws.specs.Attachments.{attaches_in, attachment, bodies_of, uses}
 use Rattle.amqp_endpoint_laws.specs.Passed.{PassesIn, called_in, is_it, passes_in, sent_in, session_taking}
 use Rattle.amqp_endpoint_laws.specs.Queued.{SayMessages, messages_by, pieces_on, pieces_waiting}

@@ -12,17 +12,17 @@ use Rattle.amqp_session_frames.specs.declared.frame.FrameBody.{FrameBody}
 use Rattle.amqp_session_frames.specs.declared.frame.FrameBody.TheVariants as body
 use Rattle.amqp_session_performatives.specs.declared.session_frame.SessionFrameBody.{SessionFrameBody}
 use Rattle.amqp_session_performatives.specs.declared.session_frame.SessionFrameBody.TheVariants as session
-use Rattle.amqp_session_connection.specs.State.{Table}
-use Rattle.amqp_endpoint_sessions.specs.declared.place.Place.{Place}
-use Rattle.amqp_endpoint_sessions.specs.declared.place.Place.TheVariants.{Asked, Live, Ending, Over}
-use Rattle.amqp_endpoint_sessions.specs.State.{State, asked_in, ended_place, finished_place, place_at, routed_in}
-use Rattle.amqp_endpoint_sessions.specs.State.{told_place, when_asked, with_asked, with_live}
-use Rattle.amqp_endpoint_sessions.specs.Steps.{Act, Step, History, GivesBack, EndTaken, ChangesConnection, Begins}
-use Rattle.amqp_endpoint_sessions.specs.Steps.{Asks}
-use Rattle.amqp_endpoint_sessions.specs.Steps.{Accepts, TakesBegin, TakesEnd, Ends, Finishes, TellsEnd, ChangesAsked}
-use Rattle.amqp_endpoint_sessions.specs.Steps.{ChangesLive}
-use Rattle.amqp_endpoint_sessions.proofs.Apart.{split}
-use Rattle.amqp_endpoint_sessions.proofs.Owning.{at, other_number}
+use Rattle.amqp_session_frames.specs.State.{Table}
+use Rattle.amqp_endpoint_tables.specs.declared.place.Place.{Place}
+use Rattle.amqp_endpoint_tables.specs.declared.place.Place.TheVariants.{Asked, Live, Ending, Over}
+use Rattle.amqp_endpoint_tables.specs.State.{State, asked_in, ended_place, finished_place, place_at, routed_in}
+use Rattle.amqp_endpoint_tables.specs.State.{told_place, when_asked, with_asked, with_live}
+use Rattle.amqp_endpoint_tables.specs.Steps.{Act, Step, History, GivesBack, EndTaken, ChangesConnection, Begins}
+use Rattle.amqp_endpoint_tables.specs.Steps.{Asks}
+use Rattle.amqp_endpoint_tables.specs.Steps.{Accepts, TakesBegin, TakesEnd, Ends, Finishes, TellsEnd, ChangesAsked}
+use Rattle.amqp_endpoint_tables.specs.Steps.{ChangesLive}
+use Rattle.amqp_endpoint_tables.proofs.Apart.{split}
+use Rattle.amqp_endpoint_tables.proofs.Owning.{at, other_number}
 use Rattle.amqp_endpoint_laws.specs.Beside.{Agrees, AskedOn, Gone, Has, IsOff, Known, Nowhere, InTables}
 use Rattle.amqp_endpoint_laws.specs.Beside.{role_at, role_of}
 use Rattle.amqp_endpoint_laws.specs.Reading.{Comes, Goes, Reader, Speaks, Wired, behind_all, nothing_read}

@@ -10,21 +10,21 @@ use Rattle.amqp_session_types.specs.declared.channels.IncomingChannel.{IncomingC
 use Rattle.amqp_session_types.specs.declared.channels.OutgoingChannel.{OutgoingChannel}
 use Rattle.amqp_session_performatives.specs.declared.begin.Begin.{Begin}
 use Rattle.amqp_session_performatives.specs.declared.end.End.{End}
-use Rattle.amqp_session_connection.specs.State as channels
-use Rattle.amqp_session_connection.specs.State.{Table}
-use Rattle.amqp_session_connection.specs.Steps.{DeallocateSession, named_session}
-use Rattle.amqp_endpoint_sessions.specs.declared.place.Place.{Place}
-use Rattle.amqp_endpoint_sessions.specs.declared.place.Place.TheVariants.{Asked, Live, Ending, Over}
-use Rattle.amqp_endpoint_sessions.specs.State.{State, asked_in, asked_on, ended_place, first_of, place_at, reached}
-use Rattle.amqp_endpoint_sessions.specs.State.{routed, routed_in, told_place, when_asked, with_asked, with_channel}
-use Rattle.amqp_endpoint_sessions.specs.State.{with_live}
-use Rattle.amqp_endpoint_sessions.specs.Steps.{Act, Step, History, ChangesConnection, Begins, Asks, Accepts}
-use Rattle.amqp_endpoint_sessions.specs.Steps.{TakesBegin, TakesEnd, Ends, Finishes, TellsEnd, ChangesAsked}
-use Rattle.amqp_endpoint_sessions.specs.Steps.{ChangesLive}
-use Rattle.amqp_endpoint_sessions.specs.Steps.{TakesChannelBack}
-use Rattle.amqp_endpoint_sessions.proofs.Apart.{split}
-use Rattle.amqp_endpoint_sessions.proofs.Owning.{at}
-use Rattle.amqp_endpoint_sessions.proofs.Places.{get-put, get-take}
+use Rattle.amqp_session_frames.specs.State as channels
+use Rattle.amqp_session_frames.specs.State.{Table}
+use Rattle.amqp_session_frames.specs.Steps.{DeallocateSession, named_session}
+use Rattle.amqp_endpoint_tables.specs.declared.place.Place.{Place}
+use Rattle.amqp_endpoint_tables.specs.declared.place.Place.TheVariants.{Asked, Live, Ending, Over}
+use Rattle.amqp_endpoint_tables.specs.State.{State, asked_in, asked_on, ended_place, first_of, place_at, reached}
+use Rattle.amqp_endpoint_tables.specs.State.{routed, routed_in, told_place, when_asked, with_asked, with_channel}
+use Rattle.amqp_endpoint_tables.specs.State.{with_live}
+use Rattle.amqp_endpoint_tables.specs.Steps.{Act, Step, History, ChangesConnection, Begins, Asks, Accepts}
+use Rattle.amqp_endpoint_tables.specs.Steps.{TakesBegin, TakesEnd, Ends, Finishes, TellsEnd, ChangesAsked}
+use Rattle.amqp_endpoint_tables.specs.Steps.{ChangesLive}
+use Rattle.amqp_endpoint_tables.specs.Steps.{TakesChannelBack}
+use Rattle.amqp_endpoint_tables.proofs.Apart.{split}
+use Rattle.amqp_endpoint_tables.proofs.Owning.{at}
+use Rattle.amqp_endpoint_tables.proofs.Places.{get-put, get-take}
 use Rattle.amqp_endpoint_laws.specs.Beside.{Agrees, AskedOn, OnConnection, Gone, Has, Nowhere, Role, InTables}
 use Rattle.amqp_endpoint_laws.specs.Beside.{behind_step}
 use Rattle.amqp_endpoint_laws.specs.Beside.{behind_steps, from, role_at, role_of}

@@ -12,22 +12,22 @@ use Rattle.amqp_session_frames.specs.declared.frame.FrameBody.{FrameBody}
 use Rattle.amqp_session_frames.specs.declared.frame.FrameBody.TheVariants as body
 use Rattle.amqp_link_ends.specs.declared.end.End.{End}
 use Rattle.amqp_link_ends.specs.Gives.{attaches}
-use Rattle.amqp_link_receiving.specs.Deliveries.{Delivery}
+use Rattle.amqp_link_receiver.specs.Deliveries.{Delivery}
 use Rattle.amqp_endpoint_attached.specs.Ends.{role_of}
 use Rattle.amqp_endpoint_laws.specs.Deeds.{IsDeed, Takes}
 use Rattle.amqp_endpoint_link_hearing.specs.Attaching.{HearsAttach}
 use Rattle.amqp_endpoint_link_hearing.specs.Naming.{IsNamedIn, is_other, link_in}
 use Rattle.amqp_endpoint_link_hearing.specs.declared.attaching.LinkAttached.{LinkAttached as Left}
-use Rattle.amqp_endpoint_linked.specs.Does.{linked}
-use Rattle.amqp_endpoint_linked.specs.Hearing.{Hears as HearsFrame}
-use Rattle.amqp_endpoint_linked.specs.declared.linked.LinkedSessions.{LinkedSessions}
+use Rattle.amqp_endpoint.specs.Does.{linked}
+use Rattle.amqp_endpoint.specs.Hearing.{Hears as HearsFrame}
+use Rattle.amqp_endpoint.specs.declared.linked.LinkedSessions.{LinkedSessions}
 use Rattle.amqp_endpoint_linking.specs.Linking.{Link, Session, Talk}
 use Rattle.amqp_endpoint_links.specs.declared.asking.NamedLink.{NamedLink}
 use Rattle.amqp_endpoint_links.specs.declared.hearing.LinkPerformative.TheVariants as said
 use Rattle.amqp_endpoint_model.specs.declared.event.Event.{Event}
-use Rattle.amqp_endpoint_names.specs.State.{name_at}
-use Rattle.amqp_endpoint_sessions.specs.State.{live_at, reached}
-use Rattle.amqp_endpoint_sessions.proofs.Owning.{same_number}
+use Rattle.amqp_endpoint_tables.specs.LinkState.{name_at}
+use Rattle.amqp_endpoint_tables.specs.State.{live_at, reached}
+use Rattle.amqp_endpoint_tables.proofs.Owning.{same_number}
 use Rattle.amqp_endpoint_laws.specs.Agreeing.{Agree}
 use Rattle.amqp_endpoint_laws.specs.Handed.{IsReceiving, leads_there}
 use Rattle.amqp_endpoint_laws.specs.Held.{number_live, number_of}

@@ -14,7 +14,7 @@ use Rattle.amqp_session_performatives.specs.declared.session_frame.SessionFrame.
 use Rattle.amqp_session_core.specs.State.{StepsAt, link_at, live_in, reached as link_reached}
 use Rattle.amqp_session_core.specs.Told.{AttachTaken as SessionAttached}
 use Rattle.amqp_link_ends.specs.declared.relay.AttachTold.{AttachTold}
-use Rattle.amqp_link_receiving.specs.Deliveries.{Delivery}
+use Rattle.amqp_link_receiver.specs.Deliveries.{Delivery}
 use Rattle.amqp_link_sender.specs.declared.attaching.Attaching.{Attaching}
 use Rattle.amqp_link_types.specs.declared.link_error.LinkError.{LinkError}
 use Rattle.amqp_session_types.proofs.Tables.{get-put}
@@ -38,10 +38,10 @@ use Rattle.amqp_endpoint_links.specs.declared.hearing.LinkPerformative.{LinkPerf
 use Rattle.amqp_endpoint_links.specs.declared.hearing.LinkPerformative.TheVariants as said
 use Rattle.amqp_endpoint_links.specs.declared.hearing.PerformativeTaken.TheVariants as taken
 use Rattle.amqp_endpoint_model.specs.declared.event.Event.{Event}
-use Rattle.amqp_endpoint_sessions.specs.State.{asked_of, live_at, live_of, place_at, reached, with_asked}
-use Rattle.amqp_endpoint_sessions.specs.Steps.{ChangesAsked, ChangesLive}
-use Rattle.amqp_endpoint_sessions.specs.declared.place.Place.TheVariants.{Asked, Live, Ending, Over}
-use Rattle.amqp_endpoint_sessions.proofs.Owning.{at, other_number, same_number}
+use Rattle.amqp_endpoint_tables.specs.State.{asked_of, live_at, live_of, place_at, reached, with_asked}
+use Rattle.amqp_endpoint_tables.specs.Steps.{ChangesAsked, ChangesLive}
+use Rattle.amqp_endpoint_tables.specs.declared.place.Place.TheVariants.{Asked, Live, Ending, Over}
+use Rattle.amqp_endpoint_tables.proofs.Owning.{at, other_number, same_number}
 use Rattle.amqp_endpoint_laws.specs.Handed.{leads_there}
 use Rattle.amqp_endpoint_laws.specs.Passed.{is_it}
 use Rattle.amqp_endpoint_laws.proofs.ComesAttachedHeld.{IsHeld, end-held}

@@ -5,8 +5,8 @@ use Rattle.amqp_session_types.specs.declared.handles.OutputHandle.{OutputHandle}
 use Rattle.amqp_session_types.specs.declared.modes.Role.{Role}
 use Rattle.amqp_session_types.specs.declared.modes.Role.TheVariants as role
 use Rattle.amqp_session_performatives.specs.declared.attach.Attach.{Attach}
-use Rattle.amqp_link_attach.specs.declared.state.LinkState.{LinkState}
-use Rattle.amqp_link_attach.specs.declared.state.LinkState.TheVariants as state
+use Rattle.amqp_link_base.specs.declared.state.LinkState.{LinkState}
+use Rattle.amqp_link_base.specs.declared.state.LinkState.TheVariants as state
 use Rattle.amqp_link_ends.specs.Ends.{state_of}
 use Rattle.amqp_link_ends.specs.Gives.{attaches}
 use Rattle.amqp_link_ends.specs.declared.end.End.{End}
@@ -20,8 +20,8 @@ use Rattle.amqp_endpoint_link_hearing.specs.Naming.{standing}
 use Rattle.amqp_endpoint_linking.specs.Linking.{Link, Links, Talk}
 use Rattle.amqp_endpoint_links.specs.declared.asking.NamedLink.{NamedLink}
 use Rattle.amqp_endpoint_links.specs.declared.asking.NamedLink.TheVariants.{Absent, Waiting}
-use Rattle.amqp_endpoint_names.specs.State.{Names, held_at, name_at}
-use Rattle.amqp_endpoint_sessions.proofs.Owning.{same_number}
+use Rattle.amqp_endpoint_tables.specs.LinkState.{Names, held_at, name_at}
+use Rattle.amqp_endpoint_tables.proofs.Owning.{same_number}
 
 -- the peer of a receiving link sends
 pub peer-sends : (peer : Role) → is_other role.Receiver peer ≡ true → peer ≡ role.Sender

@@ -15,7 +15,7 @@ use Rattle.amqp_session_frames.specs.declared.frame.FrameBody.{FrameBody}
 use Rattle.amqp_session_frames.specs.declared.frame.FrameBody.TheVariants as body
 use Rattle.amqp_session_core.specs.State.{reached as link_reached}
 use Rattle.amqp_link_ends.specs.declared.relay.AttachTold.{AttachTold}
-use Rattle.amqp_link_receiving.specs.Deliveries.{Delivery}
+use Rattle.amqp_link_receiver.specs.Deliveries.{Delivery}
 use Rattle.amqp_endpoint_attached.specs.Linked.{Linked, gives}
 use Rattle.amqp_endpoint_conversation.specs.Hearing.{Answered, AnsweredAt, AnsweredIn, LiveAnswered}
 use Rattle.amqp_endpoint_conversation.specs.declared.hearing.HearRefusal.TheVariants as refused
@@ -24,9 +24,9 @@ use Rattle.amqp_endpoint_laws.specs.Deeds.{IsDeed, Takes}
 use Rattle.amqp_endpoint_link_hearing.specs.Attaching.{HearsAttach}
 use Rattle.amqp_endpoint_link_hearing.specs.Saying.{LinkHeard, LinkRefusal}
 use Rattle.amqp_endpoint_link_hearing.specs.declared.attaching.LinkAttached.{LinkAttached as Left}
-use Rattle.amqp_endpoint_linked.specs.Does.{linked}
-use Rattle.amqp_endpoint_linked.specs.Hearing.{Hears as HearsFrame}
-use Rattle.amqp_endpoint_linked.specs.declared.linked.LinkedSessions.{LinkedSessions}
+use Rattle.amqp_endpoint.specs.Does.{linked}
+use Rattle.amqp_endpoint.specs.Hearing.{Hears as HearsFrame}
+use Rattle.amqp_endpoint.specs.declared.linked.LinkedSessions.{LinkedSessions}
 use Rattle.amqp_endpoint_linking.specs.Linking.{Session, Stood, Talk}
 use Rattle.amqp_endpoint_links.specs.Asking.{AttachAt, in_use}
 use Rattle.amqp_endpoint_links.specs.declared.asking.AttachTaken.{AttachTaken}
@@ -35,10 +35,10 @@ use Rattle.amqp_endpoint_links.specs.declared.hearing.LinkPerformative.{LinkPerf
 use Rattle.amqp_endpoint_links.specs.declared.hearing.LinkPerformative.TheVariants as said
 use Rattle.amqp_endpoint_links.specs.declared.hearing.PerformativeTaken.TheVariants as taken
 use Rattle.amqp_endpoint_model.specs.declared.event.Event.{Event}
-use Rattle.amqp_endpoint_sessions.specs.State.{asked_of, live_at, live_of, place_at, reached}
-use Rattle.amqp_endpoint_sessions.specs.Steps.{Ends}
-use Rattle.amqp_endpoint_sessions.specs.declared.place.Place.TheVariants.{Asked, Live, Ending, Over}
-use Rattle.amqp_endpoint_sessions.proofs.Owning.{at, same_number}
+use Rattle.amqp_endpoint_tables.specs.State.{asked_of, live_at, live_of, place_at, reached}
+use Rattle.amqp_endpoint_tables.specs.Steps.{Ends}
+use Rattle.amqp_endpoint_tables.specs.declared.place.Place.TheVariants.{Asked, Live, Ending, Over}
+use Rattle.amqp_endpoint_tables.proofs.Owning.{at, same_number}
 use Rattle.amqp_endpoint_laws.specs.Handed.{IsReceiving, leads_there}
 use Rattle.amqp_endpoint_laws.specs.Passed.{is_it, session_taking}
 use Rattle.amqp_endpoint_laws.specs.Taken.{IsOther}

@@ -12,7 +12,7 @@ use Rattle.amqp_session_performatives.specs.declared.begin.Begin.{Begin}
 use Rattle.amqp_session_performatives.specs.declared.session_frame.SessionFrame.{SessionFrame}
 use Rattle.amqp_session_performatives.specs.declared.session_frame.SessionFrameBody.{SessionFrameBody}
 use Rattle.amqp_session_performatives.specs.declared.session_frame.SessionFrameBody.TheVariants as session
-use Rattle.amqp_endpoint_sessions.specs.State.{first_of}
+use Rattle.amqp_endpoint_tables.specs.State.{first_of}
 use Rattle.amqp_endpoint_laws.specs.Reading.{ByChannel, Comes, Goes, Reader, Wired, begun_here}
 use Rattle.amqp_endpoint_laws.specs.Reading.{begun_there, behind, behind_all}
 use Rattle.amqp_endpoint_laws.specs.Reading.{behind_coming, behind_going, comes_for, is_of, nothing_read, own_begins}

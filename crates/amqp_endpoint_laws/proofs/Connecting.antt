@@ -24,18 +24,18 @@ use Rattle.amqp_endpoint_model.specs.State.{State, is_unconnected}
 use Rattle.amqp_endpoint_model.specs.Step.{Ends, FeedsIn, FrontRefused, Greets, Step as EndpointStep}
 use Rattle.amqp_endpoint_model.specs.History.{Run, Summary, note as noted, note_fed, summary}
 use Rattle.amqp_endpoint_laws.specs.Deeds.{fed_by, fed_since, given_by, note, pulled_since}
-use Rattle.amqp_endpoint_world.specs.declared.step.End.{End}
-use Rattle.amqp_endpoint_world.specs.declared.step.End.TheVariants.{A, B}
-use Rattle.amqp_endpoint_world.specs.declared.step.Step.{Step}
-use Rattle.amqp_endpoint_world.specs.declared.step.Step.TheVariants.{Call as CallAt, Move, Break}
-use Rattle.amqp_endpoint_world.specs.EndHistory.{break_call, break_told, calls_at, calls_in, feed_call, feed_told}
-use Rattle.amqp_endpoint_world.specs.EndHistory.{is_same, pull_calls, pulled_since_break, pulls_told, queued_at}
-use Rattle.amqp_endpoint_world.specs.EndHistory.{stream_behind, then_pulled, told_at, told_in}
-use Rattle.amqp_endpoint_world.specs.WorldSaid.{WorldSaid, called, moved, broken, WorldTold}
-use Rattle.amqp_endpoint_world.specs.WorldState.{WorldState, state_at, stream_to}
-use Rattle.amqp_endpoint_world.specs.WorldStep.{CallsAs, WorldRun, WorldStep, finds_none, has_broken_off, is_the_worlds}
-use Rattle.amqp_endpoint_world.proofs.EndLaws.{end_run, stream-step}
-use Rattle.amqp_endpoint_world.proofs.OnTheWay.{Matched, matched_in, pulled-append}
+use Rattle.amqp_endpoint_core.specs.declared.step.End.{End}
+use Rattle.amqp_endpoint_core.specs.declared.step.End.TheVariants.{A, B}
+use Rattle.amqp_endpoint_core.specs.declared.step.Step.{Step}
+use Rattle.amqp_endpoint_core.specs.declared.step.Step.TheVariants.{Call as CallAt, Move, Break}
+use Rattle.amqp_endpoint_core.specs.EndHistory.{break_call, break_told, calls_at, calls_in, feed_call, feed_told}
+use Rattle.amqp_endpoint_core.specs.EndHistory.{is_same, pull_calls, pulled_since_break, pulls_told, queued_at}
+use Rattle.amqp_endpoint_core.specs.EndHistory.{stream_behind, then_pulled, told_at, told_in}
+use Rattle.amqp_endpoint_core.specs.WorldSaid.{WorldSaid, called, moved, broken, WorldTold}
+use Rattle.amqp_endpoint_core.specs.WorldState.{WorldState, state_at, stream_to}
+use Rattle.amqp_endpoint_core.specs.WorldStep.{CallsAs, WorldRun, WorldStep, finds_none, has_broken_off, is_the_worlds}
+use Rattle.amqp_endpoint_core.proofs.EndLaws.{end_run, stream-step}
+use Rattle.amqp_endpoint_core.proofs.OnTheWay.{Matched, matched_in, pulled-append}
 
 pub joined-append : (a b : List (List ℕ)) → joined (a ++ b) ≡ joined a ++ joined b
 joined-append [] b = refl

@@ -6,9 +6,9 @@ use Rattle.std.proofs.lemmas.Option.{none-some, same_Some, slice_get-map}
 use Rattle.std.proofs.lemmas.List.{append-nil, map-append}
 use Rattle.amqp_session_performatives.specs.declared.session_frame.SessionFrame.{SessionFrame}
 use Rattle.amqp_session_core.specs.State.{link_at}
-use Rattle.amqp_link_attach.specs.declared.exchange.AttachExchange.{AttachExchange}
-use Rattle.amqp_endpoint_names.specs.declared.place.LinkPlace.TheVariants.{AtRest, Held}
-use Rattle.amqp_endpoint_names.specs.State.{place_at}
+use Rattle.amqp_link_base.specs.declared.exchange.AttachExchange.{AttachExchange}
+use Rattle.amqp_endpoint_tables.specs.declared.link_place.LinkPlace.TheVariants.{AtRest, Held}
+use Rattle.amqp_endpoint_tables.specs.LinkState.{place_at}
 use Rattle.amqp_endpoint_model.specs.declared.call.Call.{Call}
 use Rattle.amqp_endpoint_model.specs.declared.call.Call.TheVariants as call
 use Rattle.amqp_endpoint_model.specs.declared.event.Event.{Event}
@@ -22,13 +22,13 @@ use Rattle.amqp_endpoint_attached.specs.Linked.{end_at}
 use Rattle.amqp_endpoint_linking.specs.Linking.{Links, Talk}
 use Rattle.amqp_endpoint_link_calls.specs.Closing.{ClosedAt, closed_end}
 use Rattle.amqp_endpoint_link_calls.specs.Places.{Where}
-use Rattle.amqp_endpoint_outcomes.specs.All.{open_count}
-use Rattle.amqp_endpoint_linked.specs.Attaching.{exchange_told}
-use Rattle.amqp_endpoint_linked.specs.Calling.{Calls}
-use Rattle.amqp_endpoint_linked.specs.Counting.{Counted, CountsStay}
-use Rattle.amqp_endpoint_linked.specs.Does.{linked}
-use Rattle.amqp_endpoint_linked.specs.Sending.{tag_of}
-use Rattle.amqp_endpoint_linked.specs.declared.linked.LinkedSessions.{LinkedSessions}
+use Rattle.amqp_endpoint_messages.specs.All.{open_count}
+use Rattle.amqp_endpoint.specs.Attaching.{exchange_told}
+use Rattle.amqp_endpoint.specs.Calling.{Calls}
+use Rattle.amqp_endpoint.specs.Counting.{Counted, CountsStay}
+use Rattle.amqp_endpoint.specs.Does.{linked}
+use Rattle.amqp_endpoint.specs.Sending.{tag_of}
+use Rattle.amqp_endpoint.specs.declared.linked.LinkedSessions.{LinkedSessions}
 use Rattle.amqp_endpoint_laws.specs.CallsDone.{events_of, events_told}
 use Rattle.amqp_endpoint_laws.specs.Telling.{numbers_told, numbers_under, tag_given, tags_given}
 use Rattle.amqp_endpoint_laws.proofs.Keeping.{IsOfConnection, Keeps}

@@ -1,6 +1,6 @@
 -- What sessions keep by all that they do, each deed keeps.
 use Rattle.std.proofs.Common.{◌≡◌, ◌⊎◌, inl, inr, Some, ap, refl, sym, subst, []}
-use Rattle.amqp_session_connection.specs.State as channels
+use Rattle.amqp_session_frames.specs.State as channels
 use Rattle.amqp_session_frames.specs.declared.frame.FrameBody.{FrameBody}
 use Rattle.amqp_session_frames.specs.declared.frame.FrameBody.TheVariants as body
 use Rattle.amqp_endpoint_laws.specs.Deeds.{Closes, Deed, Does, Finishes, HeaderComes, Hears, IsDeed, Moves}

@@ -17,18 +17,18 @@ use Rattle.amqp_session_frames.specs.declared.frame.FrameBody.{FrameBody}
 use Rattle.amqp_session_frames.specs.declared.frame.FrameBody.TheVariants as body
 use Rattle.amqp_session_core.specs.Relay.{Relations}
 use Rattle.amqp_session_core.specs.Steps as session_steps
-use Rattle.amqp_endpoint_asked.specs.declared.session.AskedSession.{AskedSession}
+use Rattle.amqp_endpoint_links.specs.declared.session.AskedSession.{AskedSession}
 use Rattle.amqp_endpoint_links.specs.Hearing.{Hears}
 use Rattle.amqp_endpoint_links.specs.declared.asking.AskingSession.{AskingSession}
 use Rattle.amqp_endpoint_links.specs.declared.hearing.LinkPerformative.{LinkPerformative}
 use Rattle.amqp_endpoint_links.specs.declared.hearing.PerformativeTaken.{PerformativeTaken}
 use Rattle.amqp_endpoint_links.proofs.Standing.{accepted-stands, begun-stands}
-use Rattle.amqp_endpoint_sessions.specs.declared.place.Place.{Place}
-use Rattle.amqp_endpoint_sessions.specs.declared.place.Place.TheVariants.{Asked, Live, Ending, Over}
-use Rattle.amqp_endpoint_sessions.specs.State.{State, asked_at, asked_in, live_at, place_at, reached, when_asked}
-use Rattle.amqp_endpoint_sessions.specs.Steps.{Act, Step, History, ChangesConnection, Begins, Asks, Accepts}
-use Rattle.amqp_endpoint_sessions.specs.Steps.{TakesBegin}
-use Rattle.amqp_endpoint_sessions.specs.Steps.{TakesEnd, Ends, Finishes, TellsEnd, ChangesAsked, ChangesLive}
+use Rattle.amqp_endpoint_tables.specs.declared.place.Place.{Place}
+use Rattle.amqp_endpoint_tables.specs.declared.place.Place.TheVariants.{Asked, Live, Ending, Over}
+use Rattle.amqp_endpoint_tables.specs.State.{State, asked_at, asked_in, live_at, place_at, reached, when_asked}
+use Rattle.amqp_endpoint_tables.specs.Steps.{Act, Step, History, ChangesConnection, Begins, Asks, Accepts}
+use Rattle.amqp_endpoint_tables.specs.Steps.{TakesBegin}
+use Rattle.amqp_endpoint_tables.specs.Steps.{TakesEnd, Ends, Finishes, TellsEnd, ChangesAsked, ChangesLive}
 use Rattle.amqp_endpoint_conversation.specs.declared.beginning.BeginHeard.{BeginHeard}
 use Rattle.amqp_endpoint_conversation.specs.declared.beginning.BeginHeard.TheVariants as begin_heard
 use Rattle.amqp_endpoint_conversation.specs.declared.beginning.BeginRefusal.TheVariants as begin_refused

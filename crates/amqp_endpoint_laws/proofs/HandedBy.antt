@@ -13,11 +13,11 @@ use Rattle.amqp_session_frames.specs.declared.frame.Frame.{Frame}
 use Rattle.amqp_session_frames.specs.declared.frame.FrameBody.{FrameBody}
 use Rattle.amqp_session_frames.specs.declared.frame.FrameBody.TheVariants as body
 use Rattle.amqp_session_core.specs.declared.incoming.TransferTaken.{TransferTaken}
-use Rattle.amqp_link_place.specs.Readings.{Piece, Reading, readings}
-use Rattle.amqp_link_receiving.specs.Deliveries.{Delivery}
-use Rattle.amqp_link_receiving.specs.Readings.{held_said}
-use Rattle.amqp_link_receiving.specs.declared.answer.Told.{Told}
-use Rattle.amqp_endpoint_asked.specs.declared.session.AskedSession.{AskedSession}
+use Rattle.amqp_link_base.specs.Readings.{Piece, Reading, readings}
+use Rattle.amqp_link_receiver.specs.Deliveries.{Delivery}
+use Rattle.amqp_link_receiver.specs.Readings.{held_said}
+use Rattle.amqp_link_receiver.specs.declared.answer.Told.{Told}
+use Rattle.amqp_endpoint_links.specs.declared.session.AskedSession.{AskedSession}
 use Rattle.amqp_endpoint_attached.specs.Linked.{gives}
 use Rattle.amqp_endpoint_conversation.specs.Hearing.{Answered, AnsweredAt, AnsweredIn, AskedAnswered, LiveAnswered}
 use Rattle.amqp_endpoint_conversation.specs.declared.hearing.HearRefusal.TheVariants as refused
@@ -28,17 +28,17 @@ use Rattle.amqp_endpoint_link_hearing.specs.Naming.{link_in}
 use Rattle.amqp_endpoint_link_hearing.specs.Saying.{LinkHeard}
 use Rattle.amqp_endpoint_link_hearing.specs.Transferring.{Becomes, Comes, HearsTransfer, transfer_of}
 use Rattle.amqp_endpoint_link_hearing.proofs.Heard.{IsTaken as IsHeard, taken-in}
-use Rattle.amqp_endpoint_linked.specs.Does.{linked}
-use Rattle.amqp_endpoint_linked.specs.Hearing.{Hears as HearsFrame}
-use Rattle.amqp_endpoint_linked.specs.declared.linked.LinkedSessions.{LinkedSessions}
+use Rattle.amqp_endpoint.specs.Does.{linked}
+use Rattle.amqp_endpoint.specs.Hearing.{Hears as HearsFrame}
+use Rattle.amqp_endpoint.specs.declared.linked.LinkedSessions.{LinkedSessions}
 use Rattle.amqp_endpoint_linking.specs.Linking.{Link, Links, Session, Talk}
 use Rattle.amqp_endpoint_links.specs.declared.hearing.LinkPerformative.TheVariants as said
 use Rattle.amqp_endpoint_links.specs.declared.hearing.PerformativeTaken.TheVariants as taken
 use Rattle.amqp_endpoint_model.specs.declared.event.Event.{Event}
 use Rattle.amqp_endpoint_model.specs.History.{BodyTells}
-use Rattle.amqp_endpoint_sessions.specs.State.{asked_at, live_at, live_of, reached}
-use Rattle.amqp_endpoint_sessions.specs.Steps.{Ends}
-use Rattle.amqp_endpoint_sessions.proofs.Owning.{at, same_number}
+use Rattle.amqp_endpoint_tables.specs.State.{asked_at, live_at, live_of, reached}
+use Rattle.amqp_endpoint_tables.specs.Steps.{Ends}
+use Rattle.amqp_endpoint_tables.proofs.Owning.{at, same_number}
 use Rattle.amqp_endpoint_laws.specs.Handed.{Handed, IsReceiving, NoneResumes, ReachIn, handed_as, handed_by}
 use Rattle.amqp_endpoint_laws.specs.Handed.{leads_there}
 use Rattle.amqp_endpoint_laws.specs.Handed.{piece_of, pieces_in}

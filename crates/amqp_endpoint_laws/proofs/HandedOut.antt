@@ -13,9 +13,9 @@ use Rattle.amqp_session_core.specs.State.{StepsAt, link_at, reached as link_reac
 use Rattle.amqp_session_core.specs.Told.{TransferAt}
 use Rattle.amqp_session_core.specs.declared.incoming.TransferTaken.{TransferTaken}
 use Rattle.amqp_session_core.specs.declared.relay.TransferAnswer.{TransferAnswer}
-use Rattle.amqp_link_attach.specs.State.{is_attached}
-use Rattle.amqp_link_attach.specs.declared.state.LinkState.{LinkState}
-use Rattle.amqp_link_attach.specs.declared.state.LinkState.TheVariants as state
+use Rattle.amqp_link_base.specs.State.{is_attached}
+use Rattle.amqp_link_base.specs.declared.state.LinkState.{LinkState}
+use Rattle.amqp_link_base.specs.declared.state.LinkState.TheVariants as state
 use Rattle.amqp_link_ends.specs.Ends.{state_of}
 use Rattle.amqp_link_ends.specs.Gives.{answer_of, dropped, receives, transfers, transfers_at}
 use Rattle.amqp_link_ends.specs.Standing.{standing_of}
@@ -23,19 +23,19 @@ use Rattle.amqp_link_ends.specs.declared.end.End.{End}
 use Rattle.amqp_link_ends.specs.declared.end.End.TheVariants.{Receiver, Sender}
 use Rattle.amqp_link_ends.specs.declared.standing.Standing.{Standing}
 use Rattle.amqp_link_ends.specs.declared.standing.Standing.TheVariants as standing
-use Rattle.amqp_link_place.specs.Readings.{Piece, Reading, read_on, readings}
-use Rattle.amqp_link_place.specs.Said.{Said}
+use Rattle.amqp_link_base.specs.Readings.{Piece, Reading, read_on, readings}
+use Rattle.amqp_link_base.specs.Said.{Said}
 use Rattle.amqp_link_receiver.specs.Disposing.{message_numbered}
 use Rattle.amqp_link_receiver.specs.Incoming.{TakesTransfer}
 use Rattle.amqp_link_receiver.specs.State.{ReceiverState, attachment_of}
-use Rattle.amqp_link_receiving.specs.Deliveries.{Delivery}
-use Rattle.amqp_link_receiving.specs.Readings.{IsTaken, Taken, held_said, message_said, messages_in}
-use Rattle.amqp_link_receiving.specs.Receiving.{Receives as TakenBy}
-use Rattle.amqp_link_receiving.specs.declared.answer.Answer.{Answer}
-use Rattle.amqp_link_receiving.specs.declared.answer.Message.{Message}
-use Rattle.amqp_link_receiving.specs.declared.answer.Told.{Told}
-use Rattle.amqp_link_receiving.specs.declared.answer.Told.TheVariants as told
-use Rattle.amqp_link_receiving.proofs.Handing.{all-handed}
+use Rattle.amqp_link_receiver.specs.Deliveries.{Delivery}
+use Rattle.amqp_link_receiver.specs.Readings.{IsTaken, Taken, held_said, message_said, messages_in}
+use Rattle.amqp_link_receiver.specs.Receiving.{Receives as TakenBy}
+use Rattle.amqp_link_receiver.specs.declared.answer.Answer.{Answer}
+use Rattle.amqp_link_receiver.specs.declared.answer.Message.{Message}
+use Rattle.amqp_link_receiver.specs.declared.answer.Told.{Told}
+use Rattle.amqp_link_receiver.specs.declared.answer.Told.TheVariants as told
+use Rattle.amqp_link_receiver.proofs.Handing.{all-handed}
 use Rattle.amqp_endpoint_attached.specs.Detaching.{is_there}
 use Rattle.amqp_endpoint_attached.specs.Linked.{LinksIn, end_at, gives}
 use Rattle.amqp_endpoint_attached.specs.Receiving.{receiving}
@@ -44,15 +44,15 @@ use Rattle.amqp_endpoint_link_calls.specs.Places.{end_live}
 use Rattle.amqp_endpoint_link_hearing.specs.Naming.{link_in, link_of}
 use Rattle.amqp_endpoint_link_hearing.specs.Transferring.{Comes, HandsOver, RemembersUnless, message_told, remembering}
 use Rattle.amqp_endpoint_link_hearing.proofs.Heard.{IsTaken as IsHeard, stepped-there}
-use Rattle.amqp_endpoint_linked.specs.declared.linked.LinkedSessions.{LinkedSessions}
+use Rattle.amqp_endpoint.specs.declared.linked.LinkedSessions.{LinkedSessions}
 use Rattle.amqp_endpoint_linking.specs.Linking.{Link, Session, Stood, Talk}
 use Rattle.amqp_endpoint_links.specs.declared.hearing.LinkPerformative.TheVariants as said
 use Rattle.amqp_endpoint_links.specs.declared.hearing.PerformativeTaken.TheVariants as taken
 use Rattle.amqp_endpoint_model.specs.declared.event.Event.{Event}
 use Rattle.amqp_endpoint_model.specs.declared.event.Event.TheVariants as event
-use Rattle.amqp_endpoint_sessions.specs.State.{live_at, live_of, reached}
-use Rattle.amqp_endpoint_sessions.specs.Steps.{ChangesLive}
-use Rattle.amqp_endpoint_sessions.proofs.Owning.{at as place-at, other_number, same_number}
+use Rattle.amqp_endpoint_tables.specs.State.{live_at, live_of, reached}
+use Rattle.amqp_endpoint_tables.specs.Steps.{ChangesLive}
+use Rattle.amqp_endpoint_tables.proofs.Owning.{at as place-at, other_number, same_number}
 use Rattle.amqp_endpoint_laws.specs.Handed.{Handed, IsReceiving, NoneResumes, handed_as, handed_by, handed_in}
 use Rattle.amqp_endpoint_laws.specs.Handed.{handed_of, leads_there, piece_of}
 use Rattle.amqp_endpoint_laws.specs.Held.{number_live, number_of}

@@ -1,17 +1,17 @@
 -- In each run of an endpoint what a receiving link hands out is what the transfers say that reach it.
 use Rattle.std.proofs.Common.{◌≡◌, inl, inr, ℕ, true, List, Option, Some, ap, map, sym, ◌∙◌}
 use Rattle.amqp_session_types.specs.declared.handles.OutputHandle.{OutputHandle}
-use Rattle.amqp_link_place.specs.Readings.{Piece, nothing, readings}
-use Rattle.amqp_link_place.specs.Said.{Said}
-use Rattle.amqp_link_receiving.specs.Deliveries.{Delivery}
-use Rattle.amqp_link_receiving.specs.Readings.{held_said}
+use Rattle.amqp_link_base.specs.Readings.{Piece, nothing, readings}
+use Rattle.amqp_link_base.specs.Said.{Said}
+use Rattle.amqp_link_receiver.specs.Deliveries.{Delivery}
+use Rattle.amqp_link_receiver.specs.Readings.{held_said}
 use Rattle.amqp_endpoint_laws.specs.Deeds.{AreDone, Deed, told_by}
-use Rattle.amqp_endpoint_linked.specs.Does.{linked}
-use Rattle.amqp_endpoint_linked.specs.declared.linked.LinkedSessions.{LinkedSessions}
+use Rattle.amqp_endpoint.specs.Does.{linked}
+use Rattle.amqp_endpoint.specs.declared.linked.LinkedSessions.{LinkedSessions}
 use Rattle.amqp_endpoint_model.specs.Relay.{IsNew}
 use Rattle.amqp_endpoint_model.specs.declared.settings.Settings.{Settings}
-use Rattle.amqp_endpoint_names.specs.Own.{slot_at}
-use Rattle.amqp_endpoint_sessions.specs.State.{live_at}
+use Rattle.amqp_endpoint_tables.specs.OwnLinks.{slot_at}
+use Rattle.amqp_endpoint_tables.specs.State.{live_at}
 use Rattle.amqp_endpoint_laws.specs.Handed.{IsReceiving, NoneResumes, ReachIn, handed_as, handed_by}
 use Rattle.amqp_endpoint_laws.proofs.HandedBy.{deeds-say}
 use Rattle.amqp_endpoint_laws.proofs.HandedOut.{receives-holds, receives-so}

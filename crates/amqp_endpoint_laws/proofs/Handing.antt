@@ -27,7 +27,7 @@ use Rattle.amqp_session_core.specs.Steps.{SetsWindow}
 use Rattle.amqp_session_core.specs.Steps.{TakesTransfer, TakesDisposition, TakesDetach, SendsBehind, SendsTransfers}
 use Rattle.amqp_session_core.specs.Steps.{SendsDisposition, TellsFlow, Allocates, Deallocates, Reserves, Changes}
 use Rattle.amqp_session_core.specs.Told.{FlowTaken}
-use Rattle.amqp_endpoint_asked.specs.Asked.{is_asked}
+use Rattle.amqp_endpoint_links.specs.Asked.{is_asked}
 use Rattle.amqp_endpoint_links.specs.Asking.{FlowAt, FlowInSession}
 use Rattle.amqp_endpoint_links.specs.Hearing.{Hears}
 use Rattle.amqp_endpoint_links.specs.declared.asking.AskingSession.{AskingSession}

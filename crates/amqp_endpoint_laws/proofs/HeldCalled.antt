@@ -14,16 +14,16 @@ use Rattle.amqp_session_core.specs.Steps.{SendsBegin, Act}
 use Rattle.amqp_link_base.specs.declared.detached.Detached.{Detached}
 use Rattle.amqp_link_ends.specs.declared.end.End.{End}
 use Rattle.amqp_link_ends.specs.declared.relay.AttachTold.{AttachTold}
-use Rattle.amqp_link_receiving.specs.declared.answer.Told.{Told}
-use Rattle.amqp_endpoint_asked.specs.declared.session.SessionFlow.{SessionFlow}
+use Rattle.amqp_link_receiver.specs.declared.answer.Told.{Told}
+use Rattle.amqp_endpoint_links.specs.declared.session.SessionFlow.{SessionFlow}
 use Rattle.amqp_endpoint_attached.specs.Linked.{LinksIn, end_gives, gives}
 use Rattle.amqp_endpoint_conversation.specs.Beginning.{AcceptsHere, BeginsHere, with_links}
 use Rattle.amqp_endpoint_links.specs.Beginning.{accept_steps}
-use Rattle.amqp_endpoint_names.specs.State.{place_at as link_place}
-use Rattle.amqp_endpoint_names.specs.declared.place.LinkPlace.TheVariants.{AtRest, Held}
-use Rattle.amqp_endpoint_sessions.specs.State.{live_of}
-use Rattle.amqp_endpoint_sessions.specs.Steps.{Accepts, Begins, ChangesLive, EndTold, Step, TellsEnd}
-use Rattle.amqp_endpoint_sessions.proofs.Owning.{at}
+use Rattle.amqp_endpoint_tables.specs.LinkState.{place_at as link_place}
+use Rattle.amqp_endpoint_tables.specs.declared.link_place.LinkPlace.TheVariants.{AtRest, Held}
+use Rattle.amqp_endpoint_tables.specs.State.{live_of}
+use Rattle.amqp_endpoint_tables.specs.Steps.{Accepts, Begins, ChangesLive, EndTold, Step, TellsEnd}
+use Rattle.amqp_endpoint_tables.proofs.Owning.{at}
 use Rattle.amqp_endpoint_model.specs.declared.call.Call.{Call}
 use Rattle.amqp_endpoint_model.specs.declared.call.Call.TheVariants as call
 use Rattle.amqp_endpoint_model.specs.declared.call.Disposal.{Disposal}
@@ -31,17 +31,17 @@ use Rattle.amqp_endpoint_model.specs.declared.event.Event.{Event}
 use Rattle.amqp_endpoint_model.specs.Said.{Said, attaching, count, credit_is, done, link_closed, message_sent}
 use Rattle.amqp_endpoint_model.specs.Said.{session_begun, tried_end, truth, waiting}
 use Rattle.amqp_endpoint_linking.specs.Linking.{Link, Links, Session, Sessions, Stood, Talk}
-use Rattle.amqp_endpoint_link_attaching.specs.Attaching.{with_room}
-use Rattle.amqp_endpoint_link_attaching.specs.Places.{name_of}
+use Rattle.amqp_endpoint_link_calls.specs.Attaching.{with_room}
+use Rattle.amqp_endpoint_link_calls.specs.Naming.{name_of}
 use Rattle.amqp_endpoint_link_calls.specs.Calling.{Does, DoneAt, DoneIn, detaches, gives_credit, wants_drain}
 use Rattle.amqp_endpoint_link_calls.specs.Closing.{ClosedAt, closes}
 use Rattle.amqp_endpoint_link_calls.specs.Places.{Where}
-use Rattle.amqp_endpoint_link_messages.specs.Disposing.{DisposedAt, disposes_of_all, disposes_of_one}
-use Rattle.amqp_endpoint_link_messages.specs.Sending.{sends}
-use Rattle.amqp_endpoint_linked.specs.Attaching.{LinkAttached}
-use Rattle.amqp_endpoint_linked.specs.Calling.{Calls, answer_of}
-use Rattle.amqp_endpoint_linked.specs.Sending.{tag_of}
-use Rattle.amqp_endpoint_linked.specs.declared.linked.LinkedSessions.{LinkedSessions}
+use Rattle.amqp_endpoint_link_calls.specs.Disposing.{DisposedAt, disposes_of_all, disposes_of_one}
+use Rattle.amqp_endpoint_link_calls.specs.Sending.{sends}
+use Rattle.amqp_endpoint.specs.Attaching.{LinkAttached}
+use Rattle.amqp_endpoint.specs.Calling.{Calls, answer_of}
+use Rattle.amqp_endpoint.specs.Sending.{tag_of}
+use Rattle.amqp_endpoint.specs.declared.linked.LinkedSessions.{LinkedSessions}
 use Rattle.amqp_endpoint_laws.specs.Agreeing.{Agree}
 use Rattle.amqp_endpoint_laws.specs.Conversing.{SessionsAct}
 use Rattle.amqp_endpoint_laws.specs.Held.{Agrees, number_at, number_in, number_live}

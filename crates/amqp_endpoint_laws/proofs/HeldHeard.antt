@@ -27,24 +27,24 @@ use Rattle.amqp_session_frames.specs.declared.frame.FrameBody.TheVariants as bod
 use Rattle.amqp_session_core.specs.State.{link_at}
 use Rattle.amqp_session_core.specs.Steps.{TakesBegin as SessionBegins}
 use Rattle.amqp_session_core.specs.declared.incoming.TransferTaken.{TransferTaken}
-use Rattle.amqp_link_attach.specs.declared.state.LinkState.{LinkState}
-use Rattle.amqp_link_attach.specs.declared.state.LinkState.TheVariants as state
+use Rattle.amqp_link_base.specs.declared.state.LinkState.{LinkState}
+use Rattle.amqp_link_base.specs.declared.state.LinkState.TheVariants as state
 use Rattle.amqp_link_base.specs.declared.detached.Detached.{Detached}
 use Rattle.amqp_link_ends.specs.Ends.{state_of}
 use Rattle.amqp_link_ends.specs.declared.relay.AttachTold.{AttachTold}
-use Rattle.amqp_link_receiving.specs.declared.answer.Told.{Told}
-use Rattle.amqp_link_receiving.specs.declared.answer.Told.TheVariants as told
+use Rattle.amqp_link_receiver.specs.declared.answer.Told.{Told}
+use Rattle.amqp_link_receiver.specs.declared.answer.Told.TheVariants as told
 use Rattle.amqp_link_sender.specs.declared.attaching.Attaching.{Attaching}
 use Rattle.amqp_link_types.specs.declared.link_error.LinkError.{LinkError}
-use Rattle.amqp_endpoint_asked.specs.declared.session.AskedSession.{AskedSession}
+use Rattle.amqp_endpoint_links.specs.declared.session.AskedSession.{AskedSession}
 use Rattle.amqp_endpoint_links.specs.declared.asking.NamedLink.{NamedLink}
 use Rattle.amqp_endpoint_links.specs.declared.asking.NamedLink.TheVariants.{Waiting}
 use Rattle.amqp_endpoint_links.specs.declared.hearing.LinkPerformative.{LinkPerformative}
 use Rattle.amqp_endpoint_links.specs.declared.hearing.PerformativeTaken.{PerformativeTaken}
-use Rattle.amqp_endpoint_sessions.specs.State.{asked_at, asked_of, ended_place, live_at, reached, with_asked}
-use Rattle.amqp_endpoint_sessions.specs.Steps.{Asks, ChangesAsked, Step, TakesBegin, TakesEnd}
-use Rattle.amqp_endpoint_sessions.specs.declared.place.Place.TheVariants.{Asked, Ending, Live, Over}
-use Rattle.amqp_endpoint_sessions.proofs.Owning.{at}
+use Rattle.amqp_endpoint_tables.specs.State.{asked_at, asked_of, ended_place, live_at, reached, with_asked}
+use Rattle.amqp_endpoint_tables.specs.Steps.{Asks, ChangesAsked, Step, TakesBegin, TakesEnd}
+use Rattle.amqp_endpoint_tables.specs.declared.place.Place.TheVariants.{Asked, Ending, Live, Over}
+use Rattle.amqp_endpoint_tables.proofs.Owning.{at}
 use Rattle.amqp_endpoint_conversation.specs.declared.beginning.BeginHeard.{BeginHeard}
 use Rattle.amqp_endpoint_conversation.specs.declared.beginning.BeginHeard.TheVariants as begin_heard
 use Rattle.amqp_endpoint_conversation.specs.declared.beginning.BeginRefusal.{BeginRefusal}
@@ -75,7 +75,7 @@ use Rattle.amqp_endpoint_link_hearing.specs.Naming.{link_in}
 use Rattle.amqp_endpoint_link_hearing.specs.Saying.{BarsSaid, EndsBy, FailsBySaid, LinkHeard, LinkRefusal, RefusesSaid}
 use Rattle.amqp_endpoint_link_hearing.specs.Transferring as transferring
 use Rattle.amqp_endpoint_link_hearing.specs.Transferring.{Comes, RemembersUnless}
-use Rattle.amqp_endpoint_linked.specs.Hearing.{Hears, RefusesBody}
+use Rattle.amqp_endpoint.specs.Hearing.{Hears, RefusesBody}
 use Rattle.amqp_endpoint_laws.specs.Conversing.{SessionsAct}
 use Rattle.amqp_endpoint_laws.specs.Held.{Agrees, Numbers, number_at, number_in, number_live, number_of}
 use Rattle.amqp_endpoint_laws.proofs.Agreeing.{Same, stay}

@@ -3,8 +3,8 @@ use Rattle.std.proofs.Common.{◌≡◌, ℕ, zero, suc, Bool, true, false, List
 use Rattle.std.proofs.Common.{length, subst, sym, ◌∙◌}
 use Rattle.std.proofs.lemmas.Bool.{eq-eqb}
 use Rattle.std.proofs.lemmas.Option.{none-some, same_Some}
-use Rattle.amqp_session_connection.specs.State as channels
-use Rattle.amqp_session_connection.specs.declared.state.ConnectionState.TheVariants.{HeaderSent}
+use Rattle.amqp_session_frames.specs.State as channels
+use Rattle.amqp_session_frames.specs.declared.state.ConnectionState.TheVariants.{HeaderSent}
 use Rattle.amqp_session_types.specs.declared.channels.OutgoingChannel.{OutgoingChannel}
 use Rattle.amqp_session_types.specs.declared.handles.OutputHandle.{OutputHandle}
 use Rattle.amqp_session_frames.specs.declared.frame.Frame.{Frame}
@@ -14,8 +14,8 @@ use Rattle.amqp_link_ends.specs.declared.end.End.{End}
 use Rattle.amqp_endpoint_laws.specs.Deeds.{AreDone, Closes, Deed, Does, EndsBy, Finishes, Hears, IsDeed, Moves}
 use Rattle.amqp_endpoint_laws.specs.Deeds.{MovesByFrame, Queues, Refuses, Renews, Takes}
 use Rattle.amqp_endpoint_laws.proofs.Runs.{is-done}
-use Rattle.amqp_endpoint_linked.specs.Does.{linked}
-use Rattle.amqp_endpoint_linked.specs.declared.linked.LinkedSessions.{LinkedSessions}
+use Rattle.amqp_endpoint.specs.Does.{linked}
+use Rattle.amqp_endpoint.specs.declared.linked.LinkedSessions.{LinkedSessions}
 use Rattle.amqp_endpoint_linking.specs.Ending.{FinishesFirst, LeavesFirst, session_of}
 use Rattle.amqp_endpoint_linking.specs.GivingBack.{SessionGivenBack}
 use Rattle.amqp_endpoint_linking.specs.Linking.{Links, Session, Sessions, Stood}
@@ -27,13 +27,13 @@ use Rattle.amqp_endpoint_model.specs.Step.{SendsClose}
 use Rattle.amqp_endpoint_model.specs.declared.call.Call.{Call}
 use Rattle.amqp_endpoint_model.specs.declared.error.EndpointError.{EndpointError}
 use Rattle.amqp_endpoint_model.specs.declared.settings.Settings.{Settings}
-use Rattle.amqp_endpoint_names.specs.State.{held_of, place_at as link_place}
-use Rattle.amqp_endpoint_names.specs.declared.place.LinkPlace.{LinkPlace}
-use Rattle.amqp_endpoint_names.specs.declared.place.LinkPlace.TheVariants.{Held}
-use Rattle.amqp_endpoint_sessions.specs.State.{finished_place, live_at, live_of}
-use Rattle.amqp_endpoint_sessions.specs.Steps.{EndSent, Finished, Finishes as FinishesStep, Step}
-use Rattle.amqp_endpoint_sessions.specs.declared.place.Place.TheVariants.{Asked, Ending, Live, Over}
-use Rattle.amqp_endpoint_sessions.proofs.Owning.{at}
+use Rattle.amqp_endpoint_tables.specs.LinkState.{held_of, place_at as link_place}
+use Rattle.amqp_endpoint_tables.specs.declared.link_place.LinkPlace.{LinkPlace}
+use Rattle.amqp_endpoint_tables.specs.declared.link_place.LinkPlace.TheVariants.{Held}
+use Rattle.amqp_endpoint_tables.specs.State.{finished_place, live_at, live_of}
+use Rattle.amqp_endpoint_tables.specs.Steps.{EndSent, Finished, Finishes as FinishesStep, Step}
+use Rattle.amqp_endpoint_tables.specs.declared.place.Place.TheVariants.{Asked, Ending, Live, Over}
+use Rattle.amqp_endpoint_tables.proofs.Owning.{at}
 use Rattle.amqp_endpoint_laws.specs.Agreeing.{Agree}
 use Rattle.amqp_endpoint_laws.specs.Conversing.{SessionsAct}
 use Rattle.amqp_endpoint_laws.specs.Held.{Agrees, number_at, number_in, number_live}

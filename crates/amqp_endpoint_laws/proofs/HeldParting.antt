@@ -8,9 +8,9 @@ use Rattle.amqp_endpoint_attached.specs.TakenOut.{TakenOut}
 use Rattle.amqp_endpoint_linking.specs.GivingBack.{AllGivenBack, IsAtRest, IsClosed, StandsAs}
 use Rattle.amqp_endpoint_linking.specs.Linking.{Link, Links, Session, Sessions, links_of}
 use Rattle.amqp_endpoint_link_hearing.specs.Leaving.{IsLeft}
-use Rattle.amqp_endpoint_names.specs.Own.{slot_at}
-use Rattle.amqp_endpoint_names.specs.Steps.{Closed}
-use Rattle.amqp_endpoint_names.specs.declared.place.LinkPlace.{LinkPlace}
+use Rattle.amqp_endpoint_tables.specs.OwnLinks.{slot_at}
+use Rattle.amqp_endpoint_tables.specs.LinkSteps.{Closed}
+use Rattle.amqp_endpoint_tables.specs.declared.link_place.LinkPlace.{LinkPlace}
 use Rattle.amqp_endpoint_laws.specs.Held.{Agrees, Numbers, number_at, number_in}
 use Rattle.amqp_endpoint_laws.proofs.HeldSessions.{Gone, among, gone, keep-in, part-in, shut-in, within}
 use Rattle.amqp_endpoint_laws.proofs.Numbers.{KeepNumbers, freed-number, same-kept}

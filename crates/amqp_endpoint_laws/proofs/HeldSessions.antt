@@ -7,16 +7,16 @@ use Rattle.std.proofs.lemmas.Bool.{eq-eqb}
 use Rattle.std.proofs.lemmas.Option.{none-some, same_Some}
 use Rattle.amqp_session_types.specs.declared.channels.OutgoingChannel.{OutgoingChannel}
 use Rattle.amqp_session_core.specs.State.{State, links_in}
-use Rattle.amqp_endpoint_asked.specs.declared.session.AskedSession.{AskedSession}
+use Rattle.amqp_endpoint_links.specs.declared.session.AskedSession.{AskedSession}
 use Rattle.amqp_endpoint_conversation.specs.Beginning.{Sessions}
 use Rattle.amqp_endpoint_links.specs.declared.asking.AskingSession.{AskingSession}
 use Rattle.amqp_endpoint_links.specs.declared.numbered.Numbered.{Numbered}
-use Rattle.amqp_endpoint_names.specs.State.{State as LinksBy}
-use Rattle.amqp_endpoint_sessions.specs.State.{live_of, place_at, told_place, with_live}
-use Rattle.amqp_endpoint_sessions.specs.Steps.{ChangesLive, Ends, Step}
-use Rattle.amqp_endpoint_sessions.specs.declared.place.Place.{Place}
-use Rattle.amqp_endpoint_sessions.specs.declared.place.Place.TheVariants.{Asked, Ending, Live, Over}
-use Rattle.amqp_endpoint_sessions.proofs.Owning.{at, other_number, same_number}
+use Rattle.amqp_endpoint_tables.specs.LinkState.{State as LinksBy}
+use Rattle.amqp_endpoint_tables.specs.State.{live_of, place_at, told_place, with_live}
+use Rattle.amqp_endpoint_tables.specs.Steps.{ChangesLive, Ends, Step}
+use Rattle.amqp_endpoint_tables.specs.declared.place.Place.{Place}
+use Rattle.amqp_endpoint_tables.specs.declared.place.Place.TheVariants.{Asked, Ending, Live, Over}
+use Rattle.amqp_endpoint_tables.proofs.Owning.{at, other_number, same_number}
 use Rattle.amqp_endpoint_laws.specs.Held.{Agrees, Numbers, number_at, number_in, number_live, number_of}
 use Rattle.amqp_endpoint_laws.proofs.Agreeing.{Same, enter, leave, shut, stay}
 use Rattle.amqp_endpoint_laws.proofs.Numbers.{KeepNumbers}

@@ -37,7 +37,7 @@ use Rattle.amqp_endpoint_conversation.specs.declared.beginning.BeginRefusal.TheV
 use Rattle.amqp_endpoint_conversation.specs.declared.hearing.Heard.TheVariants as heard
 use Rattle.amqp_endpoint_laws.specs.Deeds.{Closes, Deed, Does, EndsBy, Finishes, Hears, IsDeed, Moves, Queues}
 use Rattle.amqp_endpoint_laws.specs.Deeds.{Refuses, Renews, Takes}
-use Rattle.amqp_endpoint_link_attaching.specs.Attaching.{with_room}
+use Rattle.amqp_endpoint_link_calls.specs.Attaching.{with_room}
 use Rattle.amqp_endpoint_link_calls.specs.Calling.{Does as DoesTo, DoneAt, DoneIn, detaches, gives_credit, wants_drain}
 use Rattle.amqp_endpoint_link_calls.specs.Closing.{ClosedAt, closes}
 use Rattle.amqp_endpoint_link_calls.specs.Places.{LinksBy, Where}
@@ -50,14 +50,14 @@ use Rattle.amqp_endpoint_link_hearing.specs.Flowing.{LetsGo}
 use Rattle.amqp_endpoint_link_hearing.specs.Heard.{attach_of, detach_of, session_of}
 use Rattle.amqp_endpoint_link_hearing.specs.Saying.{LinkHeard}
 use Rattle.amqp_endpoint_link_hearing.specs.declared.attaching.LinkAttached.{LinkAttached as Left}
-use Rattle.amqp_endpoint_link_messages.specs.Disposing.{DisposedAt, disposes_of_all, disposes_of_one}
-use Rattle.amqp_endpoint_link_messages.specs.Sending.{sends}
-use Rattle.amqp_endpoint_linked.specs.Attaching.{LinkAttached}
-use Rattle.amqp_endpoint_linked.specs.Calling.{Calls, answer_of}
-use Rattle.amqp_endpoint_linked.specs.Does.{linked}
-use Rattle.amqp_endpoint_linked.specs.Hearing.{Hears as HearsFrame}
-use Rattle.amqp_endpoint_linked.specs.Sending.{tag_of}
-use Rattle.amqp_endpoint_linked.specs.declared.linked.LinkedSessions.{LinkedSessions}
+use Rattle.amqp_endpoint_link_calls.specs.Disposing.{DisposedAt, disposes_of_all, disposes_of_one}
+use Rattle.amqp_endpoint_link_calls.specs.Sending.{sends}
+use Rattle.amqp_endpoint.specs.Attaching.{LinkAttached}
+use Rattle.amqp_endpoint.specs.Calling.{Calls, answer_of}
+use Rattle.amqp_endpoint.specs.Does.{linked}
+use Rattle.amqp_endpoint.specs.Hearing.{Hears as HearsFrame}
+use Rattle.amqp_endpoint.specs.Sending.{tag_of}
+use Rattle.amqp_endpoint.specs.declared.linked.LinkedSessions.{LinkedSessions}
 use Rattle.amqp_endpoint_linking.specs.Hearing.{HearsBegin, TakesEnd as EndTaken}
 use Rattle.amqp_endpoint_linking.specs.Linking.{Link, Links, Session, Sessions, Stood, Talk}
 use Rattle.amqp_endpoint_links.proofs.Calls.{accepted-routes, begun-routes}
@@ -73,15 +73,15 @@ use Rattle.amqp_endpoint_model.specs.declared.call.Call.TheVariants as call
 use Rattle.amqp_endpoint_model.specs.declared.call.Disposal.{Disposal}
 use Rattle.amqp_endpoint_model.specs.declared.error.EndpointError.{EndpointError}
 use Rattle.amqp_endpoint_model.specs.declared.event.Event.{Event}
-use Rattle.amqp_endpoint_names.specs.Own.{slot_at}
-use Rattle.amqp_endpoint_names.specs.State.{place_at as link_place}
-use Rattle.amqp_endpoint_names.specs.declared.place.LinkPlace.TheVariants.{AtRest, Held}
-use Rattle.amqp_endpoint_sessions.specs.State.{ended_place, live_at, live_of, peer_end_of, place_at, told_place}
-use Rattle.amqp_endpoint_sessions.specs.Steps.{Accepts, Asks, Begins, EndTold, TakesBegin, TakesEnd}
-use Rattle.amqp_endpoint_sessions.specs.Steps.{TellsEnd}
-use Rattle.amqp_endpoint_sessions.specs.declared.place.PeerEnd.TheVariants.{Missing, Received}
-use Rattle.amqp_endpoint_sessions.specs.declared.place.Place.TheVariants.{Asked, Live, Ending, Over}
-use Rattle.amqp_endpoint_sessions.proofs.Owning.{at}
+use Rattle.amqp_endpoint_tables.specs.OwnLinks.{slot_at}
+use Rattle.amqp_endpoint_tables.specs.LinkState.{place_at as link_place}
+use Rattle.amqp_endpoint_tables.specs.declared.link_place.LinkPlace.TheVariants.{AtRest, Held}
+use Rattle.amqp_endpoint_tables.specs.State.{ended_place, live_at, live_of, peer_end_of, place_at, told_place}
+use Rattle.amqp_endpoint_tables.specs.Steps.{Accepts, Asks, Begins, EndTold, TakesBegin, TakesEnd}
+use Rattle.amqp_endpoint_tables.specs.Steps.{TellsEnd}
+use Rattle.amqp_endpoint_tables.specs.declared.place.PeerEnd.TheVariants.{Missing, Received}
+use Rattle.amqp_endpoint_tables.specs.declared.place.Place.TheVariants.{Asked, Live, Ending, Over}
+use Rattle.amqp_endpoint_tables.proofs.Owning.{at}
 use Rattle.amqp_endpoint_laws.specs.Held.{number_of}
 use Rattle.amqp_endpoint_laws.proofs.HeldCalled.{accepted-none, begun-none}
 use Rattle.amqp_endpoint_laws.proofs.HoldingDone.{StaysBy, attached-comes, attached-first, closes-stays, closing-stays}

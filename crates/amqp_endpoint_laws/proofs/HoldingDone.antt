@@ -15,7 +15,7 @@ use Rattle.amqp_session_core.specs.State.{link_at}
 use Rattle.amqp_session_core.specs.declared.batch.BehindFrame.{BehindFrame}
 use Rattle.amqp_session_core.specs.declared.batch.BehindFrame.TheVariants as behind
 use Rattle.amqp_session_core.specs.declared.dispositions.Touched.{Touched}
-use Rattle.amqp_link_attach.specs.declared.exchange.AttachExchange.{AttachExchange}
+use Rattle.amqp_link_base.specs.declared.exchange.AttachExchange.{AttachExchange}
 use Rattle.amqp_link_ends.specs.Ends.{with_handle}
 use Rattle.amqp_link_ends.specs.declared.end.End.{End}
 use Rattle.amqp_link_ends.specs.declared.end.End.TheVariants.{Receiver, Sender}
@@ -32,10 +32,10 @@ use Rattle.amqp_endpoint_attached.specs.Receiving.{drained, receiving, shown_flo
 use Rattle.amqp_endpoint_attached.specs.Sent.{Says, Sends}
 use Rattle.amqp_endpoint_attached.specs.TakenOut.{TakenOut}
 use Rattle.amqp_endpoint_attached.proofs.There.{replaced}
-use Rattle.amqp_endpoint_disposing.specs.Disposing.{settles}
-use Rattle.amqp_endpoint_disposing.specs.Sending.{SendsEach}
-use Rattle.amqp_endpoint_link_attaching.specs.Attaching.{AttachedBy}
-use Rattle.amqp_endpoint_link_attaching.specs.declared.placed.Placed.{Placed}
+use Rattle.amqp_endpoint_messages.specs.Disposing.{settles}
+use Rattle.amqp_endpoint_messages.specs.Dispositions.{SendsEach}
+use Rattle.amqp_endpoint_link_calls.specs.Attaching.{AttachedBy}
+use Rattle.amqp_endpoint_link_calls.specs.declared.placed.Placed.{Placed}
 use Rattle.amqp_endpoint_link_calls.specs.Calling.{Does, detaches, gives_credit, wants_drain}
 use Rattle.amqp_endpoint_link_calls.specs.Closing.{closes}
 use Rattle.amqp_endpoint_link_hearing.specs.Detaching.{TellsAndParts}
@@ -43,16 +43,16 @@ use Rattle.amqp_endpoint_link_hearing.specs.Disposing.{TellsAndEchoes}
 use Rattle.amqp_endpoint_link_hearing.specs.Flowing.{LeaveWith, LeavesOnce, LeavesWith, ended_link}
 use Rattle.amqp_endpoint_link_hearing.specs.InSession.{AnswersIf, Closes, ClosesIf}
 use Rattle.amqp_endpoint_link_hearing.specs.Transferring.{Remembers, remembering}
-use Rattle.amqp_endpoint_link_messages.specs.Disposing.{disposes_of_all, disposes_of_one}
-use Rattle.amqp_endpoint_link_messages.specs.Sending.{sends}
+use Rattle.amqp_endpoint_link_calls.specs.Disposing.{disposes_of_all, disposes_of_one}
+use Rattle.amqp_endpoint_link_calls.specs.Sending.{sends}
 use Rattle.amqp_endpoint_linking.specs.Linking.{Link, Links}
 use Rattle.amqp_endpoint_model.specs.declared.call.Disposal.{Disposal}
 use Rattle.amqp_endpoint_model.specs.declared.call.Sending.{Sending}
 use Rattle.amqp_endpoint_model.specs.declared.event.Event.{Event}
-use Rattle.amqp_endpoint_outcomes.specs.All.{TellsIn, behind_told, open_count}
-use Rattle.amqp_endpoint_outcomes.specs.Echoing.{echoes_of}
-use Rattle.amqp_endpoint_outcomes.specs.Reached.{behind_one, behind_reached, end_behind, link_behind}
-use Rattle.amqp_endpoint_sending.specs.Sending.{sending}
+use Rattle.amqp_endpoint_messages.specs.All.{TellsIn, behind_told, open_count}
+use Rattle.amqp_endpoint_messages.specs.Echoing.{echoes_of}
+use Rattle.amqp_endpoint_messages.specs.Reached.{behind_one, behind_reached, end_behind, link_behind}
+use Rattle.amqp_endpoint_messages.specs.Sending.{sending}
 use Rattle.amqp_endpoint_laws.proofs.HoldingEnds.{Comes, IsEmpty, Stays, detach-holds}
 use Rattle.amqp_endpoint_laws.proofs.HoldingEnds.{empty-flowed, empty-fresh}
 use Rattle.amqp_endpoint_laws.proofs.HoldingEnds.{empty-handle, empty-sent, empty-takes, held_end, held_link}

@@ -14,12 +14,12 @@ use Rattle.amqp_session_performatives.specs.declared.link_flow.LinkFlow.{LinkFlo
 use Rattle.amqp_session_core.specs.declared.relay.RelayError.{RelayError}
 use Rattle.amqp_session_core.specs.declared.relay.RelayError.TheVariants.{Memory, UnattachedHandle}
 use Rattle.amqp_link_types.specs.declared.attaching.ReceiverAttachError.{ReceiverAttachError}
-use Rattle.amqp_link_flow.specs.Flows.{attached as flow_attached, receiver_flowed}
-use Rattle.amqp_link_flow.specs.declared.inner.LinkFlowStateInner.{LinkFlowStateInner}
-use Rattle.amqp_link_attach.specs.State.{after_incoming_attach, after_remote_detach}
-use Rattle.amqp_link_attach.specs.State.{after_send_detach, is_attached}
-use Rattle.amqp_link_attach.specs.declared.state.LinkState.{LinkState}
-use Rattle.amqp_link_attach.specs.declared.state.LinkState.TheVariants as state
+use Rattle.amqp_link_base.specs.Flows.{attached as flow_attached, receiver_flowed}
+use Rattle.amqp_link_base.specs.declared.inner.LinkFlowStateInner.{LinkFlowStateInner}
+use Rattle.amqp_link_base.specs.State.{after_incoming_attach, after_remote_detach}
+use Rattle.amqp_link_base.specs.State.{after_send_detach, is_attached}
+use Rattle.amqp_link_base.specs.declared.state.LinkState.{LinkState}
+use Rattle.amqp_link_base.specs.declared.state.LinkState.TheVariants as state
 use Rattle.amqp_link_base.specs.Moves.{moved_to, sent_attach, took_attach}
 use Rattle.amqp_link_base.specs.declared.base.IllegalState.{IllegalState}
 use Rattle.amqp_link_base.specs.declared.base.LinkBase.{LinkBase}
@@ -40,7 +40,7 @@ use Rattle.amqp_link_receiver.specs.Flowing.{with_flow}
 use Rattle.amqp_link_receiver.specs.Incoming.{disposed}
 use Rattle.amqp_link_receiver.specs.State.{ReceiverState}
 use Rattle.amqp_link_receiver.specs.declared.attaching.Attached.{Attached as AttachedTold}
-use Rattle.amqp_link_receiving.specs.Deliveries.{Delivery}
+use Rattle.amqp_link_receiver.specs.Deliveries.{Delivery}
 use Rattle.amqp_link_sender.specs.Attaching as sending
 use Rattle.amqp_link_sender.specs.Ending as sender
 use Rattle.amqp_link_sender.specs.Sending.{Sending}

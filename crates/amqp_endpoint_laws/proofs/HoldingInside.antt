@@ -17,7 +17,7 @@ use Rattle.amqp_session_performatives.specs.declared.disposition.Disposition.{Di
 use Rattle.amqp_session_performatives.specs.declared.flow.Flow.{Flow}
 use Rattle.amqp_session_performatives.specs.declared.link_flow.LinkFlow.{LinkFlow}
 use Rattle.amqp_session_performatives.specs.declared.session_frame.SessionFrame.{SessionFrame}
-use Rattle.amqp_session_unsettled.specs.Table.{Table}
+use Rattle.amqp_session_outgoing.specs.Table.{Table}
 use Rattle.amqp_session_core.specs.Echoes.{Reach, ReachesAt, Walks, opposite}
 use Rattle.amqp_session_core.specs.State.{StepsAt, link_at}
 use Rattle.amqp_session_core.specs.Steps.{Allocates, Changes, Deallocates, FlowAt, SendsBehind, SendsDisposition}
@@ -31,8 +31,8 @@ use Rattle.amqp_session_core.specs.declared.batch.BehindFrame.{BehindFrame}
 use Rattle.amqp_session_core.specs.declared.relay.RelayError.{RelayError}
 use Rattle.amqp_link_base.specs.declared.detached.Detached.{Detached}
 use Rattle.amqp_link_ends.specs.declared.relay.AttachTold.{AttachTold}
-use Rattle.amqp_link_receiving.specs.declared.answer.Told.{Told}
-use Rattle.amqp_link_receiving.specs.Deliveries.{Delivery}
+use Rattle.amqp_link_receiver.specs.declared.answer.Told.{Told}
+use Rattle.amqp_link_receiver.specs.Deliveries.{Delivery}
 use Rattle.amqp_session_types.proofs.Tables.{get-put, get-take}
 use Rattle.amqp_endpoint_links.specs.History.{routed_in}
 use Rattle.amqp_endpoint_links.proofs.Routing.{Change, Frees, Puts, Same, Takes, change}

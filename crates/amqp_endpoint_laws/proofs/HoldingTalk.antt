@@ -15,13 +15,13 @@ use Rattle.amqp_session_core.specs.History.{History}
 use Rattle.amqp_session_core.specs.State.{link_at}
 use Rattle.amqp_session_core.specs.Steps.{Act, Step as SessionStep, TakesDisposition}
 use Rattle.amqp_link_base.specs.declared.detached.Detached.{Detached}
-use Rattle.amqp_link_attach.specs.declared.state.LinkState.{LinkState}
-use Rattle.amqp_link_attach.specs.declared.state.LinkState.TheVariants as state
+use Rattle.amqp_link_base.specs.declared.state.LinkState.{LinkState}
+use Rattle.amqp_link_base.specs.declared.state.LinkState.TheVariants as state
 use Rattle.amqp_link_ends.specs.Ends.{state_of}
 use Rattle.amqp_link_ends.specs.declared.relay.AttachTold.{AttachTold}
-use Rattle.amqp_link_receiving.specs.Deliveries.{Delivery}
-use Rattle.amqp_link_receiving.specs.declared.answer.Told.{Told}
-use Rattle.amqp_endpoint_asked.specs.declared.session.AskedSession.{AskedSession}
+use Rattle.amqp_link_receiver.specs.Deliveries.{Delivery}
+use Rattle.amqp_link_receiver.specs.declared.answer.Told.{Told}
+use Rattle.amqp_endpoint_links.specs.declared.session.AskedSession.{AskedSession}
 use Rattle.amqp_endpoint_attached.specs.Ends.{role_of}
 use Rattle.amqp_endpoint_attached.specs.Linked.{Linked, LinksIn, gives}
 use Rattle.amqp_endpoint_conversation.specs.Ending.{EndsHere}
@@ -43,13 +43,13 @@ use Rattle.amqp_endpoint_links.specs.declared.hearing.LinkPerformative.TheVarian
 use Rattle.amqp_endpoint_links.specs.declared.hearing.PerformativeTaken.{PerformativeTaken}
 use Rattle.amqp_endpoint_links.proofs.Heard.{heard}
 use Rattle.amqp_endpoint_links.proofs.Projecting.{Within, step-within}
-use Rattle.amqp_endpoint_names.specs.State.{held_at}
-use Rattle.amqp_endpoint_sessions.specs.Own.{is_about}
-use Rattle.amqp_endpoint_sessions.specs.State.{asked_at, asked_of, live_at, live_of, place_at, reached}
-use Rattle.amqp_endpoint_sessions.specs.State.{with_asked, with_live}
-use Rattle.amqp_endpoint_sessions.specs.Steps.{ChangesAsked, ChangesLive, Ends, Step}
-use Rattle.amqp_endpoint_sessions.specs.declared.place.Place.TheVariants.{Asked, Live, Ending, Over}
-use Rattle.amqp_endpoint_sessions.proofs.Owning.{at, same_number}
+use Rattle.amqp_endpoint_tables.specs.LinkState.{held_at}
+use Rattle.amqp_endpoint_tables.specs.Own.{is_about}
+use Rattle.amqp_endpoint_tables.specs.State.{asked_at, asked_of, live_at, live_of, place_at, reached}
+use Rattle.amqp_endpoint_tables.specs.State.{with_asked, with_live}
+use Rattle.amqp_endpoint_tables.specs.Steps.{ChangesAsked, ChangesLive, Ends, Step}
+use Rattle.amqp_endpoint_tables.specs.declared.place.Place.TheVariants.{Asked, Live, Ending, Over}
+use Rattle.amqp_endpoint_tables.proofs.Owning.{at, same_number}
 use Rattle.amqp_endpoint_laws.specs.Conversing.{SessionsAct}
 use Rattle.amqp_endpoint_laws.specs.Held.{number_live, number_of}
 use Rattle.amqp_endpoint_laws.proofs.HoldingEnds.{Goes, Holding, IsAttached, Stays, goes-on, held_link, stands_so}

@@ -7,12 +7,12 @@ use Rattle.amqp_session_types.specs.declared.handles.OutputHandle.{OutputHandle}
 use Rattle.amqp_session_performatives.specs.declared.attach.Attach.{Attach}
 use Rattle.amqp_session_performatives.specs.declared.link_flow.LinkFlow.{LinkFlow}
 use Rattle.amqp_link_types.specs.declared.attaching.ReceiverAttachError.{ReceiverAttachError}
-use Rattle.amqp_link_flow.specs.Flows.{attached as flow_attached, receiver_flowed, sender_flowed}
-use Rattle.amqp_link_flow.specs.declared.inner.LinkFlowStateInner.{LinkFlowStateInner}
-use Rattle.amqp_link_attach.specs.State.{after_incoming_attach, after_send_attach}
-use Rattle.amqp_link_attach.specs.State.{is_attached}
-use Rattle.amqp_link_attach.specs.declared.state.LinkState.{LinkState}
-use Rattle.amqp_link_attach.specs.declared.state.LinkState.TheVariants as state
+use Rattle.amqp_link_base.specs.Flows.{attached as flow_attached, receiver_flowed, sender_flowed}
+use Rattle.amqp_link_base.specs.declared.inner.LinkFlowStateInner.{LinkFlowStateInner}
+use Rattle.amqp_link_base.specs.State.{after_incoming_attach, after_send_attach}
+use Rattle.amqp_link_base.specs.State.{is_attached}
+use Rattle.amqp_link_base.specs.declared.state.LinkState.{LinkState}
+use Rattle.amqp_link_base.specs.declared.state.LinkState.TheVariants as state
 use Rattle.amqp_link_base.specs.Moves.{moved_to}
 use Rattle.amqp_link_base.specs.declared.base.LinkBase.{LinkBase}
 use Rattle.amqp_link_ends.specs.Ends.{state_of, with_handle}
@@ -25,7 +25,7 @@ use Rattle.amqp_link_receiver.specs.Attaching.{TakesAttach, attach_error}
 use Rattle.amqp_link_receiver.specs.Flowing.{with_flow}
 use Rattle.amqp_link_receiver.specs.State.{ReceiverState}
 use Rattle.amqp_link_receiver.specs.declared.attaching.Attached.{Attached as AttachedTold}
-use Rattle.amqp_link_receiving.specs.Deliveries.{Delivery}
+use Rattle.amqp_link_receiver.specs.Deliveries.{Delivery}
 use Rattle.amqp_link_sender.specs.Attaching as sending
 use Rattle.amqp_link_sender.specs.Sending.{Sending}
 use Rattle.amqp_endpoint_attached.specs.Answering.{flowed_by}

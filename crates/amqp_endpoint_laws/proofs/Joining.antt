@@ -22,17 +22,17 @@ use Rattle.amqp_endpoint_model.specs.Step.{Admits, Waits, refusal_of_settings}
 use Rattle.amqp_endpoint_laws.proofs.Runs.{is-done}
 use Rattle.amqp_endpoint_laws.specs.Deeds.{AreOfOne, AreRead, Deed, IsInOrder, Passes, Throughout, fed_since}
 use Rattle.amqp_endpoint_laws.specs.Deeds.{opened_behind, pulled_since, queued_by, taken_by}
-use Rattle.amqp_endpoint_world.proofs.Connections.{fed_to_its_connection}
-use Rattle.amqp_endpoint_world.proofs.EndLaws.{end_run}
-use Rattle.amqp_endpoint_world.proofs.OnTheWay.{nothing_yet, on_its_way}
-use Rattle.amqp_endpoint_world.specs.declared.step.End.{End}
-use Rattle.amqp_endpoint_world.specs.declared.step.End.TheVariants.{A, B}
-use Rattle.amqp_endpoint_world.specs.declared.step.Step.{Step}
-use Rattle.amqp_endpoint_world.specs.EndHistory.{OfItsConnection, calls_at, fed_since_break, pulled_since_break}
-use Rattle.amqp_endpoint_world.specs.EndHistory.{told_at}
-use Rattle.amqp_endpoint_world.specs.WorldSaid.{WorldTold}
-use Rattle.amqp_endpoint_world.specs.WorldState.{IsNewWorld, Way, WorldState, other, state_at, stream_to, way_from}
-use Rattle.amqp_endpoint_world.specs.WorldStep.{WorldRun}
+use Rattle.amqp_endpoint_core.proofs.Connections.{fed_to_its_connection}
+use Rattle.amqp_endpoint_core.proofs.EndLaws.{end_run}
+use Rattle.amqp_endpoint_core.proofs.OnTheWay.{nothing_yet, on_its_way}
+use Rattle.amqp_endpoint_core.specs.declared.step.End.{End}
+use Rattle.amqp_endpoint_core.specs.declared.step.End.TheVariants.{A, B}
+use Rattle.amqp_endpoint_core.specs.declared.step.Step.{Step}
+use Rattle.amqp_endpoint_core.specs.EndHistory.{OfItsConnection, calls_at, fed_since_break, pulled_since_break}
+use Rattle.amqp_endpoint_core.specs.EndHistory.{told_at}
+use Rattle.amqp_endpoint_core.specs.WorldSaid.{WorldTold}
+use Rattle.amqp_endpoint_core.specs.WorldState.{IsNewWorld, Way, WorldState, other, state_at, stream_to, way_from}
+use Rattle.amqp_endpoint_core.specs.WorldStep.{WorldRun}
 use Rattle.amqp_endpoint_laws.proofs.Connecting.{Gave, NonePulled, fed-run, joined-append, pulled-along}
 use Rattle.amqp_endpoint_laws.proofs.Sending.{AllHaveTexts, accepted-open, header-first, sent-texts, texts-are}
 use Rattle.amqp_endpoint_laws.specs.Between.{AreOnTheWay, AreTakenInOrder, Between, DoneAt, IsHeld, Pass, awaited}

@@ -17,10 +17,10 @@ use Rattle.amqp_endpoint_laws.specs.Deeds.{come_to, done_since, fed_since, opene
 use Rattle.amqp_endpoint_laws.specs.Deeds.{up_behind}
 use Rattle.amqp_endpoint_laws.specs.CallsDone.{calls_done, events_told}
 use Rattle.amqp_endpoint_laws.proofs.Runs.{is-done}
-use Rattle.amqp_endpoint_linked.specs.Does.{linked}
-use Rattle.amqp_endpoint_linked.specs.declared.linked.LinkedSessions.{LinkedSessions}
-use Rattle.amqp_endpoint_sessions.specs.State.{place_at}
-use Rattle.amqp_endpoint_talk.specs.Windows.{KeepsWindow, Passing, begins_with}
+use Rattle.amqp_endpoint.specs.Does.{linked}
+use Rattle.amqp_endpoint.specs.declared.linked.LinkedSessions.{LinkedSessions}
+use Rattle.amqp_endpoint_tables.specs.State.{place_at}
+use Rattle.amqp_endpoint_conversation.specs.Windows.{KeepsWindow, Passing, begins_with}
 use Rattle.amqp_endpoint_laws.specs.Beside.{Agrees, InTables}
 use Rattle.amqp_endpoint_laws.specs.Following.{goes}
 use Rattle.amqp_endpoint_laws.specs.Reading.{Reader, Speaks, Wired, behind, behind_all, is_of, nothing_read, read_on}

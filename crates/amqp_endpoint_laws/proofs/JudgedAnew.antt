@@ -7,7 +7,7 @@ use Rattle.std.specs.Ordering.{nat_cmp}
 use Rattle.std.specs.Prelude.{if◌then◌else◌}
 use Rattle.std.proofs.lemmas.Option.{none-some}
 use Rattle.amqp_session_performatives.specs.declared.session_frame.SessionFrame.{SessionFrame}
-use Rattle.amqp_endpoint_asked.specs.declared.session.AskedSession.{AskedSession}
+use Rattle.amqp_endpoint_links.specs.declared.session.AskedSession.{AskedSession}
 use Rattle.amqp_endpoint_model.specs.declared.call.Call.{Call}
 use Rattle.amqp_endpoint_model.specs.declared.call.Call.TheVariants.{AcceptBegin, Begin}
 use Rattle.amqp_endpoint_model.specs.declared.phase.Phase.TheVariants.{Running, Unconnected}
@@ -17,14 +17,14 @@ use Rattle.amqp_endpoint_model.specs.Said.{Said, session_begun}
 use Rattle.amqp_endpoint_model.specs.Step.{anew}
 use Rattle.amqp_endpoint_laws.specs.Deeds.{AreDone, Closes, Deed, Does, Finishes, Hears, IsDeed, MayPass, Moves}
 use Rattle.amqp_endpoint_laws.specs.Deeds.{Queues, Refuses, Renews, Takes, Throughout, come_to, up_behind}
-use Rattle.amqp_endpoint_linked.specs.Calling.{Calls}
-use Rattle.amqp_endpoint_linked.specs.Does.{linked}
-use Rattle.amqp_endpoint_linked.specs.declared.linked.LinkedSessions.{LinkedSessions}
+use Rattle.amqp_endpoint.specs.Calling.{Calls}
+use Rattle.amqp_endpoint.specs.Does.{linked}
+use Rattle.amqp_endpoint.specs.declared.linked.LinkedSessions.{LinkedSessions}
 use Rattle.amqp_endpoint_linking.specs.Ending.{Finishes as ConnectionFinishes}
 use Rattle.amqp_endpoint_linking.specs.Linking.{Session, Sessions, Stood}
-use Rattle.amqp_endpoint_sessions.specs.State.{channel_in, place_at, with_asked, with_live}
-use Rattle.amqp_endpoint_sessions.specs.declared.place.Place.TheVariants.{Asked, Live, Ending, Over}
-use Rattle.amqp_endpoint_talk.specs.Windows.{Passing, Went, went}
+use Rattle.amqp_endpoint_tables.specs.State.{channel_in, place_at, with_asked, with_live}
+use Rattle.amqp_endpoint_tables.specs.declared.place.Place.TheVariants.{Asked, Live, Ending, Over}
+use Rattle.amqp_endpoint_conversation.specs.Windows.{Passing, Went, went}
 use Rattle.amqp_endpoint_laws.specs.Beside.{Agrees, InTables, IsOff, Known, role_at, role_of}
 use Rattle.amqp_endpoint_laws.specs.Reading.{nothing_read}
 use Rattle.amqp_endpoint_laws.proofs.Beginning.{anew-agrees, anew-stands, steps-known}

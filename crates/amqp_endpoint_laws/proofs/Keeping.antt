@@ -2,7 +2,7 @@
 use Rattle.std.specs.Prelude.{◌≡◌, ℕ, List, [], ◌∷◌, ◌++◌}
 use Rattle.amqp_session_performatives.specs.declared.session_frame.SessionFrame.{SessionFrame}
 use Rattle.amqp_session_frames.specs.declared.frame.FrameBody.{FrameBody}
-use Rattle.amqp_session_connection.specs.State as channels
+use Rattle.amqp_session_frames.specs.State as channels
 use Rattle.amqp_endpoint_model.specs.declared.call.Call.{Call}
 use Rattle.amqp_endpoint_model.specs.declared.error.EndpointError.{EndpointError}
 use Rattle.amqp_endpoint_model.specs.declared.event.Event.{Event}

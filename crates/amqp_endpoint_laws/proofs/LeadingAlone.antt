@@ -11,14 +11,14 @@ use Rattle.amqp_session_performatives.specs.declared.session_frame.SessionFrame.
 use Rattle.amqp_session_frames.specs.declared.frame.FrameBody.{FrameBody}
 use Rattle.amqp_session_frames.specs.declared.frame.FrameBody.TheVariants as body
 use Rattle.amqp_session_core.specs.State.{link_at, live_in, reached as link_reached}
-use Rattle.amqp_link_receiving.specs.Deliveries.{Delivery}
+use Rattle.amqp_link_receiver.specs.Deliveries.{Delivery}
 use Rattle.amqp_endpoint_attached.specs.Linked.{gives}
 use Rattle.amqp_endpoint_attached.specs.Links.{receiver_by, sender_by}
 use Rattle.amqp_endpoint_attached.specs.Receiving.{receiving}
 use Rattle.amqp_endpoint_laws.specs.Deeds.{AreDone, Deed, Does, IsDeed, Takes}
 use Rattle.amqp_endpoint_link_hearing.specs.Naming.{link_in}
-use Rattle.amqp_endpoint_linked.specs.Does.{linked}
-use Rattle.amqp_endpoint_linked.specs.declared.linked.LinkedSessions.{LinkedSessions}
+use Rattle.amqp_endpoint.specs.Does.{linked}
+use Rattle.amqp_endpoint.specs.declared.linked.LinkedSessions.{LinkedSessions}
 use Rattle.amqp_endpoint_linking.specs.Linking.{Link, Session}
 use Rattle.amqp_endpoint_links.proofs.Routing.{Routed, none-routed, routed-on}
 use Rattle.amqp_endpoint_model.specs.Relay.{IsNew}
@@ -27,9 +27,9 @@ use Rattle.amqp_endpoint_model.specs.declared.call.Call.{Call}
 use Rattle.amqp_endpoint_model.specs.declared.call.Call.TheVariants as call
 use Rattle.amqp_endpoint_model.specs.declared.event.Event.{Event}
 use Rattle.amqp_endpoint_model.specs.declared.settings.Settings.{Settings}
-use Rattle.amqp_endpoint_sessions.specs.State.{live_at}
-use Rattle.amqp_endpoint_sessions.proofs.Owning.{same_number}
-use Rattle.amqp_endpoint_talk.specs.Windows.{Passing}
+use Rattle.amqp_endpoint_tables.specs.State.{live_at}
+use Rattle.amqp_endpoint_tables.proofs.Owning.{same_number}
+use Rattle.amqp_endpoint_conversation.specs.Windows.{Passing}
 use Rattle.amqp_endpoint_laws.specs.Handed.{IsReceiving, PassesOn, ReachIn, leads_there, pieces_on}
 use Rattle.amqp_endpoint_laws.specs.Held.{number_live, number_of}
 use Rattle.amqp_endpoint_laws.specs.Passed.{is_it}

@@ -17,11 +17,11 @@ use Rattle.amqp_session_core.specs.Tables.{RouteTable, unless_to}
 use Rattle.amqp_session_core.specs.declared.relay.RelayError.{RelayError}
 use Rattle.amqp_session_core.specs.declared.relay.RelayError.TheVariants.{Memory}
 use Rattle.amqp_link_types.specs.declared.attaching.ReceiverAttachError.{ReceiverAttachError}
-use Rattle.amqp_link_flow.specs.Flows.{attached as flow_attached}
-use Rattle.amqp_link_flow.specs.declared.inner.LinkFlowStateInner.{LinkFlowStateInner}
-use Rattle.amqp_link_attach.specs.State.{after_remote_detach, after_send_attach}
-use Rattle.amqp_link_attach.specs.declared.state.LinkState.{LinkState}
-use Rattle.amqp_link_attach.specs.declared.state.LinkState.TheVariants as state
+use Rattle.amqp_link_base.specs.Flows.{attached as flow_attached}
+use Rattle.amqp_link_base.specs.declared.inner.LinkFlowStateInner.{LinkFlowStateInner}
+use Rattle.amqp_link_base.specs.State.{after_remote_detach, after_send_attach}
+use Rattle.amqp_link_base.specs.declared.state.LinkState.{LinkState}
+use Rattle.amqp_link_base.specs.declared.state.LinkState.TheVariants as state
 use Rattle.amqp_link_base.specs.Moves.{took_attach}
 use Rattle.amqp_link_base.specs.declared.base.LinkBase.{LinkBase}
 use Rattle.amqp_link_base.specs.declared.detached.Detached.{Detached}
@@ -35,7 +35,7 @@ use Rattle.amqp_link_receiver.specs.Attaching.{attach_error}
 use Rattle.amqp_link_receiver.specs.Ending as ending
 use Rattle.amqp_link_receiver.specs.Ending.{ended}
 use Rattle.amqp_link_receiver.specs.State.{ReceiverState}
-use Rattle.amqp_link_receiving.specs.Deliveries.{Delivery}
+use Rattle.amqp_link_receiver.specs.Deliveries.{Delivery}
 use Rattle.amqp_link_sender.specs.Attaching as sending
 use Rattle.amqp_link_sender.specs.Sending.{Sending}
 use Rattle.amqp_session_types.proofs.Tables.{get-put, get-put-other, get-take-other}

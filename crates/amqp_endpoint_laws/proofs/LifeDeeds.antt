@@ -5,13 +5,13 @@ use Rattle.std.proofs.lemmas.Bool.Decides.{eqb_tells}
 use Rattle.std.proofs.lemmas.List.{append-nil}
 use Rattle.std.proofs.lemmas.Option.{none-some, same_Some}
 use Rattle.amqp_session_types.specs.declared.handles.OutputHandle.{OutputHandle}
-use Rattle.amqp_link_place.specs.Readings.{Piece, Reading, nothing, readings}
-use Rattle.amqp_link_receiving.specs.Deliveries.{Delivery}
-use Rattle.amqp_link_receiving.specs.Readings.{held_said}
+use Rattle.amqp_link_base.specs.Readings.{Piece, Reading, nothing, readings}
+use Rattle.amqp_link_receiver.specs.Deliveries.{Delivery}
+use Rattle.amqp_link_receiver.specs.Readings.{held_said}
 use Rattle.amqp_endpoint_laws.specs.Deeds.{AreDone, Deed, IsDeed, told_by, told_in}
-use Rattle.amqp_endpoint_linked.specs.Does.{linked}
-use Rattle.amqp_endpoint_linked.specs.declared.linked.LinkedSessions.{LinkedSessions}
-use Rattle.amqp_endpoint_sessions.specs.State.{live_at}
+use Rattle.amqp_endpoint.specs.Does.{linked}
+use Rattle.amqp_endpoint.specs.declared.linked.LinkedSessions.{LinkedSessions}
+use Rattle.amqp_endpoint_tables.specs.State.{live_at}
 use Rattle.amqp_endpoint_laws.specs.Handed.{Handed, NoneResumes, handed_as, handed_by, pieces_in}
 use Rattle.amqp_endpoint_laws.specs.Life.{Reach, ReachBy, StaysAttached, StaysSomewhere}
 use Rattle.amqp_endpoint_laws.proofs.ComesAttachedHeld.{holding-receives}

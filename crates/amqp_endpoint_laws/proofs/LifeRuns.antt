@@ -2,13 +2,13 @@
 -- reach it.
 use Rattle.std.proofs.Common.{◌≡◌, ℕ, List, [], ◌++◌, ap, map, sym, ◌∙◌}
 use Rattle.amqp_session_types.specs.declared.handles.OutputHandle.{OutputHandle}
-use Rattle.amqp_link_place.specs.Readings.{Piece, nothing, readings}
+use Rattle.amqp_link_base.specs.Readings.{Piece, nothing, readings}
 use Rattle.amqp_endpoint_laws.specs.Deeds.{AreDone, Deed, IsDone, done_since, fed_since, pulled_since, told_by}
 use Rattle.amqp_endpoint_laws.specs.Deeds.{told_since}
 use Rattle.amqp_endpoint_laws.specs.CallsDone.{calls_done, events_told}
 use Rattle.amqp_endpoint_laws.proofs.Runs.{is-done}
-use Rattle.amqp_endpoint_linked.specs.Does.{linked}
-use Rattle.amqp_endpoint_linked.specs.declared.linked.LinkedSessions.{LinkedSessions}
+use Rattle.amqp_endpoint.specs.Does.{linked}
+use Rattle.amqp_endpoint.specs.declared.linked.LinkedSessions.{LinkedSessions}
 use Rattle.amqp_endpoint_model.specs.History.{Run}
 use Rattle.amqp_endpoint_model.specs.Relay.{IsNew}
 use Rattle.amqp_endpoint_model.specs.Said.{Told}

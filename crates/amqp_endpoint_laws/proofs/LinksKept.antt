@@ -13,12 +13,12 @@ use Rattle.amqp_session_frames.specs.declared.frame.FrameBody.{FrameBody}
 use Rattle.amqp_session_frames.specs.declared.frame.FrameBody.TheVariants as body
 use Rattle.amqp_link_base.specs.declared.detached.Detached.{Detached}
 use Rattle.amqp_link_ends.specs.declared.end.End.{End}
-use Rattle.amqp_endpoint_names.specs.declared.place.LinkPlace.{LinkPlace}
-use Rattle.amqp_endpoint_names.specs.declared.place.LinkPlace.TheVariants.{AtRest, Held}
-use Rattle.amqp_endpoint_names.specs.State.{AreApart, fresh, place_at}
-use Rattle.amqp_endpoint_names.specs.Steps.{Closed, Closes, Enters, History, Holds, MakesRoom, Rested, Rests, Act}
-use Rattle.amqp_endpoint_names.specs.Steps.{Step}
-use Rattle.amqp_endpoint_names.proofs.Apart.{none_apart, stay_apart}
+use Rattle.amqp_endpoint_tables.specs.declared.link_place.LinkPlace.{LinkPlace}
+use Rattle.amqp_endpoint_tables.specs.declared.link_place.LinkPlace.TheVariants.{AtRest, Held}
+use Rattle.amqp_endpoint_tables.specs.LinkState.{AreApart, fresh, place_at}
+use Rattle.amqp_endpoint_tables.specs.LinkSteps.{Closed, Closes, Enters, History, Holds, MakesRoom, Rested, Rests, Act}
+use Rattle.amqp_endpoint_tables.specs.LinkSteps.{Step}
+use Rattle.amqp_endpoint_tables.proofs.NamesApart.{none_apart, stay_apart}
 use Rattle.amqp_endpoint_model.specs.declared.call.Call.{Call}
 use Rattle.amqp_endpoint_model.specs.declared.call.Call.TheVariants as call
 use Rattle.amqp_endpoint_model.specs.declared.event.Event.{Event}
@@ -32,18 +32,18 @@ use Rattle.amqp_endpoint_attached.specs.Linked.{Linked}
 use Rattle.amqp_endpoint_linking.specs.Linking.{Link, Links, Session, Talk}
 use Rattle.amqp_endpoint_linking.specs.GivingBack.{AllGivenBack, GoOn, IsGivenBack, SessionGivenBack}
 use Rattle.amqp_endpoint_linking.specs.Ending.{Finishes, Leaves}
-use Rattle.amqp_endpoint_link_attaching.specs.Attaching.{with_room}
+use Rattle.amqp_endpoint_link_calls.specs.Attaching.{with_room}
 use Rattle.amqp_endpoint_link_calls.specs.Closing.{ClosedAt}
 use Rattle.amqp_endpoint_link_calls.specs.Places.{Where}
 use Rattle.amqp_endpoint_link_hearing.specs.Detaching.{Becomes}
 use Rattle.amqp_endpoint_link_hearing.specs.Flowing.{LeaveWith, LeavesOnce, LeavesWith, LetsGo, ended_link}
 use Rattle.amqp_endpoint_link_hearing.specs.Heard.{session_of}
 use Rattle.amqp_endpoint_link_hearing.specs.Leaving.{IsLeft}
-use Rattle.amqp_endpoint_linked.specs.Attaching.{LinkAttached}
-use Rattle.amqp_endpoint_linked.specs.Calling.{Calls}
-use Rattle.amqp_endpoint_linked.specs.Does.{linked}
-use Rattle.amqp_endpoint_linked.specs.Hearing.{Hears}
-use Rattle.amqp_endpoint_linked.specs.declared.linked.LinkedSessions.{LinkedSessions}
+use Rattle.amqp_endpoint.specs.Attaching.{LinkAttached}
+use Rattle.amqp_endpoint.specs.Calling.{Calls}
+use Rattle.amqp_endpoint.specs.Does.{linked}
+use Rattle.amqp_endpoint.specs.Hearing.{Hears}
+use Rattle.amqp_endpoint.specs.declared.linked.LinkedSessions.{LinkedSessions}
 use Rattle.amqp_endpoint_laws.proofs.Keeping.{Keeps, KeepsSilent}
 use Rattle.amqp_endpoint_laws.specs.Linking.{HaveCome}
 use Rattle.amqp_endpoint_laws.proofs.Kept.{run-keeps}

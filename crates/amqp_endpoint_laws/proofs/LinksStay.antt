@@ -6,18 +6,18 @@ use Rattle.std.proofs.lemmas.Bool.Decides.{eqb_tells}
 use Rattle.std.proofs.lemmas.Option.{none-some}
 use Rattle.amqp_session_types.specs.declared.handles.OutputHandle.{OutputHandle}
 use Rattle.amqp_link_ends.specs.declared.end.End.{End}
-use Rattle.amqp_endpoint_names.specs.Own.{SlotStep, is_about, slot_at}
-use Rattle.amqp_endpoint_names.specs.State.{open_of, place_at, place_of}
-use Rattle.amqp_endpoint_names.specs.Steps.{ChangesAtRest, Closes, Enters, Holds, LowersRoom, MakesRoom, Rests, Act}
-use Rattle.amqp_endpoint_names.specs.Steps.{Step}
-use Rattle.amqp_endpoint_names.specs.declared.place.LinkPlace.{LinkPlace}
-use Rattle.amqp_endpoint_names.specs.declared.place.LinkPlace.TheVariants.{AtRest, Held}
-use Rattle.amqp_endpoint_names.specs.declared.place.Named.{Named}
-use Rattle.amqp_endpoint_names.proofs.Owning.{at}
+use Rattle.amqp_endpoint_tables.specs.OwnLinks.{SlotStep, is_about, slot_at}
+use Rattle.amqp_endpoint_tables.specs.LinkState.{open_of, place_at, place_of}
+use Rattle.amqp_endpoint_tables.specs.LinkSteps.{ChangesAtRest, Closes, Enters, Holds, LowersRoom, MakesRoom, Rests, Act}
+use Rattle.amqp_endpoint_tables.specs.LinkSteps.{Step}
+use Rattle.amqp_endpoint_tables.specs.declared.link_place.LinkPlace.{LinkPlace}
+use Rattle.amqp_endpoint_tables.specs.declared.link_place.LinkPlace.TheVariants.{AtRest, Held}
+use Rattle.amqp_endpoint_tables.specs.declared.link_place.Named.{Named}
+use Rattle.amqp_endpoint_tables.proofs.OwningLinks.{at}
 use Rattle.amqp_endpoint_laws.specs.Deeds.{AreDone, Deed, IsDeed}
 use Rattle.amqp_endpoint_linking.specs.Linking.{Links}
-use Rattle.amqp_endpoint_linked.specs.Does.{linked}
-use Rattle.amqp_endpoint_linked.specs.declared.linked.LinkedSessions.{LinkedSessions}
+use Rattle.amqp_endpoint.specs.Does.{linked}
+use Rattle.amqp_endpoint.specs.declared.linked.LinkedSessions.{LinkedSessions}
 use Rattle.amqp_endpoint_laws.proofs.DeedsKept.{deed-keeps}
 use Rattle.amqp_endpoint_laws.proofs.LinksKept.{BackGoesOn, FinishedGoesOn, HoldsNone, LeftGoesOn, links-keep}
 

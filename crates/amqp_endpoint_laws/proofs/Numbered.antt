@@ -16,8 +16,8 @@ use Rattle.amqp_session_core.specs.declared.incoming.TransferTaken.{TransferTake
 use Rattle.amqp_session_frames.specs.declared.frame.FrameBody.{FrameBody}
 use Rattle.amqp_session_frames.specs.declared.frame.FrameBody.TheVariants as body
 use Rattle.amqp_link_base.specs.declared.detached.Detached.{Detached}
-use Rattle.amqp_link_receiving.specs.declared.answer.Told.{Told}
-use Rattle.amqp_link_receiving.specs.declared.answer.Told.TheVariants as told
+use Rattle.amqp_link_receiver.specs.declared.answer.Told.{Told}
+use Rattle.amqp_link_receiver.specs.declared.answer.Told.TheVariants as told
 use Rattle.amqp_link_sender.specs.declared.attaching.Attaching.{Attaching}
 use Rattle.amqp_link_types.specs.declared.link_error.LinkError.{LinkError}
 use Rattle.amqp_endpoint_links.specs.declared.asking.NamedLink.{NamedLink}
@@ -28,7 +28,7 @@ use Rattle.amqp_endpoint_attached.specs.Linked.{end_at}
 use Rattle.amqp_endpoint_model.specs.declared.event.Event.{Event}
 use Rattle.amqp_endpoint_linking.specs.Hearing.{begin_told, end_told}
 use Rattle.amqp_endpoint_linking.specs.Linking.{Link, Links, Talk}
-use Rattle.amqp_endpoint_outcomes.specs.All.{told_by}
+use Rattle.amqp_endpoint_messages.specs.All.{told_by}
 use Rattle.amqp_endpoint_link_hearing.specs.declared.attaching.LinkAttached.{LinkAttached}
 use Rattle.amqp_endpoint_links.specs.declared.asking.AttachTaken.TheVariants as answer
 use Rattle.amqp_endpoint_links.specs.declared.hearing.PerformativeTaken.TheVariants as taken
@@ -42,7 +42,7 @@ use Rattle.amqp_endpoint_link_hearing.specs.Detaching.{detached_told, ending}
 use Rattle.amqp_endpoint_link_hearing.specs.Disposing as disposing
 use Rattle.amqp_endpoint_link_hearing.specs.Transferring as transferring
 use Rattle.amqp_endpoint_link_hearing.specs.Transferring.{Comes}
-use Rattle.amqp_endpoint_linked.specs.Hearing.{Hears}
+use Rattle.amqp_endpoint.specs.Hearing.{Hears}
 use Rattle.amqp_endpoint_laws.specs.Telling.{numbers_told}
 use Rattle.amqp_endpoint_laws.proofs.Unnumbered.{Unnumbered, both-unnumbered, by-unnumbered, reached-unnumbered}
 

@@ -21,7 +21,7 @@ use Rattle.amqp_session_core.specs.Steps.{SendsDisposition, SendsDispositionStep
 use Rattle.amqp_session_core.specs.Steps.{Stays, Act, Step, TakesAttach, TakesBegin, TakesDetach, TakesDisposition}
 use Rattle.amqp_session_core.specs.Steps.{TakesEnd, TakesFlow, TakesTransfer, TellsFlow, told_to_link, with_table}
 use Rattle.amqp_session_core.specs.Tables.{RouteTable}
-use Rattle.amqp_endpoint_asked.specs.AskedSession.{session_part}
+use Rattle.amqp_endpoint_links.specs.AskedSession.{session_part}
 use Rattle.amqp_endpoint_links.specs.Hearing.{Hears}
 use Rattle.amqp_endpoint_links.specs.History.{AreHearing, AskingHistory, AskingAct, AtMostOne, IsAttach}
 use Rattle.amqp_endpoint_links.specs.History.{IsDetach, IsDoneBy, IsFlow, IsHearing, IsTaken}

@@ -11,7 +11,7 @@ use Rattle.amqp_session_core.specs.Steps.{Changes, SendsBehind, SendsDisposition
 use Rattle.amqp_session_core.specs.declared.batch.BehindFrame.{BehindFrame}
 use Rattle.amqp_session_core.specs.declared.batch.BehindFrame.TheVariants as behind
 use Rattle.amqp_session_core.specs.declared.dispositions.Touched.{Touched}
-use Rattle.amqp_link_attach.specs.declared.exchange.AttachExchange.{AttachExchange}
+use Rattle.amqp_link_base.specs.declared.exchange.AttachExchange.{AttachExchange}
 use Rattle.amqp_link_ends.specs.declared.end.End.{End}
 use Rattle.amqp_endpoint_links.specs.declared.numbered.Numbered.{Numbered}
 use Rattle.amqp_endpoint_model.specs.declared.call.Disposal.{Disposal}
@@ -23,18 +23,18 @@ use Rattle.amqp_endpoint_attached.specs.Linked.{Linked, LinksIn, end_at, end_giv
 use Rattle.amqp_endpoint_attached.specs.Links.{attach_frame, with_number}
 use Rattle.amqp_endpoint_attached.specs.Receiving.{receiving}
 use Rattle.amqp_endpoint_attached.specs.Sent.{Sends}
-use Rattle.amqp_endpoint_disposing.specs.Disposing.{DisposesOfAll, DisposesOfOne}
-use Rattle.amqp_endpoint_disposing.specs.Sending.{IsDisposed, SendsEach}
-use Rattle.amqp_endpoint_outcomes.specs.All.{TellsIn, behind_told, open_count}
-use Rattle.amqp_endpoint_outcomes.specs.Echoing.{echoes_of}
-use Rattle.amqp_endpoint_outcomes.specs.Reached.{behind_one, behind_reached, end_behind, link_behind}
-use Rattle.amqp_endpoint_link_attaching.specs.Attaching.{AttachedBy}
-use Rattle.amqp_endpoint_link_attaching.specs.declared.placed.Placed.{Placed as PlacedLink}
+use Rattle.amqp_endpoint_messages.specs.Disposing.{DisposesOfAll, DisposesOfOne}
+use Rattle.amqp_endpoint_messages.specs.Dispositions.{IsDisposed, SendsEach}
+use Rattle.amqp_endpoint_messages.specs.All.{TellsIn, behind_told, open_count}
+use Rattle.amqp_endpoint_messages.specs.Echoing.{echoes_of}
+use Rattle.amqp_endpoint_messages.specs.Reached.{behind_one, behind_reached, end_behind, link_behind}
+use Rattle.amqp_endpoint_link_calls.specs.Attaching.{AttachedBy}
+use Rattle.amqp_endpoint_link_calls.specs.declared.placed.Placed.{Placed as PlacedLink}
 use Rattle.amqp_endpoint_link_calls.specs.Calling.{Does, detaches, gives_credit, wants_drain}
 use Rattle.amqp_endpoint_link_calls.specs.Closing.{closes}
-use Rattle.amqp_endpoint_link_messages.specs.Disposing.{disposes_of_all, disposes_of_one}
-use Rattle.amqp_endpoint_link_messages.specs.Keeping.{kept_tags}
-use Rattle.amqp_endpoint_link_messages.specs.Sending.{sends}
+use Rattle.amqp_endpoint_link_calls.specs.Disposing.{disposes_of_all, disposes_of_one}
+use Rattle.amqp_endpoint_link_calls.specs.Keeping.{kept_tags}
+use Rattle.amqp_endpoint_link_calls.specs.Sending.{sends}
 use Rattle.amqp_endpoint_link_hearing.specs.Disposing.{TellsAndEchoes}
 use Rattle.amqp_endpoint_link_hearing.specs.InSession.{AnswersIf, Closes, ClosesIf}
 use Rattle.amqp_endpoint_link_hearing.specs.Transferring.{Remembers, remembering}

@@ -4,12 +4,12 @@ use Rattle.std.specs.Prelude.{Result, ⊤, if◌then◌else◌}
 use Rattle.std.proofs.lemmas.Bool.{eq-eqb}
 use Rattle.std.proofs.lemmas.Option.{none-some, same_Some}
 use Rattle.amqp_session_types.specs.declared.handles.OutputHandle.{OutputHandle}
-use Rattle.amqp_endpoint_names.specs.declared.place.LinkPlace.{LinkPlace}
-use Rattle.amqp_endpoint_names.specs.declared.place.Named.{Named}
-use Rattle.amqp_endpoint_names.specs.State.{State, held_at, held_of, open_of, place_of}
-use Rattle.amqp_endpoint_names.specs.Steps.{Closed, Closes, Enters, Rested, Rests, Step}
-use Rattle.amqp_endpoint_names.specs.Own.{slot_at}
-use Rattle.amqp_endpoint_names.proofs.Owning.{at, same_number}
+use Rattle.amqp_endpoint_tables.specs.declared.link_place.LinkPlace.{LinkPlace}
+use Rattle.amqp_endpoint_tables.specs.declared.link_place.Named.{Named}
+use Rattle.amqp_endpoint_tables.specs.LinkState.{State, held_at, held_of, open_of, place_of}
+use Rattle.amqp_endpoint_tables.specs.LinkSteps.{Closed, Closes, Enters, Rested, Rests, Step}
+use Rattle.amqp_endpoint_tables.specs.OwnLinks.{slot_at}
+use Rattle.amqp_endpoint_tables.proofs.OwningLinks.{at, same_number}
 
 module _ {L : Type 0} where
   -- the session that holds what stands at a number, and its own handle there

@@ -3,8 +3,8 @@ use Rattle.std.proofs.Common.{◌≡◌, ℕ, Bool, false, List, [], ◌∷◌, 
 use Rattle.std.proofs.Common.{ap, sym, subst, ◌∙◌}
 use Rattle.amqp_session_performatives.specs.declared.session_frame.SessionFrame.{SessionFrame}
 use Rattle.amqp_link_ends.specs.declared.end.End.{End}
-use Rattle.amqp_endpoint_names.specs.State.{place_at as link_place}
-use Rattle.amqp_endpoint_names.specs.declared.place.LinkPlace.TheVariants.{AtRest, Held}
+use Rattle.amqp_endpoint_tables.specs.LinkState.{place_at as link_place}
+use Rattle.amqp_endpoint_tables.specs.declared.link_place.LinkPlace.TheVariants.{AtRest, Held}
 use Rattle.amqp_endpoint_model.specs.declared.call.Call.{Call}
 use Rattle.amqp_endpoint_model.specs.declared.call.Call.TheVariants as call
 use Rattle.amqp_endpoint_model.specs.declared.call.Disposal.{Disposal}
@@ -14,22 +14,22 @@ use Rattle.amqp_endpoint_model.specs.Said.{Said, attaching, count, credit_is, do
 use Rattle.amqp_endpoint_model.specs.Said.{session_begun, tried_end, truth, waiting}
 use Rattle.amqp_endpoint_linking.specs.Linking.{Talk}
 use Rattle.amqp_endpoint_attached.specs.Links.{attach_frame}
-use Rattle.amqp_endpoint_link_attaching.proofs.Inside.{attaches-inside}
+use Rattle.amqp_endpoint_link_calls.proofs.AttachInside.{attaches-inside}
 use Rattle.amqp_endpoint_link_calls.specs.Calling.{Does, DoneAt, DoneIn, detaches, gives_credit, wants_drain}
 use Rattle.amqp_endpoint_link_calls.specs.Closing.{ClosedAt, closes}
 use Rattle.amqp_endpoint_link_calls.specs.Places.{LinksBy, Where}
 use Rattle.amqp_endpoint_link_calls.proofs.Inside.{StaysInside, closes-inside, detaches-inside, drains-inside}
 use Rattle.amqp_endpoint_link_calls.proofs.Inside.{gives-inside}
-use Rattle.amqp_endpoint_link_messages.specs.Disposing.{DisposedAt, disposes_of_all, disposes_of_one}
-use Rattle.amqp_endpoint_link_messages.specs.Sending.{sends}
-use Rattle.amqp_endpoint_link_messages.proofs.Inside.{disposes-inside, disposes-one-inside, sends-inside}
-use Rattle.amqp_endpoint_linked.specs.Attaching.{LinkAttached}
-use Rattle.amqp_endpoint_linked.specs.Calling.{Calls, answer_of}
-use Rattle.amqp_endpoint_linked.specs.Sending.{tag_of}
-use Rattle.amqp_endpoint_linked.specs.declared.linked.LinkedSessions.{LinkedSessions}
+use Rattle.amqp_endpoint_link_calls.specs.Disposing.{DisposedAt, disposes_of_all, disposes_of_one}
+use Rattle.amqp_endpoint_link_calls.specs.Sending.{sends}
+use Rattle.amqp_endpoint_link_calls.proofs.MessagesInside.{disposes-inside, disposes-one-inside, sends-inside}
+use Rattle.amqp_endpoint.specs.Attaching.{LinkAttached}
+use Rattle.amqp_endpoint.specs.Calling.{Calls, answer_of}
+use Rattle.amqp_endpoint.specs.Sending.{tag_of}
+use Rattle.amqp_endpoint.specs.declared.linked.LinkedSessions.{LinkedSessions}
 use Rattle.amqp_endpoint_laws.specs.Following.{goes}
 use Rattle.amqp_endpoint_laws.specs.Reading.{Wired}
-use Rattle.amqp_endpoint_talk.specs.Inside.{Batches}
+use Rattle.amqp_endpoint_conversation.specs.Inside.{Batches}
 use Rattle.amqp_endpoint_laws.specs.Passed.{called_in, holder}
 use Rattle.amqp_endpoint_laws.proofs.AskedCameInside.{KeepsBy, attached-keeps, closing-keeps, detaches-keep}
 use Rattle.amqp_endpoint_laws.proofs.AskedCameInside.{disposes-keep, disposes-one-keeps, drains-keep, gives-keeps}

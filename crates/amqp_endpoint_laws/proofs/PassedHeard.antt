@@ -23,11 +23,11 @@ use Rattle.amqp_session_core.specs.State.{reached as link_reached}
 use Rattle.amqp_session_core.specs.Told.{TransferAt}
 use Rattle.amqp_session_core.specs.declared.fields.SessionFields.{SessionFields}
 use Rattle.amqp_session_core.specs.declared.incoming.TransferTaken.{TransferTaken}
-use Rattle.amqp_link_receiving.specs.declared.answer.Told.{Told}
-use Rattle.amqp_link_receiving.specs.declared.answer.Told.TheVariants as told
+use Rattle.amqp_link_receiver.specs.declared.answer.Told.{Told}
+use Rattle.amqp_link_receiver.specs.declared.answer.Told.TheVariants as told
 use Rattle.amqp_link_sender.specs.declared.attaching.Attaching.{Attaching}
 use Rattle.amqp_link_types.specs.declared.link_error.LinkError.{LinkError}
-use Rattle.amqp_endpoint_asked.specs.declared.session.AskedSession.{AskedSession}
+use Rattle.amqp_endpoint_links.specs.declared.session.AskedSession.{AskedSession}
 use Rattle.amqp_endpoint_attached.specs.Linked.{Linked, gives}
 use Rattle.amqp_endpoint_links.specs.declared.asking.NamedLink.{NamedLink}
 use Rattle.amqp_endpoint_links.specs.declared.asking.NamedLink.TheVariants.{Absent, Attached, Waiting}
@@ -36,10 +36,10 @@ use Rattle.amqp_endpoint_links.specs.declared.asking.DetachTaken.TheVariants as 
 use Rattle.amqp_endpoint_links.specs.declared.hearing.LinkPerformative.{LinkPerformative}
 use Rattle.amqp_endpoint_links.specs.declared.hearing.LinkPerformative.TheVariants as said
 use Rattle.amqp_endpoint_links.specs.declared.hearing.PerformativeTaken.TheVariants as taken
-use Rattle.amqp_endpoint_sessions.specs.State.{asked_at, live_at, live_of, reached, with_live}
-use Rattle.amqp_endpoint_sessions.specs.Steps.{ChangesLive, Step}
-use Rattle.amqp_endpoint_sessions.specs.declared.place.Place.TheVariants.{Asked, Live, Ending, Over}
-use Rattle.amqp_endpoint_sessions.proofs.Owning.{at}
+use Rattle.amqp_endpoint_tables.specs.State.{asked_at, live_at, live_of, reached, with_live}
+use Rattle.amqp_endpoint_tables.specs.Steps.{ChangesLive, Step}
+use Rattle.amqp_endpoint_tables.specs.declared.place.Place.TheVariants.{Asked, Live, Ending, Over}
+use Rattle.amqp_endpoint_tables.proofs.Owning.{at}
 use Rattle.amqp_endpoint_conversation.specs.declared.beginning.BeginHeard.{BeginHeard}
 use Rattle.amqp_endpoint_conversation.specs.declared.beginning.BeginHeard.TheVariants as begin_heard
 use Rattle.amqp_endpoint_conversation.specs.declared.beginning.BeginRefusal.TheVariants as begin_refused
@@ -65,13 +65,13 @@ use Rattle.amqp_endpoint_link_hearing.specs.Transferring.{Comes, RemembersUnless
 use Rattle.amqp_endpoint_link_hearing.specs.declared.attaching.LinkAttached.{LinkAttached}
 use Rattle.amqp_endpoint_link_hearing.proofs.Inside.{closes-inside, leave-inside, remembers-inside, tells-echoes-inside}
 use Rattle.amqp_endpoint_link_hearing.proofs.Inside.{tells-parts-inside}
-use Rattle.amqp_endpoint_linked.specs.Hearing.{Hears as HearsFrame}
-use Rattle.amqp_endpoint_linked.specs.declared.linked.LinkedSessions.{LinkedSessions}
+use Rattle.amqp_endpoint.specs.Hearing.{Hears as HearsFrame}
+use Rattle.amqp_endpoint.specs.declared.linked.LinkedSessions.{LinkedSessions}
 use Rattle.amqp_endpoint_laws.specs.Following.{comes, goes}
 use Rattle.amqp_endpoint_laws.specs.Reading.{Goes, Wired}
-use Rattle.amqp_endpoint_talk.specs.Inside.{AreOn, Batches, DoneInside, said_in}
-use Rattle.amqp_endpoint_talk.specs.Windows.{body_said}
-use Rattle.amqp_endpoint_talk.proofs.Inside.{alike-inside, both-on, said-both}
+use Rattle.amqp_endpoint_conversation.specs.Inside.{AreOn, Batches, DoneInside, said_in}
+use Rattle.amqp_endpoint_conversation.specs.Windows.{body_said}
+use Rattle.amqp_endpoint_conversation.proofs.Inside.{alike-inside, both-on, said-both}
 use Rattle.amqp_endpoint_laws.specs.Passed.{begun_by, session_taking}
 use Rattle.amqp_endpoint_laws.proofs.AskedCameInside.{closes-keeps, echoes-keep, leave-keeps, parts-keep}
 use Rattle.amqp_endpoint_laws.proofs.AskedCameInside.{remembers-keeps}

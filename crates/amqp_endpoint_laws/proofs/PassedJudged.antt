@@ -14,19 +14,19 @@ use Rattle.amqp_session_performatives.specs.declared.end.End.{End}
 use Rattle.amqp_session_performatives.specs.declared.session_frame.SessionFrame.{SessionFrame}
 use Rattle.amqp_session_frames.specs.declared.frame.FrameBody.{FrameBody}
 use Rattle.amqp_session_frames.specs.declared.frame.FrameBody.TheVariants as body
-use Rattle.amqp_session_connection.specs.Steps.{named_session}
+use Rattle.amqp_session_frames.specs.Steps.{named_session}
 use Rattle.amqp_session_core.specs.Steps.{TakesBegin as SessionTakesBegin}
 use Rattle.amqp_endpoint_attached.specs.Linked.{gives}
 use Rattle.amqp_endpoint_attached.specs.Links.{attach_frame}
 use Rattle.amqp_endpoint_links.specs.declared.hearing.LinkPerformative.{LinkPerformative}
-use Rattle.amqp_endpoint_sessions.specs.State.{asked_at, asked_in, asked_of, asked_on, ended_place, first_of, live_at}
-use Rattle.amqp_endpoint_sessions.specs.State.{live_of, peer_end_of, place_at, reached, routed, routed_in, told_place}
-use Rattle.amqp_endpoint_sessions.specs.State.{when_asked, with_channel, with_live}
-use Rattle.amqp_endpoint_sessions.specs.Steps.{Accepts, Asks, Begins, ChangesLive, EndTold, Ends, TakesBegin, TakesEnd}
-use Rattle.amqp_endpoint_sessions.specs.Steps.{TellsEnd}
-use Rattle.amqp_endpoint_sessions.specs.declared.place.PeerEnd.TheVariants.{Missing, Received}
-use Rattle.amqp_endpoint_sessions.specs.declared.place.Place.TheVariants.{Asked, Live, Ending, Over}
-use Rattle.amqp_endpoint_sessions.proofs.Owning.{at, same_number}
+use Rattle.amqp_endpoint_tables.specs.State.{asked_at, asked_in, asked_of, asked_on, ended_place, first_of, live_at}
+use Rattle.amqp_endpoint_tables.specs.State.{live_of, peer_end_of, place_at, reached, routed, routed_in, told_place}
+use Rattle.amqp_endpoint_tables.specs.State.{when_asked, with_channel, with_live}
+use Rattle.amqp_endpoint_tables.specs.Steps.{Accepts, Asks, Begins, ChangesLive, EndTold, Ends, TakesBegin, TakesEnd}
+use Rattle.amqp_endpoint_tables.specs.Steps.{TellsEnd}
+use Rattle.amqp_endpoint_tables.specs.declared.place.PeerEnd.TheVariants.{Missing, Received}
+use Rattle.amqp_endpoint_tables.specs.declared.place.Place.TheVariants.{Asked, Live, Ending, Over}
+use Rattle.amqp_endpoint_tables.proofs.Owning.{at, same_number}
 use Rattle.amqp_endpoint_conversation.specs.declared.ending.EndHeard.{EndHeard}
 use Rattle.amqp_endpoint_conversation.specs.Beginning.{AcceptsHere, AsksFor, BeginBarred, BeginDropped, BeginsHere}
 use Rattle.amqp_endpoint_conversation.specs.Beginning.{BeginsThere, Leads, with_links}
@@ -36,8 +36,8 @@ use Rattle.amqp_endpoint_conversation.specs.Hearing.{LiveFails}
 use Rattle.amqp_endpoint_linking.specs.Linking.{Link, Session, Sessions, Stood, Talk}
 use Rattle.amqp_endpoint_laws.specs.Following.{comes, goes}
 use Rattle.amqp_endpoint_laws.specs.Reading.{Wired}
-use Rattle.amqp_endpoint_talk.specs.Inside.{Batches, said_in}
-use Rattle.amqp_endpoint_talk.specs.Windows.{Came, Passing, Went, body_said, went}
+use Rattle.amqp_endpoint_conversation.specs.Inside.{Batches, said_in}
+use Rattle.amqp_endpoint_conversation.specs.Windows.{Came, Passing, Went, body_said, went}
 use Rattle.amqp_endpoint_laws.specs.Passed.{begun_by, sent_in}
 use Rattle.amqp_endpoint_laws.specs.Seen.{passing_of}
 use Rattle.amqp_endpoint_laws.proofs.AskedCameInside.{step-keeps}

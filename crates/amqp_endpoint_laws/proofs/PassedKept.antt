@@ -15,7 +15,7 @@ use Rattle.amqp_session_types.specs.declared.refusals.SessionError.TheVariants.{
 use Rattle.amqp_session_frames.specs.declared.frame.Frame.{Frame}
 use Rattle.amqp_session_frames.specs.declared.frame.FrameBody.{FrameBody}
 use Rattle.amqp_session_frames.specs.declared.frame.FrameBody.TheVariants as body
-use Rattle.amqp_endpoint_asked.specs.declared.session.AskedSession.{AskedSession}
+use Rattle.amqp_endpoint_links.specs.declared.session.AskedSession.{AskedSession}
 use Rattle.amqp_endpoint_attached.specs.Linked.{gives}
 use Rattle.amqp_endpoint_conversation.specs.Beginning.{BeginAnswered}
 use Rattle.amqp_endpoint_conversation.specs.Ending.{EndAnswered}
@@ -28,9 +28,9 @@ use Rattle.amqp_endpoint_links.specs.declared.hearing.LinkPerformative.{LinkPerf
 use Rattle.amqp_endpoint_laws.specs.Deeds.{AreDone, Closes, Deed, Does, EndsBy, Finishes, Hears, IsDeed, Moves}
 use Rattle.amqp_endpoint_laws.specs.Deeds.{MovesByFrame, Queues, Refuses, Renews, Takes}
 use Rattle.amqp_endpoint_link_hearing.specs.Saying.{LinkHeard, LinkRefusal, RefusesSaid}
-use Rattle.amqp_endpoint_linked.specs.Does.{linked}
-use Rattle.amqp_endpoint_linked.specs.Hearing.{RefusesBody}
-use Rattle.amqp_endpoint_linked.specs.declared.linked.LinkedSessions.{LinkedSessions}
+use Rattle.amqp_endpoint.specs.Does.{linked}
+use Rattle.amqp_endpoint.specs.Hearing.{RefusesBody}
+use Rattle.amqp_endpoint.specs.declared.linked.LinkedSessions.{LinkedSessions}
 use Rattle.amqp_endpoint_linking.specs.Ending.{FinishesFirst, LeavesFirst}
 use Rattle.amqp_endpoint_linking.specs.Hearing.{RefusesBegin}
 use Rattle.amqp_endpoint_linking.specs.Linking.{Links, Session, Sessions, Stood, Talk}
@@ -41,16 +41,16 @@ use Rattle.amqp_endpoint_model.specs.declared.call.Call.{Call}
 use Rattle.amqp_endpoint_model.specs.declared.error.EndpointError.{EndpointError}
 use Rattle.amqp_endpoint_model.specs.declared.event.Event.{Event}
 use Rattle.amqp_endpoint_model.specs.declared.settings.Settings.{Settings}
-use Rattle.amqp_endpoint_sessions.specs.Own.{PlaceHistory, PlaceStep, steps_of}
-use Rattle.amqp_endpoint_sessions.specs.State.{finished_place, place_at, reached}
-use Rattle.amqp_endpoint_sessions.specs.Steps.{Accepts, Asks, Begins}
-use Rattle.amqp_endpoint_sessions.specs.Steps.{ChangesAsked, ChangesConnection, ChangesLive, Ends}
-use Rattle.amqp_endpoint_sessions.specs.Steps.{EndSent, Finished, Finishes as FinishesStep, TakesBegin, TakesEnd}
-use Rattle.amqp_endpoint_sessions.specs.Steps.{TellsEnd}
-use Rattle.amqp_endpoint_sessions.specs.declared.place.Place.TheVariants.{Asked, Live, Ending, Over}
-use Rattle.amqp_endpoint_sessions.proofs.Owning.{at, other_number, own, same_number}
-use Rattle.amqp_endpoint_talk.specs.Inside.{Batches}
-use Rattle.amqp_endpoint_talk.specs.Windows.{Came, Passing, went}
+use Rattle.amqp_endpoint_tables.specs.Own.{PlaceHistory, PlaceStep, steps_of}
+use Rattle.amqp_endpoint_tables.specs.State.{finished_place, place_at, reached}
+use Rattle.amqp_endpoint_tables.specs.Steps.{Accepts, Asks, Begins}
+use Rattle.amqp_endpoint_tables.specs.Steps.{ChangesAsked, ChangesConnection, ChangesLive, Ends}
+use Rattle.amqp_endpoint_tables.specs.Steps.{EndSent, Finished, Finishes as FinishesStep, TakesBegin, TakesEnd}
+use Rattle.amqp_endpoint_tables.specs.Steps.{TellsEnd}
+use Rattle.amqp_endpoint_tables.specs.declared.place.Place.TheVariants.{Asked, Live, Ending, Over}
+use Rattle.amqp_endpoint_tables.proofs.Owning.{at, other_number, own, same_number}
+use Rattle.amqp_endpoint_conversation.specs.Inside.{Batches}
+use Rattle.amqp_endpoint_conversation.specs.Windows.{Came, Passing, went}
 use Rattle.amqp_endpoint_laws.specs.Conversing.{SessionsAct}
 use Rattle.amqp_endpoint_laws.specs.Passed.{PassesIn, called_in, passes_in, session_taking}
 use Rattle.amqp_endpoint_laws.proofs.PassedCalled.{IsSend, called}

@@ -19,11 +19,11 @@ use Rattle.amqp_session_core.specs.State.{State}
 use Rattle.amqp_session_core.specs.Steps.{Step, TakesBegin}
 use Rattle.amqp_link_base.specs.declared.detached.Detached.{Detached}
 use Rattle.amqp_link_ends.specs.declared.relay.AttachTold.{AttachTold}
-use Rattle.amqp_link_receiving.specs.declared.answer.Told.{Told}
-use Rattle.amqp_endpoint_asked.specs.Asked.{Asked as AskedLinks}
-use Rattle.amqp_endpoint_asked.specs.AskedSession.{asked_by}
-use Rattle.amqp_endpoint_asked.specs.declared.links.AskedLink.{AskedLink}
-use Rattle.amqp_endpoint_asked.specs.declared.session.AskedSession.{AskedSession}
+use Rattle.amqp_link_receiver.specs.declared.answer.Told.{Told}
+use Rattle.amqp_endpoint_links.specs.Asked.{Asked as AskedLinks}
+use Rattle.amqp_endpoint_links.specs.AskedSession.{asked_by}
+use Rattle.amqp_endpoint_links.specs.declared.links.AskedLink.{AskedLink}
+use Rattle.amqp_endpoint_links.specs.declared.session.AskedSession.{AskedSession}
 use Rattle.amqp_endpoint_attached.specs.Linked.{Linked, gives}
 use Rattle.amqp_endpoint_conversation.specs.Beginning.{with_links}
 use Rattle.amqp_endpoint_links.specs.Beginning.{Accepted, Begun}
@@ -31,13 +31,13 @@ use Rattle.amqp_endpoint_links.specs.Hearing.{Hears, HearsAsked}
 use Rattle.amqp_endpoint_links.specs.declared.hearing.LinkPerformative.{LinkPerformative}
 use Rattle.amqp_endpoint_links.specs.declared.hearing.PerformativeTaken.{PerformativeTaken}
 use Rattle.amqp_endpoint_linking.specs.Linking.{Link, Session, Stood, Talk}
-use Rattle.amqp_endpoint_sessions.specs.Own.{is_about}
-use Rattle.amqp_endpoint_sessions.specs.State.{asked_of, live_of, place_at, with_asked, with_live}
-use Rattle.amqp_endpoint_sessions.specs.Steps.{ChangesAsked, ChangesLive, Step as SessionsStep}
-use Rattle.amqp_endpoint_sessions.specs.declared.place.Place.TheVariants.{Asked, Live, Ending, Over}
-use Rattle.amqp_endpoint_sessions.proofs.Owning.{at, same_number}
-use Rattle.amqp_endpoint_talk.specs.Inside.{AcceptsInside, Batches, said_in}
-use Rattle.amqp_endpoint_talk.specs.Windows.{Came, Passing, body_said, went}
+use Rattle.amqp_endpoint_tables.specs.Own.{is_about}
+use Rattle.amqp_endpoint_tables.specs.State.{asked_of, live_of, place_at, with_asked, with_live}
+use Rattle.amqp_endpoint_tables.specs.Steps.{ChangesAsked, ChangesLive, Step as SessionsStep}
+use Rattle.amqp_endpoint_tables.specs.declared.place.Place.TheVariants.{Asked, Live, Ending, Over}
+use Rattle.amqp_endpoint_tables.proofs.Owning.{at, same_number}
+use Rattle.amqp_endpoint_conversation.specs.Inside.{AcceptsInside, Batches, said_in}
+use Rattle.amqp_endpoint_conversation.specs.Windows.{Came, Passing, body_said, went}
 use Rattle.amqp_endpoint_laws.specs.Conversing.{SessionsAct}
 use Rattle.amqp_endpoint_laws.specs.Passed.{came_in, is_it, sent_in}
 use Rattle.amqp_endpoint_laws.specs.Handed.{pieces_come}

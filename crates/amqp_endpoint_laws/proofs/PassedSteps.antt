@@ -30,11 +30,11 @@ use Rattle.amqp_session_core.specs.declared.relay.RelayError.{RelayError}
 use Rattle.amqp_session_core.specs.declared.relay.TransferAnswer.{TransferAnswer}
 use Rattle.amqp_link_base.specs.declared.detached.Detached.{Detached}
 use Rattle.amqp_link_ends.specs.declared.relay.AttachTold.{AttachTold}
-use Rattle.amqp_link_receiving.specs.declared.answer.Told.{Told}
-use Rattle.amqp_endpoint_asked.specs.Asked.{is_asked}
-use Rattle.amqp_endpoint_asked.specs.AskedSession.{asked_by}
-use Rattle.amqp_endpoint_asked.specs.declared.session.AskedSession.{AskedSession}
-use Rattle.amqp_endpoint_asked.specs.declared.session.SessionFlow.{SessionFlow}
+use Rattle.amqp_link_receiver.specs.declared.answer.Told.{Told}
+use Rattle.amqp_endpoint_links.specs.Asked.{is_asked}
+use Rattle.amqp_endpoint_links.specs.AskedSession.{asked_by}
+use Rattle.amqp_endpoint_links.specs.declared.session.AskedSession.{AskedSession}
+use Rattle.amqp_endpoint_links.specs.declared.session.SessionFlow.{SessionFlow}
 use Rattle.amqp_endpoint_attached.specs.Linked.{Linked, gives}
 use Rattle.amqp_endpoint_conversation.specs.Beginning.{with_links}
 use Rattle.amqp_endpoint_laws.specs.Deeds.{Deed}
@@ -50,16 +50,16 @@ use Rattle.amqp_endpoint_links.specs.declared.hearing.PerformativeTaken.{Perform
 use Rattle.amqp_endpoint_links.specs.declared.hearing.PerformativeTaken.TheVariants as taken
 use Rattle.amqp_endpoint_links.proofs.Heard.{heard}
 use Rattle.amqp_endpoint_links.proofs.Projecting.{Within, step-within}
-use Rattle.amqp_endpoint_linked.specs.Does.{linked}
-use Rattle.amqp_endpoint_linked.specs.declared.linked.LinkedSessions.{LinkedSessions}
+use Rattle.amqp_endpoint.specs.Does.{linked}
+use Rattle.amqp_endpoint.specs.declared.linked.LinkedSessions.{LinkedSessions}
 use Rattle.amqp_endpoint_linking.specs.Linking.{Link, Session, Stood}
 use Rattle.amqp_endpoint_model.specs.Relay.{IsNew}
 use Rattle.amqp_endpoint_model.specs.declared.settings.Settings.{Settings}
-use Rattle.amqp_endpoint_sessions.specs.State.{asked_of, live_at, live_of, place_at, with_asked, with_live}
-use Rattle.amqp_endpoint_sessions.specs.declared.place.Place.TheVariants.{Asked, Live, Ending, Over}
-use Rattle.amqp_endpoint_talk.specs.Inside.{Batches, accepted_of, said_in}
-use Rattle.amqp_endpoint_talk.specs.Windows.{Came, Passing, Went, body_said, went}
-use Rattle.amqp_endpoint_talk.proofs.Inside.{handed-both, history-both, said-both}
+use Rattle.amqp_endpoint_tables.specs.State.{asked_of, live_at, live_of, place_at, with_asked, with_live}
+use Rattle.amqp_endpoint_tables.specs.declared.place.Place.TheVariants.{Asked, Live, Ending, Over}
+use Rattle.amqp_endpoint_conversation.specs.Inside.{Batches, accepted_of, said_in}
+use Rattle.amqp_endpoint_conversation.specs.Windows.{Came, Passing, Went, body_said, went}
+use Rattle.amqp_endpoint_conversation.proofs.Inside.{handed-both, history-both, said-both}
 use Rattle.amqp_endpoint_laws.specs.Passed.{HasCome, PassesIn, sent_in}
 use Rattle.amqp_endpoint_laws.proofs.PassedKept.{new-judges}
 use Rattle.amqp_endpoint_laws.proofs.PassedPlaces.{GoesBy, IsGone, Keeping, by-steps, hears, opens}

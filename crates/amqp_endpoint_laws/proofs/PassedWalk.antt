@@ -13,14 +13,14 @@ use Rattle.amqp_session_performatives.specs.declared.session_frame.SessionFrame.
 use Rattle.amqp_session_frames.specs.declared.frame.FrameBody.TheVariants as body
 use Rattle.amqp_link_base.specs.declared.detached.Detached.{Detached}
 use Rattle.amqp_link_ends.specs.declared.relay.AttachTold.{AttachTold}
-use Rattle.amqp_link_receiving.specs.declared.answer.Told.{Told}
-use Rattle.amqp_endpoint_asked.specs.declared.session.AskedSession.{AskedSession}
+use Rattle.amqp_link_receiver.specs.declared.answer.Told.{Told}
+use Rattle.amqp_endpoint_links.specs.declared.session.AskedSession.{AskedSession}
 use Rattle.amqp_endpoint_attached.specs.Linked.{gives}
 use Rattle.amqp_endpoint_attached.specs.Links.{attach_frame}
 use Rattle.amqp_endpoint_links.specs.declared.hearing.LinkPerformative.{LinkPerformative}
 use Rattle.amqp_endpoint_links.specs.declared.hearing.PerformativeTaken.{PerformativeTaken}
-use Rattle.amqp_endpoint_sessions.specs.State.{asked_at, live_at, reached}
-use Rattle.amqp_endpoint_sessions.specs.Steps.{ChangesLive, EndTold, Step}
+use Rattle.amqp_endpoint_tables.specs.State.{asked_at, live_at, reached}
+use Rattle.amqp_endpoint_tables.specs.Steps.{ChangesLive, EndTold, Step}
 use Rattle.amqp_endpoint_conversation.specs.declared.ending.EndHeard.{EndHeard}
 use Rattle.amqp_endpoint_conversation.specs.Beginning.{AcceptsHere, AsksFor, BeginBarred, BeginDropped, BeginsHere}
 use Rattle.amqp_endpoint_conversation.specs.Beginning.{BeginsThere}
@@ -29,8 +29,8 @@ use Rattle.amqp_endpoint_conversation.specs.Hearing.{AskedTakes, LiveFails, Live
 use Rattle.amqp_endpoint_linking.specs.Linking.{Link, Session, Talk}
 use Rattle.amqp_endpoint_laws.specs.Following.{comes, goes}
 use Rattle.amqp_endpoint_laws.specs.Reading.{Wired}
-use Rattle.amqp_endpoint_talk.specs.Inside.{AcceptsInside, AreOn, Batches, said_in}
-use Rattle.amqp_endpoint_talk.specs.Windows.{body_said}
+use Rattle.amqp_endpoint_conversation.specs.Inside.{AcceptsInside, AreOn, Batches, said_in}
+use Rattle.amqp_endpoint_conversation.specs.Windows.{body_said}
 use Rattle.amqp_endpoint_laws.specs.Passed.{begun_by}
 use Rattle.amqp_endpoint_laws.proofs.PassedPlaces.{KeepsAsked}
 

@@ -13,10 +13,10 @@ use Rattle.amqp_session_performatives.specs.declared.session_frame.SessionFrameB
 use Rattle.amqp_session_performatives.specs.declared.session_frame.SessionFrameBody.TheVariants as session_body
 use Rattle.amqp_session_frames.specs.declared.frame.FrameBody.TheVariants as body
 use Rattle.amqp_session_core.specs.State.{State}
-use Rattle.amqp_endpoint_asked.specs.AskedSession.{asked_by, is_for_asked, session_told}
-use Rattle.amqp_endpoint_asked.specs.AskedSession as wanted
-use Rattle.amqp_endpoint_asked.specs.declared.session.AskedSession.{AskedSession}
-use Rattle.amqp_endpoint_asked.specs.declared.session.SessionFlow.{SessionFlow}
+use Rattle.amqp_endpoint_links.specs.AskedSession.{asked_by, is_for_asked, session_told}
+use Rattle.amqp_endpoint_links.specs.AskedSession as wanted
+use Rattle.amqp_endpoint_links.specs.declared.session.AskedSession.{AskedSession}
+use Rattle.amqp_endpoint_links.specs.declared.session.SessionFlow.{SessionFlow}
 use Rattle.amqp_endpoint_attached.specs.Linked.{gives}
 use Rattle.amqp_endpoint_conversation.specs.Beginning.{with_links}
 use Rattle.amqp_endpoint_laws.specs.Deeds.{Deed}
@@ -25,20 +25,20 @@ use Rattle.amqp_endpoint_links.specs.Hearing.{HearsAsked}
 use Rattle.amqp_endpoint_links.specs.declared.hearing.LinkPerformative.{LinkPerformative}
 use Rattle.amqp_endpoint_links.specs.declared.hearing.LinkPerformative.TheVariants as said
 use Rattle.amqp_endpoint_links.proofs.Standing.{accepted-stands, begun-stands}
-use Rattle.amqp_endpoint_linked.specs.Does.{linked}
-use Rattle.amqp_endpoint_linked.specs.declared.linked.LinkedSessions.{LinkedSessions}
+use Rattle.amqp_endpoint.specs.Does.{linked}
+use Rattle.amqp_endpoint.specs.declared.linked.LinkedSessions.{LinkedSessions}
 use Rattle.amqp_endpoint_linking.specs.Linking.{Link, Session, Stood}
 use Rattle.amqp_endpoint_model.specs.Relay.{IsNew}
 use Rattle.amqp_endpoint_model.specs.declared.settings.Settings.{Settings}
-use Rattle.amqp_endpoint_sessions.specs.State.{asked_of, live_of, place_at, with_asked, with_live}
-use Rattle.amqp_endpoint_sessions.specs.declared.place.Place.TheVariants.{Asked, Live, Ending, Over}
-use Rattle.amqp_endpoint_talk.specs.Inside.{Batches, is_transfer, said_in, transfers_in}
-use Rattle.amqp_endpoint_talk.specs.Windows.{Came, Count, IsAllowed, Keeps, KeepsWindow, Passing, Went, base_by}
-use Rattle.amqp_endpoint_talk.specs.Windows.{begins_with, body_said, count_behind, counted, sent_by, told_by, went}
-use Rattle.amqp_endpoint_talk.proofs.HeardWindows.{hears-keep}
-use Rattle.amqp_endpoint_talk.proofs.Inside.{same-transfers}
-use Rattle.amqp_endpoint_talk.proofs.Windows.{begin-keeps, counts-append, each-append, inside-keeps, keeps-still}
-use Rattle.amqp_endpoint_talk.proofs.Windows.{with-others}
+use Rattle.amqp_endpoint_tables.specs.State.{asked_of, live_of, place_at, with_asked, with_live}
+use Rattle.amqp_endpoint_tables.specs.declared.place.Place.TheVariants.{Asked, Live, Ending, Over}
+use Rattle.amqp_endpoint_conversation.specs.Inside.{Batches, is_transfer, said_in, transfers_in}
+use Rattle.amqp_endpoint_conversation.specs.Windows.{Came, Count, IsAllowed, Keeps, KeepsWindow, Passing, Went, base_by}
+use Rattle.amqp_endpoint_conversation.specs.Windows.{begins_with, body_said, count_behind, counted, sent_by, told_by, went}
+use Rattle.amqp_endpoint_conversation.proofs.HeardWindows.{hears-keep}
+use Rattle.amqp_endpoint_conversation.proofs.Inside.{same-transfers}
+use Rattle.amqp_endpoint_conversation.proofs.Windows.{begin-keeps, counts-append, each-append, inside-keeps, keeps-still}
+use Rattle.amqp_endpoint_conversation.proofs.Windows.{with-others}
 use Rattle.amqp_endpoint_laws.specs.Passed.{PassesIn, sent_in}
 use Rattle.amqp_endpoint_laws.proofs.PassedKept.{deeds-judge, new-judges}
 use Rattle.amqp_endpoint_laws.proofs.PassedPlaces.{GoesBy, IsGone, Keeping, by-steps, hears, opens}

@@ -7,37 +7,37 @@ use Rattle.amqp_session_types.specs.declared.handles.OutputHandle.{OutputHandle}
 use Rattle.amqp_session_performatives.specs.declared.attach.Attach.{Attach}
 use Rattle.amqp_session_performatives.specs.declared.session_frame.SessionFrame.{SessionFrame}
 use Rattle.amqp_session_core.specs.State.{link_at}
-use Rattle.amqp_link_attach.specs.declared.exchange.AttachExchange.{AttachExchange}
+use Rattle.amqp_link_base.specs.declared.exchange.AttachExchange.{AttachExchange}
 use Rattle.amqp_link_ends.specs.declared.end.End.{End}
-use Rattle.amqp_link_place.specs.Readings.{Piece}
+use Rattle.amqp_link_base.specs.Readings.{Piece}
 use Rattle.amqp_endpoint_attached.specs.Linked.{Linked, gives}
 use Rattle.amqp_endpoint_attached.specs.Links.{attach_frame, sender_by}
 use Rattle.amqp_endpoint_laws.specs.Deeds.{AreDone, Deed, Does, IsDeed}
-use Rattle.amqp_endpoint_link_attaching.specs.Attaching.{AttachedBy, with_room}
-use Rattle.amqp_endpoint_link_attaching.specs.Places.{name_of}
-use Rattle.amqp_endpoint_link_attaching.specs.declared.placed.Placed.{Placed}
-use Rattle.amqp_endpoint_link_attaching.proofs.Inside.{AttachesInside, attaches-inside}
-use Rattle.amqp_endpoint_linked.specs.Attaching.{LinkAttached}
-use Rattle.amqp_endpoint_linked.specs.Does.{linked}
-use Rattle.amqp_endpoint_linked.specs.declared.linked.LinkedSessions.{LinkedSessions}
+use Rattle.amqp_endpoint_link_calls.specs.Attaching.{AttachedBy, with_room}
+use Rattle.amqp_endpoint_link_calls.specs.Naming.{name_of}
+use Rattle.amqp_endpoint_link_calls.specs.declared.placed.Placed.{Placed}
+use Rattle.amqp_endpoint_link_calls.proofs.AttachInside.{AttachesInside, attaches-inside}
+use Rattle.amqp_endpoint.specs.Attaching.{LinkAttached}
+use Rattle.amqp_endpoint.specs.Does.{linked}
+use Rattle.amqp_endpoint.specs.declared.linked.LinkedSessions.{LinkedSessions}
 use Rattle.amqp_endpoint_linking.specs.Linking.{Session, Stood}
 use Rattle.amqp_endpoint_model.specs.Relay.{IsNew}
 use Rattle.amqp_endpoint_model.specs.Said.{attaching}
 use Rattle.amqp_endpoint_model.specs.declared.call.Call.TheVariants as call
 use Rattle.amqp_endpoint_model.specs.declared.event.Event.{Event}
 use Rattle.amqp_endpoint_model.specs.declared.settings.Settings.{Settings}
-use Rattle.amqp_endpoint_names.specs.Own.{slot_at}
-use Rattle.amqp_endpoint_names.specs.State.{open_of, place_at as link_place, place_of}
-use Rattle.amqp_endpoint_names.specs.Steps.{Enters}
-use Rattle.amqp_endpoint_names.specs.declared.place.LinkPlace.TheVariants.{Held}
-use Rattle.amqp_endpoint_names.specs.declared.place.Named.{Named}
-use Rattle.amqp_endpoint_names.proofs.Owning.{at as link_at_step}
-use Rattle.amqp_endpoint_sessions.specs.State.{live_at, live_of, place_at, with_live}
-use Rattle.amqp_endpoint_sessions.specs.Steps.{ChangesLive}
-use Rattle.amqp_endpoint_sessions.specs.declared.place.Place.TheVariants.{Asked, Live, Ending, Over}
-use Rattle.amqp_endpoint_sessions.proofs.Owning.{at}
-use Rattle.amqp_endpoint_settings.specs.declared.link.LinkSettings.{LinkSettings}
-use Rattle.amqp_endpoint_talk.specs.Windows.{Passing, went}
+use Rattle.amqp_endpoint_tables.specs.OwnLinks.{slot_at}
+use Rattle.amqp_endpoint_tables.specs.LinkState.{open_of, place_at as link_place, place_of}
+use Rattle.amqp_endpoint_tables.specs.LinkSteps.{Enters}
+use Rattle.amqp_endpoint_tables.specs.declared.link_place.LinkPlace.TheVariants.{Held}
+use Rattle.amqp_endpoint_tables.specs.declared.link_place.Named.{Named}
+use Rattle.amqp_endpoint_tables.proofs.OwningLinks.{at as link_at_step}
+use Rattle.amqp_endpoint_tables.specs.State.{live_at, live_of, place_at, with_live}
+use Rattle.amqp_endpoint_tables.specs.Steps.{ChangesLive}
+use Rattle.amqp_endpoint_tables.specs.declared.place.Place.TheVariants.{Asked, Live, Ending, Over}
+use Rattle.amqp_endpoint_tables.proofs.Owning.{at}
+use Rattle.amqp_endpoint_model.specs.declared.link.LinkSettings.{LinkSettings}
+use Rattle.amqp_endpoint_conversation.specs.Windows.{Passing, went}
 use Rattle.amqp_endpoint_laws.specs.Passed.{PassesIn, sent_in}
 use Rattle.amqp_endpoint_laws.specs.Queued.{AttachesFirst, SayMessages, messages_by, pieces_on, pieces_waiting, queued}
 use Rattle.amqp_endpoint_laws.proofs.LinksKept.{BackGoesOn, FinishedGoesOn, LeftGoesOn}

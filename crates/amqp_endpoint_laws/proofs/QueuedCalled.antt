@@ -10,16 +10,16 @@ use Rattle.amqp_endpoint_laws.specs.Deeds.{Refuses, Renews, Takes, done_by, done
 use Rattle.amqp_endpoint_laws.specs.Deeds.{told_since}
 use Rattle.amqp_endpoint_laws.specs.CallsDone.{calls_done, events_told}
 use Rattle.amqp_endpoint_laws.proofs.Runs.{is-done}
-use Rattle.amqp_endpoint_link_attaching.specs.Attaching.{with_room}
+use Rattle.amqp_endpoint_link_calls.specs.Attaching.{with_room}
 use Rattle.amqp_endpoint_link_calls.specs.Calling.{Does as DoesTo, DoneAt}
 use Rattle.amqp_endpoint_link_calls.specs.Places.{Where}
-use Rattle.amqp_endpoint_link_messages.specs.Sending.{sends}
+use Rattle.amqp_endpoint_link_calls.specs.Sending.{sends}
 use Rattle.amqp_endpoint_attached.specs.Links.{sender_by}
-use Rattle.amqp_endpoint_link_attaching.specs.Places.{name_of}
-use Rattle.amqp_endpoint_linked.specs.Attaching.{LinkAttached}
-use Rattle.amqp_endpoint_linked.specs.Does.{linked}
-use Rattle.amqp_endpoint_linked.specs.Sending.{tag_of}
-use Rattle.amqp_endpoint_linked.specs.declared.linked.LinkedSessions.{LinkedSessions}
+use Rattle.amqp_endpoint_link_calls.specs.Naming.{name_of}
+use Rattle.amqp_endpoint.specs.Attaching.{LinkAttached}
+use Rattle.amqp_endpoint.specs.Does.{linked}
+use Rattle.amqp_endpoint.specs.Sending.{tag_of}
+use Rattle.amqp_endpoint.specs.declared.linked.LinkedSessions.{LinkedSessions}
 use Rattle.amqp_endpoint_linking.specs.Linking.{Session, Talk}
 use Rattle.amqp_endpoint_model.specs.History.{Run}
 use Rattle.amqp_endpoint_model.specs.Relay.{IsNew}
@@ -29,12 +29,12 @@ use Rattle.amqp_endpoint_model.specs.declared.call.Call.{Call}
 use Rattle.amqp_endpoint_model.specs.declared.call.Call.TheVariants as call
 use Rattle.amqp_endpoint_model.specs.declared.event.Event.{Event}
 use Rattle.amqp_endpoint_model.specs.declared.settings.Settings.{Settings}
-use Rattle.amqp_endpoint_names.specs.Own.{slot_at}
-use Rattle.amqp_endpoint_names.specs.State.{open_of, place_at as link_place, place_of}
-use Rattle.amqp_endpoint_names.specs.declared.place.LinkPlace.TheVariants.{Held}
-use Rattle.amqp_endpoint_sessions.specs.State.{live_at}
-use Rattle.amqp_endpoint_talk.specs.Windows.{Passing}
-use Rattle.amqp_endpoint_settings.specs.declared.link.LinkSettings.{LinkSettings}
+use Rattle.amqp_endpoint_tables.specs.OwnLinks.{slot_at}
+use Rattle.amqp_endpoint_tables.specs.LinkState.{open_of, place_at as link_place, place_of}
+use Rattle.amqp_endpoint_tables.specs.declared.link_place.LinkPlace.TheVariants.{Held}
+use Rattle.amqp_endpoint_tables.specs.State.{live_at}
+use Rattle.amqp_endpoint_conversation.specs.Windows.{Passing}
+use Rattle.amqp_endpoint_model.specs.declared.link.LinkSettings.{LinkSettings}
 use Rattle.amqp_endpoint_laws.specs.Queued.{Message, SayMessages, SaysSince, message_done, message_in, messages_by}
 use Rattle.amqp_endpoint_laws.specs.Passed.{PassesIn}
 use Rattle.amqp_endpoint_laws.specs.Queued.{messages_done, queued}

@@ -13,9 +13,9 @@ use Rattle.amqp_session_performatives.specs.declared.session_frame.SessionFrameB
 use Rattle.amqp_session_outgoing.proofs.Order.{Distinct}
 use Rattle.amqp_session_frames.specs.declared.frame.FrameBody.TheVariants as body
 use Rattle.amqp_session_core.specs.State.{State}
-use Rattle.amqp_link_place.specs.Readings.{Piece}
-use Rattle.amqp_endpoint_asked.specs.AskedSession.{asked_by}
-use Rattle.amqp_endpoint_asked.specs.declared.session.AskedSession.{AskedSession}
+use Rattle.amqp_link_base.specs.Readings.{Piece}
+use Rattle.amqp_endpoint_links.specs.AskedSession.{asked_by}
+use Rattle.amqp_endpoint_links.specs.declared.session.AskedSession.{AskedSession}
 use Rattle.amqp_endpoint_attached.specs.Linked.{gives}
 use Rattle.amqp_endpoint_conversation.specs.Beginning.{with_links}
 use Rattle.amqp_endpoint_fitting.specs.Handed.{handed_of}
@@ -23,10 +23,10 @@ use Rattle.amqp_endpoint_links.specs.Beginning.{Accepted, Begun}
 use Rattle.amqp_endpoint_links.specs.Hearing.{HearsAsked}
 use Rattle.amqp_endpoint_links.specs.declared.hearing.LinkPerformative.{LinkPerformative}
 use Rattle.amqp_endpoint_linking.specs.Linking.{Link, Session, Stood}
-use Rattle.amqp_endpoint_sessions.specs.State.{asked_of, live_of, with_asked, with_live}
-use Rattle.amqp_endpoint_sessions.specs.declared.place.Place.TheVariants.{Asked, Live, Ending, Over}
-use Rattle.amqp_endpoint_talk.specs.Inside.{Batches, accepted_of, is_of_link, said_in}
-use Rattle.amqp_endpoint_talk.specs.Windows.{Came, Passing, body_said, went}
+use Rattle.amqp_endpoint_tables.specs.State.{asked_of, live_of, with_asked, with_live}
+use Rattle.amqp_endpoint_tables.specs.declared.place.Place.TheVariants.{Asked, Live, Ending, Over}
+use Rattle.amqp_endpoint_conversation.specs.Inside.{Batches, accepted_of, is_of_link, said_in}
+use Rattle.amqp_endpoint_conversation.specs.Windows.{Came, Passing, body_said, went}
 use Rattle.amqp_endpoint_laws.specs.Passed.{sent_in}
 use Rattle.amqp_endpoint_laws.specs.Queued.{piece_on, pieces_on, pieces_waiting}
 use Rattle.amqp_endpoint_laws.proofs.PassedPlaces.{GoesBy, IsGone, Keeping}

@@ -33,10 +33,10 @@ use Rattle.amqp_session_core.specs.declared.batch.TransferFrame.{TransferFrame}
 use Rattle.amqp_session_core.specs.declared.fields.SessionFields.{SessionFields}
 use Rattle.amqp_session_core.proofs.Owning.{own-history}
 use Rattle.amqp_session_core.proofs.SendingSide.{history-sends}
-use Rattle.amqp_link_place.specs.Readings.{Piece}
-use Rattle.amqp_link_split.specs.Saying.{pieces_of}
+use Rattle.amqp_link_base.specs.Readings.{Piece}
+use Rattle.amqp_link_sender.specs.Saying.{pieces_of}
 use Rattle.amqp_endpoint_fitting.specs.Handed.{handed, handed_of}
-use Rattle.amqp_endpoint_talk.specs.Inside.{Batches, accepted_in, accepted_of}
+use Rattle.amqp_endpoint_conversation.specs.Inside.{Batches, accepted_in, accepted_of}
 use Rattle.amqp_endpoint_laws.specs.Queued.{piece_on, pieces_on, pieces_waiting}
 use Rattle.amqp_endpoint_laws.proofs.QueuedSaid.{bare, map-both}
 

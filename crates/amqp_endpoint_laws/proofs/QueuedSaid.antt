@@ -2,8 +2,8 @@
 use Rattle.std.proofs.Common.{◌≡◌, Bool, true, false, List, [], ◌∷◌, ◌++◌, Option, Some, None, refl, sym, ap, ◌∙◌}
 use Rattle.std.proofs.Common.{append-nil, append_assoc}
 use Rattle.std.specs.Prelude.{map, option_map}
-use Rattle.amqp_link_place.specs.Readings.{Piece, Reading, brought, nothing, opened, read_on, readings}
-use Rattle.amqp_link_place.specs.Said.{Said, whole}
+use Rattle.amqp_link_base.specs.Readings.{Piece, Reading, brought, nothing, opened, read_on, readings}
+use Rattle.amqp_link_base.specs.Said.{Said, whole}
 use Rattle.amqp_endpoint_laws.specs.Queued.{Message, SayMessages, message_of}
 
 -- a transfer without what its session writes into it

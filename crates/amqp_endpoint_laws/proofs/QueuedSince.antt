@@ -8,32 +8,32 @@ use Rattle.amqp_session_states.specs.declared.outcome.Outcome.{Outcome}
 use Rattle.amqp_session_types.specs.declared.handles.OutputHandle.{OutputHandle}
 use Rattle.amqp_session_performatives.specs.declared.session_frame.SessionFrame.{SessionFrame}
 use Rattle.amqp_link_ends.specs.declared.end.End.{End}
-use Rattle.amqp_link_place.specs.Readings.{Piece}
-use Rattle.amqp_link_place.specs.Said.{begun, whole}
-use Rattle.amqp_link_split.specs.Saying.{pieces_of}
-use Rattle.amqp_link_split.proofs.SayingLemmas.{split-read}
+use Rattle.amqp_link_base.specs.Readings.{Piece}
+use Rattle.amqp_link_base.specs.Said.{begun, whole}
+use Rattle.amqp_link_sender.specs.Saying.{pieces_of}
+use Rattle.amqp_link_sender.proofs.SayingLemmas.{split-read}
 use Rattle.amqp_endpoint_laws.specs.Deeds.{AreDone, Deed, Does, IsDeed}
 use Rattle.amqp_endpoint_link_calls.specs.Calling.{DoneAt, DoneIn}
-use Rattle.amqp_endpoint_link_messages.specs.Sending.{sends}
-use Rattle.amqp_endpoint_link_messages.proofs.Inside.{sends-inside}
-use Rattle.amqp_endpoint_linked.specs.Does.{linked}
-use Rattle.amqp_endpoint_linked.specs.Sending.{outcome_of, tag_of}
-use Rattle.amqp_endpoint_linked.specs.declared.linked.LinkedSessions.{LinkedSessions}
+use Rattle.amqp_endpoint_link_calls.specs.Sending.{sends}
+use Rattle.amqp_endpoint_link_calls.proofs.MessagesInside.{sends-inside}
+use Rattle.amqp_endpoint.specs.Does.{linked}
+use Rattle.amqp_endpoint.specs.Sending.{outcome_of, tag_of}
+use Rattle.amqp_endpoint.specs.declared.linked.LinkedSessions.{LinkedSessions}
 use Rattle.amqp_endpoint_linking.specs.Linking.{Session, Stood}
 use Rattle.amqp_endpoint_model.specs.Said.{message_sent}
 use Rattle.amqp_endpoint_model.specs.declared.call.Call.TheVariants as call
 use Rattle.amqp_endpoint_model.specs.declared.call.Sending.{Sending}
-use Rattle.amqp_endpoint_names.specs.Own.{slot_at}
-use Rattle.amqp_endpoint_names.specs.State.{place_at as link_place}
-use Rattle.amqp_endpoint_names.specs.declared.place.LinkPlace.{LinkPlace}
-use Rattle.amqp_endpoint_names.specs.declared.place.LinkPlace.TheVariants.{AtRest, Held}
-use Rattle.amqp_endpoint_sending.specs.Sending.{first_on, with_tag}
-use Rattle.amqp_endpoint_sessions.specs.State.{live_of, place_at, with_live}
-use Rattle.amqp_endpoint_sessions.specs.Steps.{ChangesLive}
-use Rattle.amqp_endpoint_sessions.specs.declared.place.Place.TheVariants.{Asked, Live, Ending, Over}
-use Rattle.amqp_endpoint_sessions.proofs.Owning.{at, same_number}
-use Rattle.amqp_endpoint_talk.specs.Inside.{Batches}
-use Rattle.amqp_endpoint_talk.specs.Windows.{Passing, went}
+use Rattle.amqp_endpoint_tables.specs.OwnLinks.{slot_at}
+use Rattle.amqp_endpoint_tables.specs.LinkState.{place_at as link_place}
+use Rattle.amqp_endpoint_tables.specs.declared.link_place.LinkPlace.{LinkPlace}
+use Rattle.amqp_endpoint_tables.specs.declared.link_place.LinkPlace.TheVariants.{AtRest, Held}
+use Rattle.amqp_endpoint_messages.specs.Sending.{first_on, with_tag}
+use Rattle.amqp_endpoint_tables.specs.State.{live_of, place_at, with_live}
+use Rattle.amqp_endpoint_tables.specs.Steps.{ChangesLive}
+use Rattle.amqp_endpoint_tables.specs.declared.place.Place.TheVariants.{Asked, Live, Ending, Over}
+use Rattle.amqp_endpoint_tables.proofs.Owning.{at, same_number}
+use Rattle.amqp_endpoint_conversation.specs.Inside.{Batches}
+use Rattle.amqp_endpoint_conversation.specs.Windows.{Passing, went}
 use Rattle.amqp_endpoint_laws.specs.Passed.{PassesIn, holder, is_it, passes_in}
 use Rattle.amqp_endpoint_laws.specs.Queued.{Message, SayMessages, message_in, messages_by}
 use Rattle.amqp_endpoint_laws.proofs.LinksKept.{BackGoesOn, FinishedGoesOn, LeftGoesOn}

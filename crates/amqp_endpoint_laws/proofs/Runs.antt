@@ -6,8 +6,8 @@ use Rattle.std.proofs.lemmas.List.{append-nil, append_assoc}
 use Rattle.std.specs.Str.{is_utf8, chars}
 use Rattle.std.specs.Char.{encode_utf8}
 use Rattle.std.proofs.lemmas.List.Elements.{All-nil}
-use Rattle.amqp_session_connection.specs.Table.{after_send_close}
-use Rattle.amqp_session_connection.specs.declared.state.ConnectionState.TheVariants.{HeaderExchange, OpenSent}
+use Rattle.amqp_session_frames.specs.Table.{after_send_close}
+use Rattle.amqp_session_frames.specs.declared.state.ConnectionState.TheVariants.{HeaderExchange, OpenSent}
 use Rattle.amqp_session_frames.proofs.CuttingLaws.{reads-append}
 use Rattle.amqp_session_frames.specs.Cutting.{ReadsAs}
 use Rattle.amqp_session_frames.specs.declared.error.Error.{Error as FrameError}

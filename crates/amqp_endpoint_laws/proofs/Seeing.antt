@@ -19,15 +19,15 @@ use Rattle.amqp_session_frames.specs.declared.frame.FrameBody.{FrameBody}
 use Rattle.amqp_session_frames.specs.declared.frame.FrameBody.TheVariants as body
 use Rattle.amqp_session_core.specs.Relay.{Relations}
 use Rattle.amqp_session_core.specs.Steps as session_steps
-use Rattle.amqp_endpoint_asked.specs.declared.session.AskedSession.{AskedSession}
+use Rattle.amqp_endpoint_links.specs.declared.session.AskedSession.{AskedSession}
 use Rattle.amqp_endpoint_links.specs.declared.asking.AskingSession.{AskingSession}
 use Rattle.amqp_endpoint_links.specs.declared.hearing.LinkPerformative.{LinkPerformative}
 use Rattle.amqp_endpoint_links.specs.declared.hearing.PerformativeTaken.{PerformativeTaken}
-use Rattle.amqp_endpoint_sessions.specs.declared.place.Place.{Place}
-use Rattle.amqp_endpoint_sessions.specs.declared.place.Place.TheVariants.{Asked, Live, Ending, Over}
-use Rattle.amqp_endpoint_sessions.specs.State.{State, asked_on, live_at, live_of, place_at, reached, routed}
-use Rattle.amqp_endpoint_sessions.specs.Steps.{ChangesAsked, ChangesLive, EndTold, Step, TakesBegin, TellsEnd}
-use Rattle.amqp_endpoint_sessions.proofs.Owning.{at}
+use Rattle.amqp_endpoint_tables.specs.declared.place.Place.{Place}
+use Rattle.amqp_endpoint_tables.specs.declared.place.Place.TheVariants.{Asked, Live, Ending, Over}
+use Rattle.amqp_endpoint_tables.specs.State.{State, asked_on, live_at, live_of, place_at, reached, routed}
+use Rattle.amqp_endpoint_tables.specs.Steps.{ChangesAsked, ChangesLive, EndTold, Step, TakesBegin, TellsEnd}
+use Rattle.amqp_endpoint_tables.proofs.Owning.{at}
 use Rattle.amqp_endpoint_conversation.specs.declared.beginning.BeginHeard.TheVariants as begin_heard
 use Rattle.amqp_endpoint_conversation.specs.declared.conversation.Conversation.{Conversation}
 use Rattle.amqp_endpoint_conversation.specs.declared.ending.EndHeard.{EndHeard}

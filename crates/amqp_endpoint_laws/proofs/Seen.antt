@@ -3,22 +3,22 @@ use Rattle.std.proofs.Common.{◌≡◌, ◌⊎◌, inl, inr, ℕ, ◌+◌, zero
 use Rattle.std.proofs.Common.{subst, ◌∙◌}
 use Rattle.std.specs.Prelude.{if◌then◌else◌}
 use Rattle.amqp_session_types.specs.declared.channels.OutgoingChannel.{OutgoingChannel}
-use Rattle.amqp_session_connection.specs.State as channels
+use Rattle.amqp_session_frames.specs.State as channels
 use Rattle.amqp_session_frames.specs.declared.frame.FrameBody.{FrameBody}
 use Rattle.amqp_session_frames.specs.declared.frame.FrameBody.TheVariants as body
-use Rattle.amqp_endpoint_sessions.specs.State.{place_at}
-use Rattle.amqp_endpoint_sessions.specs.Steps.{ChangesConnection, EndSent, Ends}
+use Rattle.amqp_endpoint_tables.specs.State.{place_at}
+use Rattle.amqp_endpoint_tables.specs.Steps.{ChangesConnection, EndSent, Ends}
 use Rattle.amqp_endpoint_laws.specs.Deeds.{Closes, Deed, Does, Finishes, HeaderComes, Hears, IsDeed, Moves}
 use Rattle.amqp_endpoint_laws.specs.Deeds.{MovesByFrame, OwnCloseGoes, Queues, Refuses, Renews, Takes}
-use Rattle.amqp_endpoint_linked.specs.Does.{linked}
-use Rattle.amqp_endpoint_linked.specs.declared.linked.LinkedSessions.{LinkedSessions}
+use Rattle.amqp_endpoint.specs.Does.{linked}
+use Rattle.amqp_endpoint.specs.declared.linked.LinkedSessions.{LinkedSessions}
 use Rattle.amqp_endpoint_linking.specs.Ending.{LeavesFirst}
 use Rattle.amqp_endpoint_linking.specs.Linking.{Links, Session, Sessions}
 use Rattle.amqp_endpoint_laws.specs.Beside.{Agrees, InTables}
 use Rattle.amqp_endpoint_laws.specs.Following.{Follows, comes, goes}
 use Rattle.amqp_endpoint_laws.specs.Reading.{Reader, Speaks, Wired, behind_all}
 use Rattle.amqp_endpoint_laws.proofs.Following.{by-none, by-one, followed-on}
-use Rattle.amqp_endpoint_talk.specs.Windows.{Came, Passing}
+use Rattle.amqp_endpoint_conversation.specs.Windows.{Came, Passing}
 use Rattle.amqp_endpoint_laws.specs.Passed.{called_in, is_it, passes_in, session_taking}
 use Rattle.amqp_endpoint_laws.specs.Seen.{AreOnes, OnOwnChannels, passing_in, wired_in}
 use Rattle.amqp_endpoint_laws.proofs.PassedCalled.{called}

@@ -15,10 +15,10 @@ use Rattle.amqp_session_performatives.specs.declared.session_frame.SessionFrame.
 use Rattle.amqp_session_performatives.specs.declared.session_frame.SessionFrameBody.{SessionFrameBody}
 use Rattle.amqp_session_performatives.specs.declared.session_frame.SessionFrameBody.TheVariants as session
 use Rattle.amqp_session_frames.specs.declared.frame.FrameBody.TheVariants as body
-use Rattle.amqp_session_connection.specs.Steps.{named_session}
+use Rattle.amqp_session_frames.specs.Steps.{named_session}
 use Rattle.amqp_session_core.specs.State.{State as SessionState}
-use Rattle.amqp_endpoint_asked.specs.declared.session.AskedSession.{AskedSession}
-use Rattle.amqp_endpoint_asked.specs.declared.session.SessionFlow.{SessionFlow}
+use Rattle.amqp_endpoint_links.specs.declared.session.AskedSession.{AskedSession}
+use Rattle.amqp_endpoint_links.specs.declared.session.SessionFlow.{SessionFlow}
 use Rattle.amqp_endpoint_attached.specs.Linked.{gives}
 use Rattle.amqp_endpoint_attached.specs.Links.{attach_frame}
 use Rattle.amqp_endpoint_fitting.proofs.Handing.{history-channel}
@@ -27,11 +27,11 @@ use Rattle.amqp_endpoint_links.specs.Hearing.{HearsAsked}
 use Rattle.amqp_endpoint_links.specs.declared.hearing.LinkPerformative.{LinkPerformative}
 use Rattle.amqp_endpoint_links.specs.declared.hearing.LinkPerformative.TheVariants as said
 use Rattle.amqp_endpoint_links.proofs.Standing.{accepted-stands, begun-stands}
-use Rattle.amqp_endpoint_sessions.specs.State.{asked_of, live_of, place_at, reached, with_asked, with_channel}
-use Rattle.amqp_endpoint_sessions.specs.State.{with_live}
-use Rattle.amqp_endpoint_sessions.specs.Steps.{ChangesLive}
-use Rattle.amqp_endpoint_sessions.specs.declared.place.Place.TheVariants.{Asked, Live, Ending, Over}
-use Rattle.amqp_endpoint_sessions.proofs.Owning.{at}
+use Rattle.amqp_endpoint_tables.specs.State.{asked_of, live_of, place_at, reached, with_asked, with_channel}
+use Rattle.amqp_endpoint_tables.specs.State.{with_live}
+use Rattle.amqp_endpoint_tables.specs.Steps.{ChangesLive}
+use Rattle.amqp_endpoint_tables.specs.declared.place.Place.TheVariants.{Asked, Live, Ending, Over}
+use Rattle.amqp_endpoint_tables.proofs.Owning.{at}
 use Rattle.amqp_endpoint_conversation.specs.Beginning.{BeginDropped, Leads}
 use Rattle.amqp_endpoint_conversation.specs.Ending.{end_frame}
 use Rattle.amqp_endpoint_conversation.specs.Faults.{fault_error}
@@ -44,8 +44,8 @@ use Rattle.amqp_endpoint_laws.specs.Reading.{Comes, Goes, Reader, Speaks, Wired,
 use Rattle.amqp_endpoint_laws.proofs.Seeing.{OnOwn, Sees, sees-accepts, sees-asked, sees-asks, sees-barred}
 use Rattle.amqp_endpoint_laws.proofs.Seeing.{sees-begins, sees-begun, sees-comes, sees-ended, sees-ends, sees-free}
 use Rattle.amqp_endpoint_laws.proofs.Seeing.{sees-hears, sees-inside, sees-led, sees-none, sees-on, sees-told}
-use Rattle.amqp_endpoint_talk.specs.Inside.{AreOn, Batches, IsPlain}
-use Rattle.amqp_endpoint_talk.specs.Windows.{Came, Passing, body_said, went}
+use Rattle.amqp_endpoint_conversation.specs.Inside.{AreOn, Batches, IsPlain}
+use Rattle.amqp_endpoint_conversation.specs.Windows.{Came, Passing, body_said, went}
 use Rattle.amqp_endpoint_laws.specs.Passed.{begun_by, is_it}
 use Rattle.amqp_endpoint_laws.specs.Seen.{AreOnes, IsOnes, passing_in, passing_of}
 use Rattle.amqp_endpoint_laws.proofs.PassedHeard.{behind-others}

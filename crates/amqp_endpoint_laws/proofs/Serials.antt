@@ -7,7 +7,7 @@ use Rattle.std.proofs.lemmas.List.{append_assoc, length_push}
 use Rattle.std.proofs.lemmas.Nat.{from_be_bytes-to_be_bytes_8}
 use Rattle.std.proofs.lemmas.Option.{none-some, same_Some, slice_get_within}
 use Rattle.amqp_endpoint_model.specs.declared.event.Event.{Event}
-use Rattle.amqp_endpoint_linked.specs.Sending.{tag_of}
+use Rattle.amqp_endpoint.specs.Sending.{tag_of}
 use Rattle.amqp_endpoint_laws.specs.Telling.{number_told, numbers_told, numbers_under}
 
 pub numbers-append : (events others : List Event)

@@ -4,16 +4,16 @@ use Rattle.std.proofs.Common.{Some, None, refl, sym, ap, subst, ◌∙◌}
 use Rattle.std.proofs.lemmas.Bool.{cases_lt}
 use Rattle.std.proofs.lemmas.List.{length-set}
 use Rattle.std.proofs.lemmas.Option.{none-some, slice_get_past}
-use Rattle.amqp_endpoint_sessions.specs.declared.place.Place.{Place}
-use Rattle.amqp_endpoint_sessions.specs.declared.place.Place.TheVariants.{Asked, Live, Ending, Over}
-use Rattle.amqp_endpoint_sessions.specs.State.{State, channel_at, channel_in, channel_of, ended_place, finished_place}
-use Rattle.amqp_endpoint_sessions.specs.State.{place_at}
-use Rattle.amqp_endpoint_sessions.specs.Steps.{Act, Step, History, ChangesConnection, Begins, Asks, Accepts}
-use Rattle.amqp_endpoint_sessions.specs.Steps.{TakesBegin, Finished, TakesEnd, Ends, Finishes, TellsEnd, ChangesAsked}
-use Rattle.amqp_endpoint_sessions.specs.Steps.{ChangesLive}
-use Rattle.amqp_endpoint_sessions.specs.Own.{KeepsChannels, PlaceStep, is_about}
-use Rattle.amqp_endpoint_sessions.proofs.Apart.{asked_same, live_same, split, told_same}
-use Rattle.amqp_endpoint_sessions.proofs.Owning.{At, at, other_number, same_number}
+use Rattle.amqp_endpoint_tables.specs.declared.place.Place.{Place}
+use Rattle.amqp_endpoint_tables.specs.declared.place.Place.TheVariants.{Asked, Live, Ending, Over}
+use Rattle.amqp_endpoint_tables.specs.State.{State, channel_at, channel_in, channel_of, ended_place, finished_place}
+use Rattle.amqp_endpoint_tables.specs.State.{place_at}
+use Rattle.amqp_endpoint_tables.specs.Steps.{Act, Step, History, ChangesConnection, Begins, Asks, Accepts}
+use Rattle.amqp_endpoint_tables.specs.Steps.{TakesBegin, Finished, TakesEnd, Ends, Finishes, TellsEnd, ChangesAsked}
+use Rattle.amqp_endpoint_tables.specs.Steps.{ChangesLive}
+use Rattle.amqp_endpoint_tables.specs.Own.{KeepsChannels, PlaceStep, is_about}
+use Rattle.amqp_endpoint_tables.proofs.Apart.{asked_same, live_same, split, told_same}
+use Rattle.amqp_endpoint_tables.proofs.Owning.{At, at, other_number, same_number}
 
 under-more : (k count : ℕ) → k < suc count → k ≢ count → k < count
 under-more k count under other =

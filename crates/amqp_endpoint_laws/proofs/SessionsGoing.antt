@@ -5,7 +5,7 @@ use Rattle.std.proofs.Common.{refl, subst}
 use Rattle.std.specs.Prelude.{Result, ⊤}
 use Rattle.amqp_session_types.specs.declared.channels.OutgoingChannel.{OutgoingChannel}
 use Rattle.amqp_session_types.specs.declared.refusals.TryEndError.{TryEndError}
-use Rattle.amqp_endpoint_sessions.specs.Steps.{Step, History, EndSent, EndTold, Finished, Ends, Finishes, TellsEnd}
+use Rattle.amqp_endpoint_tables.specs.Steps.{Step, History, EndSent, EndTold, Finished, Ends, Finishes, TellsEnd}
 use Rattle.amqp_endpoint_linking.specs.Linking.{Links, Session, Sessions, Stood}
 use Rattle.amqp_endpoint_linking.specs.Ending.{LeavesFirst, FinishesFirst}
 use Rattle.amqp_endpoint_laws.specs.Conversing.{SessionsAct}

@@ -20,16 +20,16 @@ use Rattle.amqp_session_frames.specs.declared.frame.FrameBody.{FrameBody}
 use Rattle.amqp_session_frames.specs.declared.frame.FrameBody.TheVariants as body
 use Rattle.amqp_session_core.specs.declared.incoming.TransferTaken.{TransferTaken}
 use Rattle.amqp_link_base.specs.declared.detached.Detached.{Detached}
-use Rattle.amqp_link_receiving.specs.declared.answer.Told.{Told}
-use Rattle.amqp_link_receiving.specs.declared.answer.Told.TheVariants as told
+use Rattle.amqp_link_receiver.specs.declared.answer.Told.{Told}
+use Rattle.amqp_link_receiver.specs.declared.answer.Told.TheVariants as told
 use Rattle.amqp_link_sender.specs.declared.attaching.Attaching.{Attaching}
 use Rattle.amqp_link_types.specs.declared.link_error.LinkError.{LinkError}
-use Rattle.amqp_endpoint_asked.specs.declared.session.AskedSession.{AskedSession}
+use Rattle.amqp_endpoint_links.specs.declared.session.AskedSession.{AskedSession}
 use Rattle.amqp_endpoint_links.specs.declared.asking.NamedLink.{NamedLink}
 use Rattle.amqp_endpoint_links.specs.declared.asking.NamedLink.TheVariants.{Waiting}
 use Rattle.amqp_endpoint_links.specs.declared.hearing.LinkPerformative.{LinkPerformative}
-use Rattle.amqp_endpoint_sessions.specs.State.{asked_at, live_at, reached}
-use Rattle.amqp_endpoint_sessions.specs.Steps.{Asks, ChangesAsked, ChangesLive, Ends, Step, TakesBegin, TakesEnd}
+use Rattle.amqp_endpoint_tables.specs.State.{asked_at, live_at, reached}
+use Rattle.amqp_endpoint_tables.specs.Steps.{Asks, ChangesAsked, ChangesLive, Ends, Step, TakesBegin, TakesEnd}
 use Rattle.amqp_endpoint_conversation.specs.declared.beginning.BeginHeard.{BeginHeard}
 use Rattle.amqp_endpoint_conversation.specs.declared.beginning.BeginHeard.TheVariants as begin_heard
 use Rattle.amqp_endpoint_conversation.specs.declared.beginning.BeginRefusal.{BeginRefusal}
@@ -58,7 +58,7 @@ use Rattle.amqp_endpoint_link_hearing.specs.InSession.{GoesOn}
 use Rattle.amqp_endpoint_link_hearing.specs.Saying.{LinkHeard, LinkRefusal, RefusesSaid}
 use Rattle.amqp_endpoint_link_hearing.specs.Transferring as transferring
 use Rattle.amqp_endpoint_link_hearing.specs.Transferring.{Comes, RemembersUnless}
-use Rattle.amqp_endpoint_linked.specs.Hearing.{Hears, RefusesBody}
+use Rattle.amqp_endpoint.specs.Hearing.{Hears, RefusesBody}
 use Rattle.amqp_endpoint_laws.proofs.SessionsGoing.{Go, goes-by, goes-on, stays}
 
 abbrev pub TalkGoes : Talk → Talk → Type 0

@@ -6,14 +6,14 @@ use Rattle.std.specs.Global.{Box}
 use Rattle.std.proofs.lemmas.Option.{none-some}
 use Rattle.amqp_session_types.specs.declared.channels.IncomingChannel.{IncomingChannel}
 use Rattle.amqp_session_types.specs.declared.channels.OutgoingChannel.{OutgoingChannel}
-use Rattle.amqp_session_connection.specs.State as channels
+use Rattle.amqp_session_frames.specs.State as channels
 use Rattle.amqp_session_performatives.specs.declared.session_frame.SessionFrame.{SessionFrame}
 use Rattle.amqp_link_ends.specs.declared.end.End.{End}
-use Rattle.amqp_endpoint_asked.specs.declared.session.AskedSession.{AskedSession}
-use Rattle.amqp_endpoint_names.specs.declared.place.LinkPlace.TheVariants.{AtRest, Held}
-use Rattle.amqp_endpoint_names.specs.State.{place_at}
-use Rattle.amqp_endpoint_sessions.specs.State.{channel_at}
-use Rattle.amqp_endpoint_sessions.specs.Steps.{Accepts, Begins, ChangesConnection, ChangesLive, Ends, History, Step}
+use Rattle.amqp_endpoint_links.specs.declared.session.AskedSession.{AskedSession}
+use Rattle.amqp_endpoint_tables.specs.declared.link_place.LinkPlace.TheVariants.{AtRest, Held}
+use Rattle.amqp_endpoint_tables.specs.LinkState.{place_at}
+use Rattle.amqp_endpoint_tables.specs.State.{channel_at}
+use Rattle.amqp_endpoint_tables.specs.Steps.{Accepts, Begins, ChangesConnection, ChangesLive, Ends, History, Step}
 use Rattle.amqp_endpoint_model.specs.declared.call.Call.{Call}
 use Rattle.amqp_endpoint_model.specs.declared.call.Call.TheVariants as call
 use Rattle.amqp_endpoint_model.specs.declared.event.Event.{Event}
@@ -30,18 +30,18 @@ use Rattle.amqp_endpoint_linking.specs.Ending.{FinishesFirst}
 use Rattle.amqp_endpoint_link_calls.specs.Calling.{Does, DoneAt, detaches, gives_credit, wants_drain}
 use Rattle.amqp_endpoint_link_calls.specs.Closing.{ClosedAt}
 use Rattle.amqp_endpoint_link_calls.specs.Places.{Where}
-use Rattle.amqp_endpoint_link_messages.specs.Disposing.{DisposedAt, disposes_of_all, disposes_of_one}
-use Rattle.amqp_endpoint_link_messages.specs.Sending.{sends}
+use Rattle.amqp_endpoint_link_calls.specs.Disposing.{DisposedAt, disposes_of_all, disposes_of_one}
+use Rattle.amqp_endpoint_link_calls.specs.Sending.{sends}
 use Rattle.amqp_endpoint_model.specs.declared.call.Disposal.{Disposal}
-use Rattle.amqp_endpoint_linked.specs.Attaching.{LinkAttached}
-use Rattle.amqp_endpoint_linked.specs.Calling.{Calls}
-use Rattle.amqp_endpoint_linked.specs.Does.{linked}
-use Rattle.amqp_endpoint_linked.specs.Sending.{tag_of}
-use Rattle.amqp_endpoint_linked.specs.declared.linked.LinkedSessions.{LinkedSessions}
+use Rattle.amqp_endpoint.specs.Attaching.{LinkAttached}
+use Rattle.amqp_endpoint.specs.Calling.{Calls}
+use Rattle.amqp_endpoint.specs.Does.{linked}
+use Rattle.amqp_endpoint.specs.Sending.{tag_of}
+use Rattle.amqp_endpoint.specs.declared.linked.LinkedSessions.{LinkedSessions}
 use Rattle.amqp_endpoint_laws.specs.Conversing.{SessionsGoOn, SessionsAct}
 use Rattle.amqp_endpoint_laws.proofs.Keeping.{Keeps, KeepsSilent, MayDo}
 use Rattle.amqp_endpoint_laws.proofs.Kept.{run-keeps}
-use Rattle.amqp_endpoint_sessions.proofs.Apart.{Each, apart, each_under}
+use Rattle.amqp_endpoint_tables.proofs.Apart.{Each, apart, each_under}
 use Rattle.amqp_endpoint_laws.proofs.SessionsApart.{FirstOver, HasNone, all-over, give-keep, none-over, one-over}
 use Rattle.amqp_endpoint_laws.proofs.SessionsApart.{steps-none}
 use Rattle.amqp_endpoint_laws.proofs.SessionsGoing.{Go, end-told, finishes-first, goes-by, joined, leaves-first}

@@ -5,9 +5,9 @@ use Rattle.std.specs.Prelude.{unwrap_or}
 use Rattle.amqp_session_types.specs.declared.handles.OutputHandle.{OutputHandle}
 use Rattle.amqp_session_performatives.specs.declared.session_frame.SessionFrame.{SessionFrame}
 use Rattle.amqp_session_frames.specs.declared.frame.FrameBody.{FrameBody}
-use Rattle.amqp_link_place.specs.Readings.{Piece, Reading, nothing, readings}
-use Rattle.amqp_link_place.specs.Said.{Said}
-use Rattle.amqp_link_receiving.specs.Reading.{says}
+use Rattle.amqp_link_base.specs.Readings.{Piece, Reading, nothing, readings}
+use Rattle.amqp_link_base.specs.Said.{Said}
+use Rattle.amqp_link_receiver.specs.Reading.{says}
 use Rattle.amqp_endpoint_laws.specs.Deeds.{Deed, Does}
 use Rattle.amqp_endpoint_model.specs.Said.{Said as Answer, message_sent}
 use Rattle.amqp_endpoint_model.specs.declared.call.Call.{Call}

@@ -8,28 +8,28 @@ use Rattle.amqp_session_performatives.specs.declared.session_frame.SessionFrame.
 use Rattle.amqp_session_frames.specs.declared.frame.FrameBody.{FrameBody}
 use Rattle.amqp_session_frames.specs.declared.frame.FrameBody.TheVariants as body
 use Rattle.amqp_link_ends.specs.declared.end.End.{End}
-use Rattle.amqp_link_place.specs.Readings.{Piece, nothing, readings}
-use Rattle.amqp_link_receiving.specs.Deliveries.{Delivery}
+use Rattle.amqp_link_base.specs.Readings.{Piece, nothing, readings}
+use Rattle.amqp_link_receiver.specs.Deliveries.{Delivery}
 use Rattle.amqp_endpoint_attached.specs.Links.{receiver_by, sender_by}
 use Rattle.amqp_endpoint_laws.specs.Deeds.{AreDone, Deed, Does, IsDeed, Takes, told_by, told_in}
-use Rattle.amqp_endpoint_linked.specs.Does.{linked}
-use Rattle.amqp_endpoint_linked.specs.declared.linked.LinkedSessions.{LinkedSessions}
+use Rattle.amqp_endpoint.specs.Does.{linked}
+use Rattle.amqp_endpoint.specs.declared.linked.LinkedSessions.{LinkedSessions}
 use Rattle.amqp_endpoint_linking.specs.Linking.{Links}
 use Rattle.amqp_endpoint_model.specs.Relay.{IsNew}
 use Rattle.amqp_endpoint_model.specs.Said.{attaching}
 use Rattle.amqp_endpoint_model.specs.declared.call.Call.TheVariants as call
 use Rattle.amqp_endpoint_model.specs.declared.event.Event.{Event}
 use Rattle.amqp_endpoint_model.specs.declared.settings.Settings.{Settings}
-use Rattle.amqp_endpoint_names.specs.Own.{SlotStep, is_about, slot_at}
-use Rattle.amqp_endpoint_names.specs.State.{name_of, open_of}
-use Rattle.amqp_endpoint_names.specs.Steps.{Act, ChangesAtRest, Closes as ClosesLink, Enters, Holds, LowersRoom}
-use Rattle.amqp_endpoint_names.specs.Steps.{MakesRoom, Rests, Step}
-use Rattle.amqp_endpoint_names.specs.declared.place.Named.{Named}
-use Rattle.amqp_endpoint_names.proofs.Owning.{at}
-use Rattle.amqp_endpoint_sessions.specs.State.{live_at}
-use Rattle.amqp_endpoint_sessions.proofs.Owning.{same_number}
-use Rattle.amqp_endpoint_settings.specs.declared.link.LinkSettings.{LinkSettings}
-use Rattle.amqp_endpoint_talk.specs.Windows.{Came, Passing, went}
+use Rattle.amqp_endpoint_tables.specs.OwnLinks.{SlotStep, is_about, slot_at}
+use Rattle.amqp_endpoint_tables.specs.LinkState.{name_of, open_of}
+use Rattle.amqp_endpoint_tables.specs.LinkSteps.{Act, ChangesAtRest, Closes as ClosesLink, Enters, Holds, LowersRoom}
+use Rattle.amqp_endpoint_tables.specs.LinkSteps.{MakesRoom, Rests, Step}
+use Rattle.amqp_endpoint_tables.specs.declared.link_place.Named.{Named}
+use Rattle.amqp_endpoint_tables.proofs.OwningLinks.{at}
+use Rattle.amqp_endpoint_tables.specs.State.{live_at}
+use Rattle.amqp_endpoint_tables.proofs.Owning.{same_number}
+use Rattle.amqp_endpoint_model.specs.declared.link.LinkSettings.{LinkSettings}
+use Rattle.amqp_endpoint_conversation.specs.Windows.{Came, Passing, went}
 use Rattle.amqp_endpoint_laws.specs.Agreeing.{Agree}
 use Rattle.amqp_endpoint_laws.specs.Attachments.{attachment, is_named, uses}
 use Rattle.amqp_endpoint_laws.specs.Handed.{Handed, IsReceiving, NoneResumes, PassesOn, handed_as, handed_by, pieces_come}

@@ -8,9 +8,9 @@ use Rattle.amqp_session_types.specs.declared.modes.Role.TheVariants.{Sender}
 use Rattle.amqp_session_performatives.specs.declared.attach.Attach.{Attach}
 use Rattle.amqp_session_frames.specs.declared.frame.FrameBody.{FrameBody}
 use Rattle.amqp_session_frames.specs.declared.frame.FrameBody.TheVariants as body
-use Rattle.amqp_link_place.specs.Readings.{Piece, Reading, brought, nothing, opened, read_on, readings}
-use Rattle.amqp_link_place.specs.Said.{Said, whole}
-use Rattle.amqp_endpoint_talk.specs.Windows.{Came, Passing, Went}
+use Rattle.amqp_link_base.specs.Readings.{Piece, Reading, brought, nothing, opened, read_on, readings}
+use Rattle.amqp_link_base.specs.Said.{Said, whole}
+use Rattle.amqp_endpoint_conversation.specs.Windows.{Came, Passing, Went}
 use Rattle.amqp_endpoint_laws.specs.Attachments.{Follows, Past, Stand, Waits, attachment, is_named, is_sending}
 use Rattle.amqp_endpoint_laws.specs.Attachments.{named_behind, piece_at, pieces_from, stand_behind, uses}
 use Rattle.amqp_endpoint_laws.specs.Handed.{piece_on, pieces_come}

@@ -5,15 +5,15 @@ use Rattle.std.specs.Prelude.{take}
 use Rattle.amqp_session_types.specs.declared.error.Error.{Error}
 use Rattle.amqp_session_core.specs.declared.dispositions.Touched.{Touched}
 use Rattle.amqp_session_core.specs.State.{link_at}
-use Rattle.amqp_link_sender_messages.specs.declared.resolution.Resolution.{Resolution}
+use Rattle.amqp_link_unsettled.specs.declared.resolution.Resolution.{Resolution}
 use Rattle.amqp_link_ends.specs.declared.end.End.{End}
 use Rattle.amqp_link_ends.specs.declared.end.End.TheVariants.{Sender, Receiver}
 use Rattle.amqp_endpoint_links.specs.declared.numbered.Numbered.{Numbered}
 use Rattle.amqp_endpoint_model.specs.declared.event.Event.{Event}
 use Rattle.amqp_endpoint_attached.specs.Linked.{LinksIn}
-use Rattle.amqp_endpoint_outcomes.specs.All.{all_told, first_told, told_by}
-use Rattle.amqp_endpoint_outcomes.specs.Reached.{behind_one, end_told, link_told, reached_told}
-use Rattle.amqp_endpoint_outcomes.specs.Reached as reached
+use Rattle.amqp_endpoint_messages.specs.All.{all_told, first_told, told_by}
+use Rattle.amqp_endpoint_messages.specs.Reached.{behind_one, end_told, link_told, reached_told}
+use Rattle.amqp_endpoint_messages.specs.Reached as reached
 use Rattle.amqp_endpoint_laws.specs.Telling.{numbers_told}
 use Rattle.amqp_endpoint_laws.proofs.Serials.{numbers-append}
 

@@ -5,7 +5,7 @@ use Rattle.std.proofs.Common.{ap, arith, refl, sym, subst, ◌∙◌}
 use Rattle.std.specs.Prelude.{if◌then◌else◌}
 use Rattle.std.proofs.lemmas.Bool.Decides.{eqb_tells}
 use Rattle.std.proofs.lemmas.Option.{none-some, same_Some}
-use Rattle.amqp_endpoint_sessions.specs.State.{first_of}
+use Rattle.amqp_endpoint_tables.specs.State.{first_of}
 use Rattle.amqp_endpoint_laws.specs.Beside.{Role, Nowhere, AskedOn, Has, Gone, IsLed, from}
 use Rattle.amqp_endpoint_laws.specs.Reading.{ByChannel, Reader, own_begins, peer_begins, peer_ends, unless_it}
 use Rattle.amqp_endpoint_laws.specs.Reading.{with_at}

@@ -10,12 +10,12 @@ use Rattle.amqp_session_performatives.specs.declared.end.End.{End}
 use Rattle.amqp_session_performatives.specs.declared.session_frame.SessionFrame.{SessionFrame}
 use Rattle.amqp_session_frames.specs.declared.frame.FrameBody.{FrameBody}
 use Rattle.amqp_session_frames.specs.declared.frame.FrameBody.TheVariants as body
-use Rattle.amqp_session_connection.specs.Steps.{named_session}
+use Rattle.amqp_session_frames.specs.Steps.{named_session}
 use Rattle.amqp_session_core.specs.Relay.{Relations}
-use Rattle.amqp_endpoint_asked.specs.declared.session.AskedSession.{AskedSession}
+use Rattle.amqp_endpoint_links.specs.declared.session.AskedSession.{AskedSession}
 use Rattle.amqp_endpoint_links.specs.declared.asking.AskingSession.{AskingSession}
 use Rattle.amqp_endpoint_links.proofs.Standing.{accepted-stands, begun-stands}
-use Rattle.amqp_endpoint_sessions.specs.State.{State, reached}
+use Rattle.amqp_endpoint_tables.specs.State.{State, reached}
 use Rattle.amqp_endpoint_conversation.specs.declared.beginning.BeginHeard.TheVariants as begin_heard
 use Rattle.amqp_endpoint_conversation.specs.declared.conversation.Conversation.{Conversation}
 use Rattle.amqp_endpoint_conversation.specs.declared.ending.EndHeard.{EndHeard}

@@ -9,7 +9,7 @@ use Rattle.amqp_session_performatives.specs.declared.session_frame.SessionFrameB
 use Rattle.amqp_session_performatives.specs.declared.session_frame.SessionFrameBody.TheVariants as session
 use Rattle.amqp_session_frames.specs.declared.frame.FrameBody.{FrameBody}
 use Rattle.amqp_session_frames.specs.declared.frame.FrameBody.TheVariants as body
-use Rattle.amqp_link_place.specs.Readings.{Piece}
+use Rattle.amqp_link_base.specs.Readings.{Piece}
 use Rattle.amqp_endpoint_laws.specs.Deeds.{Deed, Does, Takes}
 use Rattle.amqp_endpoint_model.specs.State.{body_of}
 use Rattle.amqp_endpoint_model.specs.declared.call.Call.{Call}

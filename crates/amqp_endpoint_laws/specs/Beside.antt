@@ -1,11 +1,11 @@
 -- How the sessions of an endpoint stand beside what is read of the frames that pass (part 2, 2.5.1, 2.5.2).
 use Rattle.std.specs.Prelude.{◌≡◌, ℕ, ◌+◌, List, [], ◌∷◌, length, Option, Some, None}
 use Rattle.std.specs.FinMap as map
-use Rattle.amqp_endpoint_sessions.specs.declared.place.Place.{Place}
-use Rattle.amqp_endpoint_sessions.specs.declared.place.Place.TheVariants.{Asked, Live, Ending, Over}
-use Rattle.amqp_endpoint_sessions.specs.State.{State, asked_on, place_at, routed}
-use Rattle.amqp_endpoint_sessions.specs.Steps.{Act, Accepts, Asks, Begins, ChangesConnection, Finishes, TakesBegin}
-use Rattle.amqp_endpoint_sessions.specs.Steps.{TakesEnd}
+use Rattle.amqp_endpoint_tables.specs.declared.place.Place.{Place}
+use Rattle.amqp_endpoint_tables.specs.declared.place.Place.TheVariants.{Asked, Live, Ending, Over}
+use Rattle.amqp_endpoint_tables.specs.State.{State, asked_on, place_at, routed}
+use Rattle.amqp_endpoint_tables.specs.Steps.{Act, Accepts, Asks, Begins, ChangesConnection, Finishes, TakesBegin}
+use Rattle.amqp_endpoint_tables.specs.Steps.{TakesEnd}
 use Rattle.amqp_endpoint_laws.specs.Reading.{Reader, own_begins, peer_begins, peer_ends, reaches}
 
 -- which channel a session has: none, as there is none, or it is over; that on which the peer asks for it; or an own one

@@ -10,11 +10,11 @@ use Rattle.amqp_endpoint_model.specs.State.{Waiting, is_unconnected, protocol_he
 use Rattle.amqp_endpoint_laws.specs.Deeds.{Deed, IsDone, done_since, fed_since, pulled_since, queued_by, taken_by}
 use Rattle.amqp_endpoint_laws.specs.Deeds.{told_since}
 use Rattle.amqp_endpoint_laws.specs.CallsDone.{calls_done, events_told}
-use Rattle.amqp_endpoint_world.specs.declared.step.End.{End}
-use Rattle.amqp_endpoint_world.specs.declared.step.Step.{Step}
-use Rattle.amqp_endpoint_world.specs.EndHistory.{calls_at, told_at}
-use Rattle.amqp_endpoint_world.specs.WorldSaid.{WorldTold}
-use Rattle.amqp_endpoint_world.specs.WorldState.{Way, WorldState, other, state_at, way_from}
+use Rattle.amqp_endpoint_core.specs.declared.step.End.{End}
+use Rattle.amqp_endpoint_core.specs.declared.step.Step.{Step}
+use Rattle.amqp_endpoint_core.specs.EndHistory.{calls_at, told_at}
+use Rattle.amqp_endpoint_core.specs.WorldSaid.{WorldTold}
+use Rattle.amqp_endpoint_core.specs.WorldState.{Way, WorldState, other, state_at, way_from}
 
 -- the frame that waits, if it is one
 abbrev pub frame_in : Waiting → List Frame

@@ -1,8 +1,8 @@
 -- How the sessions of an endpoint go on (part 2, 2.5).
 use Rattle.std.specs.Prelude.{List}
 use Rattle.std.specs.Global.{Box}
-use Rattle.amqp_endpoint_asked.specs.declared.session.AskedSession.{AskedSession}
-use Rattle.amqp_endpoint_sessions.specs.Steps.{History, Act}
+use Rattle.amqp_endpoint_links.specs.declared.session.AskedSession.{AskedSession}
+use Rattle.amqp_endpoint_tables.specs.Steps.{History, Act}
 use Rattle.amqp_endpoint_linking.specs.Linking.{Session, Sessions}
 
 -- what happens to the sessions of an endpoint

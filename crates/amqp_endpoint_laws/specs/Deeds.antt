@@ -1,9 +1,9 @@
 -- What is done in a run of an endpoint, and what passes between it and its peer by that (part 2, 2.2, 2.4, 2.5).
 use Rattle.std.specs.Prelude.{◌≡◌, ◌⊎◌, ◌||◌, ◌≤◌, ℕ, List, [], ◌∷◌, ◌++◌, Bool, true, false, Option, Some, None}
 use Rattle.std.specs.Prelude.{All, flat_map, map}
-use Rattle.amqp_session_connection.specs.State as channels
-use Rattle.amqp_session_connection.specs.Table.{after_incoming_close, after_send_close}
-use Rattle.amqp_session_connection.specs.declared.state.ConnectionState.TheVariants.{HeaderExchange, OpenSent}
+use Rattle.amqp_session_frames.specs.State as channels
+use Rattle.amqp_session_frames.specs.Table.{after_incoming_close, after_send_close}
+use Rattle.amqp_session_frames.specs.declared.state.ConnectionState.TheVariants.{HeaderExchange, OpenSent}
 use Rattle.amqp_session_performatives.specs.declared.session_frame.SessionFrame.{SessionFrame}
 use Rattle.amqp_session_types.specs.declared.error.Error.{Error}
 use Rattle.amqp_session_frames.specs.Cutting.{ReadsAs}

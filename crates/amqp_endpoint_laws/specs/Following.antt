@@ -5,8 +5,8 @@ use Rattle.amqp_session_frames.specs.declared.frame.FrameBody.TheVariants as bod
 use Rattle.amqp_session_performatives.specs.declared.session_frame.SessionFrame.{SessionFrame}
 use Rattle.amqp_session_performatives.specs.declared.session_frame.SessionFrameBody.{SessionFrameBody}
 use Rattle.amqp_session_performatives.specs.declared.session_frame.SessionFrameBody.TheVariants as session
-use Rattle.amqp_endpoint_sessions.specs.State.{State}
-use Rattle.amqp_endpoint_sessions.specs.Steps.{History, Act}
+use Rattle.amqp_endpoint_tables.specs.State.{State}
+use Rattle.amqp_endpoint_tables.specs.Steps.{History, Act}
 use Rattle.amqp_endpoint_laws.specs.Beside.{OnConnection, behind_steps, from}
 use Rattle.amqp_endpoint_laws.specs.Reading.{Comes, Goes, Reader, Wired, behind, behind_all, whose}
 

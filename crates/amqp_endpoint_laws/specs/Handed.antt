@@ -5,27 +5,27 @@ use Rattle.amqp_session_types.specs.declared.handles.OutputHandle.{OutputHandle}
 use Rattle.amqp_session_core.specs.State.{reached as link_reached}
 use Rattle.amqp_session_frames.specs.declared.frame.FrameBody.{FrameBody}
 use Rattle.amqp_session_frames.specs.declared.frame.FrameBody.TheVariants as body
-use Rattle.amqp_link_attach.specs.State.{is_attached}
+use Rattle.amqp_link_base.specs.State.{is_attached}
 use Rattle.amqp_link_ends.specs.declared.end.End.TheVariants.{Receiver}
 use Rattle.amqp_link_message.specs.declared.delivery.Delivery.{Delivery}
 use Rattle.amqp_link_message.specs.declared.raw.Raw.{Raw}
-use Rattle.amqp_link_place.specs.Readings.{Piece}
-use Rattle.amqp_link_place.specs.Said.{Said}
+use Rattle.amqp_link_base.specs.Readings.{Piece}
+use Rattle.amqp_link_base.specs.Said.{Said}
 use Rattle.amqp_link_receiver.specs.State.{ReceiverState}
-use Rattle.amqp_link_receiving.specs.Deliveries.{Delivery as Incoming}
-use Rattle.amqp_link_receiving.specs.Readings.{message_said}
-use Rattle.amqp_link_receiving.specs.declared.answer.Message.{Message as Whole}
+use Rattle.amqp_link_receiver.specs.Deliveries.{Delivery as Incoming}
+use Rattle.amqp_link_receiver.specs.Readings.{message_said}
+use Rattle.amqp_link_receiver.specs.declared.answer.Message.{Message as Whole}
 use Rattle.amqp_endpoint_laws.specs.Deeds.{Deed, IsDeed, Takes}
 use Rattle.amqp_endpoint_link_calls.specs.Places.{end_held}
 use Rattle.amqp_endpoint_link_hearing.specs.Transferring.{delivery_of}
-use Rattle.amqp_endpoint_linked.specs.Does.{linked}
-use Rattle.amqp_endpoint_linked.specs.declared.linked.LinkedSessions.{LinkedSessions}
+use Rattle.amqp_endpoint.specs.Does.{linked}
+use Rattle.amqp_endpoint.specs.declared.linked.LinkedSessions.{LinkedSessions}
 use Rattle.amqp_endpoint_linking.specs.Linking.{Session}
 use Rattle.amqp_endpoint_model.specs.declared.event.Event.{Event}
 use Rattle.amqp_endpoint_model.specs.declared.event.Event.TheVariants.{Message}
-use Rattle.amqp_endpoint_names.specs.declared.place.LinkPlace.TheVariants.{Held}
-use Rattle.amqp_endpoint_sessions.specs.State.{live_at, reached}
-use Rattle.amqp_endpoint_talk.specs.Windows.{Passing}
+use Rattle.amqp_endpoint_tables.specs.declared.link_place.LinkPlace.TheVariants.{Held}
+use Rattle.amqp_endpoint_tables.specs.State.{live_at, reached}
+use Rattle.amqp_endpoint_conversation.specs.Windows.{Passing}
 use Rattle.amqp_endpoint_laws.specs.Held.{number_at}
 use Rattle.amqp_endpoint_laws.specs.Passed.{came_in, is_it, passes_in}
 

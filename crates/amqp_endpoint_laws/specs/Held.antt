@@ -6,9 +6,9 @@ use Rattle.amqp_session_core.specs.State.{State, link_at}
 use Rattle.amqp_endpoint_conversation.specs.Beginning.{Sessions}
 use Rattle.amqp_endpoint_links.specs.declared.asking.AskingSession.{AskingSession}
 use Rattle.amqp_endpoint_links.specs.declared.numbered.Numbered.{Numbered}
-use Rattle.amqp_endpoint_names.specs.Own.{slot_at}
-use Rattle.amqp_endpoint_names.specs.State.{State as LinksBy, held_at}
-use Rattle.amqp_endpoint_sessions.specs.State.{live_at}
+use Rattle.amqp_endpoint_tables.specs.OwnLinks.{slot_at}
+use Rattle.amqp_endpoint_tables.specs.LinkState.{State as LinksBy, held_at}
+use Rattle.amqp_endpoint_tables.specs.State.{live_at}
 
 module _ {R : Type 0} where
   -- the number of a link

@@ -2,7 +2,7 @@
 use Rattle.std.specs.Prelude.{ℕ, List, None}
 use Rattle.amqp_endpoint_laws.specs.Deeds.{Deed, IsInOrder, Throughout, opened_behind}
 use Rattle.amqp_endpoint_laws.specs.Reading.{nothing_read}
-use Rattle.amqp_endpoint_talk.specs.Windows.{KeepsWindow, begins_with}
+use Rattle.amqp_endpoint_conversation.specs.Windows.{KeepsWindow, begins_with}
 use Rattle.amqp_endpoint_laws.specs.Seen.{AreOnes, passing_in, wired_by}
 
 -- by these deeds of one connection, told by channels alone, each frame that sessions hand out is one's, and each

@@ -2,11 +2,11 @@
 -- 2.6.14).
 use Rattle.std.specs.Prelude.{◌≡◌, ◌⊎◌, ℕ, List, [], ◌∷◌, ◌++◌, Option}
 use Rattle.amqp_session_types.specs.declared.handles.OutputHandle.{OutputHandle}
-use Rattle.amqp_link_place.specs.Readings.{Piece}
-use Rattle.amqp_link_receiving.specs.Deliveries.{Delivery as Incoming}
+use Rattle.amqp_link_base.specs.Readings.{Piece}
+use Rattle.amqp_link_receiver.specs.Deliveries.{Delivery as Incoming}
 use Rattle.amqp_endpoint_laws.specs.Deeds.{Deed, IsDeed}
-use Rattle.amqp_endpoint_linked.specs.Does.{linked}
-use Rattle.amqp_endpoint_linked.specs.declared.linked.LinkedSessions.{LinkedSessions}
+use Rattle.amqp_endpoint.specs.Does.{linked}
+use Rattle.amqp_endpoint.specs.declared.linked.LinkedSessions.{LinkedSessions}
 use Rattle.amqp_endpoint_laws.specs.Handed.{IsReceiving, pieces_in}
 
 -- before a deed and behind it a link is attached in this session under this own handle

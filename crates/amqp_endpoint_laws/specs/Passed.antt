@@ -5,8 +5,8 @@ use Rattle.amqp_session_types.specs.declared.channels.OutgoingChannel.{OutgoingC
 use Rattle.amqp_link_base.specs.declared.detached.Detached.{Detached}
 use Rattle.amqp_link_ends.specs.declared.end.End.{End}
 use Rattle.amqp_link_ends.specs.declared.relay.AttachTold.{AttachTold}
-use Rattle.amqp_link_receiving.specs.declared.answer.Told.{Told}
-use Rattle.amqp_session_connection.specs.Steps.{named_session}
+use Rattle.amqp_link_receiver.specs.declared.answer.Told.{Told}
+use Rattle.amqp_session_frames.specs.Steps.{named_session}
 use Rattle.amqp_session_performatives.specs.declared.session_frame.SessionFrame.{SessionFrame}
 use Rattle.amqp_session_core.specs.History.{History}
 use Rattle.amqp_session_core.specs.State.{State as SessionState, fresh}
@@ -14,20 +14,20 @@ use Rattle.amqp_session_core.specs.Steps.{Act}
 use Rattle.amqp_session_frames.specs.declared.frame.FrameBody.{FrameBody}
 use Rattle.amqp_session_frames.specs.declared.frame.FrameBody.TheVariants as body
 use Rattle.amqp_endpoint_laws.specs.Deeds.{Deed, Does, IsDeed, Takes}
-use Rattle.amqp_endpoint_linked.specs.Does.{linked}
-use Rattle.amqp_endpoint_linked.specs.declared.linked.LinkedSessions.{LinkedSessions}
+use Rattle.amqp_endpoint.specs.Does.{linked}
+use Rattle.amqp_endpoint.specs.declared.linked.LinkedSessions.{LinkedSessions}
 use Rattle.amqp_endpoint_attached.specs.Linked.{gives}
 use Rattle.amqp_endpoint_fitting.specs.Handed.{handed_of}
 use Rattle.amqp_endpoint_linking.specs.Linking.{Link, Sessions}
 use Rattle.amqp_endpoint_model.specs.declared.call.Call.{Call}
 use Rattle.amqp_endpoint_model.specs.declared.call.Call.TheVariants as call
 use Rattle.amqp_endpoint_model.specs.Said.{Said, session_begun}
-use Rattle.amqp_endpoint_names.specs.State.{place_at}
-use Rattle.amqp_endpoint_names.specs.declared.place.LinkPlace.{LinkPlace}
-use Rattle.amqp_endpoint_names.specs.declared.place.LinkPlace.TheVariants.{AtRest, Held}
-use Rattle.amqp_endpoint_sessions.specs.State.{reached, routed_in}
-use Rattle.amqp_endpoint_talk.specs.Inside.{said_in}
-use Rattle.amqp_endpoint_talk.specs.Windows.{Came, Passing, Went, went}
+use Rattle.amqp_endpoint_tables.specs.LinkState.{place_at}
+use Rattle.amqp_endpoint_tables.specs.declared.link_place.LinkPlace.{LinkPlace}
+use Rattle.amqp_endpoint_tables.specs.declared.link_place.LinkPlace.TheVariants.{AtRest, Held}
+use Rattle.amqp_endpoint_tables.specs.State.{reached, routed_in}
+use Rattle.amqp_endpoint_conversation.specs.Inside.{said_in}
+use Rattle.amqp_endpoint_conversation.specs.Windows.{Came, Passing, Went, went}
 
 -- the session that takes a Begin of the peer's: where it names no channel the next one, for which it asks; and else the
 -- one that has the channel

@@ -7,19 +7,19 @@ use Rattle.amqp_session_performatives.specs.declared.session_frame.SessionFrameB
 use Rattle.amqp_session_performatives.specs.declared.session_frame.SessionFrameBody.TheVariants as body
 use Rattle.amqp_session_outgoing.specs.Queues.{units_of}
 use Rattle.amqp_session_core.specs.State.{State}
-use Rattle.amqp_link_place.specs.Readings.{Piece, nothing, readings}
-use Rattle.amqp_link_place.specs.Said.{Said}
-use Rattle.amqp_link_split.specs.Saying.{pieces_of}
+use Rattle.amqp_link_base.specs.Readings.{Piece, nothing, readings}
+use Rattle.amqp_link_base.specs.Said.{Said}
+use Rattle.amqp_link_sender.specs.Saying.{pieces_of}
 use Rattle.amqp_endpoint_laws.specs.Deeds.{AreDone, Deed, Does, IsDeed}
 use Rattle.amqp_endpoint_model.specs.Said.{Said as Answer, attaching, message_sent}
 use Rattle.amqp_endpoint_model.specs.declared.call.Call.{Call}
 use Rattle.amqp_endpoint_model.specs.declared.call.Call.TheVariants.{AttachSender, Send}
 use Rattle.amqp_endpoint_model.specs.declared.event.Event.{Event}
-use Rattle.amqp_endpoint_linked.specs.Does.{linked}
-use Rattle.amqp_endpoint_linked.specs.declared.linked.LinkedSessions.{LinkedSessions}
+use Rattle.amqp_endpoint.specs.Does.{linked}
+use Rattle.amqp_endpoint.specs.declared.linked.LinkedSessions.{LinkedSessions}
 use Rattle.amqp_endpoint_linking.specs.Linking.{Link, Session}
-use Rattle.amqp_endpoint_settings.specs.declared.link.LinkSettings.{LinkSettings}
-use Rattle.amqp_endpoint_talk.specs.Windows.{Passing}
+use Rattle.amqp_endpoint_model.specs.declared.link.LinkSettings.{LinkSettings}
+use Rattle.amqp_endpoint_conversation.specs.Windows.{Passing}
 use Rattle.amqp_endpoint_laws.specs.Passed.{PassesIn, sent_in}
 
 -- the transfer of a frame, where it goes by this own handle

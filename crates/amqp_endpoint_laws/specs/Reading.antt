@@ -7,7 +7,7 @@ use Rattle.amqp_session_frames.specs.declared.frame.FrameBody.TheVariants as bod
 use Rattle.amqp_session_performatives.specs.declared.session_frame.SessionFrame.{SessionFrame}
 use Rattle.amqp_session_performatives.specs.declared.session_frame.SessionFrameBody.{SessionFrameBody}
 use Rattle.amqp_session_performatives.specs.declared.session_frame.SessionFrameBody.TheVariants as session
-use Rattle.amqp_endpoint_sessions.specs.State.{first_of}
+use Rattle.amqp_endpoint_tables.specs.State.{first_of}
 
 -- a frame that passes at one end, which takes and queues them in an order. Of those that it queues the connection's own
 -- are left aside

@@ -2,13 +2,13 @@
 use Rattle.std.specs.Prelude.{◌≡◌, ℕ, List, [], ◌∷◌, IsSome, Some, flat_map, map}
 use Rattle.amqp_session_types.specs.declared.channels.OutgoingChannel.{OutgoingChannel}
 use Rattle.amqp_endpoint_laws.specs.Deeds.{Deed, Does, Hears, Takes}
-use Rattle.amqp_endpoint_linked.specs.declared.linked.LinkedSessions.{LinkedSessions}
+use Rattle.amqp_endpoint.specs.declared.linked.LinkedSessions.{LinkedSessions}
 use Rattle.amqp_endpoint_linking.specs.Linking.{Session}
 use Rattle.amqp_endpoint_laws.specs.Following.{goes}
 use Rattle.amqp_endpoint_laws.specs.Reading.{Comes, Goes, Reader, Wired, behind, goes_for, read_on}
-use Rattle.amqp_endpoint_sessions.specs.State.{place_at}
-use Rattle.amqp_endpoint_sessions.specs.declared.place.Place.TheVariants.{Live}
-use Rattle.amqp_endpoint_talk.specs.Windows.{Came, Passing, Went}
+use Rattle.amqp_endpoint_tables.specs.State.{place_at}
+use Rattle.amqp_endpoint_tables.specs.declared.place.Place.TheVariants.{Live}
+use Rattle.amqp_endpoint_conversation.specs.Windows.{Came, Passing, Went}
 
 -- the frames that pass by a deed: the peer's that is taken, and behind it those that sessions hand out
 abbrev pub wired_in : Deed → List Wired

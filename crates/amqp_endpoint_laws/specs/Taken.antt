@@ -5,12 +5,12 @@ use Rattle.amqp_session_types.specs.declared.handles.OutputHandle.{OutputHandle}
 use Rattle.amqp_session_performatives.specs.declared.attach.Attach.{Attach}
 use Rattle.amqp_session_frames.specs.declared.frame.FrameBody.{FrameBody}
 use Rattle.amqp_session_frames.specs.declared.frame.FrameBody.TheVariants as body
-use Rattle.amqp_link_place.specs.Readings.{nothing, readings}
-use Rattle.amqp_endpoint_asked.specs.Asked.{Asked}
-use Rattle.amqp_endpoint_linked.specs.declared.linked.LinkedSessions.{LinkedSessions}
+use Rattle.amqp_link_base.specs.Readings.{nothing, readings}
+use Rattle.amqp_endpoint_links.specs.Asked.{Asked}
+use Rattle.amqp_endpoint.specs.declared.linked.LinkedSessions.{LinkedSessions}
 use Rattle.amqp_endpoint_linking.specs.Linking.{Stood}
-use Rattle.amqp_endpoint_sessions.specs.State.{live_at}
-use Rattle.amqp_endpoint_sessions.specs.declared.place.Place.TheVariants as place
+use Rattle.amqp_endpoint_tables.specs.State.{live_at}
+use Rattle.amqp_endpoint_tables.specs.declared.place.Place.TheVariants as place
 use Rattle.amqp_endpoint_laws.specs.Attachments.{attachment, is_named, uses}
 use Rattle.amqp_endpoint_laws.specs.Handed.{Handed, NoneResumes, handed_as, leads_there, pieces_come}
 use Rattle.amqp_endpoint_laws.specs.Queued.{Message}

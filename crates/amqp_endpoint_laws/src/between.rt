@@ -6,10 +6,10 @@
 ghost use Rattle.std.specs.Prelude.{◌≡◌, List, None};
 ghost use Rattle.amqp_endpoint_model.specs.Step.{refusal_of_settings};
 ghost use Rattle.amqp_endpoint_model.specs.declared.settings.Settings.{Settings};
-ghost use Rattle.amqp_endpoint_world.specs.WorldSaid.{WorldTold};
-ghost use Rattle.amqp_endpoint_world.specs.WorldState.{IsNewWorld, WorldState};
-ghost use Rattle.amqp_endpoint_world.specs.WorldStep.{WorldRun};
-ghost use Rattle.amqp_endpoint_world.specs.declared.step.Step.{Step};
+ghost use Rattle.amqp_endpoint_core.specs.WorldSaid.{WorldTold};
+ghost use Rattle.amqp_endpoint_core.specs.WorldState.{IsNewWorld, WorldState};
+ghost use Rattle.amqp_endpoint_core.specs.WorldStep.{WorldRun};
+ghost use Rattle.amqp_endpoint_core.specs.declared.step.Step.{Step};
 ghost use Rattle.amqp_endpoint_laws.specs.Between.{Between};
 
 use amqp_endpoint_model::SessionRelay;

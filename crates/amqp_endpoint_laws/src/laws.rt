@@ -7,15 +7,15 @@ ghost use Rattle.amqp_session_frames.specs.declared.frame.Frame.{Frame};
 ghost use Rattle.amqp_session_frames.specs.declared.frame.FrameBody.{FrameBody};
 ghost use Rattle.amqp_session_types.specs.declared.channels.OutgoingChannel.{OutgoingChannel};
 ghost use Rattle.amqp_session_types.specs.declared.handles.OutputHandle.{OutputHandle};
-ghost use Rattle.amqp_link_place.specs.Readings.{Piece, nothing, readings};
-ghost use Rattle.amqp_link_place.specs.Said.{Said};
-ghost use Rattle.amqp_link_receiving.specs.Deliveries.{Delivery as Incoming};
-ghost use Rattle.amqp_link_receiving.specs.Readings.{held_said};
-ghost use Rattle.amqp_endpoint_names.specs.State.{AreApart, place_at};
-ghost use Rattle.amqp_endpoint_names.specs.declared.place.LinkPlace.TheVariants.{Held};
+ghost use Rattle.amqp_link_base.specs.Readings.{Piece, nothing, readings};
+ghost use Rattle.amqp_link_base.specs.Said.{Said};
+ghost use Rattle.amqp_link_receiver.specs.Deliveries.{Delivery as Incoming};
+ghost use Rattle.amqp_link_receiver.specs.Readings.{held_said};
+ghost use Rattle.amqp_endpoint_tables.specs.LinkState.{AreApart, place_at};
+ghost use Rattle.amqp_endpoint_tables.specs.declared.link_place.LinkPlace.TheVariants.{Held};
 ghost use Rattle.amqp_endpoint_linking.specs.Linking.{Session};
-ghost use Rattle.amqp_endpoint_asked.specs.declared.links.AskedLink.{AskedLink};
-ghost use Rattle.amqp_endpoint_sessions.specs.State.{channel_at, live_at, place_at as session_place};
+ghost use Rattle.amqp_endpoint_links.specs.declared.links.AskedLink.{AskedLink};
+ghost use Rattle.amqp_endpoint_tables.specs.State.{channel_at, live_at, place_at as session_place};
 ghost use Rattle.amqp_endpoint_model.specs.History.{Run};
 ghost use Rattle.amqp_endpoint_model.specs.Relay.{IsNew};
 ghost use Rattle.amqp_endpoint_model.specs.Said.{Told, attaching};
@@ -24,15 +24,15 @@ ghost use Rattle.amqp_endpoint_model.specs.declared.call.Call.{Call};
 ghost use Rattle.amqp_endpoint_model.specs.declared.call.Call.TheVariants.{AttachReceiver, AttachSender};
 ghost use Rattle.amqp_endpoint_model.specs.declared.event.Event.{Event};
 ghost use Rattle.amqp_endpoint_model.specs.declared.settings.Settings.{Settings};
-ghost use Rattle.amqp_endpoint_linked.specs.Does.{linked};
-ghost use Rattle.amqp_endpoint_linked.specs.Sending.{tag_of};
-ghost use Rattle.amqp_endpoint_linked.specs.declared.linked.LinkedSessions.{LinkedSessions};
+ghost use Rattle.amqp_endpoint.specs.Does.{linked};
+ghost use Rattle.amqp_endpoint.specs.Sending.{tag_of};
+ghost use Rattle.amqp_endpoint.specs.declared.linked.LinkedSessions.{LinkedSessions};
 ghost use Rattle.amqp_endpoint_laws.specs.Deeds.{AreDone, Deed, Does, IsDeed, IsDone, MayPass, NoneRenews, Renews};
 ghost use Rattle.amqp_endpoint_laws.specs.Deeds.{Throughout, done_since, fed_since, pulled_since, told_by, told_in};
 ghost use Rattle.amqp_endpoint_laws.specs.Deeds.{told_since, up_behind};
 ghost use Rattle.amqp_endpoint_laws.specs.CallsDone.{calls_done, events_told};
-ghost use Rattle.amqp_endpoint_settings.specs.declared.link.LinkSettings.{LinkSettings};
-ghost use Rattle.amqp_endpoint_talk.specs.Windows.{KeepsWindow, Passing, begins_with};
+ghost use Rattle.amqp_endpoint_model.specs.declared.link.LinkSettings.{LinkSettings};
+ghost use Rattle.amqp_endpoint_conversation.specs.Windows.{KeepsWindow, Passing, begins_with};
 ghost use Rattle.amqp_endpoint_laws.specs.Channel.{AllAnswer, comings, goings};
 ghost use Rattle.amqp_endpoint_laws.specs.Reading.{Wired, nothing_read};
 ghost use Rattle.amqp_endpoint_laws.specs.Attachments.{attached_in, attachment, bodies_of, gone_in, names_in, uses};
@@ -55,7 +55,7 @@ ghost use Rattle.amqp_endpoint_laws.specs.Telling.{numbers_told, numbers_under, 
 use amqp_endpoint_linking::laws::links_given_back_go_on;
 
 /// The links of an endpoint have a history of their own in each of its runs, from none on, by steps of
-/// amqp_endpoint_names. So what holds of all histories of links holds in each run.
+/// amqp_endpoint_tables. So what holds of all histories of links holds in each run.
 pub fn links_have_a_history()
     ensures { (sessions : LinkedSessions) (settings : Settings) (calls : List Call) (told : List Told)
         (end : State LinkedSessions) → IsNew linked settings sessions →
@@ -113,7 +113,7 @@ pub fn numbers_of_messages_are_apart()
     numbers_of_messages_are_serials();
 }
 
-/// The sessions of an endpoint have a history of their own in each of its runs, by steps of amqp_endpoint_sessions,
+/// The sessions of an endpoint have a history of their own in each of its runs, by steps of amqp_endpoint_tables,
 /// from whichever sessions on. So what holds of all histories of sessions holds in each run: a number is given once, no
 /// step but its own touches a session, and one that is over stays over (part 2, 2.5).
 pub fn sessions_have_a_history()

@@ -14,18 +14,18 @@ use Rattle.amqp_session_core.specs.State.{link_at}
 use Rattle.amqp_session_core.specs.Steps.{Changes, SendsBehind}
 use Rattle.amqp_session_core.specs.declared.batch.BehindFrame.TheVariants as behind
 use Rattle.amqp_link_base.specs.declared.detached.Detached.{Detached}
-use Rattle.amqp_link_receiving.specs.declared.answer.Told.{Told}
+use Rattle.amqp_link_receiver.specs.declared.answer.Told.{Told}
 use Rattle.amqp_link_ends.specs.declared.end.End.{End}
 use Rattle.amqp_link_ends.specs.declared.relay.AttachTold.{AttachTold}
 use Rattle.amqp_endpoint_links.specs.declared.numbered.Numbered.{Numbered}
 use Rattle.amqp_endpoint_links.specs.History.{AskingHistory, AskingAct, InSession}
-use Rattle.amqp_endpoint_lengths.proofs.Frames.{detach_fits, larger_fits}
-use Rattle.amqp_endpoint_lengths.specs.Plain.{IsPlainDetach}
-use Rattle.amqp_endpoint_names.specs.declared.place.LinkPlace.{LinkPlace}
-use Rattle.amqp_endpoint_names.specs.declared.place.LinkPlace.TheVariants.{Held, AtRest}
-use Rattle.amqp_endpoint_names.specs.State.{place_at, rest_of, without}
-use Rattle.amqp_endpoint_names.specs.Steps.{Closed}
-use Rattle.amqp_endpoint_sessions.specs.State.{live_at}
+use Rattle.amqp_endpoint_fitting.proofs.Frames.{detach_fits, larger_fits}
+use Rattle.amqp_endpoint_fitting.specs.Plain.{IsPlainDetach}
+use Rattle.amqp_endpoint_tables.specs.declared.link_place.LinkPlace.{LinkPlace}
+use Rattle.amqp_endpoint_tables.specs.declared.link_place.LinkPlace.TheVariants.{Held, AtRest}
+use Rattle.amqp_endpoint_tables.specs.LinkState.{place_at, rest_of, without}
+use Rattle.amqp_endpoint_tables.specs.LinkSteps.{Closed}
+use Rattle.amqp_endpoint_tables.specs.State.{live_at}
 use Rattle.amqp_endpoint_model.specs.declared.error.EndpointError.{EndpointError}
 use Rattle.amqp_endpoint_model.specs.declared.error.EndpointError.TheVariants.{Memory}
 use Rattle.amqp_endpoint_model.specs.declared.event.Event.{Event}
@@ -33,13 +33,13 @@ use Rattle.amqp_endpoint_model.specs.State.{frame_of}
 use Rattle.amqp_endpoint_fitting.specs.Fits.{BehindFits}
 use Rattle.amqp_endpoint_fitting.specs.Handed.{AllAskingEndFit, AllAskingHand, AllAskingSendFit}
 use Rattle.amqp_endpoint_fitting.specs.Read.{IsRead}
-use Rattle.amqp_endpoint_talk.specs.Going.{Goes}
-use Rattle.amqp_endpoint_talk.proofs.Calls.{changed-goes}
-use Rattle.amqp_endpoint_talk.proofs.Goings.{read-behind}
+use Rattle.amqp_endpoint_conversation.specs.Going.{Goes}
+use Rattle.amqp_endpoint_conversation.proofs.Calls.{changed-goes}
+use Rattle.amqp_endpoint_conversation.proofs.Goings.{read-behind}
 use Rattle.amqp_endpoint_attached.specs.Detaching.{DetachGiven, own_detach}
 use Rattle.amqp_endpoint_attached.specs.Linked.{Linked, LinksIn, end_at, gives}
-use Rattle.amqp_endpoint_outcomes.specs.All.{AreCopies, TellsFirst, TellsIn, behind_told, first_told, open_count}
-use Rattle.amqp_endpoint_outcomes.specs.All.{told_by}
+use Rattle.amqp_endpoint_messages.specs.All.{AreCopies, TellsFirst, TellsIn, behind_told, first_told, open_count}
+use Rattle.amqp_endpoint_messages.specs.All.{told_by}
 use Rattle.amqp_endpoint_link_calls.specs.Calling.{DoneIn}
 use Rattle.amqp_endpoint_link_calls.specs.Closing.{ClosedAt, ClosedBy, ClosesTelling, ForgetsRest, closed_end, closes}
 use Rattle.amqp_endpoint_link_calls.specs.Places.{LinksBy, LinkTalk, Where}

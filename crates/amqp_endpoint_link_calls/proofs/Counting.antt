@@ -7,7 +7,7 @@ use Rattle.amqp_session_core.specs.declared.batch.BehindFrame.{BehindFrame}
 use Rattle.amqp_session_core.specs.declared.batch.TransferFrame.{TransferFrame}
 use Rattle.amqp_link_ends.specs.declared.end.End.{End}
 use Rattle.amqp_endpoint_links.specs.declared.numbered.Numbered.{Numbered}
-use Rattle.amqp_endpoint_sessions.specs.declared.place.Place.TheVariants.{Asked, Live, Ending, Over}
+use Rattle.amqp_endpoint_tables.specs.declared.place.Place.TheVariants.{Asked, Live, Ending, Over}
 use Rattle.amqp_endpoint_attached.specs.Linked.{LinksIn}
 use Rattle.amqp_endpoint_link_calls.specs.Waiting.{AllAreThere, AllAreThereAt, SessionPlace, by_number, counted}
 use Rattle.amqp_endpoint_link_calls.specs.Waiting.{held_at, total, turn_at}

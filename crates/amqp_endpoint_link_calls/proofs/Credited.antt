@@ -6,11 +6,11 @@ use Rattle.amqp_session_types.specs.declared.handles.OutputHandle.{OutputHandle}
 use Rattle.amqp_session_performatives.specs.declared.session_frame.SessionFrame.{SessionFrame}
 use Rattle.amqp_session_core.specs.declared.batch.BehindFrame.TheVariants.{Flow}
 use Rattle.amqp_link_receiver.specs.Flowing.{credited}
-use Rattle.amqp_endpoint_sessions.specs.State.{live_at}
+use Rattle.amqp_endpoint_tables.specs.State.{live_at}
 use Rattle.amqp_endpoint_model.specs.declared.error.EndpointError.{EndpointError}
 use Rattle.amqp_endpoint_fitting.specs.Read.{IsRead}
-use Rattle.amqp_endpoint_talk.specs.Going.{Goes}
-use Rattle.amqp_endpoint_talk.proofs.Goings.{read-behind}
+use Rattle.amqp_endpoint_conversation.specs.Going.{Goes}
+use Rattle.amqp_endpoint_conversation.proofs.Goings.{read-behind}
 use Rattle.amqp_endpoint_attached.specs.Linked.{Linked}
 use Rattle.amqp_endpoint_attached.specs.Receiving.{CreditGiven, DrainAnswered, DrainWanted, GrantAnswered, drained}
 use Rattle.amqp_endpoint_attached.specs.Receiving.{receiving, shown_flow}

@@ -7,14 +7,14 @@ use Rattle.amqp_session_types.specs.declared.handles.OutputHandle.{OutputHandle}
 use Rattle.amqp_session_performatives.specs.declared.session_frame.SessionFrame.{SessionFrame}
 use Rattle.amqp_session_performatives.specs.declared.session_frame.SessionFrameBody.TheVariants as body
 use Rattle.amqp_session_core.specs.declared.batch.BehindFrame.TheVariants as behind
-use Rattle.amqp_endpoint_lengths.proofs.Frames.{detach_fits, larger_fits}
-use Rattle.amqp_endpoint_lengths.specs.Plain.{IsPlainDetach}
-use Rattle.amqp_endpoint_sessions.specs.State.{live_at}
+use Rattle.amqp_endpoint_fitting.proofs.Frames.{detach_fits, larger_fits}
+use Rattle.amqp_endpoint_fitting.specs.Plain.{IsPlainDetach}
+use Rattle.amqp_endpoint_tables.specs.State.{live_at}
 use Rattle.amqp_endpoint_model.specs.declared.error.EndpointError.{EndpointError}
 use Rattle.amqp_endpoint_model.specs.State.{frame_of}
 use Rattle.amqp_endpoint_fitting.specs.Read.{IsRead}
-use Rattle.amqp_endpoint_talk.specs.Going.{Goes}
-use Rattle.amqp_endpoint_talk.proofs.Goings.{read-behind}
+use Rattle.amqp_endpoint_conversation.specs.Going.{Goes}
+use Rattle.amqp_endpoint_conversation.proofs.Goings.{read-behind}
 use Rattle.amqp_endpoint_attached.specs.Detaching.{DetachAnswered, DetachGiven, own_detach}
 use Rattle.amqp_endpoint_attached.specs.Linked.{Linked}
 use Rattle.amqp_endpoint_link_calls.specs.Calling.{DoneIn, detaches}

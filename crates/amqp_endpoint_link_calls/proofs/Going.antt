@@ -8,7 +8,7 @@ use Rattle.amqp_session_performatives.specs.declared.session_frame.SessionFrame.
 use Rattle.amqp_session_core.specs.declared.batch.BehindFrame.{BehindFrame}
 use Rattle.amqp_session_core.specs.Steps.{Changes, SendsBehind}
 use Rattle.amqp_link_base.specs.declared.detached.Detached.{Detached}
-use Rattle.amqp_link_receiving.specs.declared.answer.Told.{Told}
+use Rattle.amqp_link_receiver.specs.declared.answer.Told.{Told}
 use Rattle.amqp_link_ends.specs.declared.end.End.{End}
 use Rattle.amqp_link_ends.specs.declared.relay.AttachTold.{AttachTold}
 use Rattle.amqp_link_ends.specs.declared.standing.Standing.{Standing}
@@ -18,13 +18,13 @@ use Rattle.amqp_link_ends.specs.Gives.{flows_at}
 use Rattle.amqp_link_ends.specs.Standing.{standing_of}
 use Rattle.amqp_endpoint_links.specs.declared.numbered.Numbered.{Numbered}
 use Rattle.amqp_endpoint_links.specs.History.{AskingHistory, AskingAct, InSession}
-use Rattle.amqp_endpoint_sessions.specs.Steps.{ChangesLive, Step}
+use Rattle.amqp_endpoint_tables.specs.Steps.{ChangesLive, Step}
 use Rattle.amqp_endpoint_model.specs.State.{fits, frame_of}
 use Rattle.amqp_endpoint_fitting.specs.Fits.{BehindFits}
 use Rattle.amqp_endpoint_fitting.specs.Handed.{AllAskingHand}
 use Rattle.amqp_endpoint_fitting.specs.Read.{IsRead}
-use Rattle.amqp_endpoint_talk.specs.Going.{AnswersPlain, Goes, Within}
-use Rattle.amqp_endpoint_talk.proofs.Calls.{changed-goes}
+use Rattle.amqp_endpoint_conversation.specs.Going.{AnswersPlain, Goes, Within}
+use Rattle.amqp_endpoint_conversation.proofs.Calls.{changed-goes}
 use Rattle.amqp_endpoint_attached.specs.Linked.{Linked, gives}
 use Rattle.amqp_endpoint_attached.specs.Sent.{Sends}
 use Rattle.amqp_endpoint_attached.proofs.Fitting.{reply_plain}

@@ -10,13 +10,13 @@ use Rattle.amqp_link_receiver.specs.Flowing.{credited}
 use Rattle.amqp_link_ends.specs.declared.end.End.{End}
 use Rattle.amqp_endpoint_links.specs.declared.numbered.Numbered.{Numbered}
 use Rattle.amqp_endpoint_model.specs.declared.event.Event.{Event}
-use Rattle.amqp_endpoint_talk.specs.Inside.{DoneInside}
-use Rattle.amqp_endpoint_talk.proofs.Inside.{changed-inside, none-inside, one-inside, said-inside, silent-behind}
+use Rattle.amqp_endpoint_conversation.specs.Inside.{DoneInside}
+use Rattle.amqp_endpoint_conversation.proofs.Inside.{changed-inside, none-inside, one-inside, said-inside, silent-behind}
 use Rattle.amqp_endpoint_attached.specs.Detaching.{DetachGiven, own_detach}
 use Rattle.amqp_endpoint_attached.specs.Linked.{Linked, LinksIn, end_at, gives}
 use Rattle.amqp_endpoint_attached.specs.Receiving.{drained, receiving, shown_flow}
 use Rattle.amqp_endpoint_attached.specs.Sent.{Sends}
-use Rattle.amqp_endpoint_outcomes.specs.All.{TellsIn, behind_told, open_count}
+use Rattle.amqp_endpoint_messages.specs.All.{TellsIn, behind_told, open_count}
 use Rattle.amqp_endpoint_link_calls.specs.Calling.{Does, detaches, gives_credit, wants_drain}
 use Rattle.amqp_endpoint_link_calls.specs.Closing.{closes}
 

@@ -3,11 +3,11 @@ use Rattle.std.proofs.Common.{◌≡◌, ℕ, List, Option, Some, None, false, r
 use Rattle.std.proofs.Common.{slice_index_or}
 use Rattle.std.proofs.lemmas.List.{set-get_or}
 use Rattle.std.proofs.lemmas.Option.{none-some, same_Some, get_or_from_slice_get}
-use Rattle.amqp_endpoint_sessions.specs.declared.place.PeerEnd.TheVariants.{Missing}
-use Rattle.amqp_endpoint_sessions.specs.declared.place.Place.{Place}
-use Rattle.amqp_endpoint_sessions.specs.declared.place.Place.TheVariants.{Asked, Live, Ending, Over}
-use Rattle.amqp_endpoint_sessions.specs.Lends.{set_live}
-use Rattle.amqp_endpoint_sessions.specs.State.{State, live_at, live_of, with_live}
+use Rattle.amqp_endpoint_tables.specs.declared.place.PeerEnd.TheVariants.{Missing}
+use Rattle.amqp_endpoint_tables.specs.declared.place.Place.{Place}
+use Rattle.amqp_endpoint_tables.specs.declared.place.Place.TheVariants.{Asked, Live, Ending, Over}
+use Rattle.amqp_endpoint_tables.specs.Lends.{set_live}
+use Rattle.amqp_endpoint_tables.specs.State.{State, live_at, live_of, with_live}
 
 module _ {A S : Type 0} (s : State A S) (n : ℕ) (x : S) where
   pub unlent : live_at s n ≡ Some x → set_live s n x ≡ s

@@ -6,3 +6,13 @@ pub mod Credited
 pub mod Counting
 pub mod Closed
 pub mod Inside
+pub mod Sent
+pub mod Kept
+pub mod Refusals
+pub mod Disposed
+pub mod MessagesInside
+pub mod AttachLent
+pub mod Own
+pub mod AttachGoing
+pub mod Entered
+pub mod AttachInside

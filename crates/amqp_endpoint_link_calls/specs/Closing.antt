@@ -6,15 +6,15 @@ use Rattle.amqp_session_core.specs.State.{link_at}
 use Rattle.amqp_link_sender.specs.Ending.{closed_at_rest}
 use Rattle.amqp_link_ends.specs.declared.end.End.{End}
 use Rattle.amqp_link_ends.specs.declared.end.End.TheVariants.{Sender, Receiver}
-use Rattle.amqp_endpoint_names.specs.State.{without}
-use Rattle.amqp_endpoint_names.specs.declared.place.LinkPlace.TheVariants.{Held, AtRest}
-use Rattle.amqp_endpoint_sessions.specs.State.{live_at}
+use Rattle.amqp_endpoint_tables.specs.LinkState.{without}
+use Rattle.amqp_endpoint_tables.specs.declared.link_place.LinkPlace.TheVariants.{Held, AtRest}
+use Rattle.amqp_endpoint_tables.specs.State.{live_at}
 use Rattle.amqp_endpoint_model.specs.declared.error.EndpointError.{EndpointError}
 use Rattle.amqp_endpoint_model.specs.declared.error.EndpointError.TheVariants.{Memory, UnknownLink}
 use Rattle.amqp_endpoint_model.specs.declared.event.Event.{Event}
 use Rattle.amqp_endpoint_attached.specs.Detaching.{DetachGiven, RefusesDetach}
 use Rattle.amqp_endpoint_attached.specs.Linked.{Linked, end_at}
-use Rattle.amqp_endpoint_outcomes.specs.All.{TellsFirst, first_told, open_count, told_by}
+use Rattle.amqp_endpoint_messages.specs.All.{TellsFirst, first_told, open_count, told_by}
 use Rattle.amqp_endpoint_link_calls.specs.Calling.{Does, DoneIn}
 use Rattle.amqp_endpoint_link_calls.specs.Places.{LinksBy, LinkTalk, Where, end_live}
 

@@ -3,3 +3,10 @@ pub mod Calling
 pub mod Closing
 pub mod Seeing
 pub mod Waiting
+pub mod Sending
+pub mod Keeping
+pub mod Refusing
+pub mod Disposing
+pub mod Naming
+pub mod Attaching
+pub mod Refusals

@@ -7,10 +7,10 @@ use Rattle.amqp_session_core.specs.State.{link_at}
 use Rattle.amqp_session_core.specs.declared.batch.BehindFrame.{BehindFrame}
 use Rattle.amqp_session_core.specs.declared.batch.TransferFrame.{TransferFrame}
 use Rattle.amqp_link_ends.specs.declared.end.End.{End}
-use Rattle.amqp_endpoint_asked.specs.declared.session.AskedSession.{AskedSession}
+use Rattle.amqp_endpoint_links.specs.declared.session.AskedSession.{AskedSession}
 use Rattle.amqp_endpoint_links.specs.declared.numbered.Numbered.{Numbered}
-use Rattle.amqp_endpoint_sessions.specs.declared.place.Place.{Place}
-use Rattle.amqp_endpoint_sessions.specs.declared.place.Place.TheVariants.{Live}
+use Rattle.amqp_endpoint_tables.specs.declared.place.Place.{Place}
+use Rattle.amqp_endpoint_tables.specs.declared.place.Place.TheVariants.{Live}
 use Rattle.amqp_endpoint_model.specs.declared.error.EndpointError.{EndpointError}
 use Rattle.amqp_endpoint_model.specs.declared.error.EndpointError.TheVariants.{Memory, UnknownSession}
 use Rattle.amqp_endpoint_attached.specs.Linked.{Linked, LinksIn}

@@ -1,9 +1,9 @@
 //! The credit that is given by a receiving link, by its number (part 2, 2.6.7).
 ghost use Rattle.std.specs.Prelude.{◌≡◌, ℕ, IfErr, IfOk, OnErr, OnOk};
-ghost use Rattle.amqp_endpoint_names.specs.State.{place_at};
-ghost use Rattle.amqp_endpoint_sessions.specs.State.{live_at};
+ghost use Rattle.amqp_endpoint_tables.specs.LinkState.{place_at};
+ghost use Rattle.amqp_endpoint_tables.specs.State.{live_at};
 ghost use Rattle.amqp_endpoint_attached.specs.Receiving.{RefusesDrain, RefusesGrant};
-ghost use Rattle.amqp_endpoint_talk.specs.Going.{Goes, Rests};
+ghost use Rattle.amqp_endpoint_conversation.specs.Going.{Goes, Rests};
 ghost use Rattle.amqp_endpoint_link_calls.specs.Calling.{BarsDrain, BarsGrant, DoneAt, DoneIn, gives_credit};
 ghost use Rattle.amqp_endpoint_link_calls.specs.Calling.{wants_drain};
 ghost use Rattle.amqp_endpoint_link_calls.specs.Places.{end_live};
@@ -12,7 +12,7 @@ use crate::holding::{LinkTalk, holder};
 use amqp_endpoint_attached as attached;
 use amqp_endpoint_fitting::frames_are_read;
 use amqp_endpoint_model::EndpointError;
-use amqp_endpoint_names::Links;
+use amqp_endpoint_tables::Links;
 use amqp_link_ends::LinkEnd;
 use amqp_session_performatives::SessionFrame;
 use amqp_session_types::OutputHandle;

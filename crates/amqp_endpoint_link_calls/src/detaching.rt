@@ -1,9 +1,9 @@
 //! How a link is detached, by its number (part 2, 2.6.5).
 ghost use Rattle.std.specs.Prelude.{◌≡◌, ◌≤◌, ◌<◌, ◌^◌, ℕ, false, IfErr, OnErr, OnOk};
-ghost use Rattle.amqp_endpoint_names.specs.State.{place_at};
-ghost use Rattle.amqp_endpoint_sessions.specs.State.{live_at};
+ghost use Rattle.amqp_endpoint_tables.specs.LinkState.{place_at};
+ghost use Rattle.amqp_endpoint_tables.specs.State.{live_at};
 ghost use Rattle.amqp_endpoint_attached.specs.Detaching.{RefusesDetach};
-ghost use Rattle.amqp_endpoint_talk.specs.Going.{Goes, Rests};
+ghost use Rattle.amqp_endpoint_conversation.specs.Going.{Goes, Rests};
 ghost use Rattle.amqp_endpoint_link_calls.specs.Calling.{BarsDetach, DoneAt, DoneIn, detaches};
 ghost use Rattle.amqp_endpoint_link_calls.specs.Places.{end_live};
 
@@ -11,7 +11,7 @@ use crate::holding::{LinkTalk, holder};
 use amqp_endpoint_attached as attached;
 use amqp_endpoint_fitting::frames_are_read;
 use amqp_endpoint_model::EndpointError;
-use amqp_endpoint_names::Links;
+use amqp_endpoint_tables::Links;
 use amqp_link_ends::LinkEnd;
 use amqp_session_performatives::SessionFrame;
 use amqp_session_types::OutputHandle;

@@ -1,13 +1,13 @@
 //! Where a link is held.
 ghost use Rattle.std.specs.Prelude.{◌≡◌, IfErr, IfOk, Some};
-ghost use Rattle.amqp_endpoint_names.specs.State.{place_at};
-ghost use Rattle.amqp_endpoint_names.specs.declared.place.LinkPlace.TheVariants.{Held};
+ghost use Rattle.amqp_endpoint_tables.specs.LinkState.{place_at};
+ghost use Rattle.amqp_endpoint_tables.specs.declared.link_place.LinkPlace.TheVariants.{Held};
 ghost use Rattle.amqp_endpoint_link_calls.specs.Places.{IsNotHeld};
 
 use amqp_endpoint_conversation::Conversation;
 use amqp_endpoint_links::Numbered;
 use amqp_endpoint_model::EndpointError;
-use amqp_endpoint_names::{LinkPlace, Links};
+use amqp_endpoint_tables::{LinkPlace, Links};
 use amqp_link_ends::LinkEnd;
 use amqp_session_types::OutputHandle;
 

@@ -1,14 +1,14 @@
 //! What is told of a link by its number (part 2, 2.6.7).
 ghost use Rattle.std.specs.Prelude.{◌≡◌};
-ghost use Rattle.amqp_endpoint_names.specs.State.{place_at};
-ghost use Rattle.amqp_endpoint_sessions.specs.State.{live_at};
+ghost use Rattle.amqp_endpoint_tables.specs.LinkState.{place_at};
+ghost use Rattle.amqp_endpoint_tables.specs.State.{live_at};
 ghost use Rattle.amqp_endpoint_link_calls.specs.Places.{end_live, end_of};
 ghost use Rattle.amqp_endpoint_link_calls.specs.Seeing.{credit_told};
 
 use crate::holding::LinkTalk;
 use amqp_endpoint_attached as attached;
 use amqp_endpoint_model::EndpointError;
-use amqp_endpoint_names::{LinkPlace, Links};
+use amqp_endpoint_tables::{LinkPlace, Links};
 use amqp_link_ends::LinkEnd;
 use amqp_session_types::OutputHandle;
 

@@ -3,15 +3,14 @@ ghost use Rattle.std.specs.Prelude.{◌≡◌, ◌+◌, ◌≤◌, ◌<◌, ◌+
 ghost use Rattle.std.specs.Vec.{vec_len, vec_capacity};
 ghost use Rattle.amqp_session_outgoing.specs.Queues.{turn_of};
 ghost use Rattle.amqp_session_core.specs.State.{link_at};
-ghost use Rattle.amqp_endpoint_sessions.specs.State.{place_at};
+ghost use Rattle.amqp_endpoint_tables.specs.State.{place_at};
 ghost use Rattle.amqp_endpoint_link_calls.specs.Waiting.{BarsWaiting, TurnTold, by_number, counted, held_at, held_told};
 
 use crate::holding::LinkTalk;
-use amqp_endpoint_asked::AskedSession;
 use amqp_endpoint_attached::LinkSession;
-use amqp_endpoint_links::Numbered;
+use amqp_endpoint_links::{AskedSession, Numbered};
 use amqp_endpoint_model::EndpointError;
-use amqp_endpoint_sessions::Place;
+use amqp_endpoint_tables::Place;
 use amqp_link_ends::LinkEnd;
 use amqp_session_core::Session;
 use amqp_session_types::OutputHandle;

@@ -26,7 +26,7 @@ use Rattle.amqp_endpoint_model.specs.declared.error.EndpointError.TheVariants as
 use Rattle.amqp_endpoint_model.specs.declared.event.Event.{Event}
 use Rattle.amqp_endpoint_model.specs.Relay.{IsSessionFault}
 use Rattle.amqp_endpoint_model.specs.State.{fits, frame_of}
-use Rattle.amqp_endpoint_talk.proofs.Alone.{answer-alone}
+use Rattle.amqp_endpoint_conversation.proofs.Alone.{answer-alone}
 use Rattle.amqp_endpoint_attached.specs.Detaching.{own_detach}
 use Rattle.amqp_endpoint_attached.specs.Linked.{Linked, gives}
 use Rattle.amqp_endpoint_linking.specs.Linking.{Links, Session, Talk}

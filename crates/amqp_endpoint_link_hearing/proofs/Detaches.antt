@@ -20,16 +20,16 @@ use Rattle.amqp_endpoint_links.specs.declared.hearing.LinkPerformative.TheVarian
 use Rattle.amqp_endpoint_links.specs.declared.hearing.PerformativeTaken.TheVariants as taken
 use Rattle.amqp_endpoint_conversation.specs.declared.hearing.Heard.TheVariants.{Live}
 use Rattle.amqp_endpoint_conversation.specs.Hearing.{Answered}
-use Rattle.amqp_endpoint_sessions.specs.State.{live_at}
+use Rattle.amqp_endpoint_tables.specs.State.{live_at}
 use Rattle.amqp_endpoint_model.specs.declared.error.EndpointError.{EndpointError}
 use Rattle.amqp_endpoint_model.specs.declared.error.EndpointError.TheVariants as fault
 use Rattle.amqp_endpoint_model.specs.declared.event.Event.{Event}
 use Rattle.amqp_endpoint_model.specs.Relay.{IsSessionFault}
 use Rattle.amqp_endpoint_model.specs.State.{fits, frame_of}
-use Rattle.amqp_endpoint_talk.proofs.Alone.{answer-alone}
+use Rattle.amqp_endpoint_conversation.proofs.Alone.{answer-alone}
 use Rattle.amqp_endpoint_attached.specs.Detaching.{own_detach}
 use Rattle.amqp_endpoint_attached.specs.Linked.{Linked, gives}
-use Rattle.amqp_endpoint_outcomes.specs.All.{AreCopies, told_by}
+use Rattle.amqp_endpoint_messages.specs.All.{AreCopies, told_by}
 use Rattle.amqp_endpoint_linking.specs.Linking.{Links, Session, Talk}
 use Rattle.amqp_endpoint_linking.specs.Handed.{Tells}
 use Rattle.amqp_endpoint_link_hearing.specs.Detaching.{Becomes, ByLink, HearsDetach, TellsAndParts}

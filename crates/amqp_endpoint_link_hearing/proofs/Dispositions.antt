@@ -17,21 +17,21 @@ use Rattle.amqp_endpoint_links.specs.declared.hearing.LinkPerformative.TheVarian
 use Rattle.amqp_endpoint_links.specs.declared.hearing.PerformativeTaken.TheVariants as taken
 use Rattle.amqp_endpoint_conversation.specs.declared.hearing.Heard.TheVariants.{Live}
 use Rattle.amqp_endpoint_conversation.specs.Hearing.{Answered}
-use Rattle.amqp_endpoint_sessions.specs.State.{live_at}
+use Rattle.amqp_endpoint_tables.specs.State.{live_at}
 use Rattle.amqp_endpoint_fitting.specs.Fits.{FrameFits}
 use Rattle.amqp_endpoint_fitting.specs.Handed.{AllAskingEndFit, AllAskingHand, AllAskingSendFit}
 use Rattle.amqp_endpoint_fitting.specs.Read.{IsRead}
 use Rattle.amqp_endpoint_model.specs.declared.event.Event.{Event}
-use Rattle.amqp_endpoint_talk.specs.Going.{Goes, Rests, Within}
-use Rattle.amqp_endpoint_talk.proofs.Alone.{answer-alone}
-use Rattle.amqp_endpoint_talk.proofs.Calls.{changed-goes, changed-rests}
-use Rattle.amqp_endpoint_talk.proofs.Goings.{read-behind}
-use Rattle.amqp_endpoint_disposing.specs.Sending.{SendsEach, frames_of}
+use Rattle.amqp_endpoint_conversation.specs.Going.{Goes, Rests, Within}
+use Rattle.amqp_endpoint_conversation.proofs.Alone.{answer-alone}
+use Rattle.amqp_endpoint_conversation.proofs.Calls.{changed-goes, changed-rests}
+use Rattle.amqp_endpoint_conversation.proofs.Goings.{read-behind}
+use Rattle.amqp_endpoint_messages.specs.Dispositions.{SendsEach, frames_of}
 use Rattle.amqp_endpoint_attached.specs.Linked.{Linked, LinksIn, gives}
-use Rattle.amqp_endpoint_outcomes.specs.Echoing.{EchoFits, SendsEchoes, echoes_of}
-use Rattle.amqp_endpoint_outcomes.specs.Reached.{behind_one, behind_reached, end_behind, link_behind, reached_told}
-use Rattle.amqp_endpoint_outcomes.proofs.Lengths.{all-fit}
-use Rattle.amqp_endpoint_outcomes.proofs.Numbers.{no-more-runs}
+use Rattle.amqp_endpoint_messages.specs.Echoing.{EchoFits, SendsEchoes, echoes_of}
+use Rattle.amqp_endpoint_messages.specs.Reached.{behind_one, behind_reached, end_behind, link_behind, reached_told}
+use Rattle.amqp_endpoint_messages.proofs.Lengths.{all-fit}
+use Rattle.amqp_endpoint_messages.proofs.Numbers.{no-more-runs}
 use Rattle.amqp_endpoint_linking.specs.Linking.{Link, Links, Session, Talk}
 use Rattle.amqp_endpoint_linking.specs.Handed.{Tells}
 use Rattle.amqp_endpoint_link_hearing.specs.Disposing.{DoneBy, DoneIn, Follows, HearsDisposition, IsReady, Prepares}

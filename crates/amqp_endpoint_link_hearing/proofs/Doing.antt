@@ -9,18 +9,18 @@ use Rattle.amqp_session_core.specs.declared.batch.BehindFrame.TheVariants as beh
 use Rattle.amqp_session_core.specs.Steps.{Changes, Deallocates, SendsBehind}
 use Rattle.amqp_link_base.specs.declared.detached.Detached.{Detached}
 use Rattle.amqp_link_ends.specs.declared.relay.AttachTold.{AttachTold}
-use Rattle.amqp_link_receiving.specs.declared.answer.Told.{Told}
+use Rattle.amqp_link_receiver.specs.declared.answer.Told.{Told}
 use Rattle.amqp_endpoint_links.specs.History.{AskingHistory, AskingAct, InSession}
 use Rattle.amqp_endpoint_model.specs.State.{error_of, fits, frame_of}
 use Rattle.amqp_session_outgoing.specs.Queues.{room_behind}
-use Rattle.amqp_endpoint_lengths.specs.Plain.{SaysConditionAlone}
-use Rattle.amqp_endpoint_lengths.proofs.Frames.{detach_fits, message_size_exceeded-short, not_allowed-short}
-use Rattle.amqp_endpoint_lengths.proofs.Frames.{transfer_limit_exceeded-short}
+use Rattle.amqp_endpoint_fitting.specs.Plain.{SaysConditionAlone}
+use Rattle.amqp_endpoint_fitting.proofs.Frames.{detach_fits, message_size_exceeded-short, not_allowed-short}
+use Rattle.amqp_endpoint_fitting.proofs.Frames.{transfer_limit_exceeded-short}
 use Rattle.amqp_endpoint_fitting.specs.Handed.{AllAskingEndFit, AllAskingHand, AllAskingSendFit}
 use Rattle.amqp_endpoint_fitting.specs.Read.{IsRead}
-use Rattle.amqp_endpoint_talk.specs.Going.{Goes, Rests}
-use Rattle.amqp_endpoint_talk.proofs.Calls.{changed-goes, changed-rests}
-use Rattle.amqp_endpoint_talk.proofs.Goings.{read-behind}
+use Rattle.amqp_endpoint_conversation.specs.Going.{Goes, Rests}
+use Rattle.amqp_endpoint_conversation.proofs.Calls.{changed-goes, changed-rests}
+use Rattle.amqp_endpoint_conversation.proofs.Goings.{read-behind}
 use Rattle.amqp_endpoint_attached.specs.Detaching.{DetachGiven, is_there, own_detach}
 use Rattle.amqp_endpoint_attached.specs.Linked.{Linked, end_at, gives}
 use Rattle.amqp_endpoint_attached.specs.TakenOut.{TakenOut}

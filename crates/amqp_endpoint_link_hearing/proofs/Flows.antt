@@ -14,7 +14,7 @@ use Rattle.amqp_endpoint_model.specs.declared.error.EndpointError.TheVariants as
 use Rattle.amqp_endpoint_model.specs.declared.event.Event.{Event}
 use Rattle.amqp_endpoint_model.specs.Relay.{IsSessionFault}
 use Rattle.amqp_endpoint_model.specs.State.{fits, frame_of}
-use Rattle.amqp_endpoint_talk.specs.Going.{Goes, Rests}
+use Rattle.amqp_endpoint_conversation.specs.Going.{Goes, Rests}
 use Rattle.amqp_endpoint_attached.specs.Linked.{gives}
 use Rattle.amqp_endpoint_linking.specs.Linking.{Links, Talk}
 use Rattle.amqp_endpoint_linking.specs.Handed.{Tells}

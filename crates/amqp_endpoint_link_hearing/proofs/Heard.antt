@@ -15,8 +15,8 @@ use Rattle.amqp_session_core.specs.Told.{AttachTaken, DetachTaken}
 use Rattle.amqp_session_core.specs.Told as told_core
 use Rattle.amqp_link_base.specs.declared.detached.Detached.{Detached}
 use Rattle.amqp_link_ends.specs.declared.relay.AttachTold.{AttachTold}
-use Rattle.amqp_link_receiving.specs.declared.answer.Told.{Told}
-use Rattle.amqp_endpoint_asked.specs.declared.session.AskedSession.{AskedSession}
+use Rattle.amqp_link_receiver.specs.declared.answer.Told.{Told}
+use Rattle.amqp_endpoint_links.specs.declared.session.AskedSession.{AskedSession}
 use Rattle.amqp_endpoint_links.specs.declared.asking.AttachTaken.TheVariants as attach
 use Rattle.amqp_endpoint_links.specs.declared.asking.DetachTaken.TheVariants as detach
 use Rattle.amqp_endpoint_links.specs.declared.asking.NamedLink.TheVariants.{Waiting}
@@ -25,8 +25,8 @@ use Rattle.amqp_endpoint_links.specs.declared.hearing.LinkPerformative.TheVarian
 use Rattle.amqp_endpoint_links.specs.declared.hearing.PerformativeTaken.{PerformativeTaken}
 use Rattle.amqp_endpoint_links.specs.declared.hearing.PerformativeTaken.TheVariants as taken
 use Rattle.amqp_endpoint_links.specs.Asking.{AttachAt, DetachAt, by_link, detached_by, in_use}
-use Rattle.amqp_endpoint_sessions.specs.State.{asked_at, live_at}
-use Rattle.amqp_endpoint_sessions.specs.State as sessions
+use Rattle.amqp_endpoint_tables.specs.State.{asked_at, live_at}
+use Rattle.amqp_endpoint_tables.specs.State as sessions
 use Rattle.amqp_endpoint_conversation.specs.declared.hearing.Heard.TheVariants.{Live}
 use Rattle.amqp_endpoint_conversation.specs.Hearing.{Answered, AnsweredAt, AnsweredIn, LiveTakes}
 use Rattle.amqp_endpoint_attached.specs.Linked.{Linked, gives}

@@ -11,16 +11,16 @@ use Rattle.amqp_session_core.specs.declared.batch.BehindFrame.TheVariants as beh
 use Rattle.amqp_session_core.specs.declared.dispositions.Touched.{Touched}
 use Rattle.amqp_endpoint_links.specs.History.{AskingHistory}
 use Rattle.amqp_endpoint_model.specs.declared.event.Event.{Event}
-use Rattle.amqp_endpoint_talk.specs.Inside.{AreOn, DoneInside, said_in}
-use Rattle.amqp_endpoint_talk.proofs.Inside.{alike-inside, all-on, both-inside, changed-inside, none-said, none-inside}
-use Rattle.amqp_endpoint_talk.proofs.Inside.{one-inside, said-inside, same-inside, silent-behind, step-inside}
+use Rattle.amqp_endpoint_conversation.specs.Inside.{AreOn, DoneInside, said_in}
+use Rattle.amqp_endpoint_conversation.proofs.Inside.{alike-inside, all-on, both-inside, changed-inside, none-said, none-inside}
+use Rattle.amqp_endpoint_conversation.proofs.Inside.{one-inside, said-inside, same-inside, silent-behind, step-inside}
 use Rattle.amqp_endpoint_attached.specs.Detaching.{DetachGiven, is_there, own_detach}
 use Rattle.amqp_endpoint_attached.specs.Linked.{Linked, LinksIn, end_at, gives}
 use Rattle.amqp_endpoint_attached.specs.TakenOut.{TakenOut}
-use Rattle.amqp_endpoint_disposing.specs.Sending.{SendsEach, said_by}
-use Rattle.amqp_endpoint_outcomes.specs.All.{TellsIn, behind_told}
-use Rattle.amqp_endpoint_outcomes.specs.Echoing.{echoes_of}
-use Rattle.amqp_endpoint_outcomes.specs.Reached.{behind_one, behind_reached, end_behind, link_behind}
+use Rattle.amqp_endpoint_messages.specs.Dispositions.{SendsEach, said_by}
+use Rattle.amqp_endpoint_messages.specs.All.{TellsIn, behind_told}
+use Rattle.amqp_endpoint_messages.specs.Echoing.{echoes_of}
+use Rattle.amqp_endpoint_messages.specs.Reached.{behind_one, behind_reached, end_behind, link_behind}
 use Rattle.amqp_endpoint_linking.specs.Linking.{Link, Links}
 use Rattle.amqp_endpoint_link_hearing.specs.Detaching.{TellsAndParts}
 use Rattle.amqp_endpoint_link_hearing.specs.Disposing.{TellsAndEchoes}

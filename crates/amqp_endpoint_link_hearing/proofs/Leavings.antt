@@ -12,16 +12,16 @@ use Rattle.amqp_session_core.specs.Steps.{Changes}
 use Rattle.amqp_session_core.specs.declared.fields.SessionFields.{SessionFields}
 use Rattle.amqp_link_base.specs.declared.detached.Detached.{Detached}
 use Rattle.amqp_endpoint_links.specs.History.{InSession}
-use Rattle.amqp_endpoint_lengths.proofs.Frames.{larger_fits}
-use Rattle.amqp_endpoint_sessions.specs.State.{live_at}
+use Rattle.amqp_endpoint_fitting.proofs.Frames.{larger_fits}
+use Rattle.amqp_endpoint_tables.specs.State.{live_at}
 use Rattle.amqp_endpoint_fitting.specs.Handed.{AllAskingSendFit}
 use Rattle.amqp_endpoint_fitting.specs.Read.{IsRead}
 use Rattle.amqp_endpoint_model.specs.declared.event.Event.{Event}
 use Rattle.amqp_endpoint_model.specs.State.{fits, frame_of}
-use Rattle.amqp_endpoint_talk.specs.Going.{Goes, Rests}
+use Rattle.amqp_endpoint_conversation.specs.Going.{Goes, Rests}
 use Rattle.amqp_endpoint_attached.specs.Detaching.{own_detach}
 use Rattle.amqp_endpoint_attached.specs.Linked.{Linked, LinksIn}
-use Rattle.amqp_endpoint_outcomes.specs.All.{AreCopies, TellsFirst, TellsIn, behind_told, first_told, told_by}
+use Rattle.amqp_endpoint_messages.specs.All.{AreCopies, TellsFirst, TellsIn, behind_told, first_told, told_by}
 use Rattle.amqp_endpoint_linking.specs.Linking.{Link, Links, Session, Talk}
 use Rattle.amqp_endpoint_linking.specs.Handed.{Hands, Tells}
 use Rattle.amqp_endpoint_link_hearing.specs.Detaching.{TellsAndParts, detached_told}

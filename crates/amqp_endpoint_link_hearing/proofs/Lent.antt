@@ -8,11 +8,11 @@ use Rattle.amqp_session_types.specs.declared.error.Error.{Error}
 use Rattle.amqp_session_types.specs.declared.handles.OutputHandle.{OutputHandle}
 use Rattle.amqp_session_performatives.specs.declared.session_frame.SessionFrame.{SessionFrame}
 use Rattle.amqp_session_core.specs.State.{link_at}
-use Rattle.amqp_endpoint_sessions.specs.Lends.{set_live}
-use Rattle.amqp_endpoint_sessions.specs.State.{live_at}
+use Rattle.amqp_endpoint_tables.specs.Lends.{set_live}
+use Rattle.amqp_endpoint_tables.specs.State.{live_at}
 use Rattle.amqp_endpoint_fitting.specs.Read.{IsRead}
 use Rattle.amqp_endpoint_model.specs.State.{fits, frame_of}
-use Rattle.amqp_endpoint_talk.specs.Going.{Goes, Rests}
+use Rattle.amqp_endpoint_conversation.specs.Going.{Goes, Rests}
 use Rattle.amqp_endpoint_attached.specs.Linked.{Linked, end_at}
 use Rattle.amqp_endpoint_linking.specs.Linking.{Link, Session, Sessions, Talk}
 use Rattle.amqp_endpoint_linking.specs.Handed.{Hands}
@@ -21,7 +21,7 @@ use Rattle.amqp_endpoint_link_hearing.specs.Leaving.{HasPlace}
 use Rattle.amqp_endpoint_link_hearing.specs.Naming.{link_in, link_of}
 use Rattle.amqp_endpoint_link_hearing.proofs.Doing.{closes-done, done-goes, done-rests}
 use Rattle.amqp_endpoint_link_hearing.proofs.Lending.{unlent}
-use Rattle.amqp_endpoint_lengths.proofs.Frames.{larger_fits}
+use Rattle.amqp_endpoint_fitting.proofs.Frames.{larger_fits}
 use Rattle.amqp_endpoint_attached.specs.Detaching.{own_detach}
 use Rattle.amqp_endpoint_link_hearing.specs.Leaving.{detach_frame}
 

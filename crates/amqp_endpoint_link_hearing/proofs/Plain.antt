@@ -8,7 +8,7 @@ use Rattle.amqp_link_ends.specs.Standing.{standing_of}
 use Rattle.amqp_link_ends.specs.declared.end.End.{End}
 use Rattle.amqp_link_ends.specs.declared.standing.Standing.{Standing}
 use Rattle.amqp_link_ends.specs.declared.standing.Standing.TheVariants.{Attached, Detaching, Apart}
-use Rattle.amqp_endpoint_talk.specs.Going.{AnswersPlain}
+use Rattle.amqp_endpoint_conversation.specs.Going.{AnswersPlain}
 use Rattle.amqp_endpoint_attached.specs.Linked.{gives}
 use Rattle.amqp_endpoint_attached.proofs.Fitting.{reply_plain}
 

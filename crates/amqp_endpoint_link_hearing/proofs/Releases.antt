@@ -19,9 +19,9 @@ use Rattle.amqp_endpoint_conversation.specs.declared.hearing.Heard.TheVariants.{
 use Rattle.amqp_endpoint_conversation.specs.Hearing.{Answered}
 use Rattle.amqp_endpoint_fitting.specs.Handed.{AllAskingEndFit, AllAskingHand, AllAskingSendFit}
 use Rattle.amqp_endpoint_fitting.specs.Read.{IsRead}
-use Rattle.amqp_endpoint_sessions.specs.State.{live_at}
-use Rattle.amqp_endpoint_talk.specs.Going.{Goes, Rests}
-use Rattle.amqp_endpoint_talk.proofs.Calls.{changed-goes, changed-rests}
+use Rattle.amqp_endpoint_tables.specs.State.{live_at}
+use Rattle.amqp_endpoint_conversation.specs.Going.{Goes, Rests}
+use Rattle.amqp_endpoint_conversation.proofs.Calls.{changed-goes, changed-rests}
 use Rattle.amqp_endpoint_attached.specs.Linked.{Linked, gives}
 use Rattle.amqp_endpoint_attached.specs.TakenOut.{TakenOut}
 use Rattle.amqp_endpoint_linking.specs.Linking.{Link, Links, Session, Talk}

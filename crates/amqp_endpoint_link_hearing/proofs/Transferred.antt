@@ -10,18 +10,18 @@ use Rattle.amqp_session_types.specs.declared.handles.OutputHandle.{OutputHandle}
 use Rattle.amqp_session_performatives.specs.declared.session_frame.SessionFrame.{SessionFrame}
 use Rattle.amqp_session_core.specs.State.{live_in, reached}
 use Rattle.amqp_session_core.specs.declared.incoming.TransferTaken.{TransferTaken}
-use Rattle.amqp_link_receiving.specs.declared.answer.Told.{Told}
-use Rattle.amqp_link_receiving.specs.declared.answer.Told.TheVariants as tells
+use Rattle.amqp_link_receiver.specs.declared.answer.Told.{Told}
+use Rattle.amqp_link_receiver.specs.declared.answer.Told.TheVariants as tells
 use Rattle.amqp_link_types.specs.declared.refusals.ReceiverTransferError.{ReceiverTransferError}
 use Rattle.amqp_endpoint_fitting.specs.Read.{IsRead}
-use Rattle.amqp_endpoint_lengths.proofs.Frames.{larger_fits}
-use Rattle.amqp_endpoint_sessions.specs.State.{live_at}
+use Rattle.amqp_endpoint_fitting.proofs.Frames.{larger_fits}
+use Rattle.amqp_endpoint_tables.specs.State.{live_at}
 use Rattle.amqp_endpoint_model.specs.declared.error.EndpointError.{EndpointError}
 use Rattle.amqp_endpoint_model.specs.declared.error.EndpointError.TheVariants.{Memory}
 use Rattle.amqp_endpoint_model.specs.declared.event.Event.{Event}
 use Rattle.amqp_endpoint_model.specs.State.{error_of, fits, frame_of}
-use Rattle.amqp_endpoint_talk.specs.Going.{Goes, Rests}
-use Rattle.amqp_endpoint_talk.proofs.Goings.{read-behind}
+use Rattle.amqp_endpoint_conversation.specs.Going.{Goes, Rests}
+use Rattle.amqp_endpoint_conversation.proofs.Goings.{read-behind}
 use Rattle.amqp_endpoint_linking.specs.Linking.{Link, Session, Talk}
 use Rattle.amqp_endpoint_linking.specs.Handed.{Hands, Tells}
 use Rattle.amqp_endpoint_link_hearing.specs.InSession.{Closes, GoesOn, name_of}

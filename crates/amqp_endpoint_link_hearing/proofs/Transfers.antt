@@ -10,9 +10,9 @@ use Rattle.amqp_session_core.specs.State.{link_at, live_in, reached}
 use Rattle.amqp_session_core.specs.Told.{TransferAt}
 use Rattle.amqp_session_core.specs.declared.incoming.TransferTaken.{TransferTaken}
 use Rattle.std.specs.FinMap as map
-use Rattle.amqp_link_receiving.specs.declared.answer.Message.{Message}
-use Rattle.amqp_link_receiving.specs.declared.answer.Told.{Told}
-use Rattle.amqp_link_receiving.specs.declared.answer.Told.TheVariants as tells
+use Rattle.amqp_link_receiver.specs.declared.answer.Message.{Message}
+use Rattle.amqp_link_receiver.specs.declared.answer.Told.{Told}
+use Rattle.amqp_link_receiver.specs.declared.answer.Told.TheVariants as tells
 use Rattle.amqp_link_types.specs.declared.refusals.ReceiverTransferError.{ReceiverTransferError}
 use Rattle.amqp_endpoint_links.specs.declared.hearing.LinkPerformative.TheVariants as said
 use Rattle.amqp_endpoint_links.specs.declared.hearing.PerformativeTaken.TheVariants as taken
@@ -24,7 +24,7 @@ use Rattle.amqp_endpoint_model.specs.declared.error.EndpointError.{EndpointError
 use Rattle.amqp_endpoint_model.specs.declared.event.Event.{Event}
 use Rattle.amqp_endpoint_model.specs.Relay.{IsSessionFault}
 use Rattle.amqp_endpoint_model.specs.State.{fits, frame_of}
-use Rattle.amqp_endpoint_talk.proofs.Alone.{answer-alone}
+use Rattle.amqp_endpoint_conversation.proofs.Alone.{answer-alone}
 use Rattle.amqp_endpoint_attached.specs.Linked.{Linked, gives}
 use Rattle.amqp_endpoint_attached.proofs.There.{replaced}
 use Rattle.amqp_endpoint_linking.specs.Linking.{Link, Links, Session, Talk}

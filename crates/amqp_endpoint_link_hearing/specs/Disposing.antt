@@ -11,11 +11,11 @@ use Rattle.amqp_session_core.specs.declared.dispositions.Touched.{Touched}
 use Rattle.amqp_endpoint_links.specs.declared.hearing.LinkPerformative.TheVariants as said
 use Rattle.amqp_endpoint_links.specs.declared.hearing.PerformativeTaken.TheVariants as taken
 use Rattle.amqp_endpoint_conversation.specs.declared.hearing.Heard.TheVariants.{Live}
-use Rattle.amqp_endpoint_sessions.specs.State.{live_at, reached}
+use Rattle.amqp_endpoint_tables.specs.State.{live_at, reached}
 use Rattle.amqp_endpoint_model.specs.declared.event.Event.{Event}
 use Rattle.amqp_endpoint_attached.specs.Linked.{Linked}
-use Rattle.amqp_endpoint_outcomes.specs.Echoing.{EchoFits, SendsEchoes, ServesFor, told_back}
-use Rattle.amqp_endpoint_outcomes.specs.Reached.{behind_reached, reached_told}
+use Rattle.amqp_endpoint_messages.specs.Echoing.{EchoFits, SendsEchoes, ServesFor, told_back}
+use Rattle.amqp_endpoint_messages.specs.Reached.{behind_reached, reached_told}
 use Rattle.amqp_endpoint_linking.specs.Linking.{Links, Session, Talk}
 use Rattle.amqp_endpoint_link_hearing.specs.InSession.{GoesOn}
 use Rattle.amqp_endpoint_link_hearing.specs.Saying.{Answers, FailsBySaid, LinkHeard}

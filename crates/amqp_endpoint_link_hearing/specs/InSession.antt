@@ -3,8 +3,8 @@ use Rattle.std.specs.Prelude.{◌≡◌, ℕ, List, [], Bool, true, false, Optio
 use Rattle.amqp_session_types.specs.declared.error.Error.{Error}
 use Rattle.amqp_session_types.specs.declared.handles.OutputHandle.{OutputHandle}
 use Rattle.amqp_session_performatives.specs.declared.session_frame.SessionFrame.{SessionFrame}
-use Rattle.amqp_endpoint_sessions.specs.Steps.{Step, ChangesLive}
-use Rattle.amqp_endpoint_lengths.specs.Plain.{message_size_exceeded, transfer_limit_exceeded}
+use Rattle.amqp_endpoint_tables.specs.Steps.{Step, ChangesLive}
+use Rattle.amqp_endpoint_fitting.specs.Plain.{message_size_exceeded, transfer_limit_exceeded}
 use Rattle.amqp_endpoint_model.specs.Step.{not_allowed}
 use Rattle.amqp_endpoint_attached.specs.Detaching.{DetachGiven, DetachReplied, is_there}
 use Rattle.amqp_endpoint_attached.specs.Linked.{Linked, end_at}

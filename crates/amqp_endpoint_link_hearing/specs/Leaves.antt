@@ -5,11 +5,11 @@ use Rattle.amqp_session_performatives.specs.declared.detach.Detach.{Detach}
 use Rattle.amqp_session_performatives.specs.declared.session_frame.SessionFrame.{SessionFrame}
 use Rattle.amqp_session_core.specs.State as session_state
 use Rattle.amqp_link_base.specs.declared.detached.Detached.{Detached}
-use Rattle.amqp_endpoint_sessions.specs.State.{live_at, reached}
+use Rattle.amqp_endpoint_tables.specs.State.{live_at, reached}
 use Rattle.amqp_endpoint_model.specs.declared.event.Event.{Event}
 use Rattle.amqp_endpoint_attached.specs.Linked.{Linked, end_at}
 use Rattle.amqp_endpoint_linking.specs.Linking.{Link, Links, Session, Talk}
-use Rattle.amqp_endpoint_outcomes.specs.All.{AreCopies, told_by}
+use Rattle.amqp_endpoint_messages.specs.All.{AreCopies, told_by}
 use Rattle.amqp_endpoint_link_hearing.specs.InSession.{GoesOn}
 use Rattle.amqp_endpoint_link_hearing.specs.Leaving.{HasPlace, IsLeft, repeated}
 use Rattle.amqp_endpoint_link_hearing.specs.Naming.{link_of}

@@ -6,14 +6,14 @@ use Rattle.amqp_session_types.specs.declared.modes.Role.{Role}
 use Rattle.amqp_session_types.specs.declared.modes.Role.TheVariants as role
 use Rattle.amqp_session_performatives.specs.declared.attach.Attach.{Attach}
 use Rattle.amqp_session_core.specs.State.{link_at}
-use Rattle.amqp_link_attach.specs.declared.state.LinkState.{LinkState}
-use Rattle.amqp_link_attach.specs.declared.state.LinkState.TheVariants as state
+use Rattle.amqp_link_base.specs.declared.state.LinkState.{LinkState}
+use Rattle.amqp_link_base.specs.declared.state.LinkState.TheVariants as state
 use Rattle.amqp_link_ends.specs.Ends.{state_of}
 use Rattle.amqp_link_ends.specs.declared.end.End.{End}
 use Rattle.amqp_endpoint_links.specs.declared.asking.NamedLink.{NamedLink}
 use Rattle.amqp_endpoint_links.specs.declared.asking.NamedLink.TheVariants.{Absent, Attached, Waiting}
-use Rattle.amqp_endpoint_names.specs.State.{Names, held_at}
-use Rattle.amqp_endpoint_sessions.specs.State.{live_at, reached}
+use Rattle.amqp_endpoint_tables.specs.LinkState.{Names, held_at}
+use Rattle.amqp_endpoint_tables.specs.State.{live_at, reached}
 use Rattle.amqp_endpoint_attached.specs.Ends.{role_of}
 use Rattle.amqp_endpoint_linking.specs.Linking.{Link, Links, Session, Talk}
 

@@ -14,16 +14,16 @@ use Rattle.amqp_link_types.specs.declared.refusals.ReceiverTransferError.TheVari
 use Rattle.amqp_link_message.specs.Making.{bare}
 use Rattle.amqp_link_message.specs.declared.delivery.Delivery.{Delivery}
 use Rattle.amqp_link_message.specs.declared.raw.Raw.{Raw}
-use Rattle.amqp_link_receiving.specs.declared.answer.Message.{Message}
-use Rattle.amqp_link_receiving.specs.declared.answer.Told.{Told}
-use Rattle.amqp_link_receiving.specs.declared.answer.Told.TheVariants as told
+use Rattle.amqp_link_receiver.specs.declared.answer.Message.{Message}
+use Rattle.amqp_link_receiver.specs.declared.answer.Told.{Told}
+use Rattle.amqp_link_receiver.specs.declared.answer.Told.TheVariants as told
 use Rattle.amqp_link_receiver.specs.Disposing.{message_numbered}
 use Rattle.amqp_link_ends.specs.declared.end.End.{End}
 use Rattle.amqp_link_ends.specs.declared.end.End.TheVariants.{Receiver, Sender}
 use Rattle.amqp_endpoint_links.specs.declared.hearing.LinkPerformative.TheVariants as said
 use Rattle.amqp_endpoint_links.specs.declared.hearing.PerformativeTaken.TheVariants as taken
 use Rattle.amqp_endpoint_conversation.specs.declared.hearing.Heard.TheVariants.{Live}
-use Rattle.amqp_endpoint_sessions.specs.State.{live_at}
+use Rattle.amqp_endpoint_tables.specs.State.{live_at}
 use Rattle.amqp_endpoint_model.specs.declared.error.EndpointError.{EndpointError}
 use Rattle.amqp_endpoint_model.specs.declared.error.EndpointError.TheVariants.{Memory, NumbersUsedUp}
 use Rattle.amqp_endpoint_model.specs.declared.event.Event.{Event}

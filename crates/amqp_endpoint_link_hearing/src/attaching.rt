@@ -6,8 +6,8 @@ ghost use Rattle.amqp_endpoint_links.specs.declared.asking.NamedLink.TheVariants
 ghost use Rattle.amqp_endpoint_model.specs.Relay.{IsSessionFault};
 ghost use Rattle.amqp_endpoint_model.specs.State.{error_of};
 ghost use Rattle.amqp_endpoint_model.specs.Step.{not_allowed};
-ghost use Rattle.amqp_endpoint_sessions.specs.State.{live_at};
-ghost use Rattle.amqp_endpoint_talk.specs.Going.{Goes, Rests};
+ghost use Rattle.amqp_endpoint_tables.specs.State.{live_at};
+ghost use Rattle.amqp_endpoint_conversation.specs.Going.{Goes, Rests};
 ghost use Rattle.amqp_endpoint_linking.specs.Linking.{Session};
 ghost use Rattle.amqp_endpoint_linking.specs.Handed.{Tells};
 ghost use Rattle.amqp_endpoint_link_hearing.specs.Attaching.{Becomes, ByLink, HearsAttach, RefusesAttach};
@@ -25,13 +25,13 @@ use crate::refusing::refuse;
 use amqp_endpoint_conversation::Conversation;
 use amqp_endpoint_links::{LinkPerformative, NamedLink, Numbered};
 use amqp_endpoint_model::{Attached as AttachedEvent, EndpointError, Event, LinkAsked, Refused};
-use amqp_endpoint_names::Links;
-use amqp_link_attach::AttachExchange;
+use amqp_endpoint_tables::Links;
+use amqp_link_base::AttachExchange;
 use amqp_link_ends::{AttachTold, LinkEnd};
 use amqp_link_receiver::Attached;
 use amqp_link_sender::{AttachAnswer, Attaching};
-use amqp_link_sender_messages::Abort;
 use amqp_link_types::LinkError;
+use amqp_link_unsettled::Abort;
 use amqp_session_performatives::{Attach, SessionFrame};
 use amqp_session_types::{Boxed, IncomingChannel, OutputHandle};
 use serde_amqp_types::Array;
@@ -159,7 +159,7 @@ fn take_attach(
     ensures rests { Rests talk.old talk.new out.old.items out.new.items }
 {
     let said = LinkPerformative::Attach(attach, named);
-    match amqp_endpoint_talk::hear(talk, alloc, out, channel, said) {
+    match amqp_endpoint_conversation::hear(talk, alloc, out, channel, said) {
         Ok(heard) => {
             let took = attach_of(heard);
             Ok(attach_heard(talk, alloc, took, named, closing, asked, out, events))

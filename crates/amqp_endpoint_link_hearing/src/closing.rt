@@ -3,10 +3,10 @@ ghost use Rattle.std.specs.Prelude.{◌≡◌, ◌≤◌, ◌<◌, ◌+◌, ℕ,
 ghost use Rattle.std.specs.VecDeque.{deque_capacity, deque_len};
 ghost use Rattle.amqp_session_outgoing.specs.Queues.{room_behind};
 ghost use Rattle.amqp_endpoint_model.specs.State.{error_of};
-ghost use Rattle.amqp_endpoint_sessions.specs.State.{live_at};
+ghost use Rattle.amqp_endpoint_tables.specs.State.{live_at};
 ghost use Rattle.amqp_endpoint_attached.specs.Detaching.{is_there};
 ghost use Rattle.amqp_endpoint_attached.specs.Linked.{end_at};
-ghost use Rattle.amqp_endpoint_talk.specs.Going.{Goes, Rests};
+ghost use Rattle.amqp_endpoint_conversation.specs.Going.{Goes, Rests};
 ghost use Rattle.amqp_endpoint_linking.specs.Handed.{Hands};
 ghost use Rattle.amqp_endpoint_linking.specs.Linking.{Session};
 ghost use Rattle.amqp_endpoint_link_hearing.specs.InSession.{Closes, GoesOn, name_of};

@@ -4,11 +4,11 @@ ghost use Rattle.std.specs.Vec.{vec_capacity, vec_len};
 ghost use Rattle.std.specs.VecDeque.{deque_capacity, deque_len};
 ghost use Rattle.amqp_endpoint_links.specs.declared.hearing.LinkPerformative.TheVariants as said;
 ghost use Rattle.amqp_endpoint_model.specs.Relay.{IsSessionFault};
-ghost use Rattle.amqp_endpoint_talk.specs.Going.{Goes, Rests};
+ghost use Rattle.amqp_endpoint_conversation.specs.Going.{Goes, Rests};
 ghost use Rattle.amqp_endpoint_attached.specs.Linked.{end_at};
-ghost use Rattle.amqp_endpoint_outcomes.specs.All.{AreCopies};
+ghost use Rattle.amqp_endpoint_messages.specs.All.{AreCopies};
 ghost use Rattle.amqp_endpoint_linking.specs.Handed.{Tells};
-ghost use Rattle.amqp_endpoint_sessions.specs.State.{live_at};
+ghost use Rattle.amqp_endpoint_tables.specs.State.{live_at};
 ghost use Rattle.amqp_endpoint_linking.specs.Linking.{Session};
 ghost use Rattle.amqp_endpoint_link_hearing.specs.Detaching.{HearsDetach, detached_told, ending};
 ghost use Rattle.amqp_endpoint_link_hearing.specs.Leaves.{LeavesBy, LinkLeaves, Prepares, ReadyFor, StandsFor};
@@ -24,9 +24,9 @@ use crate::refusing::refuse;
 use amqp_endpoint_attached::LinkSession;
 use amqp_endpoint_conversation::Conversation;
 use amqp_endpoint_links::{LinkPerformative, Numbered};
+use amqp_endpoint_messages::open_count;
 use amqp_endpoint_model::{Detached as DetachedEvent, EndpointError, Event};
-use amqp_endpoint_names::Links;
-use amqp_endpoint_outcomes::open_count;
+use amqp_endpoint_tables::Links;
 use amqp_link_base::Detached;
 use amqp_link_ends::LinkEnd;
 use amqp_session_performatives::{Detach, SessionFrame};
@@ -142,7 +142,7 @@ fn take_detach(
     ensures rests { Rests talk.old talk.new out.old.items out.new.items }
 {
     let said = LinkPerformative::Detach(detach);
-    match amqp_endpoint_talk::hear(talk, alloc, out, channel, said) {
+    match amqp_endpoint_conversation::hear(talk, alloc, out, channel, said) {
         Ok(heard) => {
             let took = detach_of(heard);
             detach_heard(talk, links, took, ready, out, events);

@@ -4,7 +4,7 @@ ghost use Rattle.std.specs.Vec.{vec_capacity, vec_len};
 ghost use Rattle.std.specs.VecDeque.{deque_capacity, deque_len};
 ghost use Rattle.amqp_endpoint_links.specs.declared.hearing.LinkPerformative.TheVariants as said;
 ghost use Rattle.amqp_endpoint_model.specs.Relay.{IsSessionFault};
-ghost use Rattle.amqp_endpoint_talk.specs.Going.{Goes, Rests, Within};
+ghost use Rattle.amqp_endpoint_conversation.specs.Going.{Goes, Rests, Within};
 ghost use Rattle.amqp_endpoint_linking.specs.Handed.{Tells};
 ghost use Rattle.amqp_endpoint_link_hearing.specs.Disposing.{DoneBy, HearsDisposition, IsReady, Prepares, Serves};
 ghost use Rattle.amqp_endpoint_link_hearing.specs.Disposing.{StandsFor, TellsAndEchoes, count_of, runs_of};
@@ -16,12 +16,12 @@ use amqp_endpoint_attached::LinkSession;
 use amqp_endpoint_conversation::{Conversation, Heard};
 use amqp_endpoint_fitting::frames_are_read;
 use amqp_endpoint_links::{LinkPerformative, Numbered, PerformativeTaken};
+use amqp_endpoint_messages::{Echoes, make_echoes, reached_by, send_echoes, tell_reached};
 use amqp_endpoint_model::{EndpointError, Event};
-use amqp_endpoint_names::Links;
-use amqp_endpoint_outcomes::{Echoes, make_echoes, reached_by, send_echoes, tell_reached};
+use amqp_endpoint_tables::Links;
 use amqp_link_base::Detached;
 use amqp_link_ends::{AttachTold, LinkEnd};
-use amqp_link_receiving::Told;
+use amqp_link_receiver::Told;
 use amqp_session_core::{DeliveryRuns, Touched};
 use amqp_session_performatives::{Disposition, SessionFrame};
 use amqp_session_types::IncomingChannel;
@@ -115,7 +115,7 @@ fn take_disposition(
     ensures rests { Rests talk.old talk.new out.old.items out.new.items }
 {
     let said = LinkPerformative::Disposition(disposition);
-    match amqp_endpoint_talk::hear(talk, alloc, out, channel, said) {
+    match amqp_endpoint_conversation::hear(talk, alloc, out, channel, said) {
         Ok(heard) => {
             let took = runs_of(heard);
             disposition_heard(talk, limit, took, ready, out, events);

@@ -4,8 +4,8 @@ ghost use Rattle.std.specs.Vec.{vec_capacity, vec_len};
 ghost use Rattle.amqp_endpoint_links.specs.declared.hearing.LinkPerformative.TheVariants as said;
 ghost use Rattle.amqp_session_core.specs.State.{link_at};
 ghost use Rattle.amqp_endpoint_model.specs.Relay.{IsSessionFault};
-ghost use Rattle.amqp_endpoint_sessions.specs.State.{live_at};
-ghost use Rattle.amqp_endpoint_talk.specs.Going.{Goes, Rests};
+ghost use Rattle.amqp_endpoint_tables.specs.State.{live_at};
+ghost use Rattle.amqp_endpoint_conversation.specs.Going.{Goes, Rests};
 ghost use Rattle.amqp_endpoint_linking.specs.Handed.{Tells};
 ghost use Rattle.amqp_endpoint_link_hearing.specs.Flowing.{HearsFlow, LeaveWith, LeavesOnce, LeavesWith, LetsGo};
 ghost use Rattle.amqp_endpoint_link_hearing.specs.Flowing.{ended, ended_link};
@@ -18,8 +18,8 @@ use amqp_endpoint_attached::{LinkSession, take_out};
 use amqp_endpoint_conversation::Conversation;
 use amqp_endpoint_links::{LinkPerformative, Numbered};
 use amqp_endpoint_model::{EndpointError, Event};
-use amqp_endpoint_names::Links;
-use amqp_link_attach::LinkState;
+use amqp_endpoint_tables::Links;
+use amqp_link_base::LinkState;
 use amqp_link_ends::LinkEnd;
 use amqp_session_performatives::{Flow, SessionFrame, SessionFrameBody};
 use amqp_session_types::{IncomingChannel, OutputHandle};
@@ -84,7 +84,7 @@ fn take_flow(
 {
     let from = out.len();
     let said = LinkPerformative::Flow(flow);
-    match amqp_endpoint_talk::hear(talk, alloc, out, channel, said) {
+    match amqp_endpoint_conversation::hear(talk, alloc, out, channel, said) {
         Ok(heard) => {
             let_go(talk, links, session_of(heard), out, from);
             Ok(())

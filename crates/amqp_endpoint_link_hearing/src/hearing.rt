@@ -6,7 +6,7 @@ use amqp_endpoint_conversation::Heard;
 use amqp_endpoint_links::{AttachTaken, DetachTaken, PerformativeTaken};
 use amqp_link_base::Detached;
 use amqp_link_ends::AttachTold;
-use amqp_link_receiving::Told;
+use amqp_link_receiver::Told;
 
 /// What comes of a peer's Attach.
 #[derive(Drop)]

@@ -1,18 +1,16 @@
 //! A link whose attachment the peer ended leaves its session (part 2, 2.6.4 to 2.6.6).
-ghost use Rattle.std.specs.Prelude.{◌≡◌, ◌+◌, ◌≤◌, ◌<◌, ◌^◌, ◌++◌, ℕ, IsSome, IsTrue, ◌↔◌, IfOk, Option, Some, true};
+ghost use Rattle.std.specs.Prelude.{◌≡◌, ◌+◌, ◌≤◌, ◌<◌, ◌^◌, ◌++◌, ℕ, IsSome, IfOk, Option, Some, true};
 ghost use Rattle.std.specs.Vec.{vec_capacity, vec_len};
 ghost use Rattle.std.specs.VecDeque.{deque_capacity, deque_len};
-ghost use Rattle.serde_amqp_item.specs.Canon.{canon};
 ghost use Rattle.amqp_session_types.specs.declared.error.Error.{Error};
 ghost use Rattle.amqp_session_core.specs.State.{link_at};
 ghost use Rattle.amqp_session_outgoing.specs.Queues.{room_behind};
-ghost use Rattle.amqp_link_unsettled.specs.Listing.{FitsText};
 ghost use Rattle.amqp_endpoint_model.specs.State.{fits, frame_of};
-ghost use Rattle.amqp_endpoint_talk.specs.Going.{Goes, Rests};
-ghost use Rattle.amqp_endpoint_sessions.specs.State.{live_at};
+ghost use Rattle.amqp_endpoint_conversation.specs.Going.{Goes, Rests};
+ghost use Rattle.amqp_endpoint_tables.specs.State.{live_at};
 ghost use Rattle.amqp_endpoint_attached.specs.Detaching.{own_detach};
 ghost use Rattle.amqp_endpoint_attached.specs.Linked.{end_at};
-ghost use Rattle.amqp_endpoint_outcomes.specs.All.{AreCopies, first_told};
+ghost use Rattle.amqp_endpoint_messages.specs.All.{AreCopies, first_told};
 ghost use Rattle.amqp_endpoint_linking.specs.GivingBack.{IsAtRest, IsClosed};
 ghost use Rattle.amqp_endpoint_linking.specs.Handed.{Hands};
 ghost use Rattle.amqp_endpoint_linking.specs.Linking.{Session};
@@ -25,23 +23,20 @@ use amqp_endpoint_attached::{LinkSession, answer_detach, take_out};
 use amqp_endpoint_conversation::Conversation;
 use amqp_endpoint_fitting::frames_are_read;
 use amqp_endpoint_links::Numbered;
+use amqp_endpoint_messages::tell_first;
 use amqp_endpoint_model::Event;
-use amqp_endpoint_names::Links;
-use amqp_endpoint_outcomes::tell_first;
+use amqp_endpoint_tables::Links;
 use amqp_link_ends::LinkEnd;
+use amqp_link_unsettled::fits_text;
 use amqp_session_core::BehindFrame;
 use amqp_session_outgoing::Place;
 use amqp_session_performatives::{Detach, SessionFrame};
 use amqp_session_types::{Handle, OutgoingChannel, OutputHandle, definitions};
-use serde_amqp_ser::{Serialize, serialized_size};
 use std::alloc::AllocError;
 use std::collections::VecDeque;
 
 /// How many bytes every peer takes in a frame (part 2, 2.4.1).
 const LEAST_LIMIT: u32 = 512;
-
-/// How many bytes of a frame stand before its performative (part 2, 2.3.1).
-const HEAD: usize = 8;
 
 /// The answer to a peer's Detach, for which there is room.
 #[derive(Drop)]
@@ -210,14 +205,4 @@ fn fits(_channel: OutgoingChannel, detach: &Detach) -> bool
     ensures { result ≡ fits 512 (frame_of (detach_frame _channel detach.now)) }
 {
     fits_text(detach, LEAST_LIMIT)
-}
-
-/// Whether a performative fits a frame of so many bytes.
-fn fits_text<T: Serialize>(value: &T, limit: u32) -> bool
-    ensures { IsTrue result ↔ FitsText limit (canon (T.item value.now)) }
-{
-    match serialized_size(value) {
-        Ok(size) => size.saturating_add(HEAD) <= limit as usize,
-        Err(_) => false,
-    }
 }

@@ -7,7 +7,7 @@ use amqp_endpoint_conversation::HearRefusal;
 use amqp_endpoint_linking::give_back;
 use amqp_endpoint_links::Numbered;
 use amqp_endpoint_model::{EndpointError, Event, Refused};
-use amqp_endpoint_names::Links;
+use amqp_endpoint_tables::Links;
 use amqp_link_ends::LinkEnd;
 use amqp_session_types::ConnectionError;
 

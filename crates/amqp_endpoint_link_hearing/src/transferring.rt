@@ -6,8 +6,8 @@ ghost use Rattle.std.specs.VecDeque.{deque_capacity, deque_len};
 ghost use Rattle.amqp_endpoint_fitting.specs.Read.{IsRead};
 ghost use Rattle.amqp_endpoint_model.specs.Relay.{IsSessionFault};
 ghost use Rattle.amqp_endpoint_model.specs.declared.error.EndpointError.TheVariants.{Memory};
-ghost use Rattle.amqp_endpoint_sessions.specs.State.{live_at};
-ghost use Rattle.amqp_endpoint_talk.specs.Going.{Goes, Rests};
+ghost use Rattle.amqp_endpoint_tables.specs.State.{live_at};
+ghost use Rattle.amqp_endpoint_conversation.specs.Going.{Goes, Rests};
 ghost use Rattle.amqp_endpoint_linking.specs.Handed.{Tells};
 ghost use Rattle.amqp_endpoint_linking.specs.Linking.{Session};
 ghost use Rattle.amqp_endpoint_link_hearing.specs.Leaving.{HasPlace};
@@ -27,10 +27,10 @@ use amqp_endpoint_conversation::{Conversation, Heard};
 use amqp_endpoint_fitting::frames_are_read;
 use amqp_endpoint_links::{LinkPerformative, Numbered, PerformativeTaken};
 use amqp_endpoint_model::{EndpointError, Event, Refused};
-use amqp_endpoint_names::Links;
+use amqp_endpoint_tables::Links;
 use amqp_link_base::Detached;
 use amqp_link_ends::{AttachTold, LinkEnd};
-use amqp_link_receiving::Told;
+use amqp_link_receiver::Told;
 use amqp_link_types::{LinkError, ReceiverTransferError};
 use amqp_session_core::TransferTaken;
 use amqp_session_performatives::{SessionFrame, Transfer};
@@ -138,7 +138,7 @@ fn take_transfer(
 {
     let handle = transfer.handle;
     let said = LinkPerformative::Transfer(transfer, payload);
-    match amqp_endpoint_talk::hear(talk, alloc, out, channel, said) {
+    match amqp_endpoint_conversation::hear(talk, alloc, out, channel, said) {
         Ok(heard) => {
             let took = transfer_of(heard);
             match transfer_heard(talk, given, alloc, handle, took, out, events) {

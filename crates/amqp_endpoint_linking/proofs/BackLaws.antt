@@ -4,14 +4,14 @@ use Rattle.std.proofs.Common.{subst, length}
 use Rattle.std.proofs.lemmas.List.Elements.{All-cons, All-nil}
 use Rattle.amqp_link_ends.specs.declared.end.End.{End}
 use Rattle.std.specs.Prelude.{Result, ⊤}
-use Rattle.amqp_endpoint_names.specs.declared.place.LinkPlace.{LinkPlace}
-use Rattle.amqp_endpoint_names.specs.Steps.{Closed, Closes, Rested, Rests}
+use Rattle.amqp_endpoint_tables.specs.declared.link_place.LinkPlace.{LinkPlace}
+use Rattle.amqp_endpoint_tables.specs.LinkSteps.{Closed, Closes, Rested, Rests}
 use Rattle.amqp_endpoint_attached.specs.Ends.{broken, is_closed_end}
 use Rattle.amqp_endpoint_linking.specs.Linking.{Link, Links, Session, Sessions, Talk, links_of}
 use Rattle.amqp_endpoint_linking.specs.GivingBack.{AllGivenBack, GoOn, IsAtRest, IsClosed, IsGivenBack}
 use Rattle.amqp_endpoint_linking.specs.GivingBack.{SessionGivenBack, StandsAs}
 use Rattle.amqp_endpoint_linking.specs.Ending.{Finishes, FinishesFirst, Leaves, LeavesFirst, session_of}
-use Rattle.amqp_endpoint_sessions.specs.State.{live_of}
+use Rattle.amqp_endpoint_tables.specs.State.{live_of}
 
 none-needed : (old new : Links) → new ≡ old → GoOn old new
 none-needed old new is = record { steps = []; history = is; given_back = All-nil IsGivenBack }

@@ -10,7 +10,7 @@ use Rattle.amqp_endpoint_conversation.specs.Ending.{EndsHere, IsMapped, end_fram
 use Rattle.amqp_endpoint_conversation.specs.Faults.{fault_error}
 use Rattle.amqp_endpoint_model.specs.declared.event.Event.{Event}
 use Rattle.amqp_endpoint_model.specs.State.{fits, frame_of}
-use Rattle.amqp_endpoint_talk.specs.Going.{Goes, Rests}
+use Rattle.amqp_endpoint_conversation.specs.Going.{Goes, Rests}
 use Rattle.amqp_endpoint_attached.specs.Linked.{gives}
 use Rattle.amqp_endpoint_linking.specs.Linking.{Links, Session, Talk, links_of}
 use Rattle.amqp_endpoint_linking.specs.GivingBack.{AllGivenBack}

@@ -8,7 +8,7 @@ use Rattle.amqp_session_types.specs.declared.refusals.SessionError.TheVariants.{
 use Rattle.amqp_session_performatives.specs.declared.begin.Begin.{Begin}
 use Rattle.amqp_session_performatives.specs.declared.end.End.{End}
 use Rattle.amqp_session_performatives.specs.declared.session_frame.SessionFrame.{SessionFrame}
-use Rattle.amqp_endpoint_sessions.specs.State.{live_at, place_at, reached}
+use Rattle.amqp_endpoint_tables.specs.State.{live_at, place_at, reached}
 use Rattle.amqp_endpoint_conversation.specs.declared.beginning.BeginHeard.{BeginHeard}
 use Rattle.amqp_endpoint_conversation.specs.declared.beginning.BeginRefusal.{BeginRefusal}
 use Rattle.amqp_endpoint_conversation.specs.declared.beginning.BeginRefusal.TheVariants.{Session as SessionRefuses}
@@ -16,8 +16,8 @@ use Rattle.amqp_endpoint_conversation.specs.declared.ending.EndHeard.{EndHeard}
 use Rattle.amqp_endpoint_conversation.specs.Beginning.{BeginAnswered}
 use Rattle.amqp_endpoint_conversation.specs.Ending.{EndAnswered}
 use Rattle.amqp_endpoint_model.specs.declared.event.Event.{Event}
-use Rattle.amqp_endpoint_talk.specs.Going.{Goes}
-use Rattle.amqp_endpoint_talk.proofs.Alone.{begin-alone, end-alone}
+use Rattle.amqp_endpoint_conversation.specs.Going.{Goes}
+use Rattle.amqp_endpoint_conversation.proofs.Alone.{begin-alone, end-alone}
 use Rattle.amqp_endpoint_attached.specs.Linked.{gives}
 use Rattle.amqp_endpoint_linking.specs.Linking.{Link, Links, Stood, Talk}
 use Rattle.amqp_endpoint_linking.specs.GivingBack.{SessionGivenBack}

@@ -2,8 +2,8 @@
 use Rattle.std.proofs.Common.{ℕ, zero, suc}
 use Rattle.amqp_endpoint_linking.specs.Ending.{FinishesFirst, LeavesFirst}
 use Rattle.amqp_endpoint_linking.specs.Linking.{Links, Sessions}
-use Rattle.amqp_endpoint_talk.specs.Clearing.{ClearsFirst}
-use Rattle.amqp_endpoint_talk.proofs.Clearing.{finished-clears, left-clears, nothing-cleared, one-more}
+use Rattle.amqp_endpoint_conversation.specs.Clearing.{ClearsFirst}
+use Rattle.amqp_endpoint_conversation.proofs.Clearing.{finished-clears, left-clears, nothing-cleared, one-more}
 
 pub left-first : (number : ℕ) (old : Sessions) (links : Links) (new : Sessions) (links_new : Links)
     → LeavesFirst number old links new links_new → ClearsFirst number old new

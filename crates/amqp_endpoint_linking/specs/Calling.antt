@@ -5,8 +5,8 @@ use Rattle.amqp_session_types.specs.declared.refusals.BeginError.{BeginError}
 use Rattle.amqp_session_types.specs.declared.refusals.BeginError.TheVariants as begin
 use Rattle.amqp_session_types.specs.declared.refusals.SessionError.{SessionError}
 use Rattle.amqp_session_performatives.specs.declared.session_frame.SessionFrame.{SessionFrame}
-use Rattle.amqp_session_connection.specs.Steps.{RefusesSession}
-use Rattle.amqp_endpoint_sessions.specs.State.{live_at, place_at}
+use Rattle.amqp_session_frames.specs.Steps.{RefusesSession}
+use Rattle.amqp_endpoint_tables.specs.State.{live_at, place_at}
 use Rattle.amqp_endpoint_conversation.specs.declared.beginning.AcceptRefusal.{AcceptRefusal}
 use Rattle.amqp_endpoint_conversation.specs.declared.beginning.AcceptRefusal.TheVariants as accept
 use Rattle.amqp_endpoint_conversation.specs.Beginning.{AcceptsHere, BeginsHere, RefusesAccept}

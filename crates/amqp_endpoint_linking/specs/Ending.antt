@@ -1,8 +1,8 @@
 -- How sessions end with their connection, and their links with them (part 2, 2.4.3, 2.5.2).
 use Rattle.std.specs.Prelude.{◌≡◌, ℕ, zero, suc, length, Option, Some, None}
 use Rattle.amqp_session_types.specs.declared.channels.OutgoingChannel.{OutgoingChannel}
-use Rattle.amqp_endpoint_sessions.specs.State.{live_of}
-use Rattle.amqp_endpoint_sessions.specs.Steps.{EndSent, Finished}
+use Rattle.amqp_endpoint_tables.specs.State.{live_of}
+use Rattle.amqp_endpoint_tables.specs.Steps.{EndSent, Finished}
 use Rattle.amqp_endpoint_linking.specs.Linking.{Links, Session, Sessions, Stood, Talk}
 use Rattle.amqp_endpoint_linking.specs.GivingBack.{SessionGivenBack}
 

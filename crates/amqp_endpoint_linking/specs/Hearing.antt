@@ -7,11 +7,11 @@ use Rattle.amqp_session_types.specs.declared.refusals.SessionError.{SessionError
 use Rattle.amqp_session_performatives.specs.declared.begin.Begin.{Begin}
 use Rattle.amqp_session_performatives.specs.declared.end.End.{End}
 use Rattle.amqp_session_performatives.specs.declared.session_frame.SessionFrame.{SessionFrame}
-use Rattle.amqp_session_connection.specs.declared.state.ConnectionState.{ConnectionState}
-use Rattle.amqp_session_connection.specs.declared.state.ConnectionState.TheVariants.{OpenClosePipe, ClosePipe}
-use Rattle.amqp_session_connection.specs.declared.state.ConnectionState.TheVariants.{CloseSent, Discarding}
-use Rattle.amqp_session_connection.specs.declared.state.ConnectionState.TheVariants as state
-use Rattle.amqp_endpoint_sessions.specs.declared.place.Place.TheVariants as place
+use Rattle.amqp_session_frames.specs.declared.state.ConnectionState.{ConnectionState}
+use Rattle.amqp_session_frames.specs.declared.state.ConnectionState.TheVariants.{OpenClosePipe, ClosePipe}
+use Rattle.amqp_session_frames.specs.declared.state.ConnectionState.TheVariants.{CloseSent, Discarding}
+use Rattle.amqp_session_frames.specs.declared.state.ConnectionState.TheVariants as state
+use Rattle.amqp_endpoint_tables.specs.declared.place.Place.TheVariants as place
 use Rattle.amqp_endpoint_conversation.specs.declared.beginning.BeginHeard.{BeginHeard}
 use Rattle.amqp_endpoint_conversation.specs.declared.beginning.BeginHeard.TheVariants.{Asked, Begun, Dropped}
 use Rattle.amqp_endpoint_conversation.specs.declared.beginning.BeginRefusal.TheVariants.{Connection}

@@ -3,10 +3,10 @@ use Rattle.std.specs.Prelude.{List}
 use Rattle.std.specs.Global.{Box}
 use Rattle.amqp_session_core.specs.State.{links_in}
 use Rattle.amqp_link_ends.specs.declared.end.End.{End}
-use Rattle.amqp_endpoint_asked.specs.declared.session.AskedSession.{AskedSession}
+use Rattle.amqp_endpoint_links.specs.declared.session.AskedSession.{AskedSession}
 use Rattle.amqp_endpoint_links.specs.declared.numbered.Numbered.{Numbered}
-use Rattle.amqp_endpoint_names.specs.State as names
-use Rattle.amqp_endpoint_sessions.specs.declared.place.Place.{Place}
+use Rattle.amqp_endpoint_tables.specs.LinkState as names
+use Rattle.amqp_endpoint_tables.specs.declared.place.Place.{Place}
 use Rattle.amqp_endpoint_conversation.specs.declared.conversation.Conversation.{Conversation}
 use Rattle.amqp_endpoint_conversation.specs.Beginning as conversation
 use Rattle.amqp_endpoint_attached.specs.Linked.{Linked}

@@ -4,7 +4,7 @@ ghost use Rattle.amqp_endpoint_linking.specs.Linking.{links_of};
 
 use amqp_endpoint_attached::{LinkSession, break_off, is_closed};
 use amqp_endpoint_links::Numbered;
-use amqp_endpoint_names::Links;
+use amqp_endpoint_tables::Links;
 use amqp_link_ends::LinkEnd;
 use amqp_session_core::Links as LinksLeft;
 

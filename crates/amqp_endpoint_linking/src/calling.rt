@@ -1,7 +1,7 @@
 //! How sessions begin and end here, by a call or by their fault (part 2, 2.5.1, 2.5.2).
 ghost use Rattle.std.specs.Prelude.{◌≡◌, ◌<◌, ◌++◌, ℕ, IfErr, IfOk, OnErr, OnOk};
 ghost use Rattle.std.specs.Vec.{vec_capacity, vec_len};
-ghost use Rattle.amqp_endpoint_talk.specs.Going.{Goes, Rests};
+ghost use Rattle.amqp_endpoint_conversation.specs.Going.{Goes, Rests};
 ghost use Rattle.amqp_endpoint_linking.specs.Calling.{Accepts, BarsAccepting, BarsBeginning, BarsEnding, BarsFailing};
 ghost use Rattle.amqp_endpoint_linking.specs.Calling.{Begins, EndsOwn, Fails, fault_told, of_begin};
 ghost use Rattle.amqp_endpoint_linking.specs.Handed.{Hands, Tells};
@@ -10,7 +10,7 @@ use crate::back::give_back;
 use amqp_endpoint_conversation::{AcceptRefusal, Conversation};
 use amqp_endpoint_links::Numbered;
 use amqp_endpoint_model::{EndpointError, Event, Refused};
-use amqp_endpoint_names::Links;
+use amqp_endpoint_tables::Links;
 use amqp_link_ends::LinkEnd;
 use amqp_session_performatives::SessionFrame;
 use amqp_session_types::{BeginError, IncomingChannel, SessionError};
@@ -33,7 +33,7 @@ pub fn begin(
     ensures kept { OnErr result ((talk.new ≡ talk.old) × (out.new.items ≡ out.old.items)) }
     ensures goes { (limit : ℕ) → Goes limit talk.old talk.new out.old.items out.new.items }
 {
-    match amqp_endpoint_talk::begin(talk, alloc, out) {
+    match amqp_endpoint_conversation::begin(talk, alloc, out) {
         Ok(number) => Ok(number),
         Err(error) => Err(of_begin(&error)),
     }
@@ -58,7 +58,7 @@ pub fn accept_begin(
     ensures kept { OnErr result ((talk.new ≡ talk.old) × (out.new.items ≡ out.old.items)) }
     ensures goes { (limit : ℕ) → Goes limit talk.old talk.new out.old.items out.new.items }
 {
-    match amqp_endpoint_talk::accept(talk, alloc, out, channel) {
+    match amqp_endpoint_conversation::accept(talk, alloc, out, channel) {
         Ok(number) => Ok(number),
         Err(AcceptRefusal::NotAsked) => Err(EndpointError::NotAsked),
         Err(AcceptRefusal::Unbegun(error)) => Err(of_begin(&error)),
@@ -90,7 +90,7 @@ pub fn end(
     if !talk.is_mapped(number) {
         return Err(EndpointError::IllegalState);
     }
-    match amqp_endpoint_talk::end(talk, out, number, None) {
+    match amqp_endpoint_conversation::end(talk, out, number, None) {
         Ok(session) => {
             give_back(links, session);
             Ok(())
@@ -129,7 +129,7 @@ pub fn fail(
     if events.reserve(1).is_err() {
         return Err(EndpointError::Memory);
     }
-    match amqp_endpoint_talk::fail(talk, alloc, out, number, &fault) {
+    match amqp_endpoint_conversation::fail(talk, alloc, out, number, &fault) {
         Ok(failed) => {
             give_back(links, failed);
             tell_fault(number, fault, events);

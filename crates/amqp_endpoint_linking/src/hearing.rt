@@ -2,8 +2,8 @@
 ghost use Rattle.std.specs.Prelude.{◌≡◌, ◌<◌, ◌++◌, ℕ, Some, IfErr, OnErr, OnOk};
 ghost use Rattle.std.specs.Vec.{vec_capacity, vec_len};
 ghost use Rattle.amqp_endpoint_model.specs.Relay.{IsSessionFault};
-ghost use Rattle.amqp_endpoint_sessions.specs.State.{place_at, reached};
-ghost use Rattle.amqp_endpoint_talk.specs.Going.{Goes, Rests};
+ghost use Rattle.amqp_endpoint_tables.specs.State.{place_at, reached};
+ghost use Rattle.amqp_endpoint_conversation.specs.Going.{Goes, Rests};
 ghost use Rattle.amqp_endpoint_linking.specs.Handed.{Tells};
 ghost use Rattle.amqp_endpoint_linking.specs.Hearing.{HearsBegin, RefusesBegin, RefusesEnd, TakesEnd, begin_told};
 ghost use Rattle.amqp_endpoint_linking.specs.Hearing.{end_told, is_closing, is_told};
@@ -14,9 +14,9 @@ use crate::calling::fail;
 use amqp_endpoint_conversation::{BeginHeard, BeginRefusal, Conversation, EndHeard};
 use amqp_endpoint_links::Numbered;
 use amqp_endpoint_model::{Begun, Ended, EndpointError, Event, SessionAsked};
-use amqp_endpoint_names::Links;
+use amqp_endpoint_tables::Links;
 use amqp_link_ends::LinkEnd;
-use amqp_session_connection::{Connection, ConnectionState};
+use amqp_session_frames::{Connection, ConnectionState};
 use amqp_session_performatives::{Begin, End, SessionFrame};
 use amqp_session_types::{IncomingChannel, definitions};
 use std::alloc::Global;
@@ -77,7 +77,7 @@ fn take_begin(
     ensures goes { (limit : ℕ) → Goes limit talk.old talk.new out.old.items out.new.items }
     ensures rests { Rests talk.old talk.new out.old.items out.new.items }
 {
-    match amqp_endpoint_talk::hear_begin(talk, alloc, out, channel, begin) {
+    match amqp_endpoint_conversation::hear_begin(talk, alloc, out, channel, begin) {
         Ok(heard) => {
             tell_begin(heard, channel, events);
             Ok(())
@@ -161,7 +161,7 @@ fn take_end(
     ensures rests { Rests talk.old talk.new out.old.items out.new.items }
 {
     let told = is_told(talk, channel);
-    match amqp_endpoint_talk::hear_end(talk, out, channel, &end) {
+    match amqp_endpoint_conversation::hear_end(talk, out, channel, &end) {
         Ok(heard) => {
             let EndHeard { number, ended } = heard;
             give_back_if(links, ended);

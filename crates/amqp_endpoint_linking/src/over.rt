@@ -1,18 +1,16 @@
 //! How sessions end with their connection, and their links with them (part 2, 2.4.3, 2.5.2).
 ghost use Rattle.std.specs.Prelude.{◌≡◌, ℕ, length, None};
 ghost use Rattle.amqp_endpoint_model.specs.Relay.{StandsStill};
-ghost use Rattle.amqp_endpoint_sessions.specs.State.{live_at, live_of};
-ghost use Rattle.amqp_endpoint_talk.specs.Going.{NoneLive};
+ghost use Rattle.amqp_endpoint_tables.specs.State.{live_at, live_of};
+ghost use Rattle.amqp_endpoint_conversation.specs.Going.{NoneLive};
 ghost use Rattle.amqp_endpoint_linking.specs.Ending.{Finishes, FinishesFirst, FinishesOne, Leaves, LeavesFirst};
 ghost use Rattle.amqp_endpoint_linking.specs.Ending.{LeavesOne, session_of};
 
 use crate::back::give_back_if;
-use amqp_endpoint_asked::AskedSession;
 use amqp_endpoint_attached::LinkSession;
 use amqp_endpoint_conversation::Conversation;
-use amqp_endpoint_links::Numbered;
-use amqp_endpoint_names::Links;
-use amqp_endpoint_sessions::{Place, Sessions};
+use amqp_endpoint_links::{AskedSession, Numbered};
+use amqp_endpoint_tables::{Links, Place, Sessions};
 use amqp_link_ends::LinkEnd;
 use amqp_session_types::OutgoingChannel;
 

@@ -18,10 +18,10 @@ use Rattle.amqp_session_core.specs.Relay.{Relations}
 use Rattle.amqp_session_core.specs.State.{State, live_in, reached}
 use Rattle.amqp_session_core.specs.Steps.{Act, Allocates, TakesAttach as SessionAttaches}
 use Rattle.amqp_session_core.specs.Tables.{RouteTable}
-use Rattle.amqp_endpoint_asked.specs.declared.links.AskRefusal.{AskRefusal}
-use Rattle.amqp_endpoint_asked.specs.declared.links.AskRefusal.TheVariants as ask
-use Rattle.amqp_endpoint_asked.specs.declared.links.AskedLink.{AskedLink}
-use Rattle.amqp_endpoint_asked.specs.Asked.{Asked, Asks, is_asked, told_of, told_to}
+use Rattle.amqp_endpoint_links.specs.declared.links.AskRefusal.{AskRefusal}
+use Rattle.amqp_endpoint_links.specs.declared.links.AskRefusal.TheVariants as ask
+use Rattle.amqp_endpoint_links.specs.declared.links.AskedLink.{AskedLink}
+use Rattle.amqp_endpoint_links.specs.Asked.{Asked, Asks, is_asked, told_of, told_to}
 use Rattle.amqp_session_types.proofs.Tables.{get-put-other, get-take, get-take-other}
 use Rattle.amqp_endpoint_links.specs.declared.asking.AskingSession.{AskingSession}
 use Rattle.amqp_endpoint_links.specs.declared.asking.NamedLink.{NamedLink}

@@ -23,8 +23,8 @@ use Rattle.amqp_session_core.specs.Steps.{Step, SendsBegin, TakesBegin, TakesFlo
 use Rattle.amqp_session_core.specs.Steps.{IsReply, Replies, FlowAt, reply_frames, taken_behind}
 use Rattle.amqp_session_core.specs.Tables.{RouteTable}
 use Rattle.amqp_session_core.specs.Told.{BeginTaken, FlowTaken}
-use Rattle.amqp_endpoint_asked.specs.declared.session.SessionFlow.{SessionFlow}
-use Rattle.amqp_endpoint_asked.specs.AskedSession.{flow_of}
+use Rattle.amqp_endpoint_links.specs.declared.session.SessionFlow.{SessionFlow}
+use Rattle.amqp_endpoint_links.specs.AskedSession.{flow_of}
 use Rattle.amqp_endpoint_links.specs.Beginning.{IsIdle, TakesBeginAlone, TakesKept, TakesAsked, base_behind, kept_steps}
 
 abbrev Side : Type 0

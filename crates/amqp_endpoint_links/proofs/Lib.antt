@@ -7,3 +7,5 @@ pub mod Calls
 pub mod Standing
 pub mod Waiting
 pub mod Heard
+pub mod Tables
+pub mod Naming

@@ -15,8 +15,8 @@ use Rattle.amqp_session_core.specs.State.{State, leads, reached}
 use Rattle.amqp_session_core.specs.Steps.{Act, Step, TakesAttach as SessionAttaches, TakesFlow as SessionFlows}
 use Rattle.amqp_session_core.specs.Steps.{SetsWindow, TakesDetach as SessionDetaches, Allocates}
 use Rattle.amqp_session_core.specs.Told.{AttachTaken as SessionAttached, DetachAt as SessionDetachAt, FlowTaken, LinkRefuses}
-use Rattle.amqp_endpoint_asked.specs.Asked.{is_asked}
-use Rattle.amqp_endpoint_asked.specs.AskedSession.{session_part}
+use Rattle.amqp_endpoint_links.specs.Asked.{is_asked}
+use Rattle.amqp_endpoint_links.specs.AskedSession.{session_part}
 use Rattle.amqp_endpoint_links.specs.declared.asking.AskingSession.{AskingSession}
 use Rattle.amqp_endpoint_links.specs.declared.asking.NamedLink.{NamedLink}
 use Rattle.amqp_endpoint_links.specs.declared.asking.NamedLink.TheVariants.{Absent, Waiting, Attached}

@@ -17,9 +17,9 @@ use Rattle.amqp_session_core.specs.Relay.{Relations}
 use Rattle.amqp_session_core.specs.State.{State, fresh}
 use Rattle.amqp_session_core.specs.Steps.{Step, SendsBegin, TakesBegin, TakesFlow, NoReply, own_begin}
 use Rattle.amqp_session_core.specs.Table.{after_send_begin}
-use Rattle.amqp_endpoint_asked.specs.declared.session.AskedSession.{AskedSession}
-use Rattle.amqp_endpoint_asked.specs.declared.session.SessionFlow.{SessionFlow}
-use Rattle.amqp_endpoint_asked.specs.AskedSession.{flow_of}
+use Rattle.amqp_endpoint_links.specs.declared.session.AskedSession.{AskedSession}
+use Rattle.amqp_endpoint_links.specs.declared.session.SessionFlow.{SessionFlow}
+use Rattle.amqp_endpoint_links.specs.AskedSession.{flow_of}
 use Rattle.amqp_endpoint_links.specs.declared.asking.AskingSession.{AskingSession}
 use Rattle.amqp_endpoint_links.specs.Beginning.{Begun, Accepted, base_behind, begin_frame, begun_state, accepted_with, kept_steps}
 

@@ -11,10 +11,10 @@ use Rattle.amqp_session_core.specs.Relay.{Relations}
 use Rattle.amqp_session_core.specs.State.{State, leads, reached}
 use Rattle.amqp_session_core.specs.Told.{AttachTaken as SessionAttached, DetachTaken as SessionDetached}
 use Rattle.amqp_session_core.specs.Told.{FlowTaken, FlowUnattached}
-use Rattle.amqp_endpoint_asked.specs.declared.links.AskRefusal.{AskRefusal}
-use Rattle.amqp_endpoint_asked.specs.declared.links.AskRefusal.TheVariants as ask
-use Rattle.amqp_endpoint_asked.specs.Asked.{Asked, Asks, is_asked, told_of}
-use Rattle.amqp_endpoint_asked.specs.AskedSession.{session_part}
+use Rattle.amqp_endpoint_links.specs.declared.links.AskRefusal.{AskRefusal}
+use Rattle.amqp_endpoint_links.specs.declared.links.AskRefusal.TheVariants as ask
+use Rattle.amqp_endpoint_links.specs.Asked.{Asked, Asks, is_asked, told_of}
+use Rattle.amqp_endpoint_links.specs.AskedSession.{session_part}
 use Rattle.amqp_endpoint_links.specs.declared.asking.AskingSession.{AskingSession}
 use Rattle.amqp_endpoint_links.specs.declared.asking.NamedLink.{NamedLink}
 use Rattle.amqp_endpoint_links.specs.declared.asking.NamedLink.TheVariants.{Absent, Waiting, Attached}

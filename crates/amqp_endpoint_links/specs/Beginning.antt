@@ -13,9 +13,9 @@ use Rattle.amqp_session_core.specs.History.{History}
 use Rattle.amqp_session_core.specs.Relay.{Relations}
 use Rattle.amqp_session_core.specs.State.{State, fresh}
 use Rattle.amqp_session_core.specs.Steps.{Act, Step, SendsBegin, TakesBegin, TakesFlow, NoReply}
-use Rattle.amqp_endpoint_asked.specs.declared.session.AskedSession.{AskedSession}
-use Rattle.amqp_endpoint_asked.specs.declared.session.SessionFlow.{SessionFlow}
-use Rattle.amqp_endpoint_asked.specs.AskedSession.{flow_of}
+use Rattle.amqp_endpoint_links.specs.declared.session.AskedSession.{AskedSession}
+use Rattle.amqp_endpoint_links.specs.declared.session.SessionFlow.{SessionFlow}
+use Rattle.amqp_endpoint_links.specs.AskedSession.{flow_of}
 use Rattle.amqp_endpoint_links.specs.declared.asking.AskingSession.{AskingSession}
 
 -- where the peer's window begins, by the first number here where the peer knows none (part 2, 2.5.6)

@@ -12,9 +12,9 @@ use Rattle.amqp_session_performatives.specs.declared.transfer.Transfer.{Transfer
 use Rattle.amqp_session_core.specs.Echoes.{echo_of}
 use Rattle.amqp_session_core.specs.Relay.{Relations}
 use Rattle.amqp_session_core.specs.Told.{DispositionTaken, TransferAnswered}
-use Rattle.amqp_endpoint_asked.specs.declared.links.AskRefusal.TheVariants as ask
-use Rattle.amqp_endpoint_asked.specs.declared.session.AskedSession.{AskedSession}
-use Rattle.amqp_endpoint_asked.specs.AskedSession as wanted
+use Rattle.amqp_endpoint_links.specs.declared.links.AskRefusal.TheVariants as ask
+use Rattle.amqp_endpoint_links.specs.declared.session.AskedSession.{AskedSession}
+use Rattle.amqp_endpoint_links.specs.AskedSession as wanted
 use Rattle.amqp_endpoint_links.specs.declared.asking.AskingSession.{AskingSession}
 use Rattle.amqp_endpoint_links.specs.declared.asking.NamedLink.{NamedLink}
 use Rattle.amqp_endpoint_links.specs.declared.hearing.LinkPerformative.{LinkPerformative}

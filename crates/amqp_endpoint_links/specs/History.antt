@@ -19,7 +19,7 @@ use Rattle.amqp_session_core.specs.Relay.{Relations}
 use Rattle.amqp_session_core.specs.Steps.{Act, Step, Reply, TakesAttach as SessionAttaches, TakesFlow as SessionFlows}
 use Rattle.amqp_session_core.specs.Steps.{SetsWindow, TakesDetach as SessionDetaches, Allocates, TakesTransfer}
 use Rattle.amqp_session_core.specs.Steps.{TakesDisposition}
-use Rattle.amqp_endpoint_asked.specs.AskedSession.{session_part}
+use Rattle.amqp_endpoint_links.specs.AskedSession.{session_part}
 use Rattle.amqp_endpoint_links.specs.declared.asking.AskingSession.{AskingSession}
 use Rattle.amqp_endpoint_links.specs.declared.asking.NamedLink.{NamedLink}
 use Rattle.amqp_endpoint_links.specs.declared.asking.NamedLink.TheVariants.{Waiting}

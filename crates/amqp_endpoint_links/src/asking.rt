@@ -9,7 +9,7 @@ ghost use Rattle.amqp_session_core.specs.Steps.{Step, Allocates};
 ghost use Rattle.amqp_endpoint_links.specs.Asking.{in_use, AsksFor, ByLink, AttachAnswered, FlowAnswered};
 ghost use Rattle.amqp_endpoint_links.specs.Asking.{DetachAnswered};
 
-use amqp_endpoint_asked::{AskRefusal, AskedLinks, SessionFlow};
+use crate::{AskRefusal, AskedLinks, SessionFlow};
 use amqp_session_core::{LinkRelay, Links, Session, Unallocated};
 use amqp_session_performatives::{Attach, Detach, Flow, SessionFrame};
 use amqp_session_types::{Boxed, InputHandle, OutputHandle, SessionError};

@@ -7,7 +7,7 @@ ghost use Rattle.amqp_session_core.specs.Table.{after_send_begin, after_incoming
 ghost use Rattle.amqp_endpoint_links.specs.Beginning.{Begun, Accepted, IsIdle, TakesBeginAlone, TakesKept, TakesAsked};
 
 use crate::asking::AskingSession;
-use amqp_endpoint_asked::{AskedLinks, AskedSession, SessionFlow};
+use crate::{AskedLinks, AskedSession, SessionFlow};
 use amqp_session_core::{LinkRelay, Session};
 use amqp_session_performatives::{Begin, SessionFrame};
 use amqp_session_types::{IncomingChannel, OutgoingChannel};

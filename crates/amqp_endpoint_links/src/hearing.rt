@@ -7,7 +7,7 @@ ghost use Rattle.amqp_endpoint_links.specs.Hearing.{HearsDisposition, HearsFlow,
 ghost use Rattle.amqp_endpoint_links.specs.Hearing.{says_flow};
 
 use crate::asking::{AskingSession, AttachTaken, DetachTaken, NamedLink};
-use amqp_endpoint_asked::{AskRefusal, AskedSession};
+use crate::{AskRefusal, AskedSession};
 use amqp_session_core::{DeliveryRuns, LinkRelay, TransferTaken};
 use amqp_session_performatives::{Attach, Detach, Disposition, Flow, SessionFrame, Transfer};
 use amqp_session_types::{Boxed, SessionError};

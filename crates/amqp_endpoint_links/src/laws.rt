@@ -9,7 +9,7 @@ ghost use Rattle.amqp_session_core.specs.History.{History, OwnersKeep, is_freed,
 ghost use Rattle.amqp_session_core.specs.Relay.{LinkHistory, LinkAct, OwnerKeeps};
 ghost use Rattle.amqp_session_core.specs.State.{fresh, link_at, reached};
 ghost use Rattle.amqp_session_core.specs.Steps.{Act, SendsBegin};
-ghost use Rattle.amqp_endpoint_asked.specs.declared.session.AskedSession.{AskedSession};
+ghost use Rattle.amqp_endpoint_links.specs.declared.session.AskedSession.{AskedSession};
 ghost use Rattle.amqp_endpoint_links.specs.Beginning.{Begun, Accepted, accept_steps, begin_frame, begun_state};
 ghost use Rattle.amqp_endpoint_links.specs.Beginning.{accepted_with};
 ghost use Rattle.amqp_endpoint_links.specs.Hearing.{Hears};

@@ -5,8 +5,8 @@ use Rattle.amqp_session_performatives.specs.declared.session_frame.SessionFrame.
 use Rattle.amqp_session_frames.specs.declared.frame.FrameBody.{FrameBody}
 use Rattle.amqp_session_frames.specs.declared.frame.FrameBody.TheVariants.{Begin, Attach, Flow, Transfer, Disposition}
 use Rattle.amqp_session_frames.specs.declared.frame.FrameBody.TheVariants.{Detach, End}
-use Rattle.amqp_session_connection.specs.declared.state.ConnectionState.TheVariants.{Start}
-use Rattle.amqp_session_connection.specs.State as channels
+use Rattle.amqp_session_frames.specs.declared.state.ConnectionState.TheVariants.{Start}
+use Rattle.amqp_session_frames.specs.State as channels
 use Rattle.amqp_endpoint_model.specs.declared.call.Call.{Call}
 use Rattle.amqp_endpoint_model.specs.declared.error.EndpointError.{EndpointError}
 use Rattle.amqp_endpoint_model.specs.declared.error.EndpointError.TheVariants.{Memory, NumbersUsedUp, Connection}

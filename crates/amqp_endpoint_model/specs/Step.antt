@@ -36,11 +36,11 @@ use Rattle.amqp_endpoint_model.specs.declared.call.Call.TheVariants.{Waiting as 
 use Rattle.amqp_endpoint_model.specs.declared.call.Call.TheVariants.{Send, Dispose, DisposeAll}
 use Rattle.amqp_session_performatives.specs.declared.open.Open.{Open as OpenFields}
 use Rattle.amqp_session_performatives.specs.declared.session_frame.SessionFrame.{SessionFrame}
-use Rattle.amqp_session_connection.specs.declared.state.ConnectionState.{ConnectionState}
-use Rattle.amqp_session_connection.specs.declared.state.ConnectionState.TheVariants.{HeaderSent, HeaderExchange}
-use Rattle.amqp_session_connection.specs.declared.state.ConnectionState.TheVariants.{OpenSent}
-use Rattle.amqp_session_connection.specs.State as channels
-use Rattle.amqp_session_connection.specs.Table.{after_incoming_close, after_incoming_open, after_send_close}
+use Rattle.amqp_session_frames.specs.declared.state.ConnectionState.{ConnectionState}
+use Rattle.amqp_session_frames.specs.declared.state.ConnectionState.TheVariants.{HeaderSent, HeaderExchange}
+use Rattle.amqp_session_frames.specs.declared.state.ConnectionState.TheVariants.{OpenSent}
+use Rattle.amqp_session_frames.specs.State as channels
+use Rattle.amqp_session_frames.specs.Table.{after_incoming_close, after_incoming_open, after_send_close}
 use Rattle.amqp_endpoint_model.specs.Relay.{Relations, IsOfSession, IsSessionFault}
 use Rattle.amqp_endpoint_model.specs.Said.{Said, done, refused, fed, pulled, count, truth, tried_close, session_begun}
 use Rattle.amqp_endpoint_model.specs.Said.{tried_end, attaching, link_closed, credit_is, waiting, message_sent}

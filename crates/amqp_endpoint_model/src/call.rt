@@ -1,5 +1,5 @@
 //! The calls of an endpoint.
-use amqp_endpoint_settings::LinkSettings;
+use crate::LinkSettings;
 use amqp_session_states::DeliveryState;
 use amqp_session_types::{Boxed, IncomingChannel};
 use bytes::Bytes;

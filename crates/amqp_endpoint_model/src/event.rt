@@ -1,6 +1,6 @@
 //! What an endpoint tells of its peer.
 use crate::error::EndpointError;
-use amqp_link_attach::AttachExchange;
+use amqp_link_base::AttachExchange;
 use amqp_link_message::{Delivery, Raw};
 use amqp_link_types::SendError;
 use amqp_session_performatives::Attach;

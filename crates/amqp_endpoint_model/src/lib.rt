@@ -1,4 +1,5 @@
-//! What an endpoint is to its callers: its settings, calls, answers and errors, and the laws of its histories.
+//! What an endpoint is to its callers: its settings and those of links (part 2, 2.6.3 and 2.7.3), calls, answers and
+//! errors, and the laws of its histories.
 #![tactic(auto)]
 
 mod answer;
@@ -6,6 +7,7 @@ mod call;
 mod error;
 mod event;
 mod laws;
+mod link;
 mod phase;
 mod relay;
 mod settings;
@@ -20,6 +22,7 @@ pub use event::{
 pub use laws::{
     bytes_decide, judge_says_one_limit, limit_kept, pieces_of_all_bytes, recut, step_decides, uncut,
 };
+pub use link::LinkSettings;
 pub use phase::Phase;
 pub use relay::SessionRelay;
 pub use settings::Settings;

@@ -2,8 +2,8 @@
 ghost use Rattle.std.specs.Prelude.{◌≡◌, ◌≤◌, ℕ, [], IfErr, IfOk, OnErr, OnOk};
 ghost use Rattle.std.specs.Borrow.{Lends};
 ghost use types.Logic.{sem};
-ghost use Rattle.amqp_session_connection.specs.State as channels;
-ghost use Rattle.amqp_session_connection.specs.contracts.connection.Connection.{the_row as connection_row};
+ghost use Rattle.amqp_session_frames.specs.State as channels;
+ghost use Rattle.amqp_session_frames.specs.contracts.connection.Connection.{the_row as connection_row};
 ghost use Rattle.amqp_endpoint_model.specs.Relay.{Called, IsOfSession, Refused, StandsStill, Taken};
 ghost use Rattle.amqp_endpoint_model.specs.Said.{attaching, count, credit_is, done, link_closed, message_sent};
 ghost use Rattle.amqp_endpoint_model.specs.Said.{session_begun};
@@ -13,13 +13,12 @@ ghost use Rattle.amqp_endpoint_model.specs.declared.call.Call.TheVariants.{Begin
 ghost use Rattle.amqp_endpoint_model.specs.declared.call.Call.TheVariants.{End, Grant, HeldBack, IsEnded, TryEnd};
 ghost use Rattle.amqp_endpoint_model.specs.declared.call.Call.TheVariants.{Dispose, DisposeAll, Send, Waiting};
 
+use crate::LinkSettings;
 use crate::answer::{Attaching, Sent};
 use crate::call::{Disposal, Sending};
 use crate::error::EndpointError;
 use crate::event::Event;
-use amqp_endpoint_settings::LinkSettings;
-use amqp_session_connection::Connection;
-use amqp_session_frames::FrameBody;
+use amqp_session_frames::{Connection, FrameBody};
 use amqp_session_performatives::SessionFrame;
 use amqp_session_types::{IncomingChannel, TryEndError};
 use std::alloc::{AllocError, Global};

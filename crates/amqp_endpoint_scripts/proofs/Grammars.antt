@@ -4,12 +4,12 @@ use Rattle.std.proofs.Common.{refl, sym, ◌∙◌, ap, subst, append_assoc}
 use Rattle.std.proofs.lemmas.List.{map-append}
 use Rattle.amqp_endpoint_model.specs.declared.settings.Settings.{Settings}
 use Rattle.amqp_endpoint_model.specs.declared.call.Call.{Call}
-use Rattle.amqp_endpoint_world.specs.declared.step.End.{End}
-use Rattle.amqp_endpoint_world.specs.declared.step.End.TheVariants.{A, B}
-use Rattle.amqp_endpoint_world.specs.declared.step.Step.{Step}
-use Rattle.amqp_endpoint_world.specs.declared.step.Step.TheVariants as world
-use Rattle.amqp_endpoint_world.specs.WorldState.{other}
-use Rattle.amqp_endpoint_world.specs.WorldStep.{is_the_worlds}
+use Rattle.amqp_endpoint_core.specs.declared.step.End.{End}
+use Rattle.amqp_endpoint_core.specs.declared.step.End.TheVariants.{A, B}
+use Rattle.amqp_endpoint_core.specs.declared.step.Step.{Step}
+use Rattle.amqp_endpoint_core.specs.declared.step.Step.TheVariants as world
+use Rattle.amqp_endpoint_core.specs.WorldState.{other}
+use Rattle.amqp_endpoint_core.specs.WorldStep.{is_the_worlds}
 use Rattle.amqp_endpoint_scripts.specs.declared.statement.Statement.{Statement}
 use Rattle.amqp_endpoint_scripts.specs.declared.statement.Statement.TheVariants.{One, Two, Settings as SettingsAre}
 use Rattle.amqp_endpoint_scripts.specs.declared.statement.Statement.TheVariants.{Call as CallAt, Move, Break}

@@ -3,9 +3,9 @@ use Rattle.std.proofs.Common.{◌≡◌, ◌⊎◌, inl, inr, ℕ, List, [], ◌
 use Rattle.std.proofs.Common.{arith}
 use Rattle.amqp_endpoint_model.specs.declared.answer.Reply.{Reply}
 use Rattle.amqp_endpoint_model.specs.Said.{told}
-use Rattle.amqp_endpoint_world.specs.declared.reply.WorldReply.{WorldReply}
-use Rattle.amqp_endpoint_world.specs.declared.step.Step.{Step}
-use Rattle.amqp_endpoint_world.specs.WorldSaid.{world_told}
+use Rattle.amqp_endpoint_core.specs.declared.reply.WorldReply.{WorldReply}
+use Rattle.amqp_endpoint_core.specs.declared.step.Step.{Step}
+use Rattle.amqp_endpoint_core.specs.WorldSaid.{world_told}
 use Rattle.amqp_endpoint_scripts.specs.Printed.{printed, world_printed}
 
 printed_none : (lines : List ℕ) (replies : List Reply) → (length lines ≡ 0) ⊎ (length replies ≡ 0)

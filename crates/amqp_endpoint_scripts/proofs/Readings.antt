@@ -1,7 +1,7 @@
 -- A script's reading, step by step.
 use Rattle.std.proofs.Common.{ℕ, List, ◌++◌}
 use Rattle.amqp_endpoint_model.specs.declared.call.Call.{Call}
-use Rattle.amqp_endpoint_world.specs.declared.step.Step.{Step}
+use Rattle.amqp_endpoint_core.specs.declared.step.Step.{Step}
 use Rattle.amqp_endpoint_scripts.specs.Script.{Reading, of_one, of_two}
 
 -- these steps of one end, and behind them what is read of the others

@@ -3,11 +3,11 @@
 use Rattle.std.specs.Prelude.{◌≡◌, ◌≢◌, ◌⊎◌, ℕ, false, List, [], ◌∷◌, ◌++◌, map, Option, Some}
 use Rattle.amqp_endpoint_model.specs.declared.settings.Settings.{Settings}
 use Rattle.amqp_endpoint_model.specs.declared.call.Call.{Call}
-use Rattle.amqp_endpoint_world.specs.declared.step.End.{End}
-use Rattle.amqp_endpoint_world.specs.declared.step.End.TheVariants.{A, B}
-use Rattle.amqp_endpoint_world.specs.declared.step.Step.{Step}
-use Rattle.amqp_endpoint_world.specs.declared.step.Step.TheVariants as world
-use Rattle.amqp_endpoint_world.specs.WorldStep.{is_the_worlds}
+use Rattle.amqp_endpoint_core.specs.declared.step.End.{End}
+use Rattle.amqp_endpoint_core.specs.declared.step.End.TheVariants.{A, B}
+use Rattle.amqp_endpoint_core.specs.declared.step.Step.{Step}
+use Rattle.amqp_endpoint_core.specs.declared.step.Step.TheVariants as world
+use Rattle.amqp_endpoint_core.specs.WorldStep.{is_the_worlds}
 use Rattle.amqp_endpoint_scripts.specs.declared.statement.Statement.{Statement}
 use Rattle.amqp_endpoint_scripts.specs.declared.statement.Statement.TheVariants.{One, Two, Settings as SettingsAre}
 use Rattle.amqp_endpoint_scripts.specs.declared.statement.Statement.TheVariants.{Call as CallAt, Move, Break}

@@ -2,8 +2,8 @@
 use Rattle.std.specs.Prelude.{ℕ, ◌==◌, Bool, true, false, List, [], ◌∷◌, ◌++◌, length, Option, Some, None}
 use Rattle.std.specs.Prelude.{Result, Ok, Err, if◌then◌else◌, codes, decimal}
 use Rattle.hex.specs.Hex.{encode_lower}
-use Rattle.amqp_link_attach.specs.declared.exchange.AttachExchange.{AttachExchange}
-use Rattle.amqp_link_attach.specs.declared.exchange.AttachExchange.TheVariants.{Complete, IncompleteUnsettled, Resume}
+use Rattle.amqp_link_base.specs.declared.exchange.AttachExchange.{AttachExchange}
+use Rattle.amqp_link_base.specs.declared.exchange.AttachExchange.TheVariants.{Complete, IncompleteUnsettled, Resume}
 use Rattle.amqp_link_types.specs.declared.refusals.SendError.{SendError}
 use Rattle.amqp_session_states.specs.declared.outcome.Outcome.{Outcome}
 use Rattle.amqp_session_states.specs.declared.outcome.Outcome.TheVariants.{Accepted, Rejected, Released, Modified}
@@ -15,12 +15,12 @@ use Rattle.amqp_endpoint_model.specs.declared.event.Event.TheVariants as event
 use Rattle.amqp_endpoint_model.specs.Numbers.{number}
 use Rattle.amqp_endpoint_model.specs.Said.{Said, done, refused, fed, pulled, count, truth, tried_close, session_begun}
 use Rattle.amqp_endpoint_model.specs.Said.{tried_end, attaching, link_closed, credit_is, waiting, message_sent, Told}
-use Rattle.amqp_endpoint_world.specs.declared.step.End.{End}
-use Rattle.amqp_endpoint_world.specs.declared.step.End.TheVariants.{A}
-use Rattle.amqp_endpoint_world.specs.declared.step.Step.{Step}
-use Rattle.amqp_endpoint_world.specs.declared.step.Step.TheVariants as world
-use Rattle.amqp_endpoint_world.specs.WorldSaid.{WorldSaid, WorldTold, called, moved, broken}
-use Rattle.amqp_endpoint_world.specs.WorldState.{other}
+use Rattle.amqp_endpoint_core.specs.declared.step.End.{End}
+use Rattle.amqp_endpoint_core.specs.declared.step.End.TheVariants.{A}
+use Rattle.amqp_endpoint_core.specs.declared.step.Step.{Step}
+use Rattle.amqp_endpoint_core.specs.declared.step.Step.TheVariants as world
+use Rattle.amqp_endpoint_core.specs.WorldSaid.{WorldSaid, WorldTold, called, moved, broken}
+use Rattle.amqp_endpoint_core.specs.WorldState.{other}
 use Rattle.amqp_endpoint_scripts.specs.Script.{letter}
 
 -- a line feed

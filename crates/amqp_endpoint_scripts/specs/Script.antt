@@ -12,14 +12,14 @@ use Rattle.amqp_endpoint_model.specs.declared.call.Call.TheVariants.{Connect, Fe
 use Rattle.amqp_endpoint_model.specs.declared.call.Call.TheVariants.{Begin, AcceptBegin, End as EndCall, AttachSender}
 use Rattle.amqp_endpoint_model.specs.declared.call.Call.TheVariants.{AttachReceiver, Detach, CloseLink, Grant, Drain}
 use Rattle.amqp_endpoint_model.specs.declared.call.Call.TheVariants.{Waiting, Send, Dispose}
-use Rattle.amqp_endpoint_settings.specs.declared.link.LinkSettings.{LinkSettings}
+use Rattle.amqp_endpoint_model.specs.declared.link.LinkSettings.{LinkSettings}
 use Rattle.amqp_session_states.specs.declared.delivery_state.DeliveryState.{DeliveryState}
-use Rattle.amqp_endpoint_world.specs.declared.step.End.{End}
-use Rattle.amqp_endpoint_world.specs.declared.step.End.TheVariants.{A, B}
-use Rattle.amqp_endpoint_world.specs.declared.step.Step.{Step}
-use Rattle.amqp_endpoint_world.specs.declared.step.Step.TheVariants as world
-use Rattle.amqp_endpoint_world.specs.WorldState.{other}
-use Rattle.amqp_endpoint_world.specs.WorldStep.{is_the_worlds}
+use Rattle.amqp_endpoint_core.specs.declared.step.End.{End}
+use Rattle.amqp_endpoint_core.specs.declared.step.End.TheVariants.{A, B}
+use Rattle.amqp_endpoint_core.specs.declared.step.Step.{Step}
+use Rattle.amqp_endpoint_core.specs.declared.step.Step.TheVariants as world
+use Rattle.amqp_endpoint_core.specs.WorldState.{other}
+use Rattle.amqp_endpoint_core.specs.WorldStep.{is_the_worlds}
 use Rattle.amqp_endpoint_scripts.specs.Digits.{number_under}
 use Rattle.amqp_endpoint_scripts.specs.MessageWords.{settled_of, settling_of, state_of}
 use Rattle.amqp_endpoint_scripts.specs.Terms.{receiver_settings, sender_settings}

@@ -10,7 +10,7 @@ use Rattle.amqp_session_states.specs.declared.target.Target.{Target}
 use Rattle.amqp_session_states.specs.declared.target_archetype.TargetArchetype.TheVariants as archetype
 use Rattle.amqp_session_states.specs.declared.terminus.TerminusDurability.TheVariants as durability
 use Rattle.amqp_session_states.specs.declared.terminus.TerminusExpiryPolicy.TheVariants.{SessionEnd}
-use Rattle.amqp_endpoint_settings.specs.declared.link.LinkSettings.{LinkSettings}
+use Rattle.amqp_endpoint_model.specs.declared.link.LinkSettings.{LinkSettings}
 use Rattle.amqp_endpoint_scripts.specs.Digits.{number_under}
 
 -- a source of which no field is set (part 3, 3.5.3)

@@ -3,19 +3,19 @@ ghost use Rattle.std.specs.Prelude.{◌≡◌, ◌++◌, codes, decimal, map, If
 ghost use Rattle.amqp_endpoint_model.specs.Numbers.{number};
 ghost use Rattle.amqp_endpoint_model.specs.Said.{told, said};
 ghost use Rattle.amqp_endpoint_model.specs.declared.event.Event.TheVariants as event;
-ghost use Rattle.amqp_endpoint_world.specs.WorldSaid.{did_said, feed_said, world_told};
-ghost use Rattle.amqp_endpoint_world.specs.WorldState.{other};
+ghost use Rattle.amqp_endpoint_core.specs.WorldSaid.{did_said, feed_said, world_told};
+ghost use Rattle.amqp_endpoint_core.specs.WorldState.{other};
 ghost use Rattle.amqp_endpoint_scripts.specs.Printed.{bytes_text, closed_word, event_text, events_text, exchange_word};
 ghost use Rattle.amqp_endpoint_scripts.specs.Printed.{fault_text, hex_word, of_line, ok_text, outcome_word, printed};
 ghost use Rattle.amqp_endpoint_scripts.specs.Printed.{role_word, settled_word, step_text, tag_text, turn_text};
 ghost use Rattle.amqp_endpoint_scripts.specs.Printed.{two_numbers, world_printed, world_text};
 
 use crate::script::letter;
+use amqp_endpoint_core::{Did, End, Step, WorldReply};
 use amqp_endpoint_model::{
     Answer, Attaching, EndpointError, Event, Fed, Message, Outcome, Refused, Reply,
 };
-use amqp_endpoint_world::{Did, End, Step, WorldReply};
-use amqp_link_attach::AttachExchange;
+use amqp_link_base::AttachExchange;
 use amqp_link_types::SendError;
 use amqp_session_performatives::Attach;
 use amqp_session_states::Outcome as DeliveryOutcome;

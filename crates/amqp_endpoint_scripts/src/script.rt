@@ -4,12 +4,12 @@ ghost use Rattle.amqp_endpoint_scripts.specs.Script.{behind_given, behind_one, b
 ghost use Rattle.amqp_endpoint_scripts.specs.Script.{given_none, is_skipped, letter, lines_from, one_step, one_steps};
 ghost use Rattle.amqp_endpoint_scripts.specs.Script.{parts_at, reading, statement, two_call, two_step, two_steps};
 ghost use Rattle.amqp_endpoint_scripts.specs.Parsed.{given_of, line_of, parsed};
-ghost use Rattle.amqp_endpoint_world.specs.WorldStep.{is_the_worlds};
-ghost use Rattle.amqp_endpoint_world.specs.declared.step.End.TheVariants.{A, B};
+ghost use Rattle.amqp_endpoint_core.specs.WorldStep.{is_the_worlds};
+ghost use Rattle.amqp_endpoint_core.specs.declared.step.End.TheVariants.{A, B};
 
 use crate::statement::{Statement, read_line};
+use amqp_endpoint_core::{End, Step};
 use amqp_endpoint_model::{Call, Settings};
-use amqp_endpoint_world::{End, Step};
 use serde_amqp_types::Text;
 use std::alloc::{AllocError, Global};
 

@@ -10,9 +10,8 @@ ghost use Rattle.amqp_endpoint_scripts.specs.Terms.{sender_settings};
 
 use crate::messages::{read_settled, read_settling, read_state};
 use crate::terms::{read_receiver_settings, read_sender_settings};
-use amqp_endpoint_model::{Call, Disposal, Sending, Settings};
-use amqp_endpoint_settings::LinkSettings;
-use amqp_endpoint_world::End;
+use amqp_endpoint_core::End;
+use amqp_endpoint_model::{Call, Disposal, LinkSettings, Sending, Settings};
 use amqp_link_message::MESSAGE_FORMAT;
 use amqp_session_types::{Boxed, IncomingChannel};
 use bytes::Bytes;

@@ -4,7 +4,7 @@ ghost use Rattle.amqp_endpoint_scripts.specs.Terms.{plain_settings, plain_source
 ghost use Rattle.amqp_endpoint_scripts.specs.Terms.{receiving_mode, sender_settings, sending_mode};
 
 use crate::statement::read_u32;
-use amqp_endpoint_settings::LinkSettings;
+use amqp_endpoint_model::LinkSettings;
 use amqp_session_states::{
     Source, Target, TargetArchetype, TerminusDurability, TerminusExpiryPolicy,
 };

@@ -4,14 +4,14 @@ use Rattle.std.specs.Map.{keys_of, lookup, remove_entry, set_value}
 use Rattle.std.specs.Str.{bytes_eq}
 use Rattle.std.specs.Cmp.Lexicographic.{same_text}
 use Rattle.amqp_session_states.specs.declared.delivery_state.DeliveryState.{DeliveryState}
-use Rattle.amqp_link_sender_messages.specs.Exchanging.{Listing, all_ended, becoming, ended_at, exchanged}
-use Rattle.amqp_link_sender_messages.specs.Messages.{MessageLists, disposed_at, disposed, failed, interrupted, open_at, resolved_as, told_at}
-use Rattle.amqp_link_sender_messages.specs.Resolutions.{ends, resolution_of}
-use Rattle.amqp_link_sender_messages.specs.Told.{told}
-use Rattle.amqp_link_sender_messages.specs.declared.open.Open.{Open}
-use Rattle.amqp_link_sender_messages.specs.declared.resolution.Failure.{Failure}
-use Rattle.amqp_link_sender_messages.specs.declared.resolution.Resolution.{Resolution}
-use Rattle.amqp_link_sender_messages.specs.declared.resolution.Resolution.TheVariants.{Failed}
+use Rattle.amqp_link_unsettled.specs.Exchanging.{Listing, all_ended, becoming, ended_at, exchanged}
+use Rattle.amqp_link_unsettled.specs.Messages.{MessageLists, disposed_at, disposed, failed, interrupted, open_at, resolved_as, told_at}
+use Rattle.amqp_link_unsettled.specs.Resolutions.{ends, resolution_of}
+use Rattle.amqp_link_unsettled.specs.Told.{told}
+use Rattle.amqp_link_unsettled.specs.declared.open.Open.{Open}
+use Rattle.amqp_link_unsettled.specs.declared.resolution.Failure.{Failure}
+use Rattle.amqp_link_unsettled.specs.declared.resolution.Resolution.{Resolution}
+use Rattle.amqp_link_unsettled.specs.declared.resolution.Resolution.TheVariants.{Failed}
 use Rattle.amqp_link.specs.Times.{once_if, times, times_in}
 
 module _ (tag : List ℕ) where

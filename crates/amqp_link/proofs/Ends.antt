@@ -12,7 +12,7 @@ use Rattle.amqp_session_core.specs.Relay.{Detaches, SendsBatch, SendsFrame, Send
 use Rattle.amqp_session_core.specs.declared.relay.RelayError.{RelayError}
 use Rattle.amqp_session_core.specs.declared.relay.RelayError.TheVariants.{UnattachedHandle, TransferFrameToSender, Memory}
 use Rattle.amqp_session_core.specs.declared.relay.TransferAnswer.{TransferAnswer}
-use Rattle.amqp_link_receiving.specs.declared.answer.Told.{Told}
+use Rattle.amqp_link_receiver.specs.declared.answer.Told.{Told}
 use Rattle.amqp_link_ends.specs.Gives.{attaches, detaches, disposes, flows_at, transfers_at}
 use Rattle.amqp_link_ends.specs.Standing.{standing_of}
 use Rattle.amqp_link_ends.specs.declared.end.End.{End}

@@ -1,9 +1,9 @@
 -- A message that a link made ready may be sent.
 use Rattle.std.proofs.Common.{◌≡◌, inl, inr, ℕ, ◌<◌, ◌==◌, ◌||◌, Bool, true, false, List, length, Option, Some, None, is_some, IfSome, Ok, arith, refl, sym, subst, not, if◌then◌else◌}
 use Rattle.std.proofs.lemmas.Bool.{eqb-false}
-use Rattle.amqp_link_sender_messages.specs.Messages.{open_at}
-use Rattle.amqp_link_sender_messages.specs.declared.open.Open.{Open}
-use Rattle.amqp_link_split.specs.Room.{room_of}
+use Rattle.amqp_link_unsettled.specs.Messages.{open_at}
+use Rattle.amqp_link_unsettled.specs.declared.open.Open.{Open}
+use Rattle.amqp_link_sender.specs.Room.{room_of}
 use Rattle.amqp_link_sender.specs.Payloads.{Cuts, SendsPayload}
 use Rattle.amqp_link_sender.specs.Sending.{Sending}
 use Rattle.amqp_link_sender.specs.Sends.{refusal, prepared, entry_unless, is_absent, is_too_large, takes_messages, with_room}

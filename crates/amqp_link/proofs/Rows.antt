@@ -4,11 +4,11 @@ use Rattle.amqp_session_states.specs.declared.received.Received.{Received as Pla
 use Rattle.amqp_session_states.specs.declared.delivery_state.DeliveryState.{DeliveryState}
 use Rattle.amqp_session_states.specs.declared.delivery_state.DeliveryState.TheVariants.{Received, Accepted}
 use Rattle.amqp_session_states.specs.declared.outcome.Outcome.TheVariants as outcome
-use Rattle.amqp_link_sender_messages.specs.declared.open.Open.{Open}
-use Rattle.amqp_link_sender_messages.specs.declared.open.Resumption.TheVariants.{Resend, Resume}
-use Rattle.amqp_link_sender_messages.specs.declared.resolution.Resolution.TheVariants.{Outcome, Aborted}
-use Rattle.amqp_link_sender_messages.specs.Exchanging.{exchanged, aborts}
-use Rattle.amqp_link_sender_messages.specs.Messages.{MessageLists}
+use Rattle.amqp_link_unsettled.specs.declared.open.Open.{Open}
+use Rattle.amqp_link_unsettled.specs.declared.open.Resumption.TheVariants.{Resend, Resume}
+use Rattle.amqp_link_unsettled.specs.declared.resolution.Resolution.TheVariants.{Outcome, Aborted}
+use Rattle.amqp_link_unsettled.specs.Exchanging.{exchanged, aborts}
+use Rattle.amqp_link_unsettled.specs.Messages.{MessageLists}
 
 -- two messages with the tags 1 and 2, of which the second waits to be sent anew
 abbrev one : Open

@@ -4,18 +4,18 @@ use Rattle.std.specs.Option.{option_to_list}
 use Rattle.std.specs.declared.alloc.AllocError.{AllocError}
 use Rattle.amqp_session_types.specs.declared.error.Error.{Error}
 use Rattle.amqp_session_performatives.specs.declared.attach.Attach.{Attach}
-use Rattle.amqp_link_attach.specs.State.{after_break, is_attached}
+use Rattle.amqp_link_base.specs.State.{after_break, is_attached}
 use Rattle.amqp_link_base.specs.Moves.{sent_attach, sent_detach, took_attach, took_detach}
 use Rattle.amqp_link_base.specs.declared.base.IllegalState.{IllegalState}
 use Rattle.amqp_link_base.specs.declared.base.LinkBase.{LinkBase}
-use Rattle.amqp_link_flow.specs.declared.inner.LinkFlowStateInner.{LinkFlowStateInner}
-use Rattle.amqp_link_flow.specs.Flows.{sender_flowed}
+use Rattle.amqp_link_base.specs.declared.inner.LinkFlowStateInner.{LinkFlowStateInner}
+use Rattle.amqp_link_base.specs.Flows.{sender_flowed}
 use Rattle.amqp_link_types.specs.declared.attaching.SenderAttachError.{SenderAttachError}
-use Rattle.amqp_link_sender_messages.specs.Messages.{MessageLists}
-use Rattle.amqp_link_sender_messages.specs.declared.open.Open.{Open}
-use Rattle.amqp_link_sender_messages.specs.declared.resolution.Failure.{Failure}
-use Rattle.amqp_link_sender_messages.specs.declared.resolution.Failure.TheVariants as failure
-use Rattle.amqp_link_sender_messages.specs.declared.resolution.Resolution.{Resolution}
+use Rattle.amqp_link_unsettled.specs.Messages.{MessageLists}
+use Rattle.amqp_link_unsettled.specs.declared.open.Open.{Open}
+use Rattle.amqp_link_unsettled.specs.declared.resolution.Failure.{Failure}
+use Rattle.amqp_link_unsettled.specs.declared.resolution.Failure.TheVariants as failure
+use Rattle.amqp_link_unsettled.specs.declared.resolution.Resolution.{Resolution}
 use Rattle.amqp_link_sender.specs.Attaching.{TakesMoved, TakesTested, attach_refusal, with_attach_sent}
 use Rattle.amqp_link_sender.specs.Ending.{TakesDetach, ended, error_kept, given_error, why_closed}
 use Rattle.amqp_link_base.specs.Moves.{is_closed}

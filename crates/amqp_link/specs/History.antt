@@ -6,10 +6,10 @@ use Rattle.amqp_session_types.specs.declared.handles.OutputHandle.{OutputHandle}
 use Rattle.amqp_session_states.specs.declared.delivery_state.DeliveryState.{DeliveryState}
 use Rattle.amqp_session_performatives.specs.declared.attach.Attach.{Attach}
 use Rattle.amqp_session_performatives.specs.declared.link_flow.LinkFlow.{LinkFlow}
-use Rattle.amqp_link_attach.specs.Properties.{Properties}
+use Rattle.amqp_link_base.specs.Properties.{Properties}
 use Rattle.amqp_link_base.specs.declared.base.IllegalState.{IllegalState}
-use Rattle.amqp_link_sender_messages.specs.declared.open.Open.{Open}
-use Rattle.amqp_link_sender_messages.specs.declared.resolution.Resolution.{Resolution}
+use Rattle.amqp_link_unsettled.specs.declared.open.Open.{Open}
+use Rattle.amqp_link_unsettled.specs.declared.resolution.Resolution.{Resolution}
 use Rattle.amqp_link_sender.specs.Attaching.{TakesAttach, attach_sent, attach_sent_anew}
 use Rattle.amqp_link_sender.specs.Dispositions.{disposed}
 use Rattle.amqp_link_sender.specs.Ending.{TakesDetach, broken, detach_sent, detach_taken}

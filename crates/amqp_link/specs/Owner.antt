@@ -3,9 +3,9 @@ use Rattle.std.specs.Prelude.{◌≡◌, ◌++◌, ℕ, Bool, true, false, List,
 use Rattle.amqp_session_types.specs.declared.handles.OutputHandle.{OutputHandle}
 use Rattle.amqp_session_states.specs.declared.delivery_state.DeliveryState.{DeliveryState}
 use Rattle.amqp_link_base.specs.declared.base.IllegalState.{IllegalState}
-use Rattle.amqp_link_flow.specs.Flows.{draining}
+use Rattle.amqp_link_base.specs.Flows.{draining}
 use Rattle.amqp_session_core.specs.Relay.{Changes, LinkHistory, LinkAct, OwnerKeeps, Relations, StepKeeps}
-use Rattle.amqp_link_receiving.specs.declared.answer.Told.{Told}
+use Rattle.amqp_link_receiver.specs.declared.answer.Told.{Told}
 use Rattle.amqp_link_base.specs.declared.detached.Detached.{Detached}
 use Rattle.amqp_link_ends.specs.Gives.{attaches, flows, transfers, disposes, detaches}
 use Rattle.amqp_link_ends.specs.declared.relay.AttachTold.{AttachTold}

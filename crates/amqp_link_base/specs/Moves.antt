@@ -1,10 +1,10 @@
 -- What an Attach, a Detach and a loss of the connection make of a link: part 2, 2.6.3 to 2.6.6.
 use Rattle.std.specs.Prelude.{◌≡◌, Bool, true, false, Option, Some, None, option_map, Result, Ok, Err}
 use Rattle.amqp_session_performatives.specs.declared.attach.Attach.{Attach}
-use Rattle.amqp_link_attach.specs.State.{after_send_attach, after_incoming_attach, after_send_detach}
-use Rattle.amqp_link_attach.specs.State.{after_remote_detach, after_break, is_attached}
-use Rattle.amqp_link_attach.specs.declared.state.LinkState.{LinkState}
-use Rattle.amqp_link_attach.specs.declared.state.LinkState.TheVariants.{Closed}
+use Rattle.amqp_link_base.specs.State.{after_send_attach, after_incoming_attach, after_send_detach}
+use Rattle.amqp_link_base.specs.State.{after_remote_detach, after_break, is_attached}
+use Rattle.amqp_link_base.specs.declared.state.LinkState.{LinkState}
+use Rattle.amqp_link_base.specs.declared.state.LinkState.TheVariants.{Closed}
 use Rattle.amqp_link_base.specs.declared.base.IllegalState.{IllegalState}
 use Rattle.amqp_link_base.specs.declared.base.LinkBase.{LinkBase}
 use Rattle.amqp_link_base.specs.declared.detached.Detached.{Detached}

@@ -1,13 +1,13 @@
 //! A link as both of its ends keep it.
 ghost use Rattle.std.specs.Prelude.{◌≡◌, None, IfOk};
-ghost use Rattle.amqp_link_attach.specs.declared.state.LinkState.TheVariants.{Unattached};
-ghost use Rattle.amqp_link_attach.specs.State.{is_attached};
+ghost use Rattle.amqp_link_base.specs.declared.state.LinkState.TheVariants.{Unattached};
+ghost use Rattle.amqp_link_base.specs.State.{is_attached};
 ghost use Rattle.amqp_link_base.specs.Moves.{Moves, broken_off, is_closed, moved_to, sent_attach, sent_detach};
 ghost use Rattle.amqp_link_base.specs.Moves.{took_attach, took_detach};
 ghost use Rattle.amqp_link_base.specs.Own.{bound, handle_of, own_attach};
 
 use crate::values::{both, put};
-use amqp_link_attach::{LinkState, Terms};
+use crate::{LinkState, Terms};
 use amqp_session_performatives::Attach;
 use amqp_session_states::{Source, TargetArchetype};
 use amqp_session_types::{

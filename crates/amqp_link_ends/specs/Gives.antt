@@ -14,11 +14,11 @@ use Rattle.amqp_session_core.specs.declared.relay.RelayError.TheVariants.{Unatta
 use Rattle.amqp_session_core.specs.declared.relay.RelayError.TheVariants.{Memory}
 use Rattle.amqp_session_core.specs.declared.relay.TransferAnswer.{TransferAnswer}
 use Rattle.amqp_link_base.specs.declared.detached.Detached.{Detached}
-use Rattle.amqp_link_receiving.specs.declared.answer.Answer.{Answer}
-use Rattle.amqp_link_receiving.specs.declared.answer.Registering.{Registering}
-use Rattle.amqp_link_receiving.specs.declared.answer.Registering.TheVariants.{Unchanged, Unsettled, Settled}
-use Rattle.amqp_link_receiving.specs.declared.answer.Told.{Told}
-use Rattle.amqp_link_receiving.specs.declared.answer.Told.TheVariants.{Dropped}
+use Rattle.amqp_link_receiver.specs.declared.answer.Answer.{Answer}
+use Rattle.amqp_link_receiver.specs.declared.answer.Registering.{Registering}
+use Rattle.amqp_link_receiver.specs.declared.answer.Registering.TheVariants.{Unchanged, Unsettled, Settled}
+use Rattle.amqp_link_receiver.specs.declared.answer.Told.{Told}
+use Rattle.amqp_link_receiver.specs.declared.answer.Told.TheVariants.{Dropped}
 use Rattle.amqp_link_sender.specs.Attaching as sender_attaching
 use Rattle.amqp_link_sender.specs.Dispositions as sender_disposing
 use Rattle.amqp_link_sender.specs.Ending as sender_ending

@@ -1,6 +1,6 @@
 -- How a link stands to the frames of its peer: part 2, 2.6.3 to 2.6.6.
-use Rattle.amqp_link_attach.specs.declared.state.LinkState.{LinkState}
-use Rattle.amqp_link_attach.specs.declared.state.LinkState.TheVariants as state
+use Rattle.amqp_link_base.specs.declared.state.LinkState.{LinkState}
+use Rattle.amqp_link_base.specs.declared.state.LinkState.TheVariants as state
 use Rattle.amqp_link_ends.specs.declared.standing.Standing.{Standing}
 use Rattle.amqp_link_ends.specs.declared.standing.Standing.TheVariants.{Attached, Detaching, Apart}
 

@@ -5,8 +5,7 @@ ghost use Rattle.amqp_link_ends.specs.Ends.{base_of, flow_answer, flowed, state_
 ghost use Rattle.amqp_link_ends.specs.Lends.{lends_end};
 ghost use Rattle.amqp_link_ends.specs.declared.end.End.TheVariants as variant;
 
-use amqp_link_attach::LinkState;
-use amqp_link_base::LinkBase;
+use amqp_link_base::{LinkBase, LinkState};
 use amqp_link_receiver::ReceiverLink;
 use amqp_link_sender::SenderLink;
 use amqp_session_performatives::LinkFlow;

@@ -5,8 +5,7 @@ ghost use Rattle.amqp_link_ends.specs.Gives.{answer_of, attaches, detaches, drop
 use crate::end::{End, LinkEnd};
 use crate::standing::Standing;
 use amqp_link_base::Detached;
-use amqp_link_receiver::{Attached, ReceiverLink};
-use amqp_link_receiving::{Answer, Registering, Told};
+use amqp_link_receiver::{Answer, Attached, ReceiverLink, Registering, Told};
 use amqp_link_sender::{AttachAnswer, DetachRefusal, SenderLink};
 use amqp_session_core::{LinkRelay, Registration, RelayError, TransferAnswer};
 use amqp_session_performatives::{Attach, Detach, LinkFlow, Transfer};

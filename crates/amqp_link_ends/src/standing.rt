@@ -2,7 +2,7 @@
 ghost use Rattle.std.specs.Prelude.{◌≡◌};
 ghost use Rattle.amqp_link_ends.specs.Standing.{standing_of};
 
-use amqp_link_attach::LinkState;
+use amqp_link_base::LinkState;
 
 /// How a link stands to the frames of its peer.
 #[derive(Debug, Clone, Copy, PartialEq, Eq)]

@@ -1,7 +1,7 @@
 -- Deliveries that are named one after the other.
 use Rattle.std.proofs.Common.{◌≡◌, ℕ, List, [], ◌∷◌, refl}
 use Rattle.std.specs.Prelude.{Err}
-use Rattle.amqp_link_receiving.specs.declared.disposing.DisposeRefusal.{DisposeRefusal}
+use Rattle.amqp_link_receiver.specs.declared.disposable.DisposeRefusal.{DisposeRefusal}
 use Rattle.amqp_link_receiver.specs.DisposingAll.{named_behind}
 use Rattle.amqp_link_receiver.specs.State.{ReceiverState}
 

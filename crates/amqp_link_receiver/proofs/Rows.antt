@@ -8,16 +8,16 @@ use Rattle.amqp_session_types.specs.declared.modes.Role.TheVariants.{Sender}
 use Rattle.amqp_session_performatives.specs.declared.attach.Attach.{Attach}
 use Rattle.amqp_session_performatives.specs.declared.disposition.Disposition.{Disposition}
 use Rattle.amqp_link_types.specs.declared.attaching.ReceiverAttachError.TheVariants.{IncomingSourceIsNone}
-use Rattle.amqp_link_attach.specs.declared.state.LinkState.{LinkState}
-use Rattle.amqp_link_attach.specs.declared.state.LinkState.TheVariants.{AttachSent, Attached, DetachSent}
-use Rattle.amqp_link_attach.specs.declared.terms.Terms.{Terms}
+use Rattle.amqp_link_base.specs.declared.state.LinkState.{LinkState}
+use Rattle.amqp_link_base.specs.declared.state.LinkState.TheVariants.{AttachSent, Attached, DetachSent}
+use Rattle.amqp_link_base.specs.declared.terms.Terms.{Terms}
 use Rattle.amqp_link_base.specs.Own.{own_attach}
 use Rattle.amqp_link_base.specs.declared.base.LinkBase.{LinkBase}
-use Rattle.amqp_link_receiving.specs.Listed.{listed_as}
-use Rattle.amqp_link_receiving.specs.declared.disposing.Disposable.{Disposable}
-use Rattle.amqp_link_receiving.specs.declared.disposing.DisposeRefusal.TheVariants.{AlreadyDisposed, NotAssociated, NotKept}
-use Rattle.amqp_link_receiving.specs.declared.entry.Entry.TheVariants.{Half, Whole}
-use Rattle.amqp_link_receiving.specs.declared.entry.WholeMessage.{WholeMessage}
+use Rattle.amqp_link_receiver.specs.Listed.{listed_as}
+use Rattle.amqp_link_receiver.specs.declared.disposable.Disposable.{Disposable}
+use Rattle.amqp_link_receiver.specs.declared.disposable.DisposeRefusal.TheVariants.{AlreadyDisposed, NotAssociated, NotKept}
+use Rattle.amqp_link_receiver.specs.declared.entry.Entry.TheVariants.{Half, Whole}
+use Rattle.amqp_link_receiver.specs.declared.entry.WholeMessage.{WholeMessage}
 use Rattle.amqp_link_receiver.specs.declared.flowing.GrantRefusal.TheVariants.{CreditOutOfRange, IllegalState}
 use Rattle.amqp_link_receiver.specs.Attaching.{accepted, attach_error, to_list}
 use Rattle.amqp_link_receiver.specs.Disposing.{disposable_now, is_settled}

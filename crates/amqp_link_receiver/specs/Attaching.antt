@@ -6,16 +6,16 @@ use Rattle.amqp_session_types.specs.declared.modes.Role.TheVariants.{Receiver}
 use Rattle.amqp_session_performatives.specs.declared.attach.Attach.{Attach}
 use Rattle.amqp_link_types.specs.declared.attaching.ReceiverAttachError.{ReceiverAttachError}
 use Rattle.amqp_link_types.specs.declared.attaching.ReceiverAttachError.TheVariants as refused
-use Rattle.amqp_link_attach.specs.Attach.{receiver_tests}
-use Rattle.amqp_link_attach.specs.Exchange.{exchange, lists_none}
-use Rattle.amqp_link_attach.specs.Properties.{merged}
-use Rattle.amqp_link_attach.specs.Terms.{adopted_by_receiver}
-use Rattle.amqp_link_attach.specs.Tests.{first_of, IsOfFilters}
+use Rattle.amqp_link_base.specs.Attach.{receiver_tests}
+use Rattle.amqp_link_base.specs.Exchange.{exchange, lists_none}
+use Rattle.amqp_link_base.specs.Properties.{merged}
+use Rattle.amqp_link_base.specs.Terms.{adopted_by_receiver}
+use Rattle.amqp_link_base.specs.Tests.{first_of, IsOfFilters}
 use Rattle.amqp_link_base.specs.Moves.{sent_attach, took_attach}
 use Rattle.amqp_link_base.specs.Own.{own_attach}
 use Rattle.amqp_link_base.specs.declared.base.LinkBase.{LinkBase}
-use Rattle.amqp_link_flow.specs.Flows.{attached}
-use Rattle.amqp_link_receiving.specs.Listed.{listed_as}
+use Rattle.amqp_link_base.specs.Flows.{attached}
+use Rattle.amqp_link_receiver.specs.Listed.{listed_as}
 use Rattle.amqp_link_unsettled.specs.Listing.{Entries, entries_listed}
 use Rattle.amqp_link_receiver.specs.declared.attaching.Attached.{Attached}
 use Rattle.amqp_link_receiver.specs.declared.attaching.Attached.TheVariants as answer

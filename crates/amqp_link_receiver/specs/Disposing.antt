@@ -5,11 +5,11 @@ use Rattle.amqp_session_types.specs.declared.modes.ReceiverSettleMode.TheVariant
 use Rattle.amqp_session_types.specs.declared.modes.Role.TheVariants.{Receiver}
 use Rattle.amqp_session_states.specs.declared.delivery_state.DeliveryState.{DeliveryState}
 use Rattle.amqp_session_performatives.specs.declared.disposition.Disposition.{Disposition}
-use Rattle.amqp_link_receiving.specs.Deliveries.{found}
-use Rattle.amqp_link_receiving.specs.Disposing.{disposable, disposed_with}
-use Rattle.amqp_link_receiving.specs.Numbering.{message_named}
-use Rattle.amqp_link_receiving.specs.declared.disposing.Disposable.{Disposable}
-use Rattle.amqp_link_receiving.specs.declared.disposing.DisposeRefusal.{DisposeRefusal}
+use Rattle.amqp_link_receiver.specs.Deliveries.{found}
+use Rattle.amqp_link_receiver.specs.Disposals.{disposable, disposed_with}
+use Rattle.amqp_link_receiver.specs.Numbering.{message_named}
+use Rattle.amqp_link_receiver.specs.declared.disposable.Disposable.{Disposable}
+use Rattle.amqp_link_receiver.specs.declared.disposable.DisposeRefusal.{DisposeRefusal}
 use Rattle.amqp_link_receiver.specs.declared.disposing.DisposeError.{DisposeError}
 use Rattle.amqp_link_receiver.specs.declared.disposing.DisposeError.TheVariants.{Refused, Memory}
 use Rattle.amqp_link_receiver.specs.State.{ReceiverState}

@@ -9,9 +9,9 @@ use Rattle.amqp_session_types.specs.declared.modes.ReceiverSettleMode.TheVariant
 use Rattle.amqp_session_types.specs.declared.modes.Role.TheVariants.{Receiver}
 use Rattle.amqp_session_states.specs.declared.delivery_state.DeliveryState.{DeliveryState}
 use Rattle.amqp_session_performatives.specs.declared.disposition.Disposition.{Disposition}
-use Rattle.amqp_link_receiving.specs.declared.disposing.Disposable.{Disposable}
-use Rattle.amqp_link_receiving.specs.declared.disposing.DisposeRefusal.{DisposeRefusal}
-use Rattle.amqp_link_receiving.specs.declared.disposing.DisposeRefusal.TheVariants.{AlreadyDisposed}
+use Rattle.amqp_link_receiver.specs.declared.disposable.Disposable.{Disposable}
+use Rattle.amqp_link_receiver.specs.declared.disposable.DisposeRefusal.{DisposeRefusal}
+use Rattle.amqp_link_receiver.specs.declared.disposable.DisposeRefusal.TheVariants.{AlreadyDisposed}
 use Rattle.amqp_link_receiver.specs.declared.disposing.DisposeError.{DisposeError}
 use Rattle.amqp_link_receiver.specs.declared.disposing.DisposeError.TheVariants.{Refused, Memory}
 use Rattle.amqp_link_receiver.specs.declared.disposing_all.Run.{Run}

@@ -4,7 +4,7 @@ use Rattle.amqp_link_base.specs.Moves.{broken_off, detached, sent_detach, took_d
 use Rattle.amqp_link_base.specs.declared.base.IllegalState.{IllegalState}
 use Rattle.amqp_link_base.specs.declared.base.LinkBase.{LinkBase}
 use Rattle.amqp_link_base.specs.declared.detached.Detached.{Detached}
-use Rattle.amqp_link_receiving.specs.Receiving.{parted}
+use Rattle.amqp_link_receiver.specs.Receiving.{parted}
 use Rattle.amqp_link_receiver.specs.State.{ReceiverState}
 
 -- the next attachment, by the number of those that ended

@@ -2,11 +2,11 @@
 use Rattle.std.specs.Prelude.{◌≡◌, ◌⊎◌, ℕ, ◌-◌, ◌^◌, not, Bool, true, false, nat_lt, Option, Some, None, Result, Ok}
 use Rattle.std.specs.Prelude.{Err, if◌then◌else◌}
 use Rattle.amqp_session_performatives.specs.declared.link_flow.LinkFlow.{LinkFlow}
-use Rattle.amqp_link_attach.specs.State.{is_attached}
+use Rattle.amqp_link_base.specs.State.{is_attached}
 use Rattle.amqp_link_base.specs.Own.{handle_of}
 use Rattle.amqp_link_base.specs.declared.base.IllegalState.{IllegalState}
-use Rattle.amqp_link_flow.specs.Flows.{draining, granted, receiver_answer, receiver_flowed, shown, told}
-use Rattle.amqp_link_flow.specs.declared.inner.LinkFlowStateInner.{LinkFlowStateInner}
+use Rattle.amqp_link_base.specs.Flows.{draining, granted, receiver_answer, receiver_flowed, shown, told}
+use Rattle.amqp_link_base.specs.declared.inner.LinkFlowStateInner.{LinkFlowStateInner}
 use Rattle.amqp_link_receiver.specs.declared.flowing.FlowRefusal.{FlowRefusal}
 use Rattle.amqp_link_receiver.specs.declared.flowing.FlowRefusal.TheVariants as flow
 use Rattle.amqp_link_receiver.specs.declared.flowing.Granted.{Granted}

@@ -2,11 +2,11 @@
 use Rattle.std.specs.Prelude.{◌≡◌, ℕ, Bool, true, false, List, Result, Ok}
 use Rattle.std.specs.declared.alloc.AllocError.{AllocError}
 use Rattle.amqp_session_performatives.specs.declared.transfer.Transfer.{Transfer}
-use Rattle.amqp_link_attach.specs.State.{is_attached}
-use Rattle.amqp_link_receiving.specs.Receiving.{Receives, disposed as delivery_disposed}
-use Rattle.amqp_link_receiving.specs.declared.answer.Answer.{Answer}
-use Rattle.amqp_link_receiving.specs.declared.answer.Registering.TheVariants.{Unchanged}
-use Rattle.amqp_link_receiving.specs.declared.answer.Told.TheVariants.{Dropped}
+use Rattle.amqp_link_base.specs.State.{is_attached}
+use Rattle.amqp_link_receiver.specs.Receiving.{Receives, disposed as delivery_disposed}
+use Rattle.amqp_link_receiver.specs.declared.answer.Answer.{Answer}
+use Rattle.amqp_link_receiver.specs.declared.answer.Registering.TheVariants.{Unchanged}
+use Rattle.amqp_link_receiver.specs.declared.answer.Told.TheVariants.{Dropped}
 use Rattle.amqp_link_receiver.specs.State.{ReceiverState, attachment_of}
 
 -- what is answered to a transfer of which nothing comes

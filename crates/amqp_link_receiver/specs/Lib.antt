@@ -5,3 +5,12 @@ pub mod Flowing
 pub mod Incoming
 pub mod Disposing
 pub mod DisposingAll
+pub mod Reading
+pub mod Deliveries
+pub mod Receiving
+pub mod Steps
+pub mod Readings
+pub mod Disposals
+pub mod Numbering
+pub mod Listed
+pub mod Notes

@@ -1,11 +1,11 @@
 -- The receiving end of a link: part 2, 2.6.
 use Rattle.std.specs.Prelude.{◌≡◌, ℕ, [], false, Option, Some, None, Result, Ok, Err}
-use Rattle.amqp_link_attach.specs.Properties.{Properties}
+use Rattle.amqp_link_base.specs.Properties.{Properties}
 use Rattle.amqp_link_base.specs.declared.base.IllegalState.{IllegalState}
 use Rattle.amqp_link_base.specs.declared.base.LinkBase.{LinkBase}
-use Rattle.amqp_link_flow.specs.declared.inner.LinkFlowStateInner.{LinkFlowStateInner}
-use Rattle.amqp_link_receiving.specs.declared.attachment.Attachment.{Attachment}
-use Rattle.amqp_link_receiving.specs.Receiving.{Receiving}
+use Rattle.amqp_link_base.specs.declared.inner.LinkFlowStateInner.{LinkFlowStateInner}
+use Rattle.amqp_link_receiver.specs.declared.attachment.Attachment.{Attachment}
+use Rattle.amqp_link_receiver.specs.Receiving.{Receiving}
 
 -- a link as it stands; its credit, the delivery that is coming in and the unsettled ones; how many attachments of it
 -- ended; and its properties with those of the peer

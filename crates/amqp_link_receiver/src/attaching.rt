@@ -1,19 +1,18 @@
 //! How an attachment of a receiving link begins (part 2, 2.6.3 and 2.6.13).
 ghost use Rattle.std.specs.Prelude.{◌≡◌, IfOk, IfErr, unwrap_or};
-ghost use Rattle.amqp_link_attach.specs.Terms.{adopted_by_receiver};
+ghost use Rattle.amqp_link_base.specs.Terms.{adopted_by_receiver};
 ghost use Rattle.amqp_link_base.specs.Moves.{moved_to};
-ghost use Rattle.amqp_link_flow.specs.Flows.{attached};
+ghost use Rattle.amqp_link_base.specs.Flows.{attached};
 ghost use Rattle.amqp_link_unsettled.specs.Listing.{Lists, FitsNowhere};
 ghost use Rattle.amqp_link_unsettled.specs.declared.listing.ListError.TheVariants.{TooLarge};
 ghost use Rattle.amqp_link_receiver.specs.State.{MovesLink};
 ghost use Rattle.amqp_link_receiver.specs.Attaching.{unlisted, to_list, attach_sent, AttachTaken, Accepts};
 
 use crate::link::ReceiverLink;
-use amqp_link_attach::{
-    AttachExchange, LinkState, Terms, get_max_message_size, merged_properties,
-    verify_attach_as_receiver,
+use amqp_link_base::{
+    AttachExchange, IllegalState, LinkState, Terms, both, get_max_message_size, merged_properties,
+    put, verify_attach_as_receiver,
 };
-use amqp_link_base::{IllegalState, both, put};
 use amqp_link_types::ReceiverAttachError;
 use amqp_link_unsettled::{ListError, with_entries};
 use amqp_session_performatives::Attach;

@@ -1,11 +1,11 @@
 //! How a receiving link disposes of deliveries (part 2, 2.6.12, 2.7.6 and 2.8.3).
 ghost use Rattle.std.specs.Prelude.{◌≡◌, option_copied};
-ghost use Rattle.amqp_link_receiving.specs.Numbering.{tag_of};
+ghost use Rattle.amqp_link_receiver.specs.Numbering.{tag_of};
 ghost use Rattle.amqp_link_receiver.specs.Disposing.{Disposes, disposable_now, disposition_of, is_settled};
 ghost use Rattle.amqp_link_receiver.specs.Disposing.{message_numbered, settles_at_once};
 
 use crate::link::ReceiverLink;
-use amqp_link_receiving::{Disposable, DisposeRefusal};
+use crate::{Disposable, DisposeRefusal};
 use amqp_session_performatives::Disposition;
 use amqp_session_states::DeliveryState;
 use amqp_session_types::{DeliveryTag, ReceiverSettleMode, Role};

@@ -6,7 +6,7 @@ ghost use Rattle.amqp_link_receiver.specs.DisposingAll.{same_mode};
 
 use crate::disposing::{DisposeError, is_settled};
 use crate::link::ReceiverLink;
-use amqp_link_receiving::{Disposable, DisposeRefusal};
+use crate::{Disposable, DisposeRefusal};
 use amqp_link_unsettled::{Iter, UnsettledMap};
 use amqp_session_performatives::Disposition;
 use amqp_session_states::DeliveryState;

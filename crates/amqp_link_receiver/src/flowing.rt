@@ -1,7 +1,7 @@
 //! The credit that a receiving link gives, and its Flows (part 2, 2.6.7 and 2.7.4).
 ghost use Rattle.std.specs.Prelude.{◌≡◌};
 ghost use Rattle.amqp_link_base.specs.Own.{handle_of};
-ghost use Rattle.amqp_link_flow.specs.Flows.{shown};
+ghost use Rattle.amqp_link_base.specs.Flows.{shown};
 ghost use Rattle.amqp_link_receiver.specs.Flowing.{Drains, Grants, Shows, drained, flow_answer, flowed, grant_refusal};
 ghost use Rattle.amqp_link_receiver.specs.Flowing.{own_flow, told_flow};
 

@@ -3,7 +3,7 @@ ghost use Rattle.std.specs.Prelude.{◌≡◌};
 ghost use Rattle.amqp_link_receiver.specs.Incoming.{TransferTaken, disposed, dropped};
 
 use crate::link::ReceiverLink;
-use amqp_link_receiving::{Answer, Registering, Told};
+use crate::{Answer, Registering, Told};
 use amqp_session_performatives::Transfer;
 use amqp_session_types::DeliveryTag;
 use bytes::Bytes;

@@ -1,13 +1,11 @@
 //! A receiving link (part 2, 2.6).
 ghost use Rattle.std.specs.Prelude.{◌≡◌, length, option_copied, Some};
 ghost use Rattle.amqp_link_base.specs.Own.{bound};
-ghost use Rattle.amqp_link_receiving.specs.Deliveries.{found};
+ghost use Rattle.amqp_link_receiver.specs.Deliveries.{found};
 ghost use Rattle.amqp_link_receiver.specs.State.{attachment_of, unattached};
 
-use amqp_link_attach::LinkState;
-use amqp_link_base::LinkBase;
-use amqp_link_flow::LinkFlowStateInner;
-use amqp_link_receiving::{Attachment, Entry, ReceivingEnd};
+use crate::{Attachment, Entry, ReceivingEnd};
+use amqp_link_base::{LinkBase, LinkFlowStateInner, LinkState};
 use amqp_session_types::{Boxed, DeliveryTag, Fields, OutputHandle, ReceiverSettleMode};
 use serde_amqp_types::Text;
 use std::alloc::Global;

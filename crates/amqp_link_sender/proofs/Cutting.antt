@@ -1,10 +1,10 @@
 -- What a message that is cut comes to.
 use Rattle.std.proofs.Common.{◌≡◌, ◌⊎◌, inl, inr, ℕ, List, Option, Some, None, Result, Ok, Err, IsSomeAnd, ap, refl}
-use Rattle.amqp_link_split.specs.declared.splitting.SplitRefusal.{SplitRefusal}
-use Rattle.amqp_link_split.specs.declared.splitting.SplitRefusal.TheVariants as split
+use Rattle.amqp_link_sender.specs.declared.splitting.SplitRefusal.{SplitRefusal}
+use Rattle.amqp_link_sender.specs.declared.splitting.SplitRefusal.TheVariants as split
 use Rattle.amqp_session_core.specs.Batch.{Transfers}
 use Rattle.amqp_session_performatives.specs.declared.transfer.Transfer.{Transfer}
-use Rattle.amqp_link_split.specs.Splitting.{Splits}
+use Rattle.amqp_link_sender.specs.Splitting.{Splits}
 use Rattle.amqp_link_sender.specs.declared.sending.PreparedSend.{PreparedSend}
 use Rattle.amqp_link_sender.specs.declared.sending.SendRefusal.{SendRefusal}
 use Rattle.amqp_link_sender.specs.declared.sending.SendRefusal.TheVariants.{Memory}

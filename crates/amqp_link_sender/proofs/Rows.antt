@@ -3,8 +3,8 @@ use Rattle.std.proofs.Common.{◌≡◌, true, false, Some, None, Err, refl}
 use Rattle.amqp_session_types.specs.declared.modes.SenderSettleMode.TheVariants.{Settled, Unsettled, Mixed}
 use Rattle.amqp_link_types.specs.declared.refusals.LinkStateError.TheVariants.{IllegalState, RemoteClosed}
 use Rattle.amqp_link_types.specs.declared.refusals.SendError.TheVariants as send
-use Rattle.amqp_link_sender_messages.specs.declared.resolution.Failure.TheVariants as failure
-use Rattle.amqp_link_sender_messages.specs.declared.resolution.Resolution.TheVariants as resolution
+use Rattle.amqp_link_unsettled.specs.declared.resolution.Failure.TheVariants as failure
+use Rattle.amqp_link_unsettled.specs.declared.resolution.Resolution.TheVariants as resolution
 use Rattle.amqp_link_sender.specs.Results.{send_result}
 use Rattle.amqp_link_sender.specs.Sends.{goes_settled, is_too_large}
 

@@ -8,20 +8,20 @@ use Rattle.amqp_session_performatives.specs.declared.transfer.Transfer.{Transfer
 use Rattle.amqp_session_types.specs.declared.modes.Role.TheVariants.{Sender}
 use Rattle.amqp_link_types.specs.declared.attaching.SenderAttachError.{SenderAttachError}
 use Rattle.amqp_link_types.specs.declared.attaching.SenderAttachError.TheVariants.{IllegalState}
-use Rattle.amqp_link_attach.specs.Attach.{sender_tests}
-use Rattle.amqp_link_attach.specs.Exchange.{exchange, lists_none}
-use Rattle.amqp_link_attach.specs.Properties.{merged}
-use Rattle.amqp_link_attach.specs.Terms.{adopted_by_sender}
-use Rattle.amqp_link_attach.specs.Tests.{first_of}
-use Rattle.amqp_link_attach.specs.declared.exchange.AttachExchange.{AttachExchange}
+use Rattle.amqp_link_base.specs.Attach.{sender_tests}
+use Rattle.amqp_link_base.specs.Exchange.{exchange, lists_none}
+use Rattle.amqp_link_base.specs.Properties.{merged}
+use Rattle.amqp_link_base.specs.Terms.{adopted_by_sender}
+use Rattle.amqp_link_base.specs.Tests.{first_of}
+use Rattle.amqp_link_base.specs.declared.exchange.AttachExchange.{AttachExchange}
 use Rattle.amqp_link_base.specs.Moves.{sent_attach, took_attach}
 use Rattle.amqp_link_base.specs.Own.{own_attach}
 use Rattle.amqp_link_base.specs.declared.base.LinkBase.{LinkBase}
-use Rattle.amqp_link_flow.specs.Flows.{attached}
-use Rattle.amqp_link_sender_messages.specs.Exchanging.{aborts, exchanged}
-use Rattle.amqp_link_sender_messages.specs.Messages.{failed}
-use Rattle.amqp_link_sender_messages.specs.declared.exchanging.Abort.{Abort}
-use Rattle.amqp_link_sender_messages.specs.declared.resolution.Failure.TheVariants as failure
+use Rattle.amqp_link_base.specs.Flows.{attached}
+use Rattle.amqp_link_unsettled.specs.Exchanging.{aborts, exchanged}
+use Rattle.amqp_link_unsettled.specs.Messages.{failed}
+use Rattle.amqp_link_unsettled.specs.declared.exchanging.Abort.{Abort}
+use Rattle.amqp_link_unsettled.specs.declared.resolution.Failure.TheVariants as failure
 use Rattle.amqp_link_unsettled.specs.Listing.{Entries, Lists, FitsNowhere, entries_listed}
 use Rattle.amqp_link_unsettled.specs.declared.listing.ListError.{ListError}
 use Rattle.amqp_link_unsettled.specs.declared.listing.ListError.TheVariants.{TooLarge, Memory}

@@ -3,8 +3,8 @@ use Rattle.std.specs.Prelude.{ℕ, ◌&&◌, not, Bool, true, false, List, Optio
 use Rattle.amqp_session_states.specs.declared.delivery_state.DeliveryState.{DeliveryState}
 use Rattle.amqp_session_types.specs.declared.modes.ReceiverSettleMode.{ReceiverSettleMode}
 use Rattle.amqp_session_types.specs.declared.modes.ReceiverSettleMode.TheVariants.{First, Second}
-use Rattle.amqp_link_sender_messages.specs.Messages.{open_at, disposed as message_disposed}
-use Rattle.amqp_link_sender_messages.specs.Resolutions.{is_outcome}
+use Rattle.amqp_link_unsettled.specs.Messages.{open_at, disposed as message_disposed}
+use Rattle.amqp_link_unsettled.specs.Resolutions.{is_outcome}
 use Rattle.amqp_link_sender.specs.Sending.{Sending}
 
 -- the message ends or its state is noted; of a message that isn't open nothing is said

@@ -1,13 +1,13 @@
 -- How an attachment of a sending link ends: part 2, 2.6.4 to 2.6.6.
 use Rattle.std.specs.Prelude.{◌≡◌, ◌⊎◌, Bool, true, false, Option, Some, None, option_map, Result, Ok, Err}
 use Rattle.amqp_session_types.specs.declared.error.Error.{Error}
-use Rattle.amqp_link_attach.specs.State.{after_break}
+use Rattle.amqp_link_base.specs.State.{after_break}
 use Rattle.amqp_link_base.specs.Moves.{broken_off, detached, is_closed, sent_detach, took_detach}
 use Rattle.amqp_link_base.specs.declared.base.LinkBase.{LinkBase}
 use Rattle.amqp_link_base.specs.declared.detached.Detached.{Detached}
-use Rattle.amqp_link_sender_messages.specs.Messages.{MessageLists, failed, interrupted}
-use Rattle.amqp_link_sender_messages.specs.declared.resolution.Failure.{Failure}
-use Rattle.amqp_link_sender_messages.specs.declared.resolution.Failure.TheVariants as failure
+use Rattle.amqp_link_unsettled.specs.Messages.{MessageLists, failed, interrupted}
+use Rattle.amqp_link_unsettled.specs.declared.resolution.Failure.{Failure}
+use Rattle.amqp_link_unsettled.specs.declared.resolution.Failure.TheVariants as failure
 use Rattle.amqp_link_sender.specs.declared.ending.DetachRefusal.{DetachRefusal}
 use Rattle.amqp_link_sender.specs.declared.ending.DetachRefusal.TheVariants as refusal
 use Rattle.amqp_link_sender.specs.Sending.{Sending}

@@ -2,7 +2,7 @@
 use Rattle.std.specs.Borrow.{Lends, Fml, RattleType, MutBor}
 use Rattle.std.specs.contracts.option.Option as option
 use Rattle.amqp_session_types.specs.contracts.handles.OutputHandle as handle
-use Rattle.amqp_link_flow.specs.Lends.{properties_row}
+use Rattle.amqp_link_base.specs.Lends.{properties_row}
 use Rattle.amqp_link_sender.specs.contracts.link.SenderLink.{the_row}
 use Rattle.amqp_link_sender.specs.Sending.{Sending}
 

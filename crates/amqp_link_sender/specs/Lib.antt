@@ -7,3 +7,6 @@ pub mod Results
 pub mod Payloads
 pub mod Sends
 pub mod SendsOn
+pub mod Splitting
+pub mod Room
+pub mod Saying

@@ -2,10 +2,10 @@
 use Rattle.std.specs.Prelude.{◌≡◌, ◌⊎◌, ℕ, List, Option, Some, None, Result, Ok, Err}
 use Rattle.amqp_session_core.specs.Batch.{Transfers}
 use Rattle.amqp_session_performatives.specs.declared.transfer.Transfer.{Transfer}
-use Rattle.amqp_link_split.specs.Room.{room_of}
-use Rattle.amqp_link_split.specs.Splitting.{Splits}
-use Rattle.amqp_link_split.specs.declared.splitting.SplitRefusal.{SplitRefusal}
-use Rattle.amqp_link_split.specs.declared.splitting.SplitRefusal.TheVariants as split
+use Rattle.amqp_link_sender.specs.Room.{room_of}
+use Rattle.amqp_link_sender.specs.Splitting.{Splits}
+use Rattle.amqp_link_sender.specs.declared.splitting.SplitRefusal.{SplitRefusal}
+use Rattle.amqp_link_sender.specs.declared.splitting.SplitRefusal.TheVariants as split
 use Rattle.amqp_link_sender.specs.declared.payloads.PreparedBatch.{PreparedBatch}
 use Rattle.amqp_link_sender.specs.declared.sending.PreparedSend.{PreparedSend}
 use Rattle.amqp_link_sender.specs.declared.sending.SendRefusal.{SendRefusal}

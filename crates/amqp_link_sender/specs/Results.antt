@@ -7,10 +7,10 @@ use Rattle.amqp_link_types.specs.declared.refusals.LinkStateError.TheVariants.{I
 use Rattle.amqp_link_types.specs.declared.refusals.LinkStateError.TheVariants.{RemoteClosedWithError}
 use Rattle.amqp_link_types.specs.declared.refusals.SendError.{SendError}
 use Rattle.amqp_link_types.specs.declared.refusals.SendError.TheVariants as send
-use Rattle.amqp_link_sender_messages.specs.declared.resolution.Failure.{Failure}
-use Rattle.amqp_link_sender_messages.specs.declared.resolution.Failure.TheVariants as failure
-use Rattle.amqp_link_sender_messages.specs.declared.resolution.Resolution.{Resolution}
-use Rattle.amqp_link_sender_messages.specs.declared.resolution.Resolution.TheVariants as resolution
+use Rattle.amqp_link_unsettled.specs.declared.resolution.Failure.{Failure}
+use Rattle.amqp_link_unsettled.specs.declared.resolution.Failure.TheVariants as failure
+use Rattle.amqp_link_unsettled.specs.declared.resolution.Resolution.{Resolution}
+use Rattle.amqp_link_unsettled.specs.declared.resolution.Resolution.TheVariants as resolution
 
 -- the peer closed the link, with this error or without
 abbrev pub closed_with : Option Error → LinkStateError

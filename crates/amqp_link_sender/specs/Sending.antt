@@ -2,13 +2,13 @@
 use Rattle.std.specs.Prelude.{◌≡◌, Result, Ok, Err, Option, Some, None, if◌then◌else◌}
 use Rattle.amqp_session_types.specs.declared.error.Error.{Error}
 use Rattle.amqp_session_performatives.specs.declared.link_flow.LinkFlow.{LinkFlow}
-use Rattle.amqp_link_attach.specs.State.{is_attached}
+use Rattle.amqp_link_base.specs.State.{is_attached}
 use Rattle.amqp_link_base.specs.Own.{handle_of}
 use Rattle.amqp_link_base.specs.declared.base.IllegalState.{IllegalState}
 use Rattle.amqp_link_base.specs.declared.base.LinkBase.{LinkBase}
-use Rattle.amqp_link_flow.specs.declared.inner.LinkFlowStateInner.{LinkFlowStateInner}
-use Rattle.amqp_link_flow.specs.Flows.{sender_flowed, sender_answer}
-use Rattle.amqp_link_sender_messages.specs.Messages.{MessageLists}
+use Rattle.amqp_link_base.specs.declared.inner.LinkFlowStateInner.{LinkFlowStateInner}
+use Rattle.amqp_link_base.specs.Flows.{sender_flowed, sender_answer}
+use Rattle.amqp_link_unsettled.specs.Messages.{MessageLists}
 
 -- a link as it stands, the state of its credit, its messages, and the error with which the peer closed it
 pub record Sending : Type 0 where

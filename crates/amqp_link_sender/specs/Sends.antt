@@ -4,11 +4,11 @@ use Rattle.std.specs.Prelude.{nat_lt, nat_le, Option, Some, None, is_some, unwra
 use Rattle.amqp_session_types.specs.declared.modes.SenderSettleMode.{SenderSettleMode}
 use Rattle.amqp_session_types.specs.declared.modes.SenderSettleMode.TheVariants.{Settled, Unsettled, Mixed}
 use Rattle.amqp_session_performatives.specs.declared.transfer.Transfer.{Transfer}
-use Rattle.amqp_link_attach.specs.declared.state.LinkState.{LinkState}
-use Rattle.amqp_link_attach.specs.declared.state.LinkState.TheVariants.{Attached}
-use Rattle.amqp_link_flow.specs.Flows.{consumed}
-use Rattle.amqp_link_sender_messages.specs.Messages.{open_at, opened}
-use Rattle.amqp_link_sender_messages.specs.declared.open.Open.{Open}
+use Rattle.amqp_link_base.specs.declared.state.LinkState.{LinkState}
+use Rattle.amqp_link_base.specs.declared.state.LinkState.TheVariants.{Attached}
+use Rattle.amqp_link_base.specs.Flows.{consumed}
+use Rattle.amqp_link_unsettled.specs.Messages.{open_at, opened}
+use Rattle.amqp_link_unsettled.specs.declared.open.Open.{Open}
 use Rattle.amqp_link_sender.specs.declared.sending.PreparedSend.{PreparedSend}
 use Rattle.amqp_link_sender.specs.declared.sending.SendRefusal.{SendRefusal}
 use Rattle.amqp_link_sender.specs.declared.sending.SendRefusal.TheVariants.{IllegalState, MessageTooLarge}

@@ -4,13 +4,13 @@ use Rattle.std.specs.Prelude.{if◌then◌else◌}
 use Rattle.amqp_session_performatives.specs.declared.transfer.Transfer.{Transfer}
 use Rattle.amqp_session_states.specs.declared.delivery_state.DeliveryState.TheVariants.{Received as ReceivedState}
 use Rattle.amqp_session_states.specs.declared.received.Received.{Received}
-use Rattle.amqp_link_attach.specs.State.{is_attached}
-use Rattle.amqp_link_sender_messages.specs.Exchanging.{bytes_before}
-use Rattle.amqp_link_sender_messages.specs.Messages.{first_of, open_at}
-use Rattle.amqp_link_sender_messages.specs.declared.open.Open.{Open}
-use Rattle.amqp_link_sender_messages.specs.declared.open.Resumption.{Resumption}
-use Rattle.amqp_link_sender_messages.specs.declared.open.Resumption.TheVariants.{Resend, Resume}
-use Rattle.amqp_link_sender_messages.specs.declared.open.Waiting.{Waiting}
+use Rattle.amqp_link_base.specs.State.{is_attached}
+use Rattle.amqp_link_unsettled.specs.Exchanging.{bytes_before}
+use Rattle.amqp_link_unsettled.specs.Messages.{first_of, open_at}
+use Rattle.amqp_link_unsettled.specs.declared.open.Open.{Open}
+use Rattle.amqp_link_unsettled.specs.declared.open.Resumption.{Resumption}
+use Rattle.amqp_link_unsettled.specs.declared.open.Resumption.TheVariants.{Resend, Resume}
+use Rattle.amqp_link_unsettled.specs.declared.open.Waiting.{Waiting}
 use Rattle.amqp_link_sender.specs.declared.sending_on.PreparedSendOn.{PreparedSendOn}
 use Rattle.amqp_link_sender.specs.Sending.{Sending}
 use Rattle.amqp_link_sender.specs.Sends.{first_transfer, spent}

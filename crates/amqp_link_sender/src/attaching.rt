@@ -1,24 +1,22 @@
 //! How an attachment of a sending link begins (part 2, 2.6.3 and 2.6.13).
 ghost use Rattle.std.specs.Prelude.{◌≡◌, IfOk, OnOk, OnErr};
-ghost use Rattle.amqp_link_attach.specs.Attach.{sender_tests};
-ghost use Rattle.amqp_link_attach.specs.Properties.{merged};
-ghost use Rattle.amqp_link_attach.specs.Terms.{adopted_by_sender};
-ghost use Rattle.amqp_link_attach.specs.Tests.{FirstOf};
-ghost use Rattle.amqp_link_sender_messages.specs.Exchanging.{aborts, exchanged};
+ghost use Rattle.amqp_link_base.specs.Attach.{sender_tests};
+ghost use Rattle.amqp_link_base.specs.Properties.{merged};
+ghost use Rattle.amqp_link_base.specs.Terms.{adopted_by_sender};
+ghost use Rattle.amqp_link_base.specs.Tests.{FirstOf};
+ghost use Rattle.amqp_link_unsettled.specs.Exchanging.{aborts, exchanged};
 ghost use Rattle.amqp_link_base.specs.Moves.{moved_to};
 ghost use Rattle.amqp_link_sender.specs.Attaching.{TakesAttach, TakesOver, TellsAttach, abort_transfer, attach_sent};
 ghost use Rattle.amqp_link_sender.specs.Attaching.{attach_sent_anew};
 ghost use Rattle.amqp_link_sender.specs.Sending.{MovesLink};
 
 use crate::link::SenderLink;
-use amqp_link_attach::{
-    AttachExchange, LinkState, Terms, get_max_message_size, merged_properties,
-    verify_attach_as_sender,
+use amqp_link_base::{
+    AttachExchange, IllegalState, LinkState, Terms, both, get_max_message_size, merged_properties,
+    put, verify_attach_as_sender,
 };
-use amqp_link_base::{IllegalState, both, put};
-use amqp_link_sender_messages::{Abort, Failure, Messages};
 use amqp_link_types::SenderAttachError;
-use amqp_link_unsettled::{ListError, with_entries};
+use amqp_link_unsettled::{Abort, Failure, ListError, Messages, with_entries};
 use amqp_session_performatives::{Attach, Transfer};
 use amqp_session_types::{Boxed, Fields, Handle, OutputHandle, Role};
 use serde_amqp_types::Array;

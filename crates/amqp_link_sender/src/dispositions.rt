@@ -4,7 +4,7 @@ ghost use Rattle.std.specs.Option.{option_to_list};
 ghost use Rattle.amqp_link_sender.specs.Dispositions.{disposed, is_echoed, is_echo_due};
 
 use crate::link::SenderLink;
-use amqp_link_sender_messages::Resolution;
+use amqp_link_unsettled::Resolution;
 use amqp_session_states::DeliveryState;
 use amqp_session_types::{DeliveryTag, ReceiverSettleMode};
 

@@ -6,7 +6,7 @@ ghost use Rattle.amqp_link_sender.specs.Ending.{why_closed, given_error, error_k
 
 use crate::link::SenderLink;
 use amqp_link_base::{Detached, IllegalState};
-use amqp_link_sender_messages::{Failure, Messages};
+use amqp_link_unsettled::{Failure, Messages};
 use amqp_session_types::{Boxed, definitions};
 use std::alloc::{AllocError, Global};
 

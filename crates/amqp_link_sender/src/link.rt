@@ -4,12 +4,10 @@ ghost use Rattle.std.specs.Borrow.{sem};
 ghost use Rattle.amqp_link_base.specs.Own.{bound};
 ghost use Rattle.amqp_link_sender.specs.Lends.{lends_handle, lends_properties};
 ghost use Rattle.amqp_link_sender.specs.Sending.{flowed, flow_answer};
-ghost use Rattle.amqp_link_sender_messages.specs.Messages.{no_messages, open_at, first_of};
+ghost use Rattle.amqp_link_unsettled.specs.Messages.{no_messages, open_at, first_of};
 
-use amqp_link_attach::LinkState;
-use amqp_link_base::LinkBase;
-use amqp_link_flow::{LinkFlowState, LinkFlowStateInner, SenderMarker};
-use amqp_link_sender_messages::{Messages, Open, Waiting};
+use amqp_link_base::{LinkBase, LinkFlowState, LinkFlowStateInner, LinkState, SenderMarker};
+use amqp_link_unsettled::{Messages, Open, Waiting};
 use amqp_session_performatives::LinkFlow;
 use amqp_session_types::{
     Boxed, DeliveryTag, Fields, OutputHandle, ReceiverSettleMode, SessionStopReason, definitions,

@@ -1,14 +1,14 @@
 //! How messages are sent as transfers that fit the peer's frames (part 2, 2.6.14 and 2.7.5).
 ghost use Rattle.std.specs.Prelude.{◌≡◌, ◌⊎◌, length, None, IfOk, IfErr, IsSomeAnd};
-ghost use Rattle.amqp_link_split.specs.Room.{room_of};
-ghost use Rattle.amqp_link_split.specs.Splitting.{Splits};
+ghost use Rattle.amqp_link_sender.specs.Room.{room_of};
+ghost use Rattle.amqp_link_sender.specs.Splitting.{Splits};
 ghost use Rattle.amqp_link_sender.specs.Payloads.{Cuts, SendsPayload, Splitting};
 ghost use Rattle.amqp_link_sender.specs.Sends.{goes_settled, prepared, refusal};
 
 use crate::link::SenderLink;
 use crate::sending::{PreparedSend, SendRefusal, goes_settled, with_room};
-use amqp_link_sender_messages::Entry;
-use amqp_link_split::{SplitRefusal, split};
+use crate::{SplitRefusal, split};
+use amqp_link_unsettled::Entry;
 use amqp_session_core::Batch;
 use amqp_session_performatives::Transfer;
 use amqp_session_types::DeliveryTag;

@@ -1,12 +1,12 @@
 //! What the sender of a message is told (part 3, 3.4).
 ghost use Rattle.std.specs.Prelude.{◌≡◌, IfOk, IfErr};
-ghost use Rattle.amqp_link_sender_messages.specs.declared.resolution.Failure.TheVariants.{RemoteClosedWithError};
-ghost use Rattle.amqp_link_sender_messages.specs.declared.resolution.Resolution.TheVariants.{Failed};
+ghost use Rattle.amqp_link_unsettled.specs.declared.resolution.Failure.TheVariants.{RemoteClosedWithError};
+ghost use Rattle.amqp_link_unsettled.specs.declared.resolution.Resolution.TheVariants.{Failed};
 ghost use Rattle.amqp_link_sender.specs.Results.{send_result, failure_error, closed_with};
 
 use crate::link::SenderLink;
-use amqp_link_sender_messages::{Failure, Resolution};
 use amqp_link_types::{LinkStateError, SendError};
+use amqp_link_unsettled::{Failure, Resolution};
 use amqp_session_states::Outcome;
 use amqp_session_types::{Boxed, definitions};
 use std::alloc::AllocError;

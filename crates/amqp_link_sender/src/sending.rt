@@ -4,8 +4,8 @@ ghost use Rattle.amqp_link_sender.specs.Sends.{Prepares, refusal, prepared, firs
 ghost use Rattle.amqp_link_sender.specs.Sends.{goes_settled, takes_messages, is_absent, sent};
 
 use crate::link::SenderLink;
-use amqp_link_attach::LinkState;
-use amqp_link_sender_messages::{Entry, Messages};
+use amqp_link_base::LinkState;
+use amqp_link_unsettled::{Entry, Messages};
 use amqp_session_performatives::Transfer;
 use amqp_session_types::{DeliveryTag, Handle, SenderSettleMode};
 use bytes::Bytes;

@@ -6,7 +6,7 @@ ghost use Rattle.amqp_link_sender.specs.SendsOn.{sent_on};
 
 use crate::link::SenderLink;
 use crate::sending::first_transfer;
-use amqp_link_sender_messages::{Open, Resumption};
+use amqp_link_unsettled::{Open, Resumption};
 use amqp_session_performatives::Transfer;
 use amqp_session_states::{DeliveryState, Received};
 use amqp_session_types::{DeliveryTag, Handle};

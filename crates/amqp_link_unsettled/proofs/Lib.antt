@@ -5,3 +5,7 @@ pub mod Shortening
 pub mod Noted
 pub mod Places
 pub mod Rows
+pub mod NotedMessages
+pub mod Tagging
+pub mod Failing
+pub mod MessageRows

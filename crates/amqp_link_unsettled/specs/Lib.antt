@@ -2,3 +2,8 @@ pub mod Entries
 pub mod Resumption
 pub mod Exchange
 pub mod Listing
+pub mod Resolutions
+pub mod Told
+pub mod Tagged
+pub mod Messages
+pub mod Exchanging

@@ -212,11 +212,11 @@ fn shorten_list(unsettled: &mut Option<UnsettledList>, left: usize)
 fn fits_frame(attach: &Attach, limit: u32) -> bool
     ensures { IsTrue result ↔ FitsFrame limit attach.now }
 {
-    fits(attach, limit)
+    fits_text(attach, limit)
 }
 
-/// Whether a performative fits a frame of so many bytes.
-fn fits<T: Serialize>(value: &T, limit: u32) -> bool
+/// Whether a performative fits a frame of so many bytes (part 2, 2.3.1). It takes no memory.
+pub fn fits_text<T: Serialize>(value: &T, limit: u32) -> bool
     ensures { IsTrue result ↔ FitsText limit (canon (T.item value.now)) }
 {
     match serialized_size(value) {

@@ -2,16 +2,29 @@
 //! their bytes, the connection, and sessions over links of any type.
 #![tactic(auto)]
 
-pub use amqp_session_connection::{Connection, ConnectionState};
+#[cfg(test)]
+mod tests;
+
+/// The channel-max of an Open that names no other (part 2, 2.7.1).
+pub const DEFAULT_CHANNEL_MAX: u16 = 255;
+/// The incoming-window and the outgoing-window of a Begin that names no other, in transfers (part 2, 2.7.2).
+pub const DEFAULT_WINDOW: u32 = 2_048;
+/// The max-frame-size of an Open that names no other, in bytes (part 2, 2.7.1).
+pub const DEFAULT_MAX_FRAME_SIZE: u32 = 262_144;
+
 pub use amqp_session_core::{
     Batch, BehindFrame, DeliveryRuns, DispositionRoom, FewNumbers, LinkOwner, LinkRelay, Links,
     OUTGOING_WINDOW, Registration, RelayError, Session, SessionFields, SessionState, StateCopies,
     Touched, TransferAnswer, TransferFrame, TransferTaken, Unallocated, echoes,
 };
 pub use amqp_session_frames::{
-    Error as FrameError, Frame, FrameBody, FrameDecoder, FrameEncoder, Piece, Pieces,
+    Connection, ConnectionState, Error as FrameError, Frame, FrameBody, FrameDecoder, FrameEncoder,
+    Piece, Pieces,
 };
-pub use amqp_session_outgoing::{Behind, Outbound, Outgoing, Part, Place, Sent, TransferError};
+pub use amqp_session_outgoing::{
+    Behind, Delivery, DeliveryRange, Outbound, Outgoing, Part, Place, Sent, TransferError,
+    Unsettled,
+};
 pub use amqp_session_performatives::{
     Attach, Begin, Close, Detach, Disposition, End, Flow, LinkFlow, LinkFrame, LinkTransfer,
     MissingHandle, Open, Performative, SessionFrame, SessionFrameBody, SessionOutgoingItem,
@@ -28,13 +41,3 @@ pub use amqp_session_types::{
     SequenceNumber, SessionError, SessionStopReason, TransferNumber, TryCloseError, TryEndError,
     definitions,
 };
-pub use amqp_session_unsettled::{Delivery, DeliveryRange, Unsettled};
-
-/// The max-frame-size of an Open that names no other, in bytes (part 2, 2.7.1).
-pub const DEFAULT_MAX_FRAME_SIZE: u32 = 262_144;
-
-/// The channel-max of an Open that names no other (part 2, 2.7.1).
-pub const DEFAULT_CHANNEL_MAX: u16 = 255;
-
-/// The incoming-window and the outgoing-window of a Begin that names no other, in transfers (part 2, 2.7.2).
-pub const DEFAULT_WINDOW: u32 = 2_048;

@@ -3,11 +3,11 @@ use Rattle.std.proofs.Common.{◌≡◌, ◌≢◌, inl, inr, ℕ, ◌==◌, Lis
 use Rattle.std.proofs.lemmas.Bool.Decides.{eqb_tells}
 use Rattle.std.specs.FinMap as tables
 use Rattle.amqp_session_types.specs.declared.handles.OutputHandle.{OutputHandle}
-use Rattle.amqp_session_unsettled.specs.Table.{Table, unless_of}
-use Rattle.amqp_session_unsettled.specs.declared.delivery.Delivery.{Delivery}
-use Rattle.amqp_session_unsettled.specs.Outside.{names, outside}
-use Rattle.amqp_session_unsettled.specs.declared.range.DeliveryRange.{DeliveryRange}
-use Rattle.amqp_session_unsettled.proofs.Lacking.{get-outside}
+use Rattle.amqp_session_outgoing.specs.Table.{Table, unless_of}
+use Rattle.amqp_session_outgoing.specs.declared.delivery.Delivery.{Delivery}
+use Rattle.amqp_session_outgoing.specs.Outside.{names, outside}
+use Rattle.amqp_session_outgoing.specs.declared.range.DeliveryRange.{DeliveryRange}
+use Rattle.amqp_session_outgoing.proofs.Lacking.{get-outside}
 use Rattle.amqp_session_types.proofs.Tables.{get-put, get-take}
 use Rattle.amqp_session_outgoing.specs.Queues.{Queues, TakesTurn, TakesTurnOf, units_of, joined, followed, rejoined, trailed}
 use Rattle.amqp_session_outgoing.specs.State as sending

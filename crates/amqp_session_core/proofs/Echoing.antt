@@ -5,10 +5,10 @@ use Rattle.std.proofs.lemmas.List.{take_more, map-append}
 use Rattle.amqp_session_types.specs.declared.modes.Role.{Role}
 use Rattle.amqp_session_types.specs.declared.modes.Role.TheVariants.{Sender, Receiver}
 use Rattle.amqp_session_performatives.specs.declared.disposition.Disposition.{Disposition}
-use Rattle.amqp_session_unsettled.specs.Range.{range_of}
-use Rattle.amqp_session_unsettled.specs.Table.{Table}
-use Rattle.amqp_session_unsettled.specs.Touched.{Touches}
-use Rattle.amqp_session_unsettled.specs.Outside.{outside}
+use Rattle.amqp_session_outgoing.specs.Range.{range_of}
+use Rattle.amqp_session_outgoing.specs.Table.{Table}
+use Rattle.amqp_session_outgoing.specs.Touched.{Touches}
+use Rattle.amqp_session_outgoing.specs.Outside.{outside}
 use Rattle.amqp_session_performatives.specs.declared.session_frame.SessionFrame.{SessionFrame}
 use Rattle.amqp_session_performatives.specs.declared.session_frame.SessionFrameBody.TheVariants as body
 use Rattle.amqp_session_core.specs.declared.fields.SessionFields.{SessionFields}

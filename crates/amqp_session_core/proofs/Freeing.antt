@@ -9,8 +9,8 @@ use Rattle.amqp_session_types.specs.declared.modes.Role.TheVariants.{Sender, Rec
 use Rattle.amqp_session_performatives.specs.declared.disposition.Disposition.{Disposition}
 use Rattle.amqp_session_performatives.specs.declared.flow.Flow.{Flow}
 use Rattle.amqp_session_performatives.specs.declared.link_flow.LinkFlow.{LinkFlow}
-use Rattle.amqp_session_unsettled.specs.Table.{Table, unless_of}
-use Rattle.amqp_session_unsettled.specs.declared.delivery.Delivery.{Delivery}
+use Rattle.amqp_session_outgoing.specs.Table.{Table, unless_of}
+use Rattle.amqp_session_outgoing.specs.declared.delivery.Delivery.{Delivery}
 use Rattle.amqp_session_outgoing.specs.Queues.{units_of}
 use Rattle.amqp_session_outgoing.specs.History as sending
 use Rattle.amqp_session_outgoing.specs.State as side

@@ -10,7 +10,7 @@ use Rattle.amqp_session_types.specs.declared.modes.Role.TheVariants.{Sender, Rec
 use Rattle.amqp_session_performatives.specs.declared.disposition.Disposition.{Disposition}
 use Rattle.amqp_session_performatives.specs.declared.flow.Flow.{Flow}
 use Rattle.amqp_session_performatives.specs.declared.link_flow.LinkFlow.{LinkFlow}
-use Rattle.amqp_session_unsettled.specs.Table.{Table}
+use Rattle.amqp_session_outgoing.specs.Table.{Table}
 use Rattle.amqp_session_core.specs.declared.relay.RelayError.{RelayError}
 use Rattle.amqp_session_core.specs.Echoes.{Reach, ReachesAt, Walks, opposite}
 use Rattle.amqp_session_core.specs.Relay.{Relations, LinkAct, LinkStep, LinkHistory, Attaches, Flows, Transfers}

@@ -6,19 +6,19 @@ use Rattle.std.proofs.lemmas.Bool.Decides.{eqb_tells}
 use Rattle.std.proofs.lemmas.List.{take_more, map-append}
 use Rattle.std.specs.FinMap as tables
 use Rattle.std.proofs.lemmas.List.Elements.{All-map, All-push, All-same, All-weaker, All-contains_itself}
-use Rattle.amqp_session_unsettled.specs.Table.{Table, IsUnsettled}
-use Rattle.amqp_session_unsettled.specs.Touched.{Touches, number_at}
-use Rattle.amqp_session_unsettled.specs.Outside.{names, outside}
-use Rattle.amqp_session_unsettled.specs.Range.{ahead, count_of, range_of}
-use Rattle.amqp_session_unsettled.specs.declared.range.DeliveryRange.{DeliveryRange}
-use Rattle.amqp_session_unsettled.specs.declared.delivery.Delivery.{Delivery}
-use Rattle.amqp_session_unsettled.proofs.Lacking.{get-outside, outside-none, settled-more}
+use Rattle.amqp_session_outgoing.specs.Table.{Table, IsUnsettled}
+use Rattle.amqp_session_outgoing.specs.Touched.{Touches, number_at}
+use Rattle.amqp_session_outgoing.specs.Outside.{names, outside}
+use Rattle.amqp_session_outgoing.specs.Range.{ahead, count_of, range_of}
+use Rattle.amqp_session_outgoing.specs.declared.range.DeliveryRange.{DeliveryRange}
+use Rattle.amqp_session_outgoing.specs.declared.delivery.Delivery.{Delivery}
+use Rattle.amqp_session_outgoing.proofs.Lacking.{get-outside, outside-none, settled-more}
 use Rattle.amqp_session_types.proofs.Tables.{get-take, same_tables}
-use Rattle.amqp_session_unsettled.proofs.Walking.{walked-none, walked-more, walked-past}
+use Rattle.amqp_session_outgoing.proofs.Walking.{walked-none, walked-more, walked-past}
 use Rattle.amqp_session_core.specs.declared.dispositions.Touched.{Touched as TouchedDelivery}
 use Rattle.amqp_session_types.specs.declared.modes.Role.{Role}
 use Rattle.amqp_session_types.specs.declared.modes.Role.TheVariants.{Sender, Receiver}
-use Rattle.amqp_session_unsettled.specs.Table.{Deliveries}
+use Rattle.amqp_session_outgoing.specs.Table.{Deliveries}
 use Rattle.amqp_session_core.specs.Disposing.{IsOfLink, deliveries_of, each_number}
 use Rattle.amqp_session_core.specs.State.{State}
 use Rattle.amqp_session_core.specs.Steps.{table_of}

@@ -9,8 +9,8 @@ use Rattle.slab.specs.Slab.{Slab}
 use Rattle.amqp_session_types.specs.declared.modes.Role.{Role}
 use Rattle.amqp_session_states.specs.declared.delivery_state.DeliveryState.{DeliveryState}
 use Rattle.amqp_session_performatives.specs.declared.disposition.Disposition.{Disposition}
-use Rattle.amqp_session_unsettled.specs.Table.{Table, IsUnsettled}
-use Rattle.amqp_session_unsettled.specs.declared.delivery.Delivery.{Delivery}
+use Rattle.amqp_session_outgoing.specs.Table.{Table, IsUnsettled}
+use Rattle.amqp_session_outgoing.specs.declared.delivery.Delivery.{Delivery}
 use Rattle.amqp_session_core.specs.Echoes.{Reach, Walks, ReachesAt, echoed}
 use Rattle.amqp_session_core.specs.Disposing.{Walked, ReachesOneAt, ReachesOne}
 

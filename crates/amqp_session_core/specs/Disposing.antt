@@ -6,16 +6,16 @@ use Rattle.amqp_session_types.specs.declared.modes.Role.{Role}
 use Rattle.amqp_session_states.specs.declared.delivery_state.DeliveryState.{DeliveryState}
 use Rattle.amqp_session_performatives.specs.declared.disposition.Disposition.{Disposition}
 use Rattle.amqp_session_types.specs.declared.modes.Role.TheVariants.{Sender, Receiver}
-use Rattle.amqp_session_unsettled.specs.Table.{Table, Deliveries}
-use Rattle.amqp_session_unsettled.specs.Touched.{Touches}
+use Rattle.amqp_session_outgoing.specs.Table.{Table, Deliveries}
+use Rattle.amqp_session_outgoing.specs.Touched.{Touches}
 use Rattle.amqp_session_core.specs.declared.dispositions.Touched.{Touched}
 use Rattle.amqp_session_core.specs.declared.dispositions.DispositionRoom.{DispositionRoom}
-use Rattle.amqp_session_unsettled.specs.declared.delivery.Delivery.{Delivery}
+use Rattle.amqp_session_outgoing.specs.declared.delivery.Delivery.{Delivery}
 use Rattle.amqp_session_outgoing.specs.State as sending
 use Rattle.amqp_session_core.specs.declared.batch.TransferFrame.{TransferFrame}
 use Rattle.amqp_session_core.specs.declared.batch.BehindFrame.{BehindFrame}
-use Rattle.amqp_session_unsettled.specs.Outside.{outside}
-use Rattle.amqp_session_unsettled.specs.Range.{range_of}
+use Rattle.amqp_session_outgoing.specs.Outside.{outside}
+use Rattle.amqp_session_outgoing.specs.Range.{range_of}
 use Rattle.amqp_session_core.specs.State.{State, StepsAt}
 use Rattle.amqp_session_core.specs.Echoes.{Reach, Walks, echoed, opposite}
 use Rattle.amqp_session_core.specs.Steps.{table_of, with_table}

@@ -6,7 +6,7 @@ use Rattle.amqp_session_types.specs.declared.modes.Role.{Role}
 use Rattle.amqp_session_types.specs.declared.modes.Role.TheVariants.{Sender, Receiver}
 use Rattle.amqp_session_states.specs.declared.delivery_state.DeliveryState.{DeliveryState}
 use Rattle.amqp_session_performatives.specs.declared.disposition.Disposition.{Disposition}
-use Rattle.amqp_session_unsettled.specs.Table.{Table}
+use Rattle.amqp_session_outgoing.specs.Table.{Table}
 use Rattle.amqp_session_core.specs.State.{StepsAt}
 
 -- the other end of a link

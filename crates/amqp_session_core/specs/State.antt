@@ -9,7 +9,7 @@ use Rattle.amqp_session_types.specs.declared.handles.Handle.{Handle}
 use Rattle.amqp_session_types.specs.declared.handles.OutputHandle.{OutputHandle}
 use Rattle.amqp_session_types.specs.declared.refusals.SessionError.{SessionError}
 use Rattle.amqp_session_types.specs.declared.refusals.SessionError.TheVariants.{HandleMaxReached}
-use Rattle.amqp_session_unsettled.specs.declared.delivery.Delivery.{Delivery}
+use Rattle.amqp_session_outgoing.specs.declared.delivery.Delivery.{Delivery}
 use Rattle.amqp_session_outgoing.specs.State as sending
 use Rattle.amqp_session_outgoing.specs.History as sending_history
 use Rattle.amqp_session_core.specs.declared.state.SessionState.{SessionState}

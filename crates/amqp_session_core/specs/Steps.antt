@@ -18,9 +18,9 @@ use Rattle.amqp_session_performatives.specs.declared.transfer.Transfer.{Transfer
 use Rattle.amqp_session_performatives.specs.declared.link_flow.LinkFlow.{LinkFlow}
 use Rattle.amqp_session_performatives.specs.declared.session_frame.SessionFrame.{SessionFrame}
 use Rattle.amqp_session_performatives.specs.declared.session_frame.SessionFrameBody.TheVariants as body
-use Rattle.amqp_session_unsettled.specs.Range.{range_of}
-use Rattle.amqp_session_unsettled.specs.Touched.{Touches}
-use Rattle.amqp_session_unsettled.specs.Table.{Table, unless_of}
+use Rattle.amqp_session_outgoing.specs.Range.{range_of}
+use Rattle.amqp_session_outgoing.specs.Touched.{Touches}
+use Rattle.amqp_session_outgoing.specs.Table.{Table, unless_of}
 use Rattle.amqp_session_outgoing.specs.State as sending
 use Rattle.amqp_session_outgoing.specs.History as sending_history
 use Rattle.amqp_session_outgoing.specs.Queues.{units_of}

@@ -1,8 +1,8 @@
 -- A handle that is taken back, until it is given anew.
 use Rattle.std.specs.Prelude.{◌≡◌, ◌≢◌, ℕ, ◌==◌, List, [], ◌∷◌, Bool, true, false, Some, None, if◌then◌else◌}
 use Rattle.std.specs.FinMap as map
-use Rattle.amqp_session_unsettled.specs.Table.{Table}
-use Rattle.amqp_session_unsettled.specs.declared.delivery.Delivery.{Delivery}
+use Rattle.amqp_session_outgoing.specs.Table.{Table}
+use Rattle.amqp_session_outgoing.specs.declared.delivery.Delivery.{Delivery}
 use Rattle.amqp_session_outgoing.specs.Queues.{units_of}
 use Rattle.amqp_session_core.specs.State.{State, link_at}
 use Rattle.amqp_session_core.specs.Steps.{Act, Allocates}

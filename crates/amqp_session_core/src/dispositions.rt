@@ -6,20 +6,19 @@ ghost use Rattle.amqp_session_core.specs.Echoes.{echo_of, opposite, runs_of, wit
 ghost use Rattle.amqp_session_core.specs.Disposing.{AreTouched, IsOfLink, each_number, HasRoomFor, Walked, AreCopies};
 ghost use Rattle.amqp_session_core.specs.Disposing.{behind_runs, deliveries_of, settled_own, ReachesOne};
 ghost use Rattle.amqp_session_core.specs.Steps.{table_of, with_table};
-ghost use Rattle.amqp_session_unsettled.specs.Outside.{outside};
-ghost use Rattle.amqp_session_unsettled.specs.Range.{range_of};
-ghost use Rattle.amqp_session_unsettled.specs.Table.{IsUnsettled};
-ghost use Rattle.amqp_session_unsettled.specs.Touched.{Touches};
+ghost use Rattle.amqp_session_outgoing.specs.Outside.{outside};
+ghost use Rattle.amqp_session_outgoing.specs.Range.{range_of};
+ghost use Rattle.amqp_session_outgoing.specs.Table.{IsUnsettled};
+ghost use Rattle.amqp_session_outgoing.specs.Touched.{Touches};
 ghost use Rattle.amqp_session_core.specs.Told.{DispositionTaken, DispositionSent};
 
 use crate::batch::{BehindFrame, TransferFrame};
 use crate::relay::LinkRelay;
 use crate::session::Session;
-use amqp_session_outgoing::Outgoing;
+use amqp_session_outgoing::{Delivery, DeliveryRange, Outgoing, Unsettled};
 use amqp_session_performatives::{Disposition, SessionFrame, SessionFrameBody};
 use amqp_session_states::DeliveryState;
 use amqp_session_types::{OutputHandle, Role, SessionError};
-use amqp_session_unsettled::{Delivery, DeliveryRange, Unsettled};
 use slab::Slab;
 use smallvec::SmallVec;
 use std::alloc::{AllocError, Global};

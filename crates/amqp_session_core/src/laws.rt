@@ -5,7 +5,7 @@ ghost use Rattle.amqp_session_types.specs.declared.channels.OutgoingChannel.{Out
 ghost use Rattle.amqp_session_types.specs.declared.handles.OutputHandle.{OutputHandle};
 ghost use Rattle.amqp_session_performatives.specs.declared.disposition.Disposition.{Disposition};
 ghost use Rattle.amqp_session_performatives.specs.declared.session_frame.SessionFrame.{SessionFrame};
-ghost use Rattle.amqp_session_unsettled.specs.declared.delivery.Delivery.{Delivery};
+ghost use Rattle.amqp_session_outgoing.specs.declared.delivery.Delivery.{Delivery};
 ghost use Rattle.amqp_session_outgoing.specs.History as sending;
 ghost use Rattle.amqp_session_core.specs.declared.batch.BehindFrame.{BehindFrame};
 ghost use Rattle.amqp_session_core.specs.Batch.{Transfers};

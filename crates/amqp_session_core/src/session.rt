@@ -6,9 +6,8 @@ use crate::batch::{Batch, BehindFrame, TransferFrame};
 use crate::fields::SessionFields;
 use crate::routes::Routes;
 use crate::state::SessionState;
-use amqp_session_outgoing::{Outgoing, Place, Sent};
+use amqp_session_outgoing::{Outgoing, Place, Sent, Unsettled};
 use amqp_session_types::{IncomingChannel, OutgoingChannel};
-use amqp_session_unsettled::Unsettled;
 use slab::Slab;
 use std::alloc::Global;
 use std::marker::Model;
@@ -47,7 +46,7 @@ pub struct Session<R> {
 
 impl<R> Model for Session<R> {
     ghost use Rattle.std.specs.Coded.{codes};
-    ghost use Rattle.amqp_session_unsettled.specs.Table.{table_code};
+    ghost use Rattle.amqp_session_outgoing.specs.Table.{table_code};
     ghost use Rattle.amqp_session_core.specs.Tables.{route_code};
     ghost use Rattle.amqp_session_core.specs.State.{State};
     ghost use Rattle.amqp_session_core.specs.Inside.{state_of, IsSound};

@@ -13,3 +13,11 @@ pub mod Dividing
 pub mod Refusing
 pub mod StandardFacts
 pub mod Appended
+pub mod Tables
+pub mod Histories
+pub mod States
+pub mod Following
+pub mod Routing
+pub mod Living
+pub mod Reasons
+pub mod HandingOut

@@ -6,3 +6,7 @@ pub mod Body
 pub mod Sizes
 pub mod Piece
 pub mod Appending
+pub mod Table
+pub mod State
+pub mod Steps
+pub mod Told

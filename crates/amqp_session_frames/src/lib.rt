@@ -1,4 +1,5 @@
-//! Frames of AMQP 1.0 and their bytes (part 2, 2.3).
+//! Frames of AMQP 1.0 and their bytes (part 2, 2.3), and the connection layer as plain calls (part 2, 2.4): states, channels
+//! of sessions, and routes of the peer's channels to sessions.
 //!
 //! A [`Frame`] has a channel and a [`FrameBody`]: one of the nine performatives, a transfer with its payload, or nothing.
 //! [`FrameDecoder`] reads a frame of its bytes. [`FrameEncoder`] writes a frame as [`Pieces`]: a [`Piece`] is its bytes without
@@ -9,9 +10,14 @@
 //! Which bytes are a frame, and which frame they are, says `FrameText` in specs/Text.antt; what a frame is written as,
 //! `frame_text` there; in which frames a transfer goes, `AreParts` in specs/Parts.antt. That bytes are at most one frame, that
 //! a frame that was written is read back, and that a stream is read in one way, are laws: see [`laws`].
+//!
+//! What a call of a [`Connection`] does says `Step` in specs/Steps.antt; which call leads from which state to which says
+//! specs/Table.antt.
 #![tactic(auto)]
 
 mod appending;
+mod connection;
+pub mod connection_laws;
 mod decoder;
 mod encoder;
 mod error;
@@ -21,10 +27,16 @@ pub mod laws;
 mod part;
 mod piece;
 mod pieces;
+mod routes;
+mod sessions;
+mod state;
 
+pub use connection::Connection;
 pub use decoder::FrameDecoder;
 pub use encoder::FrameEncoder;
 pub use error::Error;
 pub use frame::{Frame, FrameBody};
 pub use piece::Piece;
 pub use pieces::Pieces;
+pub use routes::Routes;
+pub use state::ConnectionState;

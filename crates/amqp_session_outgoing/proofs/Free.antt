@@ -4,11 +4,11 @@ use Rattle.std.specs.Prelude.{if◌then◌else◌}
 use Rattle.std.proofs.Math.Nat.{mod-add-mod, mod-eq_of_lt}
 use Rattle.std.specs.FinMap as map
 use Rattle.amqp_session_types.specs.declared.handles.OutputHandle.{OutputHandle}
-use Rattle.amqp_session_unsettled.specs.Table.{Table, unless_of}
-use Rattle.amqp_session_unsettled.specs.declared.delivery.Delivery.{Delivery}
-use Rattle.amqp_session_unsettled.specs.Outside.{names, outside}
-use Rattle.amqp_session_unsettled.specs.declared.range.DeliveryRange.{DeliveryRange}
-use Rattle.amqp_session_unsettled.proofs.Lacking.{get-outside}
+use Rattle.amqp_session_outgoing.specs.Table.{Table, unless_of}
+use Rattle.amqp_session_outgoing.specs.declared.delivery.Delivery.{Delivery}
+use Rattle.amqp_session_outgoing.specs.Outside.{names, outside}
+use Rattle.amqp_session_outgoing.specs.declared.range.DeliveryRange.{DeliveryRange}
+use Rattle.amqp_session_outgoing.proofs.Lacking.{get-outside}
 use Rattle.amqp_session_types.proofs.Tables.{get-put-other, get-take-none}
 use Rattle.amqp_session_outgoing.specs.Frames.{is_first, first_count, firsts_of}
 use Rattle.amqp_session_outgoing.specs.Queues.{Queues, firsts_in}

@@ -11,3 +11,7 @@ pub mod Numbers
 pub mod Outside
 pub mod Taking
 pub mod Free
+pub mod Tables
+pub mod Gathering
+pub mod Lacking
+pub mod Walking

@@ -2,7 +2,7 @@
 use Rattle.std.proofs.Common.{◌≡◌, ℕ, ◌+◌, ◌<◌, ◌%◌, ◌^◌, List, [], ◌∷◌, ◌++◌, sym, ◌∙◌, ap, subst, Bool, true, false, Option, Some, None}
 use Rattle.std.specs.Prelude.{if◌then◌else◌}
 use Rattle.std.proofs.Math.Nat.{mod-add-mod}
-use Rattle.amqp_session_unsettled.specs.Range.{ahead}
+use Rattle.amqp_session_outgoing.specs.Range.{ahead}
 use Rattle.amqp_session_outgoing.specs.Frames.{is_first}
 use Rattle.amqp_session_outgoing.specs.State.{State, Leaves, Sends, with_batch, with_window}
 use Rattle.amqp_session_outgoing.specs.History.{Act, Step, History, TakesWindow, SetsWindow, Accepts, Refuses}

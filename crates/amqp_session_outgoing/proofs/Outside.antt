@@ -1,7 +1,7 @@
 -- What waits lies outside the window.
 use Rattle.std.proofs.Common.{◌≡◌, ℕ, ◌+◌, ◌<◌, ◌≤◌, ◌%◌, ◌^◌, List, [], ◌∷◌, ◌++◌, length, sym, ◌∙◌, ap, subst, arith, length-append, Some, None, Bool, false, true≢false}
 use Rattle.std.proofs.Math.Nat.{mod-add-mod}
-use Rattle.amqp_session_unsettled.specs.Range.{ahead}
+use Rattle.amqp_session_outgoing.specs.Range.{ahead}
 use Rattle.amqp_session_outgoing.specs.Queues.{Queues, held_in}
 use Rattle.amqp_session_outgoing.specs.State.{State, Leaves, IsHeld, with_batch, with_window}
 use Rattle.amqp_session_outgoing.specs.History.{Act, Step, History, TakesWindow, SetsWindow, Accepts, Refuses}

@@ -2,8 +2,8 @@
 use Rattle.std.proofs.Common.{◌≡◌, ℕ, ◌+◌, ◌-◌, ◌<◌, ◌≤◌, ◌%◌, ◌^◌, arith, List, [], ◌∷◌, ◌++◌, length, refl, sym, ap, ◌∙◌, subst, Option, Some, None}
 use Rattle.std.specs.Prelude.{if◌then◌else◌}
 use Rattle.amqp_session_types.specs.declared.handles.OutputHandle.{OutputHandle}
-use Rattle.amqp_session_unsettled.specs.Range.{ahead}
-use Rattle.amqp_session_unsettled.specs.Table.{Table}
+use Rattle.amqp_session_outgoing.specs.Range.{ahead}
+use Rattle.amqp_session_outgoing.specs.Table.{Table}
 use Rattle.amqp_session_outgoing.specs.Frames.{is_first}
 use Rattle.amqp_session_outgoing.specs.Queues.{Queues, joined}
 use Rattle.amqp_session_outgoing.specs.State.{State, Sends, Leaving, registered, window_left, with_alone, with_batch}

@@ -4,7 +4,7 @@ use Rattle.amqp_session_outgoing.specs.Queues.{Queues, held_in, rejoined, TakesT
 use Rattle.amqp_session_outgoing.specs.declared.frames.Outbound.{Outbound}
 use Rattle.amqp_session_outgoing.specs.State.{State, Sends, Leaves, Leaving, registered, after}
 use Rattle.amqp_session_outgoing.specs.Frames.{is_first}
-use Rattle.amqp_session_unsettled.specs.Table.{Table}
+use Rattle.amqp_session_outgoing.specs.Table.{Table}
 use Rattle.amqp_session_types.specs.declared.handles.OutputHandle.{OutputHandle}
 use Rattle.std.specs.Prelude.{if◌then◌else◌}
 use Rattle.amqp_session_outgoing.specs.declared.frames.Sent.{Sent}

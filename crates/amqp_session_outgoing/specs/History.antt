@@ -2,9 +2,9 @@
 use Rattle.std.specs.Prelude.{◌≡◌, ℕ, ◌+◌, ◌%◌, ◌^◌, ◌<◌, List, [], ◌∷◌, ◌++◌, Option, None, max}
 use Rattle.std.specs.FinMap as map
 use Rattle.amqp_session_types.specs.declared.handles.OutputHandle.{OutputHandle}
-use Rattle.amqp_session_unsettled.specs.Outside.{outside}
-use Rattle.amqp_session_unsettled.specs.Table.{unless_of}
-use Rattle.amqp_session_unsettled.specs.declared.range.DeliveryRange.{DeliveryRange}
+use Rattle.amqp_session_outgoing.specs.Outside.{outside}
+use Rattle.amqp_session_outgoing.specs.Table.{unless_of}
+use Rattle.amqp_session_outgoing.specs.declared.range.DeliveryRange.{DeliveryRange}
 use Rattle.amqp_session_outgoing.specs.Frames.{firsts_of, HaveTags}
 use Rattle.amqp_session_outgoing.specs.Queues.{firsts_in, FollowsIn}
 use Rattle.amqp_session_outgoing.specs.State.{State, Leaves, IsHeld, with_window, with_batch}

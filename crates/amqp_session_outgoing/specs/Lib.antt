@@ -7,3 +7,8 @@ pub mod Told
 pub mod Turns
 pub mod Nodes
 pub mod Spots
+pub mod Range
+pub mod Table
+pub mod Touched
+pub mod Noted
+pub mod Outside

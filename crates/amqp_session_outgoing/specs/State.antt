@@ -4,9 +4,9 @@ use Rattle.std.specs.Prelude.{if◌then◌else◌}
 use Rattle.std.specs.Ordering.{nat_cmp}
 use Rattle.std.specs.FinMap as map
 use Rattle.amqp_session_types.specs.declared.handles.OutputHandle.{OutputHandle}
-use Rattle.amqp_session_unsettled.specs.Range.{ahead}
-use Rattle.amqp_session_unsettled.specs.Table.{Table}
-use Rattle.amqp_session_unsettled.specs.declared.delivery.Delivery.{Delivery}
+use Rattle.amqp_session_outgoing.specs.Range.{ahead}
+use Rattle.amqp_session_outgoing.specs.Table.{Table}
+use Rattle.amqp_session_outgoing.specs.declared.delivery.Delivery.{Delivery}
 use Rattle.amqp_session_outgoing.specs.Frames.{is_first}
 use Rattle.amqp_session_outgoing.specs.Queues.{Queues, held_in, TakesTurn, joined, rejoined}
 use Rattle.amqp_session_outgoing.specs.declared.frames.Part.{Part}

@@ -2,7 +2,7 @@
 use Rattle.std.specs.Prelude.{◌≡◌, ℕ, ◌+◌, ◌%◌, ◌^◌, ◌<◌, ◌==◌, List, [], ◌∷◌, ◌++◌, Bool, true, false, Option, Some}
 use Rattle.std.specs.Prelude.{None, if◌then◌else◌}
 use Rattle.std.specs.FinMap as map
-use Rattle.amqp_session_unsettled.specs.Range.{ahead}
+use Rattle.amqp_session_outgoing.specs.Range.{ahead}
 use Rattle.amqp_session_outgoing.specs.Frames.{LinkFrame, Other, frames_of, frames_sent}
 use Rattle.amqp_session_outgoing.specs.State.{State, Leaves, Sends, with_window, with_batch}
 use Rattle.amqp_session_outgoing.specs.History.{Act, TakesWindow, SetsWindow, Accepts, Refuses, Follows, Reserves}

@@ -1,7 +1,7 @@
 //! Laws of histories of the sending side of a session: each says what holds of every list of calls from a new one on,
 //! whatever the transfers and the other frames are.
 ghost use Rattle.std.specs.Prelude.{◌≡◌, ◌≢◌, ℕ, ◌+◌, ◌<◌, ◌≤◌, ◌%◌, ◌^◌, [], ◌∷◌, List, ◌++◌, length};
-ghost use Rattle.amqp_session_unsettled.specs.Range.{ahead};
+ghost use Rattle.amqp_session_outgoing.specs.Range.{ahead};
 ghost use Rattle.amqp_session_outgoing.specs.Queues.{held_in, units_of, waiting_of};
 ghost use Rattle.amqp_session_outgoing.specs.State.{State};
 ghost use Rattle.amqp_session_outgoing.specs.History.{Act, Step, History, fresh};

@@ -4,11 +4,11 @@ ghost use Rattle.std.specs.Prelude.{if◌then◌else◌, IsTrue, IsOk, IfOk, IfE
 ghost use Rattle.std.specs.Prelude.{vec_capacity};
 ghost use Rattle.amqp_session_outgoing.specs.Frames.{is_first, firsts_of, frames_count, sent_count, HaveTags};
 ghost use Rattle.amqp_session_outgoing.specs.Queues.{held_in, firsts_in, frames_in, units_of, room_behind, turn_of};
-ghost use Rattle.amqp_session_unsettled.specs.Touched.{Touches};
+ghost use Rattle.amqp_session_outgoing.specs.Touched.{Touches};
 ghost use Rattle.std.specs.FinMap as map;
 ghost use Rattle.amqp_session_outgoing.specs.State.{State, InWindow, Sends, Leaving, IsHeld, base_of, registered};
 ghost use Rattle.amqp_session_outgoing.specs.State.{window_left, with_alone, with_batch, with_window};
-ghost use Rattle.amqp_session_unsettled.specs.Range.{ahead};
+ghost use Rattle.amqp_session_outgoing.specs.Range.{ahead};
 ghost use Rattle.amqp_session_outgoing.specs.History.{Step, Takes, TakesWindow, Accepts, Refuses, Follows, Reserves};
 ghost use Rattle.amqp_session_outgoing.specs.History.{Settles, SettlesRange, Forgets, Fails, HasFreeNumbers, IsFree};
 ghost use Rattle.amqp_session_outgoing.specs.History.{RefusesBatch, fresh};
@@ -17,8 +17,8 @@ use crate::error::TransferError;
 use crate::frames::{Outbound, Part, Sent};
 use crate::place::Place;
 use crate::turns::Turns;
+use crate::{Delivery, DeliveryRange, Unsettled};
 use amqp_session_types::OutputHandle;
-use amqp_session_unsettled::{Delivery, DeliveryRange, Unsettled};
 use std::alloc::{AllocError, Global};
 use std::collections::VecDeque;
 use std::marker::Model;
@@ -56,7 +56,7 @@ impl<T: Drop, F: Drop> Drop for Outgoing<T, F> {
 
 impl<T, F> Model for Outgoing<T, F> {
     ghost use Rattle.std.specs.Coded.{codes};
-    ghost use Rattle.amqp_session_unsettled.specs.Table.{table_code};
+    ghost use Rattle.amqp_session_outgoing.specs.Table.{table_code};
     ghost use Rattle.amqp_session_outgoing.specs.State.{State};
 
     ghost Value = { State T F };

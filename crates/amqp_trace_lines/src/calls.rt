@@ -1,5 +1,5 @@
 //! Calls of a connection, as words.
-use amqp_session_connection::ConnectionState;
+use amqp_session_frames::ConnectionState;
 use amqp_session_types::ConnectionStopReason;
 
 /// A call of a connection.

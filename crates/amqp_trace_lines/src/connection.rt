@@ -2,8 +2,7 @@
 use crate::calls::{Call, StopWord, call_of, state_of};
 use crate::division::frame_words;
 use crate::refusal::Refusal;
-use amqp_session_connection::Connection;
-use amqp_session_frames::Frame;
+use amqp_session_frames::{Connection, Frame};
 use amqp_session_performatives::{Begin, Close, End, Open};
 use amqp_session_types::{ConnectionError, IncomingChannel, OutgoingChannel, definitions};
 use serde_amqp_types::{Array, Symbol, Text};

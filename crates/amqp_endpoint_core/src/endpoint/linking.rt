@@ -5,8 +5,7 @@ ghost use Rattle.amqp_endpoint_model.specs.Step.{IsRefused, SessionsDo};
 ghost use Rattle.amqp_endpoint_model.specs.declared.call.Call.{Call};
 
 use super::Endpoint;
-use amqp_endpoint_model::{Attaching, EndpointError, Event, SessionRelay};
-use amqp_endpoint_settings::LinkSettings;
+use amqp_endpoint_model::{Attaching, EndpointError, Event, LinkSettings, SessionRelay};
 
 impl<S: SessionRelay> Endpoint<S> {
     /// Attaches a link as its sending end in the session with this number: its Attach is queued (part 2, 2.6.3, 2.7.3).

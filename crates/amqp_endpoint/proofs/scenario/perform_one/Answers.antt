@@ -5,7 +5,7 @@ use Rattle.amqp_endpoint_model.specs.declared.error.EndpointError.{EndpointError
 use Rattle.amqp_endpoint_model.specs.Said.{told}
 use Rattle.amqp_endpoint_model.specs.State.{fresh}
 use Rattle.amqp_endpoint_model.specs.History.{Run}
-use Rattle.amqp_endpoint_linked.specs.Does.{linked}
+use Rattle.amqp_endpoint.specs.Does.{linked}
 use Rattle.amqp_endpoint_scripts.specs.Parsed.{one_of}
 use Rattle.amqp_endpoint.specs.Performed.{one_with}
 use Rattle.amqp_endpoint_scripts.specs.Printed.{printed}

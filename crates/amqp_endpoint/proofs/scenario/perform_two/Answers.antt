@@ -1,11 +1,11 @@
 use Rattle.std.proofs.Common.{ℕ, List, map, Option, None, string_bytes, refl, sym, ap, subst, ◌∙◌}
 use Rattle.amqp_endpoint_model.specs.declared.error.EndpointError.{EndpointError}
 use Rattle.amqp_endpoint_model.specs.Step.{refusal_of_settings}
-use Rattle.amqp_endpoint_linked.specs.Does.{linked}
-use Rattle.amqp_endpoint_world.specs.declared.reply.WorldReply.{WorldReply}
-use Rattle.amqp_endpoint_world.specs.declared.step.Step.{Step}
-use Rattle.amqp_endpoint_world.specs.WorldSaid.{world_told}
-use Rattle.amqp_endpoint_world.specs.WorldStep.{WorldRun}
+use Rattle.amqp_endpoint.specs.Does.{linked}
+use Rattle.amqp_endpoint_core.specs.declared.reply.WorldReply.{WorldReply}
+use Rattle.amqp_endpoint_core.specs.declared.step.Step.{Step}
+use Rattle.amqp_endpoint_core.specs.WorldSaid.{world_told}
+use Rattle.amqp_endpoint_core.specs.WorldStep.{WorldRun}
 use Rattle.amqp_endpoint_scripts.specs.Parsed.{two_of}
 use Rattle.amqp_endpoint.specs.Performed.{two_with}
 use Rattle.amqp_endpoint_scripts.specs.Printed.{world_printed}

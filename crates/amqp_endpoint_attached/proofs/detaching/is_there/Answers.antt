@@ -1,6 +1,6 @@
 use Rattle.std.proofs.Common.{Option, sym, ap, ◌∙◌}
-use Rattle.amqp_link_attach.specs.State.{is_attached}
-use Rattle.amqp_link_attach.specs.declared.state.LinkState.{LinkState}
+use Rattle.amqp_link_base.specs.State.{is_attached}
+use Rattle.amqp_link_base.specs.declared.state.LinkState.{LinkState}
 use Rattle.amqp_link_ends.specs.declared.end.End.{End}
 use Rattle.amqp_endpoint_attached.specs.Detaching.{is_there}
 use Rattle.amqp_endpoint_attached.proofs.There.{end_there, none_there}

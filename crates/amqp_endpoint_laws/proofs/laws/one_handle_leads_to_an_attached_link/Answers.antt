@@ -1,6 +1,6 @@
 use Rattle.std.proofs.Common.{◌++◌}
 use Rattle.amqp_endpoint_laws.proofs.Runs.{is-done}
-use Rattle.amqp_endpoint_linked.specs.Does.{linked}
+use Rattle.amqp_endpoint.specs.Does.{linked}
 use Rattle.amqp_endpoint_laws.proofs.LeadingAlone.{leads-alone, leads-on, some-leads}
 use Rattle.amqp_endpoint_laws.proofs.laws.one_handle_leads_to_an_attached_link.Goals as goal
 

@@ -2,7 +2,7 @@ use Rattle.std.proofs.Common.{◌++◌, List, None, ap, subst, sym, ◌∙◌}
 use Rattle.amqp_session_types.specs.declared.error.Error.{Error}
 use Rattle.amqp_session_core.specs.State.{link_at}
 use Rattle.amqp_endpoint_model.specs.declared.event.Event.{Event}
-use Rattle.amqp_endpoint_outcomes.specs.All.{AreCopies, first_told}
+use Rattle.amqp_endpoint_messages.specs.All.{AreCopies, first_told}
 use Rattle.amqp_endpoint_link_calls.proofs.Closed.{closed-by, no-copies}
 use Rattle.amqp_endpoint_link_calls.proofs.closing.close_by.Goals as goal
 

@@ -6,7 +6,7 @@ use Rattle.amqp_endpoint_model.specs.declared.event.Event.{Event}
 use Rattle.amqp_endpoint_linking.specs.Handed.{Tells}
 use Rattle.amqp_endpoint_link_hearing.specs.Attaching.{Becomes}
 use Rattle.amqp_endpoint_links.specs.declared.hearing.LinkPerformative.TheVariants as said
-use Rattle.amqp_endpoint_talk.proofs.Goings.{goes-on}
+use Rattle.amqp_endpoint_conversation.proofs.Goings.{goes-on}
 use Rattle.amqp_endpoint_link_hearing.proofs.Attaches.{attach-bars, attach-fails, attach-taken, closes-for}
 use Rattle.amqp_endpoint_link_hearing.proofs.Plain.{answers-plain}
 use Rattle.amqp_endpoint_link_hearing.proofs.Refusals.{bars, fails, heard-kept, kept}

@@ -1,6 +1,6 @@
 use Rattle.std.proofs.Common.{List, subst}
 use Rattle.amqp_session_performatives.specs.declared.session_frame.SessionFrame.{SessionFrame}
-use Rattle.amqp_endpoint_talk.specs.Going.{Goes}
+use Rattle.amqp_endpoint_conversation.specs.Going.{Goes}
 use Rattle.amqp_endpoint_link_hearing.proofs.detaching.hear_detach.Goals as goal
 
 pub returns-in_err-take_detach-clause-goes : goal.returns-in_err-take_detach-clause-goes

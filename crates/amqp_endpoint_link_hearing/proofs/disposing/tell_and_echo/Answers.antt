@@ -1,9 +1,9 @@
 use Rattle.std.proofs.Common.{ℕ, List, ◌++◌, ap, subst, ◌∙◌}
 use Rattle.amqp_session_core.specs.declared.dispositions.Touched.{Touched}
-use Rattle.amqp_endpoint_disposing.specs.Sending.{SendsEach, frames_of}
+use Rattle.amqp_endpoint_messages.specs.Dispositions.{SendsEach, frames_of}
 use Rattle.amqp_endpoint_attached.specs.Linked.{gives}
-use Rattle.amqp_endpoint_outcomes.specs.Echoing.{echoes_of}
-use Rattle.amqp_endpoint_outcomes.specs.Reached.{behind_reached, reached_told}
+use Rattle.amqp_endpoint_messages.specs.Echoing.{echoes_of}
+use Rattle.amqp_endpoint_messages.specs.Reached.{behind_reached, reached_told}
 use Rattle.amqp_endpoint_link_hearing.proofs.Dispositions.{echoed-goes, echoed-waits, tells-on}
 use Rattle.amqp_endpoint_link_hearing.proofs.Lent.{behind-talk}
 use Rattle.amqp_endpoint_link_hearing.proofs.disposing.tell_and_echo.Goals as goal

@@ -1,5 +1,5 @@
 use Rattle.std.proofs.Common.{drop}
-use Rattle.amqp_endpoint_sessions.specs.State.{live_at}
+use Rattle.amqp_endpoint_tables.specs.State.{live_at}
 use Rattle.amqp_endpoint_link_hearing.proofs.Lent.{behind-talk}
 use Rattle.amqp_endpoint_link_hearing.proofs.Releases.{none-live, released, released-goes, released-rests}
 use Rattle.amqp_endpoint_link_hearing.proofs.flowing.let_go_in.Goals as goal

@@ -1,8 +1,8 @@
 use Rattle.std.proofs.Common.{inl, List, refl, sym, subst, ◌∙◌}
 use Rattle.amqp_session_performatives.specs.declared.session_frame.SessionFrame.{SessionFrame}
 use Rattle.amqp_endpoint_links.specs.declared.hearing.LinkPerformative.TheVariants as said
-use Rattle.amqp_endpoint_talk.specs.Going.{Goes, Rests}
-use Rattle.amqp_endpoint_talk.proofs.Goings.{goes-on, rests-on}
+use Rattle.amqp_endpoint_conversation.specs.Going.{Goes, Rests}
+use Rattle.amqp_endpoint_conversation.proofs.Goings.{goes-on, rests-on}
 use Rattle.amqp_endpoint_link_hearing.proofs.Flows.{back, flow-fails, flow-taken, goes-back, rests-back}
 use Rattle.amqp_endpoint_link_hearing.proofs.Plain.{answers-plain}
 use Rattle.amqp_endpoint_link_hearing.proofs.Refusals.{bars, ended, fails}

@@ -1,6 +1,6 @@
 use Rattle.std.proofs.Common.{List, subst}
 use Rattle.amqp_session_performatives.specs.declared.session_frame.SessionFrame.{SessionFrame}
-use Rattle.amqp_endpoint_talk.specs.Going.{Goes}
+use Rattle.amqp_endpoint_conversation.specs.Going.{Goes}
 use Rattle.amqp_endpoint_link_hearing.proofs.Transfers.{unready-carried}
 use Rattle.amqp_endpoint_link_hearing.proofs.transferring.hear_transfer.Goals as goal
 

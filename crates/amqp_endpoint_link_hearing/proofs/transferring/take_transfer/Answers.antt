@@ -1,6 +1,6 @@
 use Rattle.std.proofs.Common.{inl, inr, refl, ◌∙◌}
 use Rattle.amqp_endpoint_links.specs.declared.hearing.LinkPerformative.TheVariants as said
-use Rattle.amqp_endpoint_talk.proofs.Goings.{goes-on, rests-on}
+use Rattle.amqp_endpoint_conversation.proofs.Goings.{goes-on, rests-on}
 use Rattle.amqp_endpoint_link_hearing.proofs.Plain.{answers-plain}
 use Rattle.amqp_endpoint_link_hearing.proofs.Refusals.{bars, fails, heard-kept, kept}
 use Rattle.amqp_endpoint_link_hearing.proofs.Transfers.{stands-for, transfer-fails, transfer-taken, transfer-unclosed}

@@ -1,5 +1,5 @@
 use Rattle.std.proofs.Common.{refl}
-use Rattle.amqp_endpoint_talk.proofs.Goings.{goes-on}
+use Rattle.amqp_endpoint_conversation.proofs.Goings.{goes-on}
 use Rattle.amqp_endpoint_linking.proofs.Hears.{begin-refused, begun-tells, failed-begin}
 use Rattle.amqp_endpoint_linking.proofs.hearing.take_begin.Goals as goal
 

@@ -1,5 +1,5 @@
 use Rattle.std.proofs.Common.{◌≡◌, ℕ, length, sym, subst, add-one, arith}
-use Rattle.amqp_endpoint_talk.proofs.Clearing.{all-cleared}
+use Rattle.amqp_endpoint_conversation.proofs.Clearing.{all-cleared}
 use Rattle.amqp_endpoint_linking.specs.Ending.{FinishesFirst}
 use Rattle.amqp_endpoint_linking.proofs.OverLaws.{finished-first}
 use Rattle.amqp_endpoint_linking.proofs.over.finish_all.Goals as goal

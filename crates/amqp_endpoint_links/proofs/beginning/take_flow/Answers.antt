@@ -1,6 +1,6 @@
 use Rattle.std.proofs.Common.{Option, sym, subst}
 use Rattle.std.specs.Prelude.{OnOk}
-use Rattle.amqp_endpoint_asked.specs.declared.session.SessionFlow.{SessionFlow}
+use Rattle.amqp_endpoint_links.specs.declared.session.SessionFlow.{SessionFlow}
 use Rattle.amqp_endpoint_links.specs.Beginning.{TakesKept}
 use Rattle.amqp_endpoint_links.proofs.Beginnings.{flow-kept}
 use Rattle.amqp_endpoint_links.proofs.beginning.take_flow.Goals as goal

@@ -2,7 +2,7 @@ use Rattle.std.proofs.Common.{◌≡◌, ◌++◌, map}
 use Rattle.std.specs.Prelude.{string_bytes}
 use Rattle.std.specs.Iterator.Adapters.{zip_first, zip_second}
 use Rattle.std.specs.Slice.Iter.{iter_rest}
-use Rattle.amqp_endpoint_world.specs.WorldSaid.{world_told}
+use Rattle.amqp_endpoint_core.specs.WorldSaid.{world_told}
 use Rattle.amqp_endpoint_scripts.specs.Printed.{world_printed}
 use Rattle.amqp_endpoint_scripts.proofs.printing.print_world.Given as goal
 

@@ -1,7 +1,7 @@
 use Rattle.std.proofs.Common.{rules, List, subst}
 use Rattle.std.specs.List.Sorted.{IsPermutation}
 use Rattle.std.proofs.lemmas.List.Sorted.{IsNonDecreasingBy-from_sort_by_key}
-use Rattle.amqp_link_receiving.specs.declared.disposing.Disposable.{Disposable}
+use Rattle.amqp_link_receiver.specs.declared.disposable.Disposable.{Disposable}
 use Rattle.amqp_link_receiver.proofs.disposing_all.in_order.Goals as goal
 
 pub returns : goal.returns

@@ -1,4 +1,4 @@
-use Rattle.amqp_link_split.specs.Room.{room_of}
+use Rattle.amqp_link_sender.specs.Room.{room_of}
 use Rattle.amqp_link_sender.proofs.Cutting.{are_not_split}
 use Rattle.amqp_link_sender.proofs.payloads.split_for.Goals as goal
 

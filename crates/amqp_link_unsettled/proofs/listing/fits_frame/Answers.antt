@@ -3,4 +3,4 @@ use Rattle.amqp_link_unsettled.proofs.listing.fits_frame.Goals as goal
 
 pub returns : goal.returns
 unfolding FitsFrame
-returns c = c.fits.ensures
+returns c = c.fits_text.ensures

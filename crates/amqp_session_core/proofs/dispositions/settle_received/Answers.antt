@@ -1,6 +1,6 @@
 use Rattle.std.proofs.Common.{ap, sym, ◌∙◌, get_or}
 use Rattle.std.specs.FinMap as tables
-use Rattle.amqp_session_unsettled.specs.Table.{Table, Deliveries}
+use Rattle.amqp_session_outgoing.specs.Table.{Table, Deliveries}
 use Rattle.amqp_session_core.proofs.Settling.{without-next}
 use Rattle.amqp_session_core.proofs.dispositions.settle_received.Goals as goal
 

@@ -1,6 +1,6 @@
 use Rattle.std.proofs.Common.{ap, sym, ◌∙◌, get_or}
 use Rattle.std.specs.FinMap as tables
-use Rattle.amqp_session_unsettled.specs.Table.{Table}
+use Rattle.amqp_session_outgoing.specs.Table.{Table}
 use Rattle.amqp_session_outgoing.specs.State as sending
 use Rattle.amqp_session_core.specs.declared.batch.TransferFrame.{TransferFrame}
 use Rattle.amqp_session_core.specs.declared.batch.BehindFrame.{BehindFrame}

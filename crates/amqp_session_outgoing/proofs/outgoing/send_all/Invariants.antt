@@ -1,5 +1,5 @@
 use Rattle.std.proofs.Common.{◌≡◌, ◌+◌, ◌<◌, ◌≤◌, ◌^◌, length, vec_len, vec_capacity}
-use Rattle.amqp_session_unsettled.specs.Range.{ahead}
+use Rattle.amqp_session_outgoing.specs.Range.{ahead}
 use Rattle.amqp_session_outgoing.specs.State.{State, with_alone}
 use Rattle.amqp_session_outgoing.proofs.Passing.{Passes}
 use Rattle.amqp_session_outgoing.proofs.outgoing.send_all.Given as goal

@@ -2,8 +2,8 @@ use Rattle.std.proofs.Common.{List, [], ◌∷◌, ◌++◌, ap, subst, ◌∙�
 use Rattle.std.specs.Global.{Box}
 use Rattle.amqp_session_types.specs.declared.channels.OutgoingChannel.{OutgoingChannel}
 use Rattle.amqp_session_performatives.specs.declared.session_frame.SessionFrame.{SessionFrame}
-use Rattle.amqp_session_connection.specs.State as channels
-use Rattle.amqp_endpoint_asked.specs.declared.session.AskedSession.{AskedSession}
+use Rattle.amqp_session_frames.specs.State as channels
+use Rattle.amqp_endpoint_links.specs.declared.session.AskedSession.{AskedSession}
 use Rattle.amqp_endpoint_links.specs.Beginning.{Accepted}
 use Rattle.amqp_endpoint_conversation.proofs.Answering.{has_channel, is_live, was_asked}
 use Rattle.amqp_endpoint_conversation.proofs.conversation.Conversation.accept_asked.Goals as goal

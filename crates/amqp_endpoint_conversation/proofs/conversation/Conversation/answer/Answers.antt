@@ -2,8 +2,8 @@ use Rattle.std.proofs.Common.{◌≡◌, Bool, Some, inr, refl, sym, ap, subst, 
 use Rattle.std.specs.Box.{with_value}
 use Rattle.amqp_session_core.specs.Table.{after_incoming_begin}
 use Rattle.amqp_endpoint_links.specs.declared.asking.AskingSession.{AskingSession}
-use Rattle.amqp_endpoint_sessions.specs.Lends.{set_live}
-use Rattle.amqp_endpoint_sessions.specs.State.{live_at}
+use Rattle.amqp_endpoint_tables.specs.Lends.{set_live}
+use Rattle.amqp_endpoint_tables.specs.State.{live_at}
 use Rattle.amqp_endpoint_conversation.specs.Beginning.{BeginBarred, HearsBegin, LeadsAlone, Sessions}
 use Rattle.amqp_endpoint_conversation.proofs.Answering.{unlent}
 use Rattle.amqp_endpoint_conversation.proofs.conversation.Conversation.answer.Goals as goal

@@ -5,8 +5,8 @@ use Rattle.amqp_session_types.specs.declared.refusals.BeginError.{BeginError}
 use Rattle.amqp_session_performatives.specs.declared.session_frame.SessionFrame.{SessionFrame}
 use Rattle.amqp_endpoint_links.specs.declared.asking.AskingSession.{AskingSession}
 use Rattle.amqp_endpoint_links.specs.Beginning.{Begun}
-use Rattle.amqp_endpoint_sessions.specs.Steps.{Step, Begins}
-use Rattle.amqp_session_connection.specs.State as channels
+use Rattle.amqp_endpoint_tables.specs.Steps.{Step, Begins}
+use Rattle.amqp_session_frames.specs.State as channels
 use Rattle.amqp_endpoint_conversation.specs.Beginning.{BeginsHere}
 use Rattle.amqp_endpoint_conversation.proofs.Answering.{answered, numbered}
 use Rattle.amqp_endpoint_conversation.proofs.conversation.Conversation.begin.Goals as goal

@@ -4,7 +4,7 @@ use Rattle.std.specs.Box.{with_value}
 use Rattle.std.specs.Global.{Box}
 use Rattle.amqp_endpoint_links.specs.declared.asking.AskingSession.{AskingSession}
 use Rattle.amqp_endpoint_links.specs.Hearing.{Hears}
-use Rattle.amqp_endpoint_sessions.specs.Lends.{set_live}
+use Rattle.amqp_endpoint_tables.specs.Lends.{set_live}
 use Rattle.amqp_endpoint_conversation.specs.Beginning.{Sessions}
 use Rattle.amqp_endpoint_conversation.proofs.Answering.{unlent}
 use Rattle.amqp_endpoint_conversation.proofs.conversation.Conversation.hear.Goals as goal

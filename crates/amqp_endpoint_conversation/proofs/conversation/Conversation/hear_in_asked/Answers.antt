@@ -4,7 +4,7 @@ use Rattle.std.specs.Box.{with_value}
 use Rattle.std.specs.Global.{Box}
 use Rattle.amqp_session_types.specs.declared.refusals.SessionError.{SessionError}
 use Rattle.amqp_session_types.specs.declared.refusals.SessionError.TheVariants.{Memory}
-use Rattle.amqp_endpoint_asked.specs.declared.session.AskedSession.{AskedSession}
+use Rattle.amqp_endpoint_links.specs.declared.session.AskedSession.{AskedSession}
 use Rattle.amqp_endpoint_links.specs.Hearing.{HearsAsked}
 use Rattle.amqp_endpoint_conversation.proofs.Hearings.{asked_stays}
 use Rattle.amqp_endpoint_conversation.proofs.conversation.Conversation.hear_in_asked.Goals as goal

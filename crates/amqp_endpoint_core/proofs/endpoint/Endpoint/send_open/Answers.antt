@@ -1,6 +1,6 @@
 use Rattle.std.proofs.Common.{◌≡◌, inr, refl, ◌∙◌, ap}
-use Rattle.amqp_session_connection.specs.State.{State as ConnectionFields}
-use Rattle.amqp_session_connection.specs.declared.state.ConnectionState.TheVariants.{HeaderExchange, OpenSent}
+use Rattle.amqp_session_frames.specs.State.{State as ConnectionFields}
+use Rattle.amqp_session_frames.specs.declared.state.ConnectionState.TheVariants.{HeaderExchange, OpenSent}
 use Rattle.amqp_endpoint_model.specs.declared.phase.Phase.TheVariants.{Greeting, Running}
 use Rattle.amqp_endpoint_model.specs.State.{State, limit_of, own_open}
 use Rattle.amqp_endpoint_model.specs.Step.{at_state}

@@ -1,8 +1,8 @@
 use Rattle.std.proofs.Common.{rules, ◌≡◌, ℕ, List, map, length, subst, sym, ap, ◌∙◌}
 use Rattle.std.specs.Prelude.{Result, replicate}
 use Rattle.amqp_session_states.specs.declared.delivery_state.DeliveryState.{DeliveryState}
-use Rattle.amqp_link_receiving.specs.declared.disposing.Disposable.{Disposable}
-use Rattle.amqp_link_receiving.specs.declared.disposing.DisposeRefusal.{DisposeRefusal}
+use Rattle.amqp_link_receiver.specs.declared.disposable.Disposable.{Disposable}
+use Rattle.amqp_link_receiver.specs.declared.disposable.DisposeRefusal.{DisposeRefusal}
 use Rattle.amqp_link_receiver.specs.DisposingAll.{AllDisposed, InOrder, Named, TellsRuns, each_disposed}
 use Rattle.amqp_link_receiver.proofs.link.ReceiverLink.dispose_all.Goals as goal
 

@@ -1,7 +1,7 @@
 use Rattle.std.proofs.Common.{◌≡◌, ◌≤◌, ℕ, List, if◌then◌else◌, length, subst, ap, ◌∙◌, arith, Bor}
 use Rattle.std.proofs.lemmas.List.Elements.{All-same}
-use Rattle.amqp_session_unsettled.specs.Range.{range_of}
-use Rattle.amqp_session_unsettled.specs.Table.{IsUnsettled}
+use Rattle.amqp_session_outgoing.specs.Range.{range_of}
+use Rattle.amqp_session_outgoing.specs.Table.{IsUnsettled}
 use Rattle.amqp_session_core.specs.Disposing.{Walked}
 use Rattle.amqp_session_core.specs.Echoes.{echo_of, runs_of}
 use Rattle.amqp_session_core.specs.Steps.{table_of}

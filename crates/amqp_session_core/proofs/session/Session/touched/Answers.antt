@@ -1,7 +1,7 @@
 use Rattle.std.proofs.Common.{◌≡◌, ℕ, All, refl, sym, ap, subst, ◌∙◌}
 use Rattle.std.proofs.lemmas.List.Elements.{All-same}
-use Rattle.amqp_session_unsettled.specs.Range.{range_of}
-use Rattle.amqp_session_unsettled.specs.Table.{Table, IsUnsettled}
+use Rattle.amqp_session_outgoing.specs.Range.{range_of}
+use Rattle.amqp_session_outgoing.specs.Table.{Table, IsUnsettled}
 use Rattle.amqp_session_core.specs.Inside.{state_of}
 use Rattle.amqp_session_core.specs.State.{State}
 use Rattle.amqp_session_core.specs.Steps.{table_of}

@@ -1,0 +1,4 @@
+mod Related
+mod Heard
+mod AttachedLinks
+pub mod Messages

@@ -1,0 +1,24 @@
+use Rattle.amqp_endpoint_attached.specs.Links.{sender_by}
+use Rattle.amqp_endpoint.proofs.AttachedLinks.{attached, goes-still, rests-still, told-first}
+use Rattle.amqp_endpoint.proofs.attaching.attach_sender.Goals as goal
+
+pub tell_placed-link-requires : goal.tell_placed-link-requires
+tell_placed-link-requires c =
+    let call = c.in_ok-placed.ensures.ok in
+    c.in_ok-events.ensures.ok.1 (call.mapped, call.entered.0)
+
+pub returns-clause-ok : goal.returns-clause-ok
+returns-clause-ok c =
+    let call = c.attach_sender in
+    attached c.args.talk.now call.new.talk c.args.links.now call.new.links c.args.limit c.args.session
+    (sender_by c.args.settings.now) c.in_ok-placed.placed c.tell_placed-link.result
+    c.tell_placed-link.new.events.items c.args.out.now.items call.new.out.items c.in_ok-placed.ensures.ok
+    c.tell_placed-link.ensures.link
+    (told-first c.in_ok-events.events.items c.tell_placed-link.new.events.items _ c.in_ok-events.ensures.ok.0
+    c.tell_placed-link.ensures.told)
+
+pub returns-in_err-events-clause-goes : goal.returns-in_err-events-clause-goes
+returns-in_err-events-clause-goes c = goes-still c.args.limit c.args.talk.now c.args.out.now.items
+
+pub returns-in_err-events-clause-rests : goal.returns-in_err-events-clause-rests
+returns-in_err-events-clause-rests c = rests-still c.args.talk.now c.args.out.now.items

@@ -1,0 +1,32 @@
+use Rattle.std.proofs.Common.{refl}
+use Rattle.amqp_endpoint_model.specs.declared.call.Call.TheVariants.{AttachReceiver}
+use Rattle.amqp_endpoint_model.specs.Said.{attaching}
+use Rattle.amqp_endpoint_attached.specs.Links.{receiver_by}
+use Rattle.amqp_endpoint.specs.Attaching.{LinkAttached}
+use Rattle.amqp_endpoint.specs.declared.linked.LinkedSessions.{LinkedSessions}
+use Rattle.amqp_endpoint.proofs.Related.{called-if}
+use Rattle.amqp_endpoint.proofs.linked.LinkedSessionsSessionRelay.attach_receiver.Goals as goal
+
+pub returns-clause-ok : goal.returns-clause-ok
+returns-clause-ok c =
+    let old = c.args.self.now in
+    let call = c.attach_receiver in
+    let new : LinkedSessions = record old { talk = call.new.talk; links = call.new.links } in
+    called-if old new c.args.limit (AttachReceiver c.args.session c.args.settings.now) c.args.out.now.items
+    call.new.out.items c.requires.least c.requires.waiting call.ensures.goes (record { sent = refl; given = refl })
+    (λ a. attaching a.link a.events.items)
+    (λ a frames. LinkAttached old.talk old.links c.args.limit c.args.session (receiver_by c.args.settings.now) a.link
+    a.events.items frames new.talk new.links)
+    (λ a frames attached. attached) call.result call.ensures.ok
+
+pub returns-clause-within : goal.returns-clause-within
+returns-clause-within c most least = c.attach_receiver.ensures.waits most
+
+pub returns-clause-quiet : goal.returns-clause-quiet
+returns-clause-quiet c = c.attach_receiver.ensures.rests.silent
+
+pub returns-clause-idle : goal.returns-clause-idle
+returns-clause-idle c = c.attach_receiver.ensures.rests.idle
+
+pub returns-clause-still : goal.returns-clause-still
+returns-clause-still c = c.attach_receiver.ensures.goes.still

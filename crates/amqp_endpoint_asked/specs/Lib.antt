@@ -1,3 +1,0 @@
-pub mod Asked
-pub mod Inside
-pub mod AskedSession

@@ -1,4 +1,0 @@
-pub mod Longest
-pub mod Sending
-pub mod Disposing
-pub mod Refusals

@@ -1,4 +1,0 @@
-pub mod Texts
-pub mod Fields
-pub mod Lists
-pub mod Frames

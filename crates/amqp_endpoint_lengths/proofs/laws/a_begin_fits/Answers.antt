@@ -1,5 +1,0 @@
-use Rattle.amqp_endpoint_lengths.proofs.Frames.{begin_fits}
-use Rattle.amqp_endpoint_lengths.proofs.laws.a_begin_fits.Goals as goal
-
-pub returns : goal.returns
-returns c = begin_fits

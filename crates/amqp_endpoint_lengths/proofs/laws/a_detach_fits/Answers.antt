@@ -1,5 +1,0 @@
-use Rattle.amqp_endpoint_lengths.proofs.Frames.{detach_fits}
-use Rattle.amqp_endpoint_lengths.proofs.laws.a_detach_fits.Goals as goal
-
-pub returns : goal.returns
-returns c = detach_fits

@@ -1,5 +1,0 @@
-use Rattle.amqp_endpoint_lengths.proofs.Frames.{disposition_fits}
-use Rattle.amqp_endpoint_lengths.proofs.laws.a_disposition_fits.Goals as goal
-
-pub returns : goal.returns
-returns c = disposition_fits

@@ -1,9 +1,0 @@
-use Rattle.std.proofs.Common.{Some, sym, subst}
-use Rattle.amqp_endpoint_link_attaching.specs.Attaching.{AttachedBy}
-use Rattle.amqp_endpoint_link_attaching.specs.declared.placed.Placed.{Placed}
-use Rattle.amqp_endpoint_link_attaching.proofs.placing.answer_asked.Goals as goal
-
-pub returns-clause-ok : goal.returns-clause-ok
-returns-clause-ok c =
-    subst (λ (p : Placed). AttachedBy (Some c.args.input) p.exchange c.args.live.now c.args.out.now.items c.args.limit
-    c.args.link p c.answer.new.session c.answer.new.out.items) (sym c.placed_by.ensures) c.in_ok-answered.ensures.ok

@@ -1,0 +1,73 @@
+-- What is done in a session that is lent.
+use Rattle.std.proofs.Common.{◌≡◌, ℕ, List, Option, Some, None, false, refl, sym, ap, ◌∙◌, slice_get, slice_set}
+use Rattle.std.proofs.Common.{slice_index_or}
+use Rattle.std.specs.Box.{with_value}
+use Rattle.std.specs.Global.{Box}
+use Rattle.std.proofs.lemmas.List.{set-get_or}
+use Rattle.std.proofs.lemmas.Option.{none-some, same_Some, get_or_from_slice_get}
+use Rattle.amqp_session_performatives.specs.declared.session_frame.SessionFrame.{SessionFrame}
+use Rattle.amqp_link_ends.specs.declared.end.End.{End}
+use Rattle.amqp_endpoint_attached.specs.Linked.{Linked}
+use Rattle.amqp_endpoint_attached.specs.declared.refusal.AttachRefusal.{AttachRefusal}
+use Rattle.amqp_endpoint_conversation.specs.Beginning.{Sessions}
+use Rattle.amqp_endpoint_links.specs.declared.numbered.Numbered.{Numbered}
+use Rattle.amqp_endpoint_model.specs.declared.error.EndpointError.{EndpointError}
+use Rattle.amqp_endpoint_tables.specs.declared.place.PeerEnd.TheVariants.{Missing}
+use Rattle.amqp_endpoint_tables.specs.declared.place.Place.{Place}
+use Rattle.amqp_endpoint_tables.specs.declared.place.Place.TheVariants.{Asked, Live, Ending, Over}
+use Rattle.amqp_endpoint_tables.specs.Lends.{set_live}
+use Rattle.amqp_endpoint_tables.specs.State.{State, live_at, live_of, with_live}
+use Rattle.amqp_endpoint_link_calls.specs.Attaching.{AttachesIn, AttachesOne}
+use Rattle.amqp_endpoint_link_calls.specs.Places.{LinkTalk}
+use Rattle.amqp_endpoint_link_calls.specs.Refusals.{BarsIn, RefusesOne, of_refusal}
+use Rattle.amqp_endpoint_link_calls.specs.declared.placed.Placed.{Placed}
+
+-- a session that is lent and stays as it was
+module _ {A S : Type 0} (s : State A S) (n : ℕ) (x : S) where
+  pub unlent : live_at s n ≡ Some x → set_live s n x ≡ s
+  unlent live = by (slice_get s.places n) refl live
+    where
+      by : (o : Option (Place A S)) → slice_get s.places n ≡ o → live_of o ≡ Some x → set_live s n x ≡ s
+      by None e q = absurd (none-some _ q)
+      by (Some (Asked c a)) e q = absurd (none-some _ q)
+      by (Some (Live c y)) e q =
+          let here = get_or_from_slice_get s.places n (Live c y) (Over Missing false) e in
+          let same : Live c x ≡ slice_index_or s.places n (Over Missing false) =
+          ap (λ (z : S). Live c z) (sym (same_Some _ _ q)) ∙ sym here in
+          ap (λ (ps : List (Place A S)). record s { places = ps })
+          (ap (λ (p : Place A S). slice_set s.places n (with_live p x)) here
+          ∙ ap (λ (p : Place A S). slice_set s.places n p) same
+          ∙ set-get_or s.places n (Over Missing false))
+      by (Some (Ending c)) e q = absurd (none-some _ q)
+      by (Some (Over p c)) e q = absurd (none-some _ q)
+
+module _ (old : LinkTalk) (session : ℕ) (lent : Box Linked) (live : live_at old.sessions session ≡ Some lent) where
+  -- the sessions behind a call of the one that is lent
+  abbrev pub changed : Linked → LinkTalk
+  changed s = record old { sessions = set_live old.sessions session (with_value lent s) }
+
+  -- the link attaches there
+  pub attaches-in : (s : Linked) (limit : ℕ) (link : End) (placed : Placed) (out out_new : List SessionFrame)
+      → AttachesOne lent.value out limit link placed s out_new → placed.session ≡ session
+      → AttachesIn old out limit session link placed (changed s) out_new
+  attaches-in s limit link placed out out_new does held =
+      record {
+        before = lent;
+        after = with_value lent s;
+        attached = does;
+        held = held;
+        stepped = (live, refl);
+        rest = refl;
+      }
+
+  -- it is refused there
+  pub refuses-in : (limit : ℕ) (link : End) (refusal : AttachRefusal) (e : EndpointError) → e ≡ of_refusal refusal
+      → RefusesOne limit lent.value link refusal → BarsIn limit old session link e
+  refuses-in limit link refusal e is refuses =
+      (refusal, is, record { before = lent; live = live; refused = refuses })
+
+  -- it stays as it was
+  pub stays : (s : Linked) → s ≡ lent.value → changed s ≡ old
+  stays s is =
+      ap (λ (t : Linked). record old { sessions = set_live old.sessions session (with_value lent t) }) is
+      ∙ ap (λ (ss : Sessions (Numbered End)). record old { sessions = ss }) (unlent old.sessions session lent live)

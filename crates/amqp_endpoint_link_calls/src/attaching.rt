@@ -1,0 +1,151 @@
+//! How a link attaches in one of an endpoint's sessions (part 2, 2.6.3).
+ghost use Rattle.std.specs.Prelude.{◌≡◌, ℕ, true, Ok, IfErr, IfOk, OnErr};
+ghost use Rattle.amqp_link_ends.specs.Ends.{state_of};
+ghost use Rattle.amqp_link_ends.specs.declared.end.End.{End};
+ghost use Rattle.amqp_endpoint_attached.specs.Links.{is_at_rest, receiver_by, sender_by};
+ghost use Rattle.amqp_endpoint_conversation.specs.Ending.{IsMapped};
+ghost use Rattle.amqp_endpoint_conversation.specs.Going.{Goes, Rests, Within};
+ghost use Rattle.amqp_endpoint_link_calls.specs.Attaching.{AttachesIn, LinkAttaches};
+ghost use Rattle.amqp_endpoint_link_calls.specs.Refusals.{BarsAttaching, BarsMade};
+
+use crate::LinkTalk;
+use crate::entering::{enter, prepare};
+use crate::placed::Placed;
+use crate::placing::attach_live;
+use amqp_endpoint_attached::{receiver, sender};
+use amqp_endpoint_model::{EndpointError, LinkSettings};
+use amqp_endpoint_tables::Links;
+use amqp_link_ends::LinkEnd;
+use amqp_session_performatives::SessionFrame;
+use std::alloc::{AllocError, Global};
+use std::collections::VecDeque;
+
+/// Attaches a link, which is at rest, in the session with this number (part 2, 2.6.3). It gets the next number, and
+/// the session holds it under the handle that it offers. Where the peer asks there for a link of its name, and has the
+/// other end of it, the link answers that: it takes the peer's Attach, and replies to what was kept of a Flow (part 2,
+/// 2.7.4). Its own Attach is handed out, before that reply; it lists as many of the link's unsettled deliveries as a
+/// frame of `limit` bytes holds. What is handed out fits `limit`.
+///
+/// It is refused, tested in this order, with `UnknownSession` exactly where no session has the number; with
+/// `IllegalState` exactly where the session isn't mapped (part 2, 2.5.5); with `DuplicatedLinkName` exactly where a
+/// link that isn't closed has the name (part 2, 2.6.1); with `HandleMaxReached` exactly where the handle that is
+/// offered is above the peer's handle-max (part 2, 2.7.2); with `Link` exactly where a test of the link refuses the
+/// Attach of the one that it answers, with the error of the first that does; with `FrameTooLarge` exactly where its own
+/// Attach fits no frame of `limit` bytes, even without its unsettled deliveries; and with `Memory`, which may stand in
+/// place of each behind `DuplicatedLinkName`. It is refused with `Session(HandleInUse)` where a link of the session has
+/// the handle of the one that it answers (part 2, 2.8.17): none has in a session whose links came by frames and calls.
+/// Nothing changes then, and the link is dropped.
+pub fn attach(
+    talk: &mut LinkTalk,
+    links: &mut Links<LinkEnd>,
+    alloc: Global,
+    limit: u32,
+    session: u64,
+    link: LinkEnd,
+    out: &mut VecDeque<SessionFrame>,
+) -> Result<Placed, EndpointError>
+    requires { is_at_rest (state_of link) ≡ true }
+    ensures ok { IfOk result (λ placed. LinkAttaches talk.old links.old out.old.items limit session link placed
+        talk.new links.new out.new.items) }
+    ensures err { IfErr result (BarsAttaching limit talk.old links.old session link) }
+    ensures kept { OnErr result
+        ((talk.new ≡ talk.old) × (links.new ≡ links.old) × (out.new.items ≡ out.old.items)) }
+    ensures goes { Goes limit talk.old talk.new out.old.items out.new.items }
+    ensures waits { (most : ℕ) → Within most talk.old → Within most talk.new }
+    ensures rests { Rests talk.old talk.new out.old.items out.new.items }
+{
+    let room = links.room();
+    let name = prepare(talk, links, session, &link.base().name)?;
+    let placed = attach_live(talk, alloc, limit, session, links.next_number(), link, out);
+    enter(links, room, name, &placed);
+    placed
+}
+
+/// Attaches a sending link with these settings, which is new, in the session with this number, as `attach` does (part
+/// 2, 2.6.3, 2.7.3).
+///
+/// It is refused as `attach` is, with `Memory` also where there is none for the link. Nothing changes then.
+pub fn attach_sender(
+    talk: &mut LinkTalk,
+    links: &mut Links<LinkEnd>,
+    alloc: Global,
+    limit: u32,
+    session: u64,
+    settings: &LinkSettings,
+    out: &mut VecDeque<SessionFrame>,
+) -> Result<Placed, EndpointError>
+    ensures ok { IfOk result (λ placed. LinkAttaches talk.old links.old out.old.items limit session
+        (sender_by settings.now) placed talk.new links.new out.new.items) }
+    ensures err { IfErr result (BarsAttaching limit talk.old links.old session
+        (sender_by settings.now)) }
+    ensures kept { OnErr result
+        ((talk.new ≡ talk.old) × (links.new ≡ links.old) × (out.new.items ≡ out.old.items)) }
+    ensures goes { Goes limit talk.old talk.new out.old.items out.new.items }
+    ensures waits { (most : ℕ) → Within most talk.old → Within most talk.new }
+    ensures rests { Rests talk.old talk.new out.old.items out.new.items }
+{
+    let room = links.room();
+    let name = prepare(talk, links, session, &settings.name)?;
+    let link = sender(alloc, settings);
+    let placed = attach_made(talk, alloc, limit, session, links.next_number(), link, out);
+    enter(links, room, name, &placed);
+    placed
+}
+
+/// Attaches a receiving link with these settings in the session with this number, as `attach_sender` does a sending
+/// one (part 2, 2.6.3, 2.7.3).
+///
+/// It is refused as that is. Nothing changes then.
+pub fn attach_receiver(
+    talk: &mut LinkTalk,
+    links: &mut Links<LinkEnd>,
+    alloc: Global,
+    limit: u32,
+    session: u64,
+    settings: &LinkSettings,
+    out: &mut VecDeque<SessionFrame>,
+) -> Result<Placed, EndpointError>
+    ensures ok { IfOk result (λ placed. LinkAttaches talk.old links.old out.old.items limit session
+        (receiver_by settings.now) placed talk.new links.new out.new.items) }
+    ensures err { IfErr result (BarsAttaching limit talk.old links.old session
+        (receiver_by settings.now)) }
+    ensures kept { OnErr result
+        ((talk.new ≡ talk.old) × (links.new ≡ links.old) × (out.new.items ≡ out.old.items)) }
+    ensures goes { Goes limit talk.old talk.new out.old.items out.new.items }
+    ensures waits { (most : ℕ) → Within most talk.old → Within most talk.new }
+    ensures rests { Rests talk.old talk.new out.old.items out.new.items }
+{
+    let room = links.room();
+    let name = prepare(talk, links, session, &settings.name)?;
+    let link = receiver(alloc, settings);
+    let placed = attach_made(talk, alloc, limit, session, links.next_number(), link, out);
+    enter(links, room, name, &placed);
+    placed
+}
+
+/// A link attaches in the session with this number, if it was made, and is to have that number of its own.
+fn attach_made(
+    talk: &mut LinkTalk,
+    alloc: Global,
+    limit: u32,
+    session: u64,
+    number: u64,
+    made: Result<LinkEnd, AllocError>,
+    out: &mut VecDeque<SessionFrame>,
+) -> Result<Placed, EndpointError>
+    requires mapped { IsMapped talk.old session }
+    requires at_rest { IfOk made (λ link. is_at_rest (state_of link) ≡ true) }
+    ensures ok { IfOk result (λ placed. (link : End) × (made ≡ Ok link)
+        × AttachesIn talk.old out.old.items limit session link placed talk.new out.new.items) }
+    ensures numbered { IfOk result (λ placed. placed.link ≡ number) }
+    ensures err { IfErr result (BarsMade limit talk.old session made) }
+    ensures kept { OnErr result ((talk.new ≡ talk.old) × (out.new.items ≡ out.old.items)) }
+    ensures goes { Goes limit talk.old talk.new out.old.items out.new.items }
+    ensures waits { (most : ℕ) → Within most talk.old → Within most talk.new }
+    ensures rests { Rests talk.old talk.new out.old.items out.new.items }
+{
+    match made {
+        Ok(link) => attach_live(talk, alloc, limit, session, number, link, out),
+        Err(_) => Err(EndpointError::Memory),
+    }
+}

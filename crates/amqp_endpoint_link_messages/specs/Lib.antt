@@ -1,4 +1,0 @@
-pub mod Sending
-pub mod Keeping
-pub mod Refusing
-pub mod Disposing

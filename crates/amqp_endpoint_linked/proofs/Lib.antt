@@ -1,4 +1,0 @@
-mod Related
-mod Heard
-mod Attached
-pub mod Messages

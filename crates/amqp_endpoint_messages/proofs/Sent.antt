@@ -1,0 +1,303 @@
+-- A message that is sent, or isn't.
+use Rattle.std.proofs.Common.{◌≡◌, ℕ, List, Bool, true, false, Option, Some, slice_set}
+use Rattle.std.proofs.Common.{None, Result, Err, ◌≤◌, refl, sym, ap, subst, ◌∙◌, length, arith}
+use Rattle.std.proofs.lemmas.List.{set-get_or, set-set}
+use Rattle.std.proofs.lemmas.Option.{same_Some}
+use Rattle.std.specs.Prelude.{◌<◌, ◌^◌, IfSome, IsSome, is_none, is_some, max, min, option_map}
+use Rattle.amqp_session_types.specs.declared.handles.OutputHandle.{OutputHandle}
+use Rattle.amqp_session_performatives.specs.declared.session_frame.SessionFrame.{SessionFrame}
+use Rattle.amqp_session_performatives.specs.declared.transfer.Transfer.{Transfer}
+use Rattle.amqp_session_outgoing.specs.History.{HasFreeNumbers}
+use Rattle.amqp_session_outgoing.specs.State.{State as Outgoing}
+use Rattle.amqp_session_core.specs.declared.batch.BehindFrame.{BehindFrame}
+use Rattle.amqp_session_core.specs.declared.batch.TransferFrame.{TransferFrame}
+use Rattle.amqp_session_core.specs.Batch.{Transfers}
+use Rattle.amqp_session_core.specs.State.{link_at}
+use Rattle.amqp_session_core.specs.Steps.{Step, Changes}
+use Rattle.amqp_session_core.specs.Told.{TransfersSent}
+use Rattle.amqp_link_sender.specs.Room.{room_of}
+use Rattle.amqp_link_sender.specs.Splitting.{Splits}
+use Rattle.amqp_link_sender.specs.declared.payloads.PreparedBatch.{PreparedBatch}
+use Rattle.amqp_link_sender.specs.declared.sending.PreparedSend.{PreparedSend}
+use Rattle.amqp_link_sender.specs.declared.sending.SendRefusal.{SendRefusal}
+use Rattle.amqp_link_sender.specs.declared.sending.SendRefusal.TheVariants as link
+use Rattle.amqp_link_sender.specs.Sending.{Sending}
+use Rattle.amqp_link_sender.specs.Sends.{entry_unless, is_absent, sent, with_room}
+use Rattle.amqp_link_unsettled.specs.declared.open.Open.{Open}
+use Rattle.amqp_link_ends.specs.declared.end.End.{End}
+use Rattle.amqp_link_ends.specs.declared.end.End.TheVariants.{Sender, Receiver}
+use Rattle.amqp_endpoint_links.specs.declared.numbered.Numbered.{Numbered}
+use Rattle.amqp_endpoint_model.specs.declared.error.EndpointError.{EndpointError}
+use Rattle.amqp_endpoint_model.specs.declared.error.EndpointError.TheVariants.{Memory, FrameTooLarge, NumberInUse}
+use Rattle.amqp_endpoint_attached.specs.Linked.{Linked, LinksIn, gives, end_in}
+use Rattle.amqp_endpoint_attached.proofs.There.{replaced}
+use Rattle.amqp_endpoint_messages.specs.Sending.{CutInto, GoesOut, HandsOver, HasRoom, IsCut}
+use Rattle.amqp_endpoint_messages.specs.Sending.{Lowers, MaySend, MayTake, Message, MessageSent, ReadiesIn}
+use Rattle.amqp_endpoint_messages.specs.Sending.{RefusesSend, StaysBehind, first_on, goes, link_refusal, lowered}
+use Rattle.amqp_endpoint_messages.specs.Sending.{on_handle, refusal_of, sending, sent_by}
+use Rattle.amqp_endpoint_messages.proofs.Fitting.{all-fit}
+use Rattle.amqp_endpoint_messages.proofs.Prepared.{has_absent, has_credit, never_memory}
+use Rattle.amqp_endpoint_messages.proofs.Room.{tag-leaves-room}
+
+-- what the link refuses as it is looked at
+refused : (limit : ℕ) (s : LinksIn) (handle : OutputHandle) (m : Message) (e : SendRefusal)
+    → link_refusal (end_in s handle) m ≡ Some e → RefusesSend limit s handle m (refusal_of e)
+refused limit s handle m link.IllegalState by = by
+refused limit s handle m link.MessageTooLarge by = by
+refused limit s handle m link.CreditMissing by = by
+refused limit s handle m link.Memory by = absurd (none (end_in s handle) by)
+  where
+    none : (end : Option End) → link_refusal end m ≡ Some link.Memory → ⊥
+    none None is = absurd cc
+    none (Some (Receiver r)) is = absurd cc
+    none (Some (Sender t)) is = never_memory t m.tag (length m.payload) is
+
+pub refused_look : (limit : ℕ) (s : LinksIn) (handle : OutputHandle) (m : Message) (e : SendRefusal)
+    (told : EndpointError) → told ≡ refusal_of e → link_refusal (end_in s handle) m ≡ Some e
+    → RefusesSend limit s handle m told
+refused_look limit s handle m e told is by =
+    subst (λ (x : EndpointError). RefusesSend limit s handle m x) (sym is) (refused limit s handle m e by)
+
+-- which never is that no frame is as long
+abbrev Refused : EndpointError → Result Bool EndpointError
+Refused e = Err e
+
+no_frame : (e : SendRefusal) → Refused (refusal_of e) ≡ Refused FrameTooLarge → ⊥
+no_frame link.IllegalState is = absurd cc
+no_frame link.MessageTooLarge is = absurd cc
+no_frame link.CreditMissing is = absurd cc
+no_frame link.Memory is = absurd cc
+
+pub not_a_frame : (e : SendRefusal) (told : EndpointError) → told ≡ refusal_of e → Refused told ≡ Refused FrameTooLarge
+    → ⊥
+not_a_frame e told is same = no_frame e (ap (λ (x : EndpointError). Refused x) (sym is) ∙ same)
+
+-- it refuses nothing
+pub nothing_refused : (end : Option End) (m : Message) (room : ℕ) → HasRoom end m room → link_refusal end m ≡ None
+nothing_refused None m room has = absurd has
+nothing_refused (Some (Receiver r)) m room has = absurd has
+nothing_refused (Some (Sender t)) m room has = has.0
+
+-- a link of a session that made a message ready
+module _ (s : LinksIn) (handle : OutputHandle) (m : Message) (ready : PreparedSend) (mid : LinksIn)
+    (by : ReadiesIn s handle m ready mid) where
+  there_before : end_in s handle ≡ Some (Sender by.before)
+  there_before =
+      ap (λ (o : Option (Numbered End)). option_map (λ (n : Numbered End). n.link) o) by.changed.0
+
+  takes : MayTake s handle m by.before
+  takes = record { number = by.number; there = by.changed.0; allowed = by.allowed }
+
+  first_is : on_handle handle ready.transfer ≡ first_on handle m (goes by.before m)
+  first_is = ap (λ (r : PreparedSend). on_handle handle r.transfer) by.is
+
+  abbrev cut_into : (limit : ℕ) (cut : PreparedBatch) → IsCut limit handle ready cut
+      → CutInto limit s handle m cut.batch
+  cut_into limit cut is =
+      record {
+        link = by.before;
+        takes = takes;
+        room = is.room;
+        is_room = ap (λ (t : Transfer). room_of t limit) (sym first_is) ∙ is.is_room;
+        splits =
+            subst (λ (r : PreparedSend). Splits (on_handle handle r.transfer) r.payload is.room cut.batch) by.is
+            is.splits;
+      }
+
+  -- it says its tag
+  pub tagged : IsSome ready.transfer.delivery_tag
+  tagged = ap (λ (r : PreparedSend). is_some r.transfer.delivery_tag) by.is
+
+  pub behind : link_at mid handle.0 ≡ Some (sending by.number (with_room by.before))
+  behind =
+      ap (λ (t : LinksIn). link_at t handle.0) by.changed.1
+      ∙ replaced s handle.0 (sending by.number by.before) (sending by.number (with_room by.before)) (sym by.changed.0)
+
+  end_behind : end_in mid handle ≡ Some (Sender (with_room by.before))
+  end_behind = ap (λ (o : Option (Numbered End)). option_map (λ (n : Numbered End). n.link) o) behind
+
+  ready_absent : (settled : Bool)
+      → IfSome (entry_unless settled m.tag m.format m.payload) (λ (x : Open). is_absent (with_room by.before) x.tag)
+  ready_absent true = tt
+  ready_absent false = has_absent by.before m.tag (length m.payload) by.allowed
+
+  -- its link may send it
+  pub may_send : MaySend (end_in mid handle) ready.entry
+  may_send =
+      subst (λ (o : Option End). MaySend o ready.entry) (sym end_behind)
+      (record {
+        credit = has_credit by.before m.tag (length m.payload) by.allowed;
+        room = omega arith;
+        absent =
+            subst (λ (o : Option Open). IfSome o (λ (x : Open). is_absent (with_room by.before) x.tag))
+            (sym (ap (λ (r : PreparedSend). r.entry) by.is)) (ready_absent (goes by.before m));
+      })
+
+  -- with a tag of a delivery it has room in each frame
+  pub has_frame : (limit : ℕ) (e : EndpointError) → handle.0 < 2 ^ 32 → m.format < 2 ^ 32
+      → StaysBehind limit mid handle ready e → 512 ≤ limit → length m.tag ≤ 32
+      → Refused e ≡ Refused FrameTooLarge → ⊥
+  has_frame limit FrameTooLarge own format none least short is =
+      let some : IsSome (room_of (first_on handle m (goes by.before m)) limit) =
+      tag-leaves-room limit handle m (goes by.before m) least own format short in
+      let clash : false ≡ true =
+      sym (ap (λ (o : Option ℕ). is_some o) (ap (λ (t : Transfer). room_of t limit) (sym first_is) ∙ none)) ∙ some in
+      absurd cc
+  has_frame limit NumberInUse own format used least short is = absurd cc
+  has_frame limit Memory own format none least short is = absurd cc
+  has_frame limit e own format none least short is = absurd none
+
+  outgoing_same : mid.outgoing ≡ s.outgoing
+  outgoing_same = ap (λ (t : LinksIn). t.outgoing) by.changed.1
+
+  -- it stays behind
+  pub stays : (limit : ℕ) (e : EndpointError) → StaysBehind limit mid handle ready e → RefusesSend limit s handle m e
+  stays limit FrameTooLarge none =
+      record {
+        link = by.before;
+        takes = takes;
+        none = ap (λ (t : Transfer). room_of t limit) (sym first_is) ∙ none;
+      }
+  stays limit NumberInUse used =
+      record {
+        transfers = (used.cut).batch;
+        cut = cut_into limit used.cut used.is_cut;
+        used =
+            subst (λ (o : Outgoing TransferFrame BehindFrame). HasFreeNumbers o (used.cut).batch → ⊥) outgoing_same
+            used.used;
+      }
+  stays limit Memory none = ap (λ (o : Option End). link_refusal o m) there_before ∙ by.allowed
+  stays limit e none = absurd none
+
+  room_is : (room : ℕ) → HasRoom (end_in s handle) m room → room ≡ by.before.messages.room
+  room_is room has = (subst (λ (o : Option End). HasRoom o m room) there_before has).1
+
+  -- the link is there, to give up the room that it made
+  pub is_there : (t : LinksIn) → t ≡ mid → IsSome (link_at t handle.0)
+  is_there t same =
+      ap (λ (o : Option (Numbered End)). is_some o) (ap (λ (u : LinksIn). link_at u handle.0) same ∙ behind)
+
+  abbrev made : ℕ → Sending
+  made room = record by.before { messages = record by.before.messages { room = room } }
+
+  least : (n room : ℕ) → room ≡ n → min (max n 1) room ≡ n
+  least n room is = omega (arith, is)
+
+  gives_up : (room : ℕ) → HasRoom (end_in s handle) m room
+      → lowered (Sender (with_room by.before)) room ≡ Sender by.before
+  gives_up room has =
+      ap (λ (n : ℕ). Sender (made n)) (least by.before.messages.room room (room_is room has))
+
+  -- with that the session is as it was
+  pub as_before : (t new : LinksIn) (room : ℕ) → t ≡ mid → HasRoom (end_in s handle) m room → Lowers t handle room new
+      → new ≡ s
+  as_before t new room same has lowers =
+      let stood : Some (record { number = lowers.number; link = lowers.before })
+      ≡ Some (sending by.number (with_room by.before)) =
+      sym lowers.changed.0 ∙ ap (λ (u : LinksIn). link_at u handle.0) same ∙ behind in
+      lowers.changed.1
+      ∙ ap (λ (n : Numbered End).
+      record t { links = slice_set t.links handle.0 (Some (record { number = n.number; link = lowered n.link room })) })
+      (same_Some _ _ stood)
+      ∙ ap (λ (e : End).
+      record t { links = slice_set t.links handle.0 (Some (record { number = by.number; link = e })) })
+      (gives_up room has)
+      ∙ ap (λ (u : LinksIn).
+      record u { links = slice_set u.links handle.0 (Some (sending by.number by.before)) })
+      (same ∙ by.changed.1)
+      ∙ ap (λ (ls : List (Option (Numbered End))). record s { links = ls })
+      (set-set s.links handle.0 (Some (sending by.number (with_room by.before))) (Some (sending by.number by.before))
+      ∙ ap (λ (o : Option (Numbered End)). slice_set s.links handle.0 o) (sym by.changed.0)
+      ∙ set-get_or s.links handle.0 None)
+
+-- whether it went settled is whether it isn't open from then on
+goes_without : (settled : Bool) (tag : List ℕ) (format : ℕ) (payload : List ℕ)
+    → is_none (entry_unless settled tag format payload) ≡ settled
+goes_without true tag format payload = refl
+goes_without false tag format payload = refl
+
+-- the link stands as it did once its session took the transfers
+taken_there : (mid taken : LinksIn) (handle : OutputHandle) (batch : Transfers) (out out_new : List SessionFrame)
+    → TransfersSent gives mid out handle batch taken out_new → link_at taken handle.0 ≡ link_at mid handle.0
+taken_there mid taken handle batch out out_new sent = ap (λ (t : LinksIn). link_at t handle.0) sent.stepped.2
+
+module _ (old : Linked) (limit : ℕ) (handle : OutputHandle) (m : Message) (ready : PreparedSend) (mid new : LinksIn)
+    (settled : Bool) (out out_new : List SessionFrame) (by : ReadiesIn old.session handle m ready mid)
+    (out_goes : GoesOut limit mid handle ready settled out new out_new) where
+  abbrev batch : PreparedBatch
+  batch = out_goes.cut
+
+  abbrev is : IsCut limit handle ready batch
+  is = out_goes.is_cut
+
+  abbrev over : HandsOver mid handle batch settled out new out_new
+  over = out_goes.over
+
+  entry_is : batch.entry ≡ entry_unless (goes by.before m) m.tag m.format m.payload
+  entry_is = is.entry ∙ ap (λ (r : PreparedSend). r.entry) by.is
+
+  went : settled ≡ goes by.before m
+  went =
+      over.went ∙ ap (λ (o : Option Open). is_none o) entry_is
+      ∙ goes_without (goes by.before m) m.tag m.format m.payload
+
+  abbrev pieces : CutInto limit old.session handle m batch.batch
+  pieces = cut_into old.session handle m ready mid by limit batch is
+
+  stands : Some (record { number = over.commits.number; link = over.commits.before })
+      ≡ Some (sending by.number (with_room by.before))
+  stands =
+      sym over.commits.changed.0 ∙ taken_there mid over.taken handle batch.batch out out_new over.sends
+      ∙ behind old.session handle m ready mid by
+
+  committed : Step gives over.taken
+      (Changes handle.0 (sending by.number (with_room by.before))
+      (sending by.number (sent (with_room by.before) batch.entry))) new
+  committed =
+      subst (λ (n : Numbered End). Step gives over.taken
+      (Changes handle.0 n (record { number = n.number; link = sent_by n.link batch.entry })) new)
+      (same_Some _ _ stands) over.commits.changed
+
+  abbrev By : Bool → Type 0
+  By b =
+      (room_of (first_on handle m b) limit ≡ Some is.room)
+      × Splits (first_on handle m b) m.payload is.room batch.batch
+      × Step gives over.taken
+      (Changes handle.0 (sending by.number (with_room by.before))
+      (sending by.number (sent (with_room by.before) (entry_unless b m.tag m.format m.payload)))) new
+
+  by_goes : By (goes by.before m)
+  by_goes = (
+    pieces.is_room,
+    pieces.splits,
+    subst (λ (o : Option Open). Step gives over.taken
+        (Changes handle.0 (sending by.number (with_room by.before))
+        (sending by.number (sent (with_room by.before) o))) new)
+        entry_is committed,
+  )
+
+  by_settled : By settled
+  by_settled = subst By (sym went) by_goes
+
+  -- a message that its link made ready, and that goes out, is sent
+  pub message_sent : limit < 2 ^ 32 → MessageSent old limit handle m settled out (record old { session = new }) out_new
+  message_sent few =
+      record {
+        number = by.number;
+        before = by.before;
+        room = is.room;
+        transfers = batch.batch;
+        mid = mid;
+        taken = over.taken;
+        allowed = by.allowed;
+        went = went;
+        is_room = by_settled.0;
+        splits = by_settled.1;
+        fit = λ channel.
+            all-fit limit channel is.room handle m settled few by_settled.0 batch.batch by_settled.1.delivery
+            by_settled.1.within;
+        prepares = by.changed;
+        sends = over.sends;
+        commits = by_settled.2;
+        rest = refl;
+      }

@@ -1,0 +1,9 @@
+pub mod Longest
+pub mod Dispositions
+pub mod Disposing
+pub mod Refusals
+pub mod Told
+pub mod Reached
+pub mod All
+pub mod Echoing
+pub mod Sending

@@ -1,0 +1,32 @@
+//! What becomes of messages in a session of an endpoint (part 2, 2.6.12): how one is sent by a link (part 2, 2.7.5),
+//! how those that a receiving link took are disposed of (part 2, 2.7.6), and what the owner of a sending link is told
+//! of its own (part 3, 3.4).
+//!
+//! What is sent says specs/Sending.antt. Messages that came are disposed of several at once, all or none, or one: what
+//! each call does say specs/: Disposing and Dispositions, with what it is refused for in Refusals, and which states a
+//! frame holds in Longest. Outcomes are told of the messages that a disposition of the peer reaches, and of those that
+//! a link has as it ends: specs/ Reached and All; what is echoed to the peer (part 2, 2.8.3), Echoing.
+#![tactic(auto)]
+
+mod cutting;
+mod disposing_all;
+pub mod disposing_laws;
+mod dispositions;
+mod echoing;
+mod ending;
+mod looking;
+mod measuring;
+mod one;
+pub mod outcome_laws;
+mod preparing;
+mod reached;
+mod sending;
+
+pub use disposing_all::dispose_all;
+pub use echoing::{Echoes, make_echoes, send_echoes};
+pub use ending::{open_count, tell_by, tell_first};
+pub use looking::is_receiving;
+pub use measuring::state_fits;
+pub use one::dispose;
+pub use reached::{reached_by, tell_reached};
+pub use sending::send;

@@ -1,0 +1,40 @@
+//! Laws of what goes back. A function here does nothing: its contract is the law.
+ghost use Rattle.std.specs.Prelude.{◌≡◌, ◌≤◌, ◌<◌, ◌^◌, ℕ, List, All, Option, length, map};
+ghost use Rattle.amqp_session_performatives.specs.declared.disposition.Disposition.{Disposition};
+ghost use Rattle.amqp_session_states.specs.declared.delivery_state.DeliveryState.{DeliveryState};
+ghost use Rattle.amqp_session_types.specs.declared.modes.Role.TheVariants.{Receiver};
+ghost use Rattle.amqp_session_core.specs.Disposing.{AreTouched};
+ghost use Rattle.amqp_session_core.specs.Echoes.{echo_of};
+ghost use Rattle.amqp_session_core.specs.State.{State};
+ghost use Rattle.amqp_session_core.specs.Steps.{table_of};
+ghost use Rattle.amqp_session_core.specs.Told.{DispositionTaken};
+ghost use Rattle.amqp_session_core.specs.declared.dispositions.Touched.{Touched};
+ghost use Rattle.amqp_session_core.specs.declared.fields.SessionFields.{SessionFields};
+ghost use Rattle.amqp_endpoint_messages.specs.Dispositions.{frames_of};
+ghost use Rattle.amqp_endpoint_fitting.specs.Fits.{FrameFits};
+ghost use Rattle.amqp_endpoint_fitting.specs.Read.{IsRead};
+ghost use Rattle.amqp_endpoint_messages.specs.Echoing.{EchoFits, echo, echoes_of};
+
+use amqp_session_core::LinkRelay;
+
+/// A disposition wants no more runs echoed than it reaches deliveries (part 2, 2.7.6).
+pub fn no_more_runs_than_deliveries<R: LinkRelay>()
+    ensures { (old new : State R) (it : Disposition) (runs : List (ℕ × ℕ)) (reached : List Touched) →
+        DispositionTaken R.gives old it (map (echo_of it) runs) new → AreTouched it (table_of it.role old) reached →
+        length runs ≤ length reached }
+{}
+
+/// What goes back fits the limit, whichever runs it settles (part 2, 2.4.1). The numbers of the frames are such as are
+/// read of them.
+pub fn what_goes_back_fits()
+    ensures { (limit : ℕ) (state : Option DeliveryState) (fields : SessionFields) (runs : List (ℕ × ℕ)) →
+        limit < 2 ^ 32 → 512 ≤ limit → EchoFits limit state → All IsRead (frames_of fields (echoes_of state runs)) →
+        All (FrameFits limit) (frames_of fields (echoes_of state runs)) }
+{}
+
+/// Of a receiver's disposition that goes back which its session wants echoed: settled, with the same state (part 2,
+/// 2.7.6, 2.8.3).
+pub fn what_goes_back_is_the_echo()
+    ensures { (it : Disposition) (run : ℕ × ℕ) → it.role ≡ Receiver →
+        echo it.state run ≡ echo_of it run }
+{}

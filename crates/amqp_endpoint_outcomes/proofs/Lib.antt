@@ -1,4 +1,0 @@
-pub mod Telling
-pub mod Numbers
-pub mod Lengths
-pub mod Goings

@@ -1,4 +1,0 @@
-pub mod Told
-pub mod Reached
-pub mod All
-pub mod Echoing

@@ -1,4 +1,0 @@
-pub mod State
-pub mod Steps
-pub mod Lends
-pub mod Own

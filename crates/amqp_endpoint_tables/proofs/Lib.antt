@@ -1,0 +1,9 @@
+pub mod Apart
+pub mod Owning
+pub mod Places
+pub mod Slots
+pub mod Naming
+pub mod OwningLinks
+pub mod Once
+pub mod NamesApart
+pub mod Lent

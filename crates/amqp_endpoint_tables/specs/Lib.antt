@@ -1,0 +1,9 @@
+pub mod State
+pub mod Steps
+pub mod Lends
+pub mod Own
+pub mod LinkState
+pub mod LinkSteps
+pub mod Inside
+pub mod LendsLinks
+pub mod OwnLinks

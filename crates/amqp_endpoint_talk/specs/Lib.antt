@@ -1,4 +1,0 @@
-pub mod Going
-pub mod Clearing
-pub mod Inside
-pub mod Windows

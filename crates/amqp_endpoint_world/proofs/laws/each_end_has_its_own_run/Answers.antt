@@ -1,5 +1,0 @@
-use Rattle.amqp_endpoint_world.proofs.EndLaws.{end_run}
-use Rattle.amqp_endpoint_world.proofs.laws.each_end_has_its_own_run.Goals as goal
-
-pub returns : goal.returns
-returns g c = λ end old new steps told run. end_run g.S.SessionRelay.does end old steps told new run

@@ -1,3 +1,0 @@
-pub mod Filtering
-pub mod Joining
-pub mod Rows

@@ -1,9 +1,0 @@
-pub mod Attach
-pub mod Exchange
-pub mod Properties
-pub mod Size
-pub mod Source
-pub mod State
-pub mod Target
-pub mod Terms
-pub mod Tests

@@ -1,0 +1,11 @@
+pub mod Filtering
+pub mod Joining
+pub mod Rows
+pub mod Ends
+pub mod Limits
+pub mod FlowRows
+pub mod Starting
+pub mod Scanning
+pub mod Pieces
+pub mod Taking
+pub mod PlaceRows

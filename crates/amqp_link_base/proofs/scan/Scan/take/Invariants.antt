@@ -1,0 +1,9 @@
+use Rattle.std.proofs.Common.{◌≡◌, ℕ, ◌+◌, List, ◌++◌, take}
+use Rattle.amqp_link_base.specs.Scans.{Scanned}
+use Rattle.amqp_link_base.proofs.scan.Scan.take.Given as goal
+
+abbrev pub invariant-loop-byte : goal.invariant-loop-byte
+invariant-loop-byte l = record {
+  size : l.self.size ≡ l.initial.self.size + l.byte-index;
+  scanned : (xs : List ℕ) → Scanned l.initial.self xs → Scanned l.self (xs ++ take l.byte-index l.bytes);
+}

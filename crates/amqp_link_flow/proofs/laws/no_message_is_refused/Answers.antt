@@ -1,5 +1,0 @@
-use Rattle.amqp_link_flow.proofs.Limits.{never-refused}
-use Rattle.amqp_link_flow.proofs.laws.no_message_is_refused.Goals as goal
-
-pub returns : goal.returns
-returns c = never-refused

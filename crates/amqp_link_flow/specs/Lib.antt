@@ -1,3 +1,0 @@
-pub mod Flows
-pub mod Lends
-pub mod World

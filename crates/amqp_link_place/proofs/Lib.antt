@@ -1,5 +1,0 @@
-pub mod Starting
-pub mod Scanning
-pub mod Pieces
-pub mod Taking
-pub mod Rows

@@ -1,5 +1,0 @@
-use Rattle.amqp_link_place.proofs.Starting.{read-place}
-use Rattle.amqp_link_place.proofs.laws.place_is_read_back.Goals as goal
-
-pub returns : goal.returns
-returns c = λ payload n h. read-place payload n h

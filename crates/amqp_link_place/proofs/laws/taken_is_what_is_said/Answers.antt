@@ -1,5 +1,0 @@
-use Rattle.amqp_link_place.proofs.Taking.{taken-said}
-use Rattle.amqp_link_place.proofs.laws.taken_is_what_is_said.Goals as goal
-
-pub returns : goal.returns
-returns c = λ before after pieces h. taken-said before pieces after h

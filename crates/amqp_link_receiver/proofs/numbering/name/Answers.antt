@@ -1,0 +1,10 @@
+use Rattle.std.proofs.Common.{ap}
+use Rattle.amqp_link_unsettled.specs.Entries.{Kept}
+use Rattle.amqp_link_receiver.specs.declared.entry.Entry.{Entry}
+use Rattle.amqp_link_receiver.proofs.Entering.{names}
+use Rattle.amqp_link_receiver.proofs.numbering.name.Goals as goal
+
+pub returns : goal.returns
+returns c =
+    names c.args.unsettled.now.entries c.note_where_kept.new.self.entries c.args.tag.now c.args.message
+    (ap (λ (k : Kept Entry). k.entries) c.note_where_kept.ensures)

@@ -1,4 +1,0 @@
-pub mod Noting
-pub mod Tagging
-pub mod Failing
-pub mod Rows

@@ -1,5 +1,0 @@
-pub mod Counting
-pub mod Pushing
-pub mod Splits
-pub mod SayingLemmas
-pub mod Rooming

@@ -1,5 +1,0 @@
-use Rattle.amqp_link_split.proofs.SayingLemmas.{split-read}
-use Rattle.amqp_link_split.proofs.laws.split_says_one_message.Goals as goal
-
-pub returns : goal.returns
-returns c = λ first payload room transfers h e. split-read first payload room transfers h e

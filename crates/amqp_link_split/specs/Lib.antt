@@ -1,3 +1,0 @@
-pub mod Splitting
-pub mod Room
-pub mod Saying

@@ -1,9 +1,0 @@
-use Rattle.amqp_session_connection.specs.State.{fresh}
-use Rattle.amqp_session_connection.proofs.Reasons.{history_reasons, first_stays}
-use Rattle.amqp_session_connection.proofs.laws.first_stop_reason_stays.Goals as goal
-
-pub returns-clause-given : goal.returns-clause-given
-returns-clause-given c = λ state opening end steps run. history_reasons steps (fresh state opening) end run
-
-pub returns-clause-stays : goal.returns-clause-stays
-returns-clause-stays c = first_stays

@@ -1,4 +1,0 @@
-pub mod Table
-pub mod State
-pub mod Steps
-pub mod Told

@@ -1,4 +1,0 @@
-pub mod Tables
-pub mod Gathering
-pub mod Lacking
-pub mod Walking

@@ -1,5 +1,0 @@
-pub mod Range
-pub mod Table
-pub mod Touched
-pub mod Noted
-pub mod Outside
