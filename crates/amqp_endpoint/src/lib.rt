@@ -1,8 +1,9 @@
-//! An AMQP 1.0 endpoint without a network: bytes are fed in and events come out, calls are made and `pull` gives bytes.
+//! An AMQP 1.0 endpoint without a network: bytes are fed in and events come out, calls are made and `pull` gives
+//! bytes.
 //!
-//! What its sessions and their links do as their connection sees them (part 2, 2.5, 2.6), how they begin, hear their peer,
-//! do what they are called for, and end, say the relations `linked` in specs/Does.antt, by what Hearing says of frames, and
-//! Calling and Sending of calls; Counting says how messages are counted.
+//! What its sessions and their links do as their connection sees them (part 2, 2.5, 2.6), how they begin, hear their
+//! peer, do what they are called for, and end, say the relations `linked` in specs/Does.antt, by what Hearing says of
+//! frames, and Calling and Sending of calls; Counting says how messages are counted.
 #![tactic(auto)]
 
 mod attaching;

@@ -1,6 +1,6 @@
 //! What an endpoint has by number: its sessions, on the connection that gives them channels (part 2, 2.5.1), and its
-//! links, by their names as well, each held by a session or at rest (part 2, 2.6.1). What a session and a link are isn't
-//! known here.
+//! links, by their names as well, each held by a session or at rest (part 2, 2.6.1). What a session and a link are
+//! isn't known here.
 //!
 //! What a call of `Sessions` does says `Step` in specs/Steps.antt, and one of `Links` that in specs/LinkSteps.antt.
 #![tactic(auto)]

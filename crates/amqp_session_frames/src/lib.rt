@@ -1,5 +1,5 @@
-//! Frames of AMQP 1.0 and their bytes (part 2, 2.3), and the connection layer as plain calls (part 2, 2.4): states, channels
-//! of sessions, and routes of the peer's channels to sessions.
+//! Frames of AMQP 1.0 and their bytes (part 2, 2.3), and the connection layer as plain calls (part 2, 2.4): states,
+//! channels of sessions, and routes of the peer's channels to sessions.
 //!
 //! A [`Frame`] has a channel and a [`FrameBody`]: one of the nine performatives, a transfer with its payload, or nothing.
 //! [`FrameDecoder`] reads a frame of its bytes. [`FrameEncoder`] writes a frame as [`Pieces`]: a [`Piece`] is its bytes without
@@ -11,8 +11,8 @@
 //! `frame_text` there; in which frames a transfer goes, `AreParts` in specs/Parts.antt. That bytes are at most one frame, that
 //! a frame that was written is read back, and that a stream is read in one way, are laws: see [`laws`].
 //!
-//! What a call of a [`Connection`] does says `Step` in specs/Steps.antt; which call leads from which state to which says
-//! specs/Table.antt.
+//! What a call of a [`Connection`] does says `Step` in specs/Steps.antt; which call leads from which state to which
+//! says specs/Table.antt.
 #![tactic(auto)]
 
 mod appending;
