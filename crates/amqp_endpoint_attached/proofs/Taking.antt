@@ -8,7 +8,10 @@ use Rattle.amqp_link_types.specs.declared.link_error.LinkError.TheVariants.{Send
 use Rattle.amqp_link_base.specs.State.{after_incoming_attach, after_send_attach}
 use Rattle.amqp_link_base.specs.declared.exchange.AttachExchange.{AttachExchange}
 use Rattle.amqp_link_base.specs.declared.state.LinkState.{LinkState}
-use Rattle.amqp_link_base.specs.declared.state.LinkState.TheVariants.{Unattached, AttachSent, IncompleteAttachSent, AttachReceived, IncompleteAttachReceived, Attached, IncompleteAttachExchanged, DetachSent, Detached, CloseSent, Closed}
+use Rattle.amqp_link_base.specs.declared.state.LinkState.TheVariants.{Unattached, AttachSent, IncompleteAttachSent}
+use Rattle.amqp_link_base.specs.declared.state.LinkState.TheVariants.{AttachReceived, IncompleteAttachReceived}
+use Rattle.amqp_link_base.specs.declared.state.LinkState.TheVariants.{Attached, IncompleteAttachExchanged, DetachSent}
+use Rattle.amqp_link_base.specs.declared.state.LinkState.TheVariants.{Detached, CloseSent, Closed}
 use Rattle.amqp_link_base.specs.Moves.{moved_to}
 use Rattle.amqp_link_base.specs.declared.base.LinkBase.{LinkBase}
 use Rattle.amqp_link_ends.specs.Ends.{state_of}

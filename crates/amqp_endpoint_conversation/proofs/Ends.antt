@@ -12,7 +12,8 @@ use Rattle.amqp_endpoint_links.specs.Beginning.{begin_frame}
 use Rattle.amqp_endpoint_conversation.specs.Ending.{end_frame}
 use Rattle.amqp_endpoint_conversation.specs.Faults.{fault_error}
 use Rattle.amqp_endpoint_fitting.specs.Plain.{IsPlainBegin, IsPlainEnd, SaysConditionAlone}
-use Rattle.amqp_endpoint_fitting.proofs.Frames.{begin_fits, end_fits, handle_in_use-short, larger_fits, not_allowed-short, unattached_handle-short}
+use Rattle.amqp_endpoint_fitting.proofs.Frames.{begin_fits, end_fits, handle_in_use-short, larger_fits}
+use Rattle.amqp_endpoint_fitting.proofs.Frames.{not_allowed-short, unattached_handle-short}
 use Rattle.amqp_endpoint_model.specs.State.{fits, frame_of}
 use Rattle.amqp_endpoint_fitting.specs.Read.{IsRead, IsReadBegin}
 

@@ -44,7 +44,8 @@ use Rattle.amqp_endpoint_conversation.specs.Faults.{fault_error}
 use Rattle.amqp_endpoint_conversation.specs.Hearing.{Answered, AnsweredAt, AnsweredIn, AskedAnswered, LiveAnswered, LiveHears}
 use Rattle.amqp_endpoint_fitting.specs.Read.{IsRead}
 use Rattle.amqp_endpoint_conversation.proofs.Handing.{Hands, Holds, end-handed, none-handed, one, then-handed}
-use Rattle.amqp_endpoint_conversation.proofs.Places.{Keeps, asks, changes_asked, changes_live, stays, takes_begin, takes_end}
+use Rattle.amqp_endpoint_conversation.proofs.Places.{Keeps, asks, changes_asked, changes_live, stays, takes_begin}
+use Rattle.amqp_endpoint_conversation.proofs.Places.{takes_end}
 
 -- frames that were handed out behind others
 abbrev pub IsBehind : List SessionFrame → List SessionFrame → Type 0

@@ -21,7 +21,8 @@ use Rattle.amqp_session_core.specs.declared.fields.SessionFields.{SessionFields}
 use Rattle.amqp_endpoint_fitting.specs.Handed.{handed, handed_of}
 use Rattle.amqp_endpoint_fitting.proofs.Handing.{history-channel, step-channel}
 use Rattle.amqp_endpoint_conversation.specs.Inside.{AcceptsInside, AreOn, Batches, DoneInside, IsPlain, SetNoWindow}
-use Rattle.amqp_endpoint_conversation.specs.Inside.{SetsNoWindow, accepted_in, accepted_of, is_of_link, is_transfer, said_in}
+use Rattle.amqp_endpoint_conversation.specs.Inside.{SetsNoWindow, accepted_in, accepted_of, is_of_link, is_transfer}
+use Rattle.amqp_endpoint_conversation.specs.Inside.{said_in}
 use Rattle.amqp_endpoint_conversation.specs.Inside.{transfers_in}
 
 -- a frame before others is one before those to which others are added

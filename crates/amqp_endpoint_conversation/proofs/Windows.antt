@@ -33,7 +33,8 @@ use Rattle.amqp_session_core.specs.Steps.{SendsDispositionStep, with_table}
 use Rattle.amqp_endpoint_fitting.specs.Handed.{handed, handed_of}
 use Rattle.amqp_endpoint_conversation.specs.Inside.{AcceptsInside, Batches, SetNoWindow, SetsNoWindow, is_transfer}
 use Rattle.amqp_endpoint_conversation.specs.Inside.{transfers_in}
-use Rattle.amqp_endpoint_conversation.specs.Windows.{Came, Count, IsAllowed, KeepsWindow, Passing, Went, base_by, count_behind}
+use Rattle.amqp_endpoint_conversation.specs.Windows.{Came, Count, IsAllowed, KeepsWindow, Passing, Went, base_by}
+use Rattle.amqp_endpoint_conversation.specs.Windows.{count_behind}
 use Rattle.amqp_endpoint_conversation.specs.Windows.{Keeps, Sending, counted, sent_by, told_by, went}
 use Rattle.amqp_endpoint_conversation.proofs.Inside.{same-transfers}
 

@@ -1,7 +1,10 @@
 -- Laws of an endpoint and its connection.
 use Rattle.std.proofs.Common.{◌≡◌, ◌≤◌, arith, ℕ, List, Bool, true, false, Option, Some, None, Ok, Err, Result, refl, sym, ◌∙◌, ap, subst}
 use Rattle.amqp_session_frames.specs.declared.state.ConnectionState.{ConnectionState}
-use Rattle.amqp_session_frames.specs.declared.state.ConnectionState.TheVariants.{Start, HeaderSent, HeaderExchange, OpenSent, ClosePipe, Opened, CloseReceived, CloseSent, Discarding, End}
+use Rattle.amqp_session_frames.specs.declared.state.ConnectionState.TheVariants.{Start, HeaderSent, HeaderExchange}
+use Rattle.amqp_session_frames.specs.declared.state.ConnectionState.TheVariants.{OpenSent, ClosePipe, Opened}
+use Rattle.amqp_session_frames.specs.declared.state.ConnectionState.TheVariants.{CloseReceived, CloseSent, Discarding}
+use Rattle.amqp_session_frames.specs.declared.state.ConnectionState.TheVariants.{End}
 use Rattle.amqp_session_types.specs.declared.refusals.ConnectionError.{ConnectionError}
 use Rattle.amqp_session_frames.specs.declared.frame.FrameBody.TheVariants as body
 use Rattle.std.specs.Prelude.{⊤}
@@ -9,7 +12,8 @@ use Rattle.amqp_session_performatives.specs.declared.open.Open.{Open as OpenFiel
 use Rattle.amqp_session_frames.specs.declared.frame.Frame.{Frame}
 use Rattle.amqp_session_frames.specs.State.{State, fresh}
 use Rattle.amqp_session_frames.specs.Steps.{SendHeader, SendOpen, TakeHeader, frame_on}
-use Rattle.amqp_session_frames.specs.Table.{after_incoming_header, after_incoming_open, after_send_close, after_send_open}
+use Rattle.amqp_session_frames.specs.Table.{after_incoming_header, after_incoming_open, after_send_close}
+use Rattle.amqp_session_frames.specs.Table.{after_send_open}
 use Rattle.amqp_endpoint_model.specs.declared.phase.Phase.{Phase}
 use Rattle.amqp_endpoint_model.specs.declared.phase.Phase.TheVariants.{Unconnected, Greeting, Running, Over}
 use Rattle.amqp_endpoint_model.specs.Relay.{Relations, StandsStill}

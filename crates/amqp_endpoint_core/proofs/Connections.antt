@@ -28,10 +28,15 @@ use Rattle.amqp_endpoint_core.specs.declared.step.Step.{Step}
 use Rattle.amqp_endpoint_core.specs.declared.step.Step.TheVariants.{Call as CallAt, Move, Break}
 use Rattle.amqp_endpoint_core.specs.WorldState.{IsNewWorld, Way, WorldState, state_at, stream_to, way_from}
 use Rattle.amqp_endpoint_core.specs.WorldSaid.{WorldSaid, called, moved, broken, WorldTold}
-use Rattle.amqp_endpoint_core.specs.WorldStep.{CallsAs, Carries, Drains, Feeds, WorldRun, WorldStep, fault_breaks_off, finds_none, has_broken_off, is_the_worlds}
-use Rattle.amqp_endpoint_core.specs.EndHistory.{OfItsConnection, break_call, break_told, calls_at, calls_in, fed_since_break, feed_call, feed_told, pull_calls, pulled_since_break, pulls_told, queued_at, stream_behind, then_fed, then_pulled, told_at, told_in}
+use Rattle.amqp_endpoint_core.specs.WorldStep.{CallsAs, Carries, Drains, Feeds, WorldRun, WorldStep, fault_breaks_off}
+use Rattle.amqp_endpoint_core.specs.WorldStep.{finds_none, has_broken_off, is_the_worlds}
+use Rattle.amqp_endpoint_core.specs.EndHistory.{OfItsConnection, break_call, break_told, calls_at, calls_in}
+use Rattle.amqp_endpoint_core.specs.EndHistory.{fed_since_break, feed_call, feed_told, pull_calls, pulled_since_break}
+use Rattle.amqp_endpoint_core.specs.EndHistory.{pulls_told, queued_at, stream_behind, then_fed, then_pulled, told_at}
+use Rattle.amqp_endpoint_core.specs.EndHistory.{told_in}
 use Rattle.amqp_endpoint_core.proofs.EndLaws.{BreaksOne, one_breaks, stream-step}
-use Rattle.amqp_endpoint_core.proofs.OnTheWay.{Matched, fed-append, matched-feed, matched-pulls, matched_in, pulled-append, nothing_yet}
+use Rattle.amqp_endpoint_core.proofs.OnTheWay.{Matched, fed-append, matched-feed, matched-pulls, matched_in}
+use Rattle.amqp_endpoint_core.proofs.OnTheWay.{pulled-append, nothing_yet}
 
 summary-append : (σ : Summary) (calls : List Call) (ts : List Told) (more : List Call) (us : List Told)
     → Matched calls ts

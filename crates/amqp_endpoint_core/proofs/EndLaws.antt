@@ -13,8 +13,10 @@ use Rattle.amqp_endpoint_core.specs.declared.step.Step.{Step}
 use Rattle.amqp_endpoint_core.specs.declared.step.Step.TheVariants.{Call as CallAt, Move, Break}
 use Rattle.amqp_endpoint_core.specs.WorldState.{WorldState, Way, state_at, stream_to, way_from}
 use Rattle.amqp_endpoint_core.specs.WorldSaid.{WorldSaid, called, moved, broken, WorldTold}
-use Rattle.amqp_endpoint_core.specs.WorldStep.{BreaksBehind, CallsAs, Carries, Drains, Feeds, WorldStep, WorldRun, has_broken_off, is_the_worlds, left_by}
-use Rattle.amqp_endpoint_core.specs.EndHistory.{break_call, break_told, calls_at, calls_in, feed_call, feed_told, pull_calls, pulls_told, queued_at, stream_behind, told_at, told_in}
+use Rattle.amqp_endpoint_core.specs.WorldStep.{BreaksBehind, CallsAs, Carries, Drains, Feeds, WorldStep, WorldRun}
+use Rattle.amqp_endpoint_core.specs.WorldStep.{has_broken_off, is_the_worlds, left_by}
+use Rattle.amqp_endpoint_core.specs.EndHistory.{break_call, break_told, calls_at, calls_in, feed_call, feed_told}
+use Rattle.amqp_endpoint_core.specs.EndHistory.{pull_calls, pulls_told, queued_at, stream_behind, told_at, told_in}
 use Rattle.amqp_endpoint_core.proofs.Pullings.{Drains-length}
 use Rattle.amqp_endpoint_core.proofs.Breakings.{none_queued, all_pulled, none_left}
 

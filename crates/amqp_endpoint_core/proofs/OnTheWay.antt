@@ -14,7 +14,10 @@ use Rattle.amqp_endpoint_core.specs.declared.step.Step.TheVariants.{Call as Call
 use Rattle.amqp_endpoint_core.specs.WorldState.{IsNewWorld, WorldState, other, stream_to}
 use Rattle.amqp_endpoint_core.specs.WorldSaid.{WorldSaid, called, moved, broken, WorldTold}
 use Rattle.amqp_endpoint_core.specs.WorldStep.{WorldRun, finds_none, has_broken_off, is_the_worlds, left_by}
-use Rattle.amqp_endpoint_core.specs.EndHistory.{break_call, break_told, calls_at, calls_in, fed_since_break, feed_call, feed_told, is_same, own_call, own_told, pull_calls, pulled_since_break, pulls_told, queued_at, stream_behind, then_fed, then_pulled, told_at, told_in}
+use Rattle.amqp_endpoint_core.specs.EndHistory.{break_call, break_told, calls_at, calls_in, fed_since_break}
+use Rattle.amqp_endpoint_core.specs.EndHistory.{feed_call, feed_told, is_same, own_call, own_told, pull_calls}
+use Rattle.amqp_endpoint_core.specs.EndHistory.{pulled_since_break, pulls_told, queued_at, stream_behind, then_fed}
+use Rattle.amqp_endpoint_core.specs.EndHistory.{then_pulled, told_at, told_in}
 use Rattle.amqp_endpoint_core.proofs.EndLaws.{stream-step}
 
 -- each call told something

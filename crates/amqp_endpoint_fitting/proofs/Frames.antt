@@ -38,8 +38,12 @@ use Rattle.amqp_session_frames.specs.Text.{frame_text, body_text, piece_text, si
 use Rattle.amqp_session_frames.specs.declared.frame.Frame.{Frame}
 use Rattle.amqp_endpoint_model.specs.State.{fits, text_fits, frame_of, body_of, error_of}
 use Rattle.amqp_endpoint_model.specs.Step.{not_allowed}
-use Rattle.amqp_endpoint_fitting.specs.Plain.{IsUint, MayBeUint, IsPlainBegin, IsPlainDetach, IsPlainDisposition, IsPlainEnd, IsPlainFlow, IsPlainState, SaysConditionAlone, handle_in_use, message_size_exceeded, transfer_limit_exceeded, unattached_handle}
-use Rattle.amqp_endpoint_fitting.proofs.Texts.{Within, this, either, made, not_below, Short, short, null-short, ushort-short, uint-short, boolean-short, symbol-short}
+use Rattle.amqp_endpoint_fitting.specs.Plain.{IsUint, MayBeUint, IsPlainBegin, IsPlainDetach, IsPlainDisposition}
+use Rattle.amqp_endpoint_fitting.specs.Plain.{IsPlainEnd, IsPlainFlow, IsPlainState, SaysConditionAlone}
+use Rattle.amqp_endpoint_fitting.specs.Plain.{handle_in_use, message_size_exceeded, transfer_limit_exceeded}
+use Rattle.amqp_endpoint_fitting.specs.Plain.{unattached_handle}
+use Rattle.amqp_endpoint_fitting.proofs.Texts.{Within, this, either, made, not_below, Short, short, null-short}
+use Rattle.amqp_endpoint_fitting.proofs.Texts.{ushort-short, uint-short, boolean-short, symbol-short}
 use Rattle.amqp_endpoint_fitting.proofs.Fields.{no_fields, field, option-short, default-short, record-short}
 
 fits_text : (limit : ℕ) (text : Option (List ℕ)) → Within limit text → text_fits limit text ≡ true

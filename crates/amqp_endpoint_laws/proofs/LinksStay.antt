@@ -8,7 +8,8 @@ use Rattle.amqp_session_types.specs.declared.handles.OutputHandle.{OutputHandle}
 use Rattle.amqp_link_ends.specs.declared.end.End.{End}
 use Rattle.amqp_endpoint_tables.specs.OwnLinks.{SlotStep, is_about, slot_at}
 use Rattle.amqp_endpoint_tables.specs.LinkState.{open_of, place_at, place_of}
-use Rattle.amqp_endpoint_tables.specs.LinkSteps.{ChangesAtRest, Closes, Enters, Holds, LowersRoom, MakesRoom, Rests, Act}
+use Rattle.amqp_endpoint_tables.specs.LinkSteps.{ChangesAtRest, Closes, Enters, Holds, LowersRoom, MakesRoom, Rests}
+use Rattle.amqp_endpoint_tables.specs.LinkSteps.{Act}
 use Rattle.amqp_endpoint_tables.specs.LinkSteps.{Step}
 use Rattle.amqp_endpoint_tables.specs.declared.link_place.LinkPlace.{LinkPlace}
 use Rattle.amqp_endpoint_tables.specs.declared.link_place.LinkPlace.TheVariants.{AtRest, Held}

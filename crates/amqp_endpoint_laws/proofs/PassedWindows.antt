@@ -34,10 +34,12 @@ use Rattle.amqp_endpoint_tables.specs.State.{asked_of, live_of, place_at, with_a
 use Rattle.amqp_endpoint_tables.specs.declared.place.Place.TheVariants.{Asked, Live, Ending, Over}
 use Rattle.amqp_endpoint_conversation.specs.Inside.{Batches, is_transfer, said_in, transfers_in}
 use Rattle.amqp_endpoint_conversation.specs.Windows.{Came, Count, IsAllowed, Keeps, KeepsWindow, Passing, Went, base_by}
-use Rattle.amqp_endpoint_conversation.specs.Windows.{begins_with, body_said, count_behind, counted, sent_by, told_by, went}
+use Rattle.amqp_endpoint_conversation.specs.Windows.{begins_with, body_said, count_behind, counted, sent_by, told_by}
+use Rattle.amqp_endpoint_conversation.specs.Windows.{went}
 use Rattle.amqp_endpoint_conversation.proofs.HeardWindows.{hears-keep}
 use Rattle.amqp_endpoint_conversation.proofs.Inside.{same-transfers}
-use Rattle.amqp_endpoint_conversation.proofs.Windows.{begin-keeps, counts-append, each-append, inside-keeps, keeps-still}
+use Rattle.amqp_endpoint_conversation.proofs.Windows.{begin-keeps, counts-append, each-append, inside-keeps}
+use Rattle.amqp_endpoint_conversation.proofs.Windows.{keeps-still}
 use Rattle.amqp_endpoint_conversation.proofs.Windows.{with-others}
 use Rattle.amqp_endpoint_laws.specs.Passed.{PassesIn, sent_in}
 use Rattle.amqp_endpoint_laws.proofs.PassedKept.{deeds-judge, new-judges}

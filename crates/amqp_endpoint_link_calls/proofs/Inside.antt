@@ -11,7 +11,8 @@ use Rattle.amqp_link_ends.specs.declared.end.End.{End}
 use Rattle.amqp_endpoint_links.specs.declared.numbered.Numbered.{Numbered}
 use Rattle.amqp_endpoint_model.specs.declared.event.Event.{Event}
 use Rattle.amqp_endpoint_conversation.specs.Inside.{DoneInside}
-use Rattle.amqp_endpoint_conversation.proofs.Inside.{changed-inside, none-inside, one-inside, said-inside, silent-behind}
+use Rattle.amqp_endpoint_conversation.proofs.Inside.{changed-inside, none-inside, one-inside, said-inside}
+use Rattle.amqp_endpoint_conversation.proofs.Inside.{silent-behind}
 use Rattle.amqp_endpoint_attached.specs.Detaching.{DetachGiven, own_detach}
 use Rattle.amqp_endpoint_attached.specs.Linked.{Linked, LinksIn, end_at, gives}
 use Rattle.amqp_endpoint_attached.specs.Receiving.{drained, receiving, shown_flow}

@@ -8,7 +8,8 @@ use Rattle.amqp_link_sender.specs.Sends.{entry_unless, sent, with_room}
 use Rattle.amqp_endpoint_model.specs.declared.call.Disposal.{Disposal}
 use Rattle.amqp_endpoint_model.specs.declared.call.Sending.{Sending}
 use Rattle.amqp_endpoint_conversation.specs.Inside.{AcceptsInside, AreOn, DoneInside, said_in}
-use Rattle.amqp_endpoint_conversation.proofs.Inside.{alike-inside, all-on, changed-inside, left-on, none-said, none-inside}
+use Rattle.amqp_endpoint_conversation.proofs.Inside.{alike-inside, all-on, changed-inside, left-on, none-said}
+use Rattle.amqp_endpoint_conversation.proofs.Inside.{none-inside}
 use Rattle.amqp_endpoint_conversation.proofs.Inside.{one-inside, same-inside, step-inside}
 use Rattle.amqp_endpoint_attached.specs.Linked.{Linked, LinksIn, end_at, gives}
 use Rattle.amqp_endpoint_messages.specs.Disposing.{DisposesOfAll, DisposesOfOne}

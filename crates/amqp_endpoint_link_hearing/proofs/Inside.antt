@@ -12,7 +12,8 @@ use Rattle.amqp_session_core.specs.declared.dispositions.Touched.{Touched}
 use Rattle.amqp_endpoint_links.specs.History.{AskingHistory}
 use Rattle.amqp_endpoint_model.specs.declared.event.Event.{Event}
 use Rattle.amqp_endpoint_conversation.specs.Inside.{AreOn, DoneInside, said_in}
-use Rattle.amqp_endpoint_conversation.proofs.Inside.{alike-inside, all-on, both-inside, changed-inside, none-said, none-inside}
+use Rattle.amqp_endpoint_conversation.proofs.Inside.{alike-inside, all-on, both-inside, changed-inside, none-said}
+use Rattle.amqp_endpoint_conversation.proofs.Inside.{none-inside}
 use Rattle.amqp_endpoint_conversation.proofs.Inside.{one-inside, said-inside, same-inside, silent-behind, step-inside}
 use Rattle.amqp_endpoint_attached.specs.Detaching.{DetachGiven, is_there, own_detach}
 use Rattle.amqp_endpoint_attached.specs.Linked.{Linked, LinksIn, end_at, gives}

@@ -9,7 +9,8 @@ use Rattle.amqp_session_frames.specs.State.{Table}
 use Rattle.amqp_session_frames.specs.Steps.{DeallocateSession}
 use Rattle.amqp_endpoint_tables.specs.declared.place.Place.{Place}
 use Rattle.amqp_endpoint_tables.specs.declared.place.Place.TheVariants.{Asked, Live, Ending, Over}
-use Rattle.amqp_endpoint_tables.specs.State.{State, channel_at, channel_in, channel_of, ended_place, finished_place, fresh, place_at, told_place, with_asked, with_live}
+use Rattle.amqp_endpoint_tables.specs.State.{State, channel_at, channel_in, channel_of, ended_place, finished_place}
+use Rattle.amqp_endpoint_tables.specs.State.{fresh, place_at, told_place, with_asked, with_live}
 use Rattle.amqp_endpoint_tables.specs.Steps.{Act, Step, History, ChangesConnection, Begins, Asks, Accepts}
 use Rattle.amqp_endpoint_tables.specs.Steps.{TakesBegin, TakesEnd, Ends, Finishes, TellsEnd, ChangesAsked}
 use Rattle.amqp_endpoint_tables.specs.Steps.{ChangesLive}

@@ -9,7 +9,8 @@ use Rattle.amqp_endpoint_tables.specs.declared.link_place.LinkPlace.{LinkPlace}
 use Rattle.amqp_endpoint_tables.specs.declared.link_place.Named.{Named}
 use Rattle.amqp_endpoint_tables.specs.Inside.{AreNamed, PutsUnder, TakesAway}
 use Rattle.amqp_endpoint_tables.specs.LinkState.{AreApart, IsNewName, moved, name_in, put_in}
-use Rattle.amqp_endpoint_tables.proofs.Slots.{name-before, name-entered, name-gone, name-left, name-lent, name-past, name-put}
+use Rattle.amqp_endpoint_tables.proofs.Slots.{name-before, name-entered, name-gone, name-left, name-lent, name-past}
+use Rattle.amqp_endpoint_tables.proofs.Slots.{name-put}
 
 abbrev Numbers : Type 0
 Numbers = List (List ℕ × ℕ)

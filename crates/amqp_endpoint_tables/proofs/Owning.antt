@@ -6,7 +6,8 @@ use Rattle.amqp_session_frames.specs.State as channels
 use Rattle.amqp_endpoint_tables.specs.declared.place.PeerEnd.TheVariants.{Missing, Received}
 use Rattle.amqp_endpoint_tables.specs.declared.place.Place.{Place}
 use Rattle.amqp_endpoint_tables.specs.declared.place.Place.TheVariants.{Asked, Live, Ending, Over}
-use Rattle.amqp_endpoint_tables.specs.State.{State, asked_of, ended_place, finished_place, live_of, peer_end_of, place_at, told_place, with_asked, with_live}
+use Rattle.amqp_endpoint_tables.specs.State.{State, asked_of, ended_place, finished_place, live_of, peer_end_of}
+use Rattle.amqp_endpoint_tables.specs.State.{place_at, told_place, with_asked, with_live}
 use Rattle.amqp_endpoint_tables.specs.Steps.{Act, Step, History, EndTaken, ChangesConnection, Begins, Asks, Accepts}
 use Rattle.amqp_endpoint_tables.specs.Steps.{TakesBegin, TakesEnd, Ends, Finishes, TellsEnd, ChangesAsked}
 use Rattle.amqp_endpoint_tables.specs.Steps.{ChangesLive}

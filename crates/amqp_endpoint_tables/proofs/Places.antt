@@ -14,7 +14,8 @@ use Rattle.amqp_endpoint_tables.specs.declared.place.PeerEnd.TheVariants.{Missin
 use Rattle.amqp_endpoint_tables.specs.declared.place.Place.{Place}
 use Rattle.amqp_endpoint_tables.specs.declared.place.Place.TheVariants.{Over}
 use Rattle.amqp_endpoint_tables.specs.Lends.{set_asked, set_live}
-use Rattle.amqp_endpoint_tables.specs.State.{State, asked_at, asked_of, live_at, live_of, place_at, with_asked, with_live}
+use Rattle.amqp_endpoint_tables.specs.State.{State, asked_at, asked_of, live_at, live_of, place_at, with_asked}
+use Rattle.amqp_endpoint_tables.specs.State.{with_live}
 
 pub get-put : (t : Table) (key q v : ℕ) → map.get (map.insert t key v) q ≡ cond (q == key) (Some v) (map.get t q)
 get-put t key q v = get-insert nat_cmp_total t key v q ∙ ap (λ (b : Bool). cond b (Some v) (map.get t q)) (unsigned_tied q key)

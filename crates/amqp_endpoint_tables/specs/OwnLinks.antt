@@ -4,7 +4,8 @@ use Rattle.std.specs.Prelude.{if◌then◌else◌}
 use Rattle.amqp_endpoint_tables.specs.declared.link_place.LinkPlace.TheVariants.{Held, AtRest}
 use Rattle.amqp_endpoint_tables.specs.declared.link_place.Named.{Named}
 use Rattle.amqp_endpoint_tables.specs.LinkState.{State, held_of}
-use Rattle.amqp_endpoint_tables.specs.LinkSteps.{Act, MakesRoom, LowersRoom, Enters, Rests, Holds, ChangesAtRest, Closes}
+use Rattle.amqp_endpoint_tables.specs.LinkSteps.{Act, MakesRoom, LowersRoom, Enters, Rests, Holds, ChangesAtRest}
+use Rattle.amqp_endpoint_tables.specs.LinkSteps.{Closes}
 
 module _ {L : Type 0} where
   -- what stands at a number: nothing before it is given, and nothing in it once the link is closed

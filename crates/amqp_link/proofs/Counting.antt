@@ -5,7 +5,8 @@ use Rattle.std.specs.Str.{bytes_eq}
 use Rattle.std.specs.Cmp.Lexicographic.{same_text}
 use Rattle.amqp_session_states.specs.declared.delivery_state.DeliveryState.{DeliveryState}
 use Rattle.amqp_link_unsettled.specs.Exchanging.{Listing, all_ended, becoming, ended_at, exchanged}
-use Rattle.amqp_link_unsettled.specs.Messages.{MessageLists, disposed_at, disposed, failed, interrupted, open_at, resolved_as, told_at}
+use Rattle.amqp_link_unsettled.specs.Messages.{MessageLists, disposed_at, disposed, failed, interrupted, open_at}
+use Rattle.amqp_link_unsettled.specs.Messages.{resolved_as, told_at}
 use Rattle.amqp_link_unsettled.specs.Resolutions.{ends, resolution_of}
 use Rattle.amqp_link_unsettled.specs.Told.{told}
 use Rattle.amqp_link_unsettled.specs.declared.open.Open.{Open}

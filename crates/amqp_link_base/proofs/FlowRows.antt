@@ -4,7 +4,8 @@ use Rattle.std.specs.Prelude.{Option, Some, None}
 use Rattle.amqp_session_types.specs.declared.handles.OutputHandle.{OutputHandle}
 use Rattle.amqp_session_performatives.specs.declared.link_flow.LinkFlow.{LinkFlow}
 use Rattle.amqp_link_base.specs.declared.inner.LinkFlowStateInner.{LinkFlowStateInner}
-use Rattle.amqp_link_base.specs.Flows.{sender_flowed, sender_answer, receiver_flowed, receiver_answer, attached, consumed, granted, draining, told}
+use Rattle.amqp_link_base.specs.Flows.{sender_flowed, sender_answer, receiver_flowed, receiver_answer, attached}
+use Rattle.amqp_link_base.specs.Flows.{consumed, granted, draining, told}
 
 -- a state with these counts and this credit
 abbrev at : ℕ → ℕ → ℕ → LinkFlowStateInner

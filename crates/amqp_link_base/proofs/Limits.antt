@@ -4,7 +4,8 @@ use Rattle.std.specs.Prelude.{Some, None, option_map, ◌||◌, if◌then◌else
 use Rattle.amqp_session_types.specs.declared.handles.OutputHandle.{OutputHandle}
 use Rattle.amqp_session_performatives.specs.declared.link_flow.LinkFlow.{LinkFlow}
 use Rattle.amqp_link_base.specs.declared.inner.LinkFlowStateInner.{LinkFlowStateInner}
-use Rattle.amqp_link_base.specs.Flows.{sender_flowed, sender_answer, receiver_flowed, receiver_answer, consumed, granted, draining, shown, StandsAt, credit_limit, ahead}
+use Rattle.amqp_link_base.specs.Flows.{sender_flowed, sender_answer, receiver_flowed, receiver_answer, consumed}
+use Rattle.amqp_link_base.specs.Flows.{granted, draining, shown, StandsAt, credit_limit, ahead}
 use Rattle.amqp_link_base.specs.World.{FromSender, Message, Tells, World, Act, Sends, Grants, Drains, SenderTells}
 use Rattle.amqp_link_base.specs.World.{ReceiverTells, SenderTakes, ReceiverTakes, begun, behind, Shows, SenderTakesOf}
 use Rattle.amqp_link_base.specs.World.{ReceiverTakesOf, Step, Runs}

@@ -8,15 +8,20 @@ use Rattle.amqp_session_states.specs.declared.target.Target.{Target as ATarget}
 use Rattle.amqp_session_states.specs.declared.target_archetype.TargetArchetype.{TargetArchetype}
 use Rattle.amqp_session_states.specs.declared.target_archetype.TargetArchetype.TheVariants.{Target, Other}
 use Rattle.amqp_session_types.specs.declared.modes.SenderSettleMode.TheVariants.{Unsettled, Settled, Mixed}
-use Rattle.amqp_link_base.specs.Attach.{mode_tests, source_tests_of_sender, target_tests_of_sender, source_tests_of_receiver, count_tests, target_tests_of_receiver}
+use Rattle.amqp_link_base.specs.Attach.{mode_tests, source_tests_of_sender, target_tests_of_sender}
+use Rattle.amqp_link_base.specs.Attach.{source_tests_of_receiver, count_tests, target_tests_of_receiver}
 use Rattle.amqp_link_base.specs.Exchange.{exchange, lists_none}
 use Rattle.amqp_link_base.specs.Properties.{merged}
 use Rattle.amqp_link_base.specs.Size.{agreed_size}
 use Rattle.amqp_link_base.specs.Source.{Filters, filter_tests}
-use Rattle.amqp_link_base.specs.State.{after_send_attach, after_incoming_attach, after_send_detach, after_detach_reply, after_remote_detach, after_break, is_attached}
+use Rattle.amqp_link_base.specs.State.{after_send_attach, after_incoming_attach, after_send_detach}
+use Rattle.amqp_link_base.specs.State.{after_detach_reply, after_remote_detach, after_break, is_attached}
 use Rattle.amqp_link_base.specs.Tests.{first_of}
 use Rattle.amqp_link_base.specs.declared.exchange.AttachExchange.TheVariants.{Complete, IncompleteUnsettled, Resume}
-use Rattle.amqp_link_base.specs.declared.state.LinkState.TheVariants.{Unattached, AttachSent, IncompleteAttachSent, AttachReceived, IncompleteAttachReceived, Attached, IncompleteAttachExchanged, DetachSent, Detached, CloseSent, Closed}
+use Rattle.amqp_link_base.specs.declared.state.LinkState.TheVariants.{Unattached, AttachSent, IncompleteAttachSent}
+use Rattle.amqp_link_base.specs.declared.state.LinkState.TheVariants.{AttachReceived, IncompleteAttachReceived}
+use Rattle.amqp_link_base.specs.declared.state.LinkState.TheVariants.{Attached, IncompleteAttachExchanged, DetachSent}
+use Rattle.amqp_link_base.specs.declared.state.LinkState.TheVariants.{Detached, CloseSent, Closed}
 
 -- the size of messages that both ends take
 pub no_bound : agreed_size 0 None ≡ 0

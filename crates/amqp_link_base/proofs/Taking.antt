@@ -4,7 +4,8 @@ use Rattle.std.specs.Prelude.{Option, Some, None, Result, Ok, Err, if◌then◌e
 use Rattle.amqp_link_types.specs.declared.refusals.ReceiverTransferError.{ReceiverTransferError}
 use Rattle.amqp_link_types.specs.declared.refusals.ReceiverTransferError.TheVariants.{InconsistentFieldInMultiFrameDelivery}
 use Rattle.amqp_link_base.specs.Said.{Said, begun, continued, gathered, unnamed, unless, agrees}
-use Rattle.amqp_link_base.specs.Readings.{Piece, Reading, opened, brought, brought_if, read_on, readings, take_on, taken}
+use Rattle.amqp_link_base.specs.Readings.{Piece, Reading, opened, brought, brought_if, read_on, readings, take_on}
+use Rattle.amqp_link_base.specs.Readings.{taken}
 
 -- transfers behind one that was refused are refused
 refused-stays : (e : ReceiverTransferError) (ps : List Piece) (r : Reading) → taken (Err e) ps ≡ Ok r → ⊥

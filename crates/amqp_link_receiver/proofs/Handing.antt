@@ -18,9 +18,13 @@ use Rattle.amqp_link_receiver.specs.declared.answer.Told.{Told}
 use Rattle.amqp_link_receiver.specs.declared.answer.Registering.{Registering}
 use Rattle.amqp_link_receiver.specs.declared.answer.Registering.TheVariants.{Unchanged, Settled}
 use Rattle.amqp_link_receiver.specs.Reading.{says, head_of}
-use Rattle.amqp_link_receiver.specs.Deliveries.{Delivery, Entries, found, agrees, begun, continued, delivery_of, begun_by, fresh, grown, is_of_other_mode, is_too_large, sized, start_of, started, with_last, with_part}
-use Rattle.amqp_link_receiver.specs.Receiving.{Receiving, Receives, Outcome, aborted, completed, completion, dropped, ended, first_aborted, kept_on, number_of, received, refusal, spent}
-use Rattle.amqp_link_receiver.specs.Readings.{IsTaken, Taken, TakesAll, delivery_said, handed_out, held_said, message_said, messages_in, pieces_of}
+use Rattle.amqp_link_receiver.specs.Deliveries.{Delivery, Entries, found, agrees, begun, continued, delivery_of}
+use Rattle.amqp_link_receiver.specs.Deliveries.{begun_by, fresh, grown, is_of_other_mode, is_too_large, sized}
+use Rattle.amqp_link_receiver.specs.Deliveries.{start_of, started, with_last, with_part}
+use Rattle.amqp_link_receiver.specs.Receiving.{Receiving, Receives, Outcome, aborted, completed, completion, dropped}
+use Rattle.amqp_link_receiver.specs.Receiving.{ended, first_aborted, kept_on, number_of, received, refusal, spent}
+use Rattle.amqp_link_receiver.specs.Readings.{IsTaken, Taken, TakesAll, delivery_said, handed_out, held_said}
+use Rattle.amqp_link_receiver.specs.Readings.{message_said, messages_in, pieces_of}
 
 ok-if : {A E : Type 0} (b : Bool) (e : E) (x d : A) → (if b then Err e else Ok x) ≡ Ok d → d ≡ x
 ok-if true e x d h = absurd (cc)

@@ -15,7 +15,8 @@ use Rattle.amqp_link_base.specs.Own.{own_attach}
 use Rattle.amqp_link_base.specs.declared.base.LinkBase.{LinkBase}
 use Rattle.amqp_link_receiver.specs.Listed.{listed_as}
 use Rattle.amqp_link_receiver.specs.declared.disposable.Disposable.{Disposable}
-use Rattle.amqp_link_receiver.specs.declared.disposable.DisposeRefusal.TheVariants.{AlreadyDisposed, NotAssociated, NotKept}
+use Rattle.amqp_link_receiver.specs.declared.disposable.DisposeRefusal.TheVariants.{AlreadyDisposed, NotAssociated}
+use Rattle.amqp_link_receiver.specs.declared.disposable.DisposeRefusal.TheVariants.{NotKept}
 use Rattle.amqp_link_receiver.specs.declared.entry.Entry.TheVariants.{Half, Whole}
 use Rattle.amqp_link_receiver.specs.declared.entry.WholeMessage.{WholeMessage}
 use Rattle.amqp_link_receiver.specs.declared.flowing.GrantRefusal.TheVariants.{CreditOutOfRange, IllegalState}

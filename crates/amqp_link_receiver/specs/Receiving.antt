@@ -21,7 +21,8 @@ use Rattle.amqp_link_receiver.specs.declared.answer.Registering.TheVariants.{Unc
 use Rattle.amqp_link_receiver.specs.declared.answer.Told.{Told}
 use Rattle.amqp_link_receiver.specs.declared.answer.Told.TheVariants as told
 use Rattle.amqp_link_receiver.specs.declared.answer.Answer.{Answer}
-use Rattle.amqp_link_receiver.specs.Deliveries.{Delivery, Entries, found, agrees, delivery_of, start_of, with_last, with_part}
+use Rattle.amqp_link_receiver.specs.Deliveries.{Delivery, Entries, found, agrees, delivery_of, start_of, with_last}
+use Rattle.amqp_link_receiver.specs.Deliveries.{with_part}
 use Rattle.amqp_link_receiver.specs.Reading.{head_of}
 
 -- a receiving end: its credit, the delivery of which transfers are coming in, and the unsettled deliveries by their tags

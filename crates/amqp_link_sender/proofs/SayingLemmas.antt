@@ -10,7 +10,8 @@ use Rattle.amqp_session_core.specs.declared.batch.TransferFrame.{TransferFrame}
 use Rattle.amqp_session_core.specs.declared.batch.BehindFrame.{BehindFrame}
 use Rattle.amqp_session_core.specs.Batch.{Transfers, first_of, continuation_of}
 use Rattle.amqp_link_base.specs.Said.{Said, begun, continued, whole, unless, unnamed_by}
-use Rattle.amqp_link_base.specs.Readings.{Piece, Reading, nothing, brought, brought_if, read_on, readings, take_on, taken_on, taken}
+use Rattle.amqp_link_base.specs.Readings.{Piece, Reading, nothing, brought, brought_if, read_on, readings, take_on}
+use Rattle.amqp_link_base.specs.Readings.{taken_on, taken}
 use Rattle.amqp_link_sender.specs.Splitting.{bytes_of, later, more_behind, AreLater, IsDelivery, Splits}
 use Rattle.amqp_link_sender.specs.Saying.{piece_of, pieces_of, numbered}
 

@@ -12,7 +12,8 @@ use Rattle.amqp_session_frames.specs.Steps.{Act, Step, History, DeallocateSessio
 use Rattle.amqp_session_frames.specs.Steps.{TakesHeader, SendsOpen, TakesOpen, SendsClose, TakesClose, SendsBegin}
 use Rattle.amqp_session_frames.specs.Steps.{SendsEnd, AllocatesSession, DeallocatesSession, TakesBegin}
 use Rattle.amqp_session_frames.specs.Steps.{AcceptsRoute, TakesEnd, FindsSession}
-use Rattle.amqp_session_frames.specs.Table.{after_send_header, after_incoming_header, after_incoming_open, after_send_close, after_incoming_close}
+use Rattle.amqp_session_frames.specs.Table.{after_send_header, after_incoming_header, after_incoming_open}
+use Rattle.amqp_session_frames.specs.Table.{after_send_close, after_incoming_close}
 use Rattle.amqp_session_frames.specs.Told.{row, is_illegal, moved, state_after}
 use Rattle.amqp_session_frames.proofs.Histories.{last_step}
 use Rattle.std.specs.FinMap as map

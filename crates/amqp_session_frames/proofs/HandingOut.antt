@@ -5,7 +5,12 @@ use Rattle.std.specs.Prelude.{unwrap_or}
 use Rattle.amqp_session_frames.specs.declared.frame.Frame.{Frame}
 use Rattle.amqp_session_frames.specs.declared.frame.FrameBody.{FrameBody}
 use Rattle.amqp_session_frames.specs.declared.state.ConnectionState.{ConnectionState}
-use Rattle.amqp_session_frames.specs.declared.state.ConnectionState.TheVariants.{Start, HeaderReceived, HeaderSent, HeaderExchange, OpenPipe, OpenClosePipe, OpenReceived, OpenSent, ClosePipe, Opened, CloseReceived, CloseSent, Discarding, End}
+use Rattle.amqp_session_frames.specs.declared.state.ConnectionState.TheVariants.{Start, HeaderReceived, HeaderSent}
+use Rattle.amqp_session_frames.specs.declared.state.ConnectionState.TheVariants.{HeaderExchange, OpenPipe}
+use Rattle.amqp_session_frames.specs.declared.state.ConnectionState.TheVariants.{OpenClosePipe, OpenReceived}
+use Rattle.amqp_session_frames.specs.declared.state.ConnectionState.TheVariants.{OpenSent, ClosePipe, Opened}
+use Rattle.amqp_session_frames.specs.declared.state.ConnectionState.TheVariants.{CloseReceived, CloseSent, Discarding}
+use Rattle.amqp_session_frames.specs.declared.state.ConnectionState.TheVariants.{End}
 use Rattle.amqp_session_frames.specs.State.{State}
 use Rattle.amqp_session_frames.specs.Steps.{Act, Step, History, SetsStopReason, SendsHeader, TakesHeader}
 use Rattle.amqp_session_frames.specs.Steps.{SendsOpen, TakesOpen, SendsClose, TakesClose, SendsBegin, SendsEnd}
@@ -13,7 +18,9 @@ use Rattle.amqp_session_frames.specs.Steps.{AllocatesSession, DeallocatesSession
 use Rattle.amqp_session_frames.specs.Steps.{TakesEnd, FindsSession}
 use Rattle.amqp_session_frames.specs.Told.{frame_of, frames_out, says_open, says_close}
 use Rattle.amqp_session_frames.proofs.Following.{step_moves}
-use Rattle.amqp_session_frames.proofs.States.{opens_left, closes_left, Spends, send_header_moves, incoming_header_moves, send_open_moves, incoming_open_moves, send_close_moves, incoming_close_moves}
+use Rattle.amqp_session_frames.proofs.States.{opens_left, closes_left, Spends, send_header_moves}
+use Rattle.amqp_session_frames.proofs.States.{incoming_header_moves, send_open_moves, incoming_open_moves}
+use Rattle.amqp_session_frames.proofs.States.{send_close_moves, incoming_close_moves}
 
 -- how many of these frames pass the test
 abbrev many : (FrameBody → Bool) → List Frame → ℕ

@@ -24,7 +24,8 @@ use Rattle.amqp_session_frames.specs.Steps.{TakesClose, SendsBegin, SendsEnd, Al
 use Rattle.amqp_session_frames.specs.Steps.{DeallocatesSession, TakesBegin, AcceptsRoute, TakesEnd, FindsSession}
 use Rattle.amqp_session_frames.specs.Told.{without, still_live, live_after, learned, peer_channel_max}
 use Rattle.amqp_session_frames.proofs.Histories.{last_step}
-use Rattle.amqp_session_frames.proofs.States.{is_settled, send_header_moves, incoming_header_moves, send_open_moves, send_close_moves, incoming_close_moves, open_comes_first, begun_settled}
+use Rattle.amqp_session_frames.proofs.States.{is_settled, send_header_moves, incoming_header_moves, send_open_moves}
+use Rattle.amqp_session_frames.proofs.States.{send_close_moves, incoming_close_moves, open_comes_first, begun_settled}
 use Rattle.amqp_session_types.proofs.Tables.{get-put, get-take}
 use Rattle.amqp_session_frames.proofs.Tables.{get-none}
 

@@ -3,8 +3,15 @@ use Rattle.std.proofs.Common.{◌≡◌, ◌≤◌, ◌+◌, ℕ, Bool, true, fa
 use Rattle.std.specs.Prelude.{unwrap_or}
 use Rattle.std.proofs.lemmas.Option.{none-some}
 use Rattle.amqp_session_frames.specs.declared.state.ConnectionState.{ConnectionState}
-use Rattle.amqp_session_frames.specs.declared.state.ConnectionState.TheVariants.{Start, HeaderReceived, HeaderSent, HeaderExchange, OpenPipe, OpenClosePipe, OpenReceived, OpenSent, ClosePipe, Opened, CloseReceived, CloseSent, Discarding, End}
-use Rattle.amqp_session_frames.specs.Table.{after_send_header, after_incoming_header, after_send_open, after_incoming_open, after_send_close, after_incoming_close, refusal_of_begin}
+use Rattle.amqp_session_frames.specs.declared.state.ConnectionState.TheVariants.{Start, HeaderReceived, HeaderSent}
+use Rattle.amqp_session_frames.specs.declared.state.ConnectionState.TheVariants.{HeaderExchange, OpenPipe}
+use Rattle.amqp_session_frames.specs.declared.state.ConnectionState.TheVariants.{OpenClosePipe, OpenReceived}
+use Rattle.amqp_session_frames.specs.declared.state.ConnectionState.TheVariants.{OpenSent, ClosePipe, Opened}
+use Rattle.amqp_session_frames.specs.declared.state.ConnectionState.TheVariants.{CloseReceived, CloseSent, Discarding}
+use Rattle.amqp_session_frames.specs.declared.state.ConnectionState.TheVariants.{End}
+use Rattle.amqp_session_frames.specs.Table.{after_send_header, after_incoming_header, after_send_open}
+use Rattle.amqp_session_frames.specs.Table.{after_incoming_open, after_send_close, after_incoming_close}
+use Rattle.amqp_session_frames.specs.Table.{refusal_of_begin}
 
 -- how many Open may still be handed out
 abbrev pub opens_left : ConnectionState → ℕ

@@ -34,6 +34,7 @@ pub unsettled-at : (es : List (ℕ × Delivery)) (q : ℕ) (v : Delivery) → lo
 unsettled-at es q v is = ap is_some (get-entries es q ∙ is)
 
 -- without entries nothing is unsettled
-pub none-unsettled : (es : List (ℕ × Delivery)) (q : ℕ) → length es ≡ 0 → IsUnsettled (map.from_entries es) q → IsTrue false
+pub none-unsettled : (es : List (ℕ × Delivery)) (q : ℕ)
+    → length es ≡ 0 → IsUnsettled (map.from_entries es) q → IsTrue false
 none-unsettled [] q e some = subst (λ (o : Option Delivery). IsSome o) (get-entries [] q) some
 none-unsettled (x ∷ es) q e some = absurd (omega (arith, e))

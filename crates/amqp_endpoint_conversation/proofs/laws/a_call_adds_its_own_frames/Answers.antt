@@ -1,4 +1,5 @@
-use Rattle.amqp_endpoint_conversation.proofs.Alone.{accepted-alone, answer-alone, begin-alone, begun-alone, end-alone, ended-alone, flow-alone}
+use Rattle.amqp_endpoint_conversation.proofs.Alone.{accepted-alone, answer-alone, begin-alone, begun-alone, end-alone}
+use Rattle.amqp_endpoint_conversation.proofs.Alone.{ended-alone, flow-alone}
 use Rattle.amqp_endpoint_conversation.proofs.laws.a_call_adds_its_own_frames.Goals as goal
 
 pub returns-clause-begun : goal.returns-clause-begun

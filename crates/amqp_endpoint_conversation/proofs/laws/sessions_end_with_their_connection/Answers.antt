@@ -1,4 +1,5 @@
-use Rattle.amqp_endpoint_conversation.proofs.Clearing.{all-cleared, finished-clears, left-clears, nothing-cleared, one-more}
+use Rattle.amqp_endpoint_conversation.proofs.Clearing.{all-cleared, finished-clears, left-clears, nothing-cleared}
+use Rattle.amqp_endpoint_conversation.proofs.Clearing.{one-more}
 use Rattle.amqp_endpoint_conversation.proofs.laws.sessions_end_with_their_connection.Goals as goal
 
 pub returns-clause-left : goal.returns-clause-left

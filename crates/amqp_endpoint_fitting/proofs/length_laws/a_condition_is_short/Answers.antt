@@ -1,4 +1,5 @@
-use Rattle.amqp_endpoint_fitting.proofs.Frames.{unattached_handle-short, handle_in_use-short, not_allowed-short, transfer_limit_exceeded-short, message_size_exceeded-short}
+use Rattle.amqp_endpoint_fitting.proofs.Frames.{unattached_handle-short, handle_in_use-short, not_allowed-short}
+use Rattle.amqp_endpoint_fitting.proofs.Frames.{transfer_limit_exceeded-short, message_size_exceeded-short}
 use Rattle.amqp_endpoint_fitting.proofs.length_laws.a_condition_is_short.Goals as goal
 
 pub returns-clause-unattached_handle : goal.returns-clause-unattached_handle

@@ -10,7 +10,8 @@ use Rattle.amqp_session_core.specs.declared.batch.BehindFrame.{BehindFrame}
 use Rattle.amqp_session_core.specs.Batch.{Transfers, continuation_of}
 use Rattle.amqp_link_sender.specs.Splitting.{bytes_of, later, some_left}
 use Rattle.amqp_link_sender.proofs.Counting.{ceil-none, ceil-step, none-yet, one-more, all-counted}
-use Rattle.amqp_link_sender.proofs.Pushing.{AreSoFar, pushed, all-later, bytes-pushed, none-left, some-long, parted, piece-short, left-size, left-smaller}
+use Rattle.amqp_link_sender.proofs.Pushing.{AreSoFar, pushed, all-later, bytes-pushed, none-left, some-long, parted}
+use Rattle.amqp_link_sender.proofs.Pushing.{piece-short, left-size, left-smaller}
 use Rattle.amqp_link_sender.proofs.splitting.push_rest.Goals as goal
 
 pub loop-alloc-init : goal.loop-alloc-init
