@@ -2,7 +2,7 @@
 use Rattle.std.specs.Prelude.{◌≡◌, ℕ, List, [], ◌∷◌, Option, Some, None}
 use Rattle.amqp_session_performatives.specs.declared.session_frame.SessionFrame.{SessionFrame}
 use Rattle.amqp_link_base.specs.declared.exchange.AttachExchange.{AttachExchange}
-use Rattle.amqp_link_ends.specs.declared.end.End.{End}
+use Rattle.amqp_link.specs.declared.end.End.{End}
 use Rattle.amqp_endpoint_model.specs.declared.event.Event.{Event}
 use Rattle.amqp_endpoint_model.specs.declared.event.Event.TheVariants as event
 use Rattle.amqp_endpoint_link_calls.specs.Attaching.{LinkAttaches}

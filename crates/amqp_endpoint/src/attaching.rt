@@ -14,7 +14,7 @@ use amqp_endpoint_links::Numbered;
 use amqp_endpoint_model::{Attached, Attaching, EndpointError, Event, LinkSettings};
 use amqp_endpoint_tables::Links;
 use amqp_link_base::AttachExchange;
-use amqp_link_ends::LinkEnd;
+use amqp_link::LinkEnd;
 use amqp_session_performatives::SessionFrame;
 use serde_amqp_types::Text;
 use std::alloc::{AllocError, Global};

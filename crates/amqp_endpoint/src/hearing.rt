@@ -14,7 +14,7 @@ use amqp_endpoint_linking::{hear_begin, hear_end};
 use amqp_endpoint_links::Numbered;
 use amqp_endpoint_model::{EndpointError, Event};
 use amqp_endpoint_tables::Links;
-use amqp_link_ends::LinkEnd;
+use amqp_link::LinkEnd;
 use amqp_session_frames::FrameBody;
 use amqp_session_performatives::{Attach, SessionFrame};
 use amqp_session_types::{Boxed, IncomingChannel};

@@ -11,7 +11,7 @@ use amqp_endpoint_model::{
     Attaching, Disposal, EndpointError, Event, LinkSettings, Sending, Sent, SessionRelay,
 };
 use amqp_endpoint_tables::{Links, Sessions};
-use amqp_link_ends::LinkEnd;
+use amqp_link::LinkEnd;
 use amqp_session_frames::{Connection, FrameBody};
 use amqp_session_performatives::SessionFrame;
 use amqp_session_types::{IncomingChannel, TryEndError};

@@ -9,7 +9,7 @@ use amqp_endpoint_link_calls as messages;
 use amqp_endpoint_links::Numbered;
 use amqp_endpoint_model::{EndpointError, Sending, Sent};
 use amqp_endpoint_tables::Links;
-use amqp_link_ends::LinkEnd;
+use amqp_link::LinkEnd;
 use amqp_session_performatives::SessionFrame;
 use amqp_session_states::{Accepted, Outcome};
 use amqp_session_types::DeliveryTag;

@@ -9,8 +9,8 @@ use Rattle.amqp_session_core.specs.State.{link_at}
 use Rattle.amqp_session_core.specs.Steps.{Step, SendsBehind}
 use Rattle.amqp_link_receiver.specs.declared.flowing.Granted.{Granted}
 use Rattle.amqp_link_receiver.specs.State.{ReceiverState}
-use Rattle.amqp_link_ends.specs.declared.end.End.{End}
-use Rattle.amqp_link_ends.specs.declared.end.End.TheVariants.{Sender, Receiver}
+use Rattle.amqp_link.specs.declared.end.End.{End}
+use Rattle.amqp_link.specs.declared.end.End.TheVariants.{Sender, Receiver}
 use Rattle.amqp_endpoint_links.specs.declared.numbered.Numbered.{Numbered}
 use Rattle.amqp_endpoint_attached.specs.Linked.{Linked, LinksIn, gives}
 use Rattle.amqp_endpoint_attached.specs.Receiving.{CreditGiven, DrainWanted, DrainsIn, GivesCredit, GivesIn, WantsDrain, is_receiving}

@@ -18,8 +18,8 @@ use Rattle.amqp_link_sender.specs.Ending as sender_ending
 use Rattle.amqp_link_sender.specs.Sending as sender
 use Rattle.amqp_link_receiver.specs.Ending as receiver_ending
 use Rattle.amqp_link_receiver.specs.State as receiver
-use Rattle.amqp_link_ends.specs.declared.end.End.{End}
-use Rattle.amqp_link_ends.specs.declared.end.End.TheVariants.{Sender, Receiver}
+use Rattle.amqp_link.specs.declared.end.End.{End}
+use Rattle.amqp_link.specs.declared.end.End.TheVariants.{Sender, Receiver}
 use Rattle.amqp_endpoint_links.specs.declared.numbered.Numbered.{Numbered}
 use Rattle.amqp_endpoint_attached.specs.Linked.{Linked, LinksIn, gives}
 use Rattle.amqp_endpoint_attached.specs.Detaching.{DetachGiven, DetachReplied, DetachesIn, detach_sent, own_detach}

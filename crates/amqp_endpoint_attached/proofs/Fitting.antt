@@ -5,9 +5,9 @@ use Rattle.amqp_session_performatives.specs.declared.attach.Attach.{Attach}
 use Rattle.amqp_session_performatives.specs.declared.link_flow.LinkFlow.{LinkFlow}
 use Rattle.amqp_link_base.specs.State.{is_attached}
 use Rattle.amqp_link_base.specs.Own.{handle_of}
-use Rattle.amqp_link_ends.specs.Ends.{flow_answer}
-use Rattle.amqp_link_ends.specs.declared.end.End.{End}
-use Rattle.amqp_link_ends.specs.declared.end.End.TheVariants.{Sender, Receiver}
+use Rattle.amqp_link.specs.Ends.{flow_answer}
+use Rattle.amqp_link.specs.declared.end.End.{End}
+use Rattle.amqp_link.specs.declared.end.End.TheVariants.{Sender, Receiver}
 use Rattle.amqp_link_base.specs.Flows.{receiver_flowed, sender_flowed, shown}
 use Rattle.amqp_link_unsettled.specs.Listing.{FitsFrame}
 use Rattle.amqp_endpoint_attached.specs.Links.{Announces}

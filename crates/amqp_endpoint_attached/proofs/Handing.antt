@@ -17,7 +17,7 @@ use Rattle.amqp_session_core.specs.Frames.{frame_of}
 use Rattle.amqp_session_core.specs.Relay.{Relations}
 use Rattle.amqp_session_core.specs.State.{State, link_at}
 use Rattle.amqp_session_core.specs.Steps.{Step, Allocates}
-use Rattle.amqp_link_ends.specs.declared.end.End.{End}
+use Rattle.amqp_link.specs.declared.end.End.{End}
 use Rattle.amqp_link_sender.specs.declared.attaching.Attaching.{Attaching}
 use Rattle.amqp_endpoint_links.specs.declared.links.AskedLink.{AskedLink}
 use Rattle.amqp_endpoint_links.specs.declared.numbered.Numbered.{Numbered}

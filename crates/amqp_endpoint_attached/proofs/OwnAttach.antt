@@ -12,9 +12,9 @@ use Rattle.amqp_link_base.specs.declared.state.LinkState.TheVariants.{Detached, 
 use Rattle.amqp_link_base.specs.Moves.{sent_attach}
 use Rattle.amqp_link_base.specs.declared.base.IllegalState.{IllegalState}
 use Rattle.amqp_link_base.specs.declared.base.LinkBase.{LinkBase}
-use Rattle.amqp_link_ends.specs.Ends.{flow_answer, flowed, state_of, with_handle}
-use Rattle.amqp_link_ends.specs.declared.end.End.{End}
-use Rattle.amqp_link_ends.specs.declared.end.End.TheVariants.{Sender, Receiver}
+use Rattle.amqp_link.specs.Ends.{flow_answer, flowed, state_of, with_handle}
+use Rattle.amqp_link.specs.declared.end.End.{End}
+use Rattle.amqp_link.specs.declared.end.End.TheVariants.{Sender, Receiver}
 use Rattle.amqp_link_base.specs.Flows.{attached}
 use Rattle.amqp_link_receiver.specs.Attaching as receiver
 use Rattle.amqp_link_receiver.specs.State.{ReceiverState, MovesLink as MovesReceiver}

@@ -11,8 +11,8 @@ use Rattle.amqp_link_receiver.specs.declared.flowing.GrantRefusal.TheVariants.{I
 use Rattle.amqp_link_receiver.specs.Flowing as flowing
 use Rattle.amqp_link_receiver.specs.Flowing.{Drains, Grants, credited, grant_refusal, own_flow}
 use Rattle.amqp_link_receiver.specs.State.{ReceiverState}
-use Rattle.amqp_link_ends.specs.declared.end.End.{End}
-use Rattle.amqp_link_ends.specs.declared.end.End.TheVariants.{Receiver}
+use Rattle.amqp_link.specs.declared.end.End.{End}
+use Rattle.amqp_link.specs.declared.end.End.TheVariants.{Receiver}
 use Rattle.amqp_endpoint_attached.specs.Receiving.{GivesCredit, WantsDrain, drained}
 
 -- the credit that is given is told

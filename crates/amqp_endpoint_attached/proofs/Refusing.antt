@@ -9,7 +9,7 @@ use Rattle.amqp_session_types.specs.declared.refusals.SessionError.TheVariants a
 use Rattle.amqp_session_performatives.specs.declared.attach.Attach.{Attach}
 use Rattle.amqp_session_core.specs.Refusals.{RefusesLink}
 use Rattle.amqp_session_core.specs.State.{State}
-use Rattle.amqp_link_ends.specs.declared.end.End.{End}
+use Rattle.amqp_link.specs.declared.end.End.{End}
 use Rattle.amqp_link_sender.specs.declared.attaching.Attaching.{Attaching}
 use Rattle.amqp_endpoint_links.specs.declared.links.AskedLink.{AskedLink}
 use Rattle.amqp_endpoint_attached.specs.Answering.{RefusesAnswer, RefusesExchange, asked_failed}

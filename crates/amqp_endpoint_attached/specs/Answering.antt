@@ -12,10 +12,10 @@ use Rattle.amqp_session_core.specs.State.{State}
 use Rattle.amqp_session_core.specs.Steps.{Step, Allocates}
 use Rattle.amqp_session_core.specs.Told.{BehindSent}
 use Rattle.amqp_link_types.specs.declared.link_error.LinkError.{LinkError}
-use Rattle.amqp_link_ends.specs.Ends.{flow_answer, flowed, with_handle}
-use Rattle.amqp_link_ends.specs.Gives.{attaches}
-use Rattle.amqp_link_ends.specs.declared.end.End.{End}
-use Rattle.amqp_link_ends.specs.declared.relay.AttachTold.{AttachTold}
+use Rattle.amqp_link.specs.Ends.{flow_answer, flowed, with_handle}
+use Rattle.amqp_link.specs.Gives.{attaches}
+use Rattle.amqp_link.specs.declared.end.End.{End}
+use Rattle.amqp_link.specs.declared.relay.AttachTold.{AttachTold}
 use Rattle.amqp_link_sender.specs.declared.attaching.Attaching.{Attaching}
 use Rattle.amqp_endpoint_links.specs.declared.links.AskedLink.{AskedLink}
 use Rattle.amqp_endpoint_links.specs.declared.numbered.Numbered.{Numbered}

@@ -5,8 +5,8 @@ use Rattle.amqp_session_performatives.specs.declared.attach.Attach.{Attach}
 use Rattle.amqp_session_performatives.specs.declared.session_frame.SessionFrame.{SessionFrame}
 use Rattle.amqp_session_core.specs.State.{State}
 use Rattle.amqp_session_core.specs.Steps.{Step, Allocates}
-use Rattle.amqp_link_ends.specs.Ends.{with_handle}
-use Rattle.amqp_link_ends.specs.declared.end.End.{End}
+use Rattle.amqp_link.specs.Ends.{with_handle}
+use Rattle.amqp_link.specs.declared.end.End.{End}
 use Rattle.amqp_endpoint_attached.specs.Linked.{Linked, gives}
 use Rattle.amqp_endpoint_attached.specs.Links.{Announces, FitsNoFrame, attach_frame, attach_sent, offered, with_number}
 use Rattle.amqp_endpoint_attached.specs.Refusals.{IsOffered}

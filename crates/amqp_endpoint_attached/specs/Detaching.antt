@@ -9,9 +9,9 @@ use Rattle.amqp_session_core.specs.Steps.{Step, Changes}
 use Rattle.amqp_link_base.specs.State.{is_attached}
 use Rattle.amqp_link_sender.specs.Ending as sender
 use Rattle.amqp_link_receiver.specs.Ending as receiver
-use Rattle.amqp_link_ends.specs.Ends.{state_of}
-use Rattle.amqp_link_ends.specs.declared.end.End.{End}
-use Rattle.amqp_link_ends.specs.declared.end.End.TheVariants.{Sender, Receiver}
+use Rattle.amqp_link.specs.Ends.{state_of}
+use Rattle.amqp_link.specs.declared.end.End.{End}
+use Rattle.amqp_link.specs.declared.end.End.TheVariants.{Sender, Receiver}
 use Rattle.amqp_endpoint_model.specs.declared.error.EndpointError.{EndpointError}
 use Rattle.amqp_endpoint_model.specs.declared.error.EndpointError.TheVariants.{Memory, IllegalState}
 use Rattle.amqp_endpoint_attached.specs.Linked.{Linked, LinksIn, gives, end_at}

@@ -5,9 +5,9 @@ use Rattle.amqp_session_types.specs.declared.modes.Role.TheVariants as role
 use Rattle.amqp_link_base.specs.Moves.{is_closed}
 use Rattle.amqp_link_sender.specs.Ending as sender
 use Rattle.amqp_link_receiver.specs.Ending as receiver
-use Rattle.amqp_link_ends.specs.Ends.{state_of}
-use Rattle.amqp_link_ends.specs.declared.end.End.{End}
-use Rattle.amqp_link_ends.specs.declared.end.End.TheVariants.{Sender, Receiver}
+use Rattle.amqp_link.specs.Ends.{state_of}
+use Rattle.amqp_link.specs.declared.end.End.{End}
+use Rattle.amqp_link.specs.declared.end.End.TheVariants.{Sender, Receiver}
 
 -- its connection or its session is over
 abbrev pub broken : End → End

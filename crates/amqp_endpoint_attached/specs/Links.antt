@@ -10,8 +10,8 @@ use Rattle.amqp_link_base.specs.declared.state.LinkState.{LinkState}
 use Rattle.amqp_link_base.specs.declared.state.LinkState.TheVariants.{Unattached, Detached}
 use Rattle.amqp_link_base.specs.declared.terms.Terms.{Terms}
 use Rattle.amqp_link_base.specs.declared.base.LinkBase.{LinkBase}
-use Rattle.amqp_link_ends.specs.declared.end.End.{End}
-use Rattle.amqp_link_ends.specs.declared.end.End.TheVariants.{Sender, Receiver}
+use Rattle.amqp_link.specs.declared.end.End.{End}
+use Rattle.amqp_link.specs.declared.end.End.TheVariants.{Sender, Receiver}
 use Rattle.amqp_link_receiver.specs.Attaching as receiver
 use Rattle.amqp_link_receiver.specs.State.{credit_from, unattached}
 use Rattle.amqp_link_sender.specs.Attaching as sender

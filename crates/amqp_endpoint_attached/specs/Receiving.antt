@@ -11,8 +11,8 @@ use Rattle.amqp_link_base.specs.Flows.{draining}
 use Rattle.amqp_link_receiver.specs.declared.flowing.Granted.{Granted}
 use Rattle.amqp_link_receiver.specs.Flowing.{credited, own_flow, with_flow}
 use Rattle.amqp_link_receiver.specs.State.{ReceiverState}
-use Rattle.amqp_link_ends.specs.declared.end.End.{End}
-use Rattle.amqp_link_ends.specs.declared.end.End.TheVariants.{Sender, Receiver}
+use Rattle.amqp_link.specs.declared.end.End.{End}
+use Rattle.amqp_link.specs.declared.end.End.TheVariants.{Sender, Receiver}
 use Rattle.amqp_endpoint_links.specs.declared.numbered.Numbered.{Numbered}
 use Rattle.amqp_endpoint_model.specs.declared.error.EndpointError.{EndpointError}
 use Rattle.amqp_endpoint_model.specs.declared.error.EndpointError.TheVariants.{Memory, CreditOutOfRange, IllegalState}

@@ -7,7 +7,7 @@ use Rattle.amqp_session_core.specs.Frames.{behind_frame}
 use Rattle.amqp_session_core.specs.Relay.{Relations}
 use Rattle.amqp_session_core.specs.State.{State}
 use Rattle.amqp_session_core.specs.Steps.{Step, Changes, SendsBehind}
-use Rattle.amqp_link_ends.specs.declared.end.End.{End}
+use Rattle.amqp_link.specs.declared.end.End.{End}
 use Rattle.amqp_endpoint_links.specs.declared.numbered.Numbered.{Numbered}
 use Rattle.amqp_endpoint_attached.specs.Linked.{Linked, LinksIn, gives}
 

@@ -4,14 +4,14 @@ ghost use Rattle.std.specs.VecDeque.{deque_len, deque_capacity};
 ghost use Rattle.amqp_session_core.specs.Frames.{frame_of};
 ghost use Rattle.amqp_session_performatives.specs.declared.session_frame.SessionFrameBody.TheVariants as body;
 ghost use Rattle.amqp_link_base.specs.State.{after_send_attach};
-ghost use Rattle.amqp_link_ends.specs.Ends.{state_of, with_handle};
+ghost use Rattle.amqp_link.specs.Ends.{state_of, with_handle};
 ghost use Rattle.amqp_link_unsettled.specs.declared.listing.ListError.TheVariants.{TooLarge};
 ghost use Rattle.amqp_endpoint_attached.specs.Links.{Announces, FitsNoFrame, attach_sent, attach_frame, offered};
 ghost use Rattle.amqp_endpoint_attached.specs.Refusals.{IsOffered, RefusesOwn};
 ghost use Rattle.amqp_endpoint_attached.specs.declared.refusal.AttachRefusal.TheVariants.{HandleMaxReached, Memory};
 
 use crate::refusal::AttachRefusal;
-use amqp_link_ends::{End, LinkEnd};
+use amqp_link::{End, LinkEnd};
 use amqp_link_unsettled::ListError;
 use amqp_session_core::Session;
 use amqp_session_performatives::{Attach, SessionFrame, SessionFrameBody};

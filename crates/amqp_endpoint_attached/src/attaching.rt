@@ -2,7 +2,7 @@
 ghost use Rattle.std.specs.Prelude.{◌≡◌, ◌<◌, ◌⊎◌, false, None, IsSome, Err, IsOk, IfOk, IfErr, Ok, OnOk, OnErr};
 ghost use Rattle.std.specs.VecDeque.{deque_len, deque_capacity};
 ghost use Rattle.amqp_link_base.specs.State.{after_send_attach};
-ghost use Rattle.amqp_link_ends.specs.Ends.{state_of};
+ghost use Rattle.amqp_link.specs.Ends.{state_of};
 ghost use Rattle.amqp_session_core.specs.Steps.{Step, Allocates};
 ghost use Rattle.amqp_endpoint_attached.specs.Attaching.{Attaches, RefusesAttach, Sends};
 ghost use Rattle.amqp_endpoint_attached.specs.Links.{offered};
@@ -11,7 +11,7 @@ ghost use Rattle.amqp_endpoint_attached.specs.Refusals.{IsOffered, RefusesHandle
 use crate::announcing::{announce, attach_frame, make_room, offered, send_attach};
 use crate::refusal::{AttachRefusal, refusal_of};
 use amqp_endpoint_links::{AskingSession, Numbered};
-use amqp_link_ends::LinkEnd;
+use amqp_link::LinkEnd;
 use amqp_session_core::{LinkRelay, Session};
 use amqp_session_performatives::{Attach, SessionFrame};
 use amqp_session_types::{Boxed, OutputHandle};

@@ -13,7 +13,7 @@ ghost use Rattle.amqp_endpoint_attached.specs.Detaching.{DetachAnswered, DetachG
 use crate::sending::{LinkSession, room_for_frame, send_detach};
 use amqp_endpoint_links::Numbered;
 use amqp_endpoint_model::EndpointError;
-use amqp_link_ends::{End, LinkEnd};
+use amqp_link::{End, LinkEnd};
 use amqp_link_receiver::ReceiverLink;
 use amqp_link_sender::SenderLink;
 use amqp_session_core::{BehindFrame, Session};

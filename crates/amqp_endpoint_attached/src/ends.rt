@@ -1,10 +1,10 @@
 //! What an endpoint sees of either end of a link, wherever it stands (part 2, 2.6).
 ghost use Rattle.std.specs.Prelude.{◌≡◌};
-ghost use Rattle.amqp_link_ends.specs.Ends.{state_of};
-ghost use Rattle.amqp_link_ends.specs.Standing.{standing_of};
+ghost use Rattle.amqp_link.specs.Ends.{state_of};
+ghost use Rattle.amqp_link.specs.Standing.{standing_of};
 ghost use Rattle.amqp_endpoint_attached.specs.Ends.{broken, credit_of, is_closed_end, role_of};
 
-use amqp_link_ends::{End, LinkEnd, Standing};
+use amqp_link::{End, LinkEnd, Standing};
 use amqp_session_types::Role;
 
 /// The link's connection or its session is over: it is detached, or closed where its closing Detach was sent (part 2,

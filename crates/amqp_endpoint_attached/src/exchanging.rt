@@ -5,7 +5,7 @@ ghost use Rattle.std.specs.FinMap as map;
 ghost use Rattle.std.specs.VecDeque.{deque_len, deque_capacity};
 ghost use Rattle.amqp_session_outgoing.specs.Queues.{room_behind};
 ghost use Rattle.amqp_link_base.specs.State.{after_send_attach};
-ghost use Rattle.amqp_link_ends.specs.Ends.{flow_answer, flowed, state_of};
+ghost use Rattle.amqp_link.specs.Ends.{flow_answer, flowed, state_of};
 ghost use Rattle.amqp_endpoint_attached.specs.Answering.{Exchanges, RefusesExchange, Takes, flowed_by, reply_to};
 ghost use Rattle.amqp_endpoint_attached.specs.Links.{is_at_rest, offered};
 ghost use Rattle.amqp_endpoint_attached.specs.Refusals.{IsOffered, RefusesPeer, outcome, receiver_outcome};
@@ -15,7 +15,7 @@ ghost use Rattle.amqp_endpoint_attached.specs.declared.refusal.AttachRefusal.The
 use crate::announcing::{announce, make_room, offered, send_attach};
 use crate::refusal::AttachRefusal;
 use amqp_endpoint_links::AskedLink;
-use amqp_link_ends::{AttachTold, End, LinkEnd};
+use amqp_link::{AttachTold, End, LinkEnd};
 use amqp_link_receiver::Attached;
 use amqp_link_sender::{AttachAnswer, Attaching};
 use amqp_link_types::LinkError;

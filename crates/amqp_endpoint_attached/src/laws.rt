@@ -4,14 +4,14 @@ ghost use Rattle.amqp_session_types.specs.declared.handles.OutputHandle.{OutputH
 ghost use Rattle.amqp_session_performatives.specs.declared.session_frame.SessionFrame.{SessionFrame};
 ghost use Rattle.amqp_session_core.specs.declared.batch.BehindFrame.{BehindFrame};
 ghost use Rattle.amqp_link_receiver.specs.State.{ReceiverState};
-ghost use Rattle.amqp_link_ends.specs.declared.end.End.{End};
+ghost use Rattle.amqp_link.specs.declared.end.End.{End};
 ghost use Rattle.amqp_endpoint_links.specs.declared.numbered.Numbered.{Numbered};
 ghost use Rattle.amqp_endpoint_attached.specs.Linked.{Linked};
 ghost use Rattle.amqp_endpoint_attached.specs.Receiving.{shown_flow};
 ghost use Rattle.amqp_endpoint_attached.specs.Sent.{IsAtMost, Says, Sends};
 ghost use Rattle.amqp_session_performatives.specs.declared.attach.Attach.{Attach};
 ghost use Rattle.amqp_session_performatives.specs.declared.link_flow.LinkFlow.{LinkFlow};
-ghost use Rattle.amqp_link_ends.specs.Ends.{flow_answer};
+ghost use Rattle.amqp_link.specs.Ends.{flow_answer};
 ghost use Rattle.amqp_link_unsettled.specs.Listing.{FitsFrame};
 ghost use Rattle.amqp_endpoint_attached.specs.Links.{Announces};
 

@@ -3,7 +3,7 @@ ghost use Rattle.amqp_endpoint_attached.specs.TakenOut.{TakenOut};
 
 use crate::sending::LinkSession;
 use amqp_endpoint_links::Numbered;
-use amqp_link_ends::LinkEnd;
+use amqp_link::LinkEnd;
 use amqp_session_types::OutputHandle;
 
 /// Takes the link with this own handle out of its session, where nothing of it waits: its handle goes to another link

@@ -4,7 +4,7 @@ ghost use Rattle.amqp_endpoint_attached.specs.Links.{base_by, receiver_by, sende
 
 use amqp_endpoint_model::LinkSettings;
 use amqp_link_base::{LinkBase, Terms, both};
-use amqp_link_ends::LinkEnd;
+use amqp_link::LinkEnd;
 use amqp_link_receiver::ReceiverLink;
 use amqp_link_sender::SenderLink;
 use amqp_session_types::Boxed;

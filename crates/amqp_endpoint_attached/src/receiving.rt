@@ -11,7 +11,7 @@ ghost use Rattle.amqp_endpoint_attached.specs.Receiving.{GivesIn, GrantAnswered,
 use crate::sending::{LinkSession, room_for_frame, send_flow};
 use amqp_endpoint_links::Numbered;
 use amqp_endpoint_model::EndpointError;
-use amqp_link_ends::{End, LinkEnd};
+use amqp_link::{End, LinkEnd};
 use amqp_link_receiver::{Granted, ReceiverLink};
 use amqp_session_core::Session;
 use amqp_session_performatives::{LinkFlow, SessionFrame};

@@ -7,7 +7,7 @@ ghost use Rattle.amqp_session_core.specs.declared.batch.BehindFrame.TheVariants 
 ghost use Rattle.amqp_endpoint_attached.specs.Sent.{HandsOut};
 
 use amqp_endpoint_links::{AskingSession, Numbered};
-use amqp_link_ends::LinkEnd;
+use amqp_link::LinkEnd;
 use amqp_session_core::{BehindFrame, LinkRelay, Session};
 use amqp_session_outgoing::Place;
 use amqp_session_performatives::{Detach, LinkFlow, SessionFrame};

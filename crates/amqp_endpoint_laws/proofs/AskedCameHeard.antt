@@ -22,7 +22,7 @@ use Rattle.amqp_session_core.specs.Steps.{Act, TakesAttach as SessionAttaches, T
 use Rattle.amqp_session_core.specs.Told.{AttachTaken as SessionAttached, TransferAt}
 use Rattle.amqp_session_core.specs.declared.incoming.TransferTaken.{TransferTaken}
 use Rattle.amqp_link_base.specs.declared.detached.Detached.{Detached}
-use Rattle.amqp_link_ends.specs.declared.relay.AttachTold.{AttachTold}
+use Rattle.amqp_link.specs.declared.relay.AttachTold.{AttachTold}
 use Rattle.amqp_link_base.specs.Readings.{Piece}
 use Rattle.amqp_link_receiver.specs.declared.answer.Told.{Told}
 use Rattle.amqp_endpoint_links.specs.Asked.{Asked, Asks, asked_with, is_asked, link_told, told_of, told_to}

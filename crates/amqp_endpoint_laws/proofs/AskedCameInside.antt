@@ -18,8 +18,8 @@ use Rattle.amqp_session_core.specs.declared.batch.BehindFrame.TheVariants as beh
 use Rattle.amqp_session_core.specs.declared.dispositions.Touched.{Touched}
 use Rattle.amqp_link_base.specs.declared.detached.Detached.{Detached}
 use Rattle.amqp_link_base.specs.declared.exchange.AttachExchange.{AttachExchange}
-use Rattle.amqp_link_ends.specs.declared.end.End.{End}
-use Rattle.amqp_link_ends.specs.declared.relay.AttachTold.{AttachTold}
+use Rattle.amqp_link.specs.declared.end.End.{End}
+use Rattle.amqp_link.specs.declared.relay.AttachTold.{AttachTold}
 use Rattle.amqp_link_receiver.specs.declared.answer.Told.{Told}
 use Rattle.amqp_endpoint_links.specs.Asked.{Asked}
 use Rattle.amqp_endpoint_links.specs.declared.links.AskedLink.{AskedLink}

@@ -11,8 +11,8 @@ use Rattle.amqp_session_performatives.specs.declared.link_flow.LinkFlow.{LinkFlo
 use Rattle.amqp_session_performatives.specs.declared.session_frame.SessionFrame.{SessionFrame}
 use Rattle.amqp_session_core.specs.State.{link_at, reached as link_reached}
 use Rattle.amqp_link_base.specs.declared.exchange.AttachExchange.{AttachExchange}
-use Rattle.amqp_link_ends.specs.Ends.{state_of, with_handle}
-use Rattle.amqp_link_ends.specs.declared.end.End.{End}
+use Rattle.amqp_link.specs.Ends.{state_of, with_handle}
+use Rattle.amqp_link.specs.declared.end.End.{End}
 use Rattle.amqp_link_receiver.specs.Deliveries.{Delivery}
 use Rattle.amqp_session_types.proofs.Tables.{get-put}
 use Rattle.amqp_endpoint_links.specs.Asked.{Asked as AskedLinks}

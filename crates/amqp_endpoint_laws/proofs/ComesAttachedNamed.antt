@@ -7,12 +7,12 @@ use Rattle.amqp_session_types.specs.declared.modes.Role.TheVariants as role
 use Rattle.amqp_session_performatives.specs.declared.attach.Attach.{Attach}
 use Rattle.amqp_link_base.specs.declared.state.LinkState.{LinkState}
 use Rattle.amqp_link_base.specs.declared.state.LinkState.TheVariants as state
-use Rattle.amqp_link_ends.specs.Ends.{state_of}
-use Rattle.amqp_link_ends.specs.Gives.{attaches}
-use Rattle.amqp_link_ends.specs.declared.end.End.{End}
-use Rattle.amqp_link_ends.specs.declared.end.End.TheVariants.{Receiver, Sender}
-use Rattle.amqp_link_ends.specs.declared.relay.AttachTold.{AttachTold}
-use Rattle.amqp_link_ends.specs.declared.relay.AttachTold.TheVariants as told_as
+use Rattle.amqp_link.specs.Ends.{state_of}
+use Rattle.amqp_link.specs.Gives.{attaches}
+use Rattle.amqp_link.specs.declared.end.End.{End}
+use Rattle.amqp_link.specs.declared.end.End.TheVariants.{Receiver, Sender}
+use Rattle.amqp_link.specs.declared.relay.AttachTold.{AttachTold}
+use Rattle.amqp_link.specs.declared.relay.AttachTold.TheVariants as told_as
 use Rattle.amqp_link_receiver.specs.State.{ReceiverState}
 use Rattle.amqp_endpoint_attached.specs.Ends.{role_of}
 use Rattle.amqp_endpoint_link_hearing.specs.Naming.{IsNamed, is_other, link_of, named_by, named_held, named_link}

@@ -16,13 +16,13 @@ use Rattle.amqp_session_core.specs.declared.relay.TransferAnswer.{TransferAnswer
 use Rattle.amqp_link_base.specs.State.{is_attached}
 use Rattle.amqp_link_base.specs.declared.state.LinkState.{LinkState}
 use Rattle.amqp_link_base.specs.declared.state.LinkState.TheVariants as state
-use Rattle.amqp_link_ends.specs.Ends.{state_of}
-use Rattle.amqp_link_ends.specs.Gives.{answer_of, dropped, receives, transfers, transfers_at}
-use Rattle.amqp_link_ends.specs.Standing.{standing_of}
-use Rattle.amqp_link_ends.specs.declared.end.End.{End}
-use Rattle.amqp_link_ends.specs.declared.end.End.TheVariants.{Receiver, Sender}
-use Rattle.amqp_link_ends.specs.declared.standing.Standing.{Standing}
-use Rattle.amqp_link_ends.specs.declared.standing.Standing.TheVariants as standing
+use Rattle.amqp_link.specs.Ends.{state_of}
+use Rattle.amqp_link.specs.Gives.{answer_of, dropped, receives, transfers, transfers_at}
+use Rattle.amqp_link.specs.Standing.{standing_of}
+use Rattle.amqp_link.specs.declared.end.End.{End}
+use Rattle.amqp_link.specs.declared.end.End.TheVariants.{Receiver, Sender}
+use Rattle.amqp_link.specs.declared.standing.Standing.{Standing}
+use Rattle.amqp_link.specs.declared.standing.Standing.TheVariants as standing
 use Rattle.amqp_link_base.specs.Readings.{Piece, Reading, read_on, readings}
 use Rattle.amqp_link_base.specs.Said.{Said}
 use Rattle.amqp_link_receiver.specs.Disposing.{message_numbered}

@@ -1,7 +1,7 @@
 -- Links of an endpoint that are given back, or leave their session, are held no longer.
 use Rattle.std.proofs.Common.{◌≡◌, ◌==◌, ℕ, Bool, true, false, List, [], ◌∷◌, Option, Some, None, ap, ◌∙◌}
 use Rattle.amqp_session_types.specs.declared.handles.OutputHandle.{OutputHandle}
-use Rattle.amqp_link_ends.specs.declared.end.End.{End}
+use Rattle.amqp_link.specs.declared.end.End.{End}
 use Rattle.amqp_endpoint_attached.specs.Ends.{broken, is_closed_end}
 use Rattle.amqp_endpoint_attached.specs.Linked.{Linked, end_gives}
 use Rattle.amqp_endpoint_attached.specs.TakenOut.{TakenOut}

@@ -16,9 +16,9 @@ use Rattle.amqp_session_core.specs.declared.batch.BehindFrame.{BehindFrame}
 use Rattle.amqp_session_core.specs.declared.batch.BehindFrame.TheVariants as behind
 use Rattle.amqp_session_core.specs.declared.dispositions.Touched.{Touched}
 use Rattle.amqp_link_base.specs.declared.exchange.AttachExchange.{AttachExchange}
-use Rattle.amqp_link_ends.specs.Ends.{with_handle}
-use Rattle.amqp_link_ends.specs.declared.end.End.{End}
-use Rattle.amqp_link_ends.specs.declared.end.End.TheVariants.{Receiver, Sender}
+use Rattle.amqp_link.specs.Ends.{with_handle}
+use Rattle.amqp_link.specs.declared.end.End.{End}
+use Rattle.amqp_link.specs.declared.end.End.TheVariants.{Receiver, Sender}
 use Rattle.amqp_link_receiver.specs.Disposing.{disposed_of}
 use Rattle.amqp_link_receiver.specs.DisposingAll.{Named, each_disposed, one_disposed}
 use Rattle.amqp_link_receiver.specs.Flowing.{credited}

@@ -24,15 +24,15 @@ use Rattle.amqp_link_base.specs.Moves.{moved_to, sent_attach, took_attach}
 use Rattle.amqp_link_base.specs.declared.base.IllegalState.{IllegalState}
 use Rattle.amqp_link_base.specs.declared.base.LinkBase.{LinkBase}
 use Rattle.amqp_link_base.specs.declared.detached.Detached.{Detached}
-use Rattle.amqp_link_ends.specs.Ends.{flowed, state_of, with_handle}
-use Rattle.amqp_link_ends.specs.Gives.{attaches, detaches, disposes, flows, flows_at}
-use Rattle.amqp_link_ends.specs.Standing.{standing_of}
-use Rattle.amqp_link_ends.specs.declared.end.End.{End}
-use Rattle.amqp_link_ends.specs.declared.end.End.TheVariants.{Receiver, Sender}
-use Rattle.amqp_link_ends.specs.declared.relay.AttachTold.{AttachTold}
-use Rattle.amqp_link_ends.specs.declared.relay.AttachTold.TheVariants as told
-use Rattle.amqp_link_ends.specs.declared.standing.Standing.{Standing}
-use Rattle.amqp_link_ends.specs.declared.standing.Standing.TheVariants.{Apart, Attached, Detaching}
+use Rattle.amqp_link.specs.Ends.{flowed, state_of, with_handle}
+use Rattle.amqp_link.specs.Gives.{attaches, detaches, disposes, flows, flows_at}
+use Rattle.amqp_link.specs.Standing.{standing_of}
+use Rattle.amqp_link.specs.declared.end.End.{End}
+use Rattle.amqp_link.specs.declared.end.End.TheVariants.{Receiver, Sender}
+use Rattle.amqp_link.specs.declared.relay.AttachTold.{AttachTold}
+use Rattle.amqp_link.specs.declared.relay.AttachTold.TheVariants as told
+use Rattle.amqp_link.specs.declared.standing.Standing.{Standing}
+use Rattle.amqp_link.specs.declared.standing.Standing.TheVariants.{Apart, Attached, Detaching}
 use Rattle.amqp_link_receiver.specs.Attaching.{AttachTaken, TakesAttach, attach_error}
 use Rattle.amqp_link_receiver.specs.Ending as receiver
 use Rattle.amqp_link_receiver.specs.Ending.{TakesDetach, ended}

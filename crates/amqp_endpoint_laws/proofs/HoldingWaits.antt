@@ -15,12 +15,12 @@ use Rattle.amqp_link_base.specs.declared.state.LinkState.{LinkState}
 use Rattle.amqp_link_base.specs.declared.state.LinkState.TheVariants as state
 use Rattle.amqp_link_base.specs.Moves.{moved_to}
 use Rattle.amqp_link_base.specs.declared.base.LinkBase.{LinkBase}
-use Rattle.amqp_link_ends.specs.Ends.{state_of, with_handle}
-use Rattle.amqp_link_ends.specs.Gives.{attaches}
-use Rattle.amqp_link_ends.specs.declared.end.End.{End}
-use Rattle.amqp_link_ends.specs.declared.end.End.TheVariants.{Receiver, Sender}
-use Rattle.amqp_link_ends.specs.declared.relay.AttachTold.{AttachTold}
-use Rattle.amqp_link_ends.specs.declared.relay.AttachTold.TheVariants as told
+use Rattle.amqp_link.specs.Ends.{state_of, with_handle}
+use Rattle.amqp_link.specs.Gives.{attaches}
+use Rattle.amqp_link.specs.declared.end.End.{End}
+use Rattle.amqp_link.specs.declared.end.End.TheVariants.{Receiver, Sender}
+use Rattle.amqp_link.specs.declared.relay.AttachTold.{AttachTold}
+use Rattle.amqp_link.specs.declared.relay.AttachTold.TheVariants as told
 use Rattle.amqp_link_receiver.specs.Attaching.{TakesAttach, attach_error}
 use Rattle.amqp_link_receiver.specs.Flowing.{with_flow}
 use Rattle.amqp_link_receiver.specs.State.{ReceiverState}

@@ -25,11 +25,11 @@ use Rattle.amqp_link_base.specs.declared.state.LinkState.TheVariants as state
 use Rattle.amqp_link_base.specs.Moves.{took_attach}
 use Rattle.amqp_link_base.specs.declared.base.LinkBase.{LinkBase}
 use Rattle.amqp_link_base.specs.declared.detached.Detached.{Detached}
-use Rattle.amqp_link_ends.specs.Ends.{state_of, with_handle}
-use Rattle.amqp_link_ends.specs.Gives.{attaches, detaches}
-use Rattle.amqp_link_ends.specs.declared.end.End.{End}
-use Rattle.amqp_link_ends.specs.declared.end.End.TheVariants.{Receiver, Sender}
-use Rattle.amqp_link_ends.specs.declared.relay.AttachTold.{AttachTold}
+use Rattle.amqp_link.specs.Ends.{state_of, with_handle}
+use Rattle.amqp_link.specs.Gives.{attaches, detaches}
+use Rattle.amqp_link.specs.declared.end.End.{End}
+use Rattle.amqp_link.specs.declared.end.End.TheVariants.{Receiver, Sender}
+use Rattle.amqp_link.specs.declared.relay.AttachTold.{AttachTold}
 use Rattle.amqp_link_receiver.specs.Attaching as receiver
 use Rattle.amqp_link_receiver.specs.Attaching.{attach_error}
 use Rattle.amqp_link_receiver.specs.Ending as ending

@@ -12,7 +12,7 @@ use Rattle.amqp_session_core.specs.State.{link_at}
 use Rattle.amqp_session_frames.specs.declared.frame.FrameBody.{FrameBody}
 use Rattle.amqp_session_frames.specs.declared.frame.FrameBody.TheVariants as body
 use Rattle.amqp_link_base.specs.declared.detached.Detached.{Detached}
-use Rattle.amqp_link_ends.specs.declared.end.End.{End}
+use Rattle.amqp_link.specs.declared.end.End.{End}
 use Rattle.amqp_endpoint_tables.specs.declared.link_place.LinkPlace.{LinkPlace}
 use Rattle.amqp_endpoint_tables.specs.declared.link_place.LinkPlace.TheVariants.{AtRest, Held}
 use Rattle.amqp_endpoint_tables.specs.LinkState.{AreApart, fresh, place_at}

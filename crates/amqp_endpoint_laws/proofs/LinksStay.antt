@@ -5,7 +5,7 @@ use Rattle.std.proofs.Common.{◌∙◌}
 use Rattle.std.proofs.lemmas.Bool.Decides.{eqb_tells}
 use Rattle.std.proofs.lemmas.Option.{none-some}
 use Rattle.amqp_session_types.specs.declared.handles.OutputHandle.{OutputHandle}
-use Rattle.amqp_link_ends.specs.declared.end.End.{End}
+use Rattle.amqp_link.specs.declared.end.End.{End}
 use Rattle.amqp_endpoint_tables.specs.OwnLinks.{SlotStep, is_about, slot_at}
 use Rattle.amqp_endpoint_tables.specs.LinkState.{open_of, place_at, place_of}
 use Rattle.amqp_endpoint_tables.specs.LinkSteps.{ChangesAtRest, Closes, Enters, Holds, LowersRoom, MakesRoom, Rests}

@@ -7,7 +7,7 @@ use Rattle.std.proofs.lemmas.Option.{none-some, same_Some}
 use Rattle.amqp_session_states.specs.declared.outcome.Outcome.{Outcome}
 use Rattle.amqp_session_types.specs.declared.handles.OutputHandle.{OutputHandle}
 use Rattle.amqp_session_performatives.specs.declared.session_frame.SessionFrame.{SessionFrame}
-use Rattle.amqp_link_ends.specs.declared.end.End.{End}
+use Rattle.amqp_link.specs.declared.end.End.{End}
 use Rattle.amqp_link_base.specs.Readings.{Piece}
 use Rattle.amqp_link_base.specs.Said.{begun, whole}
 use Rattle.amqp_link_sender.specs.Saying.{pieces_of}

@@ -6,7 +6,7 @@ use Rattle.amqp_session_core.specs.State.{reached as link_reached}
 use Rattle.amqp_session_frames.specs.declared.frame.FrameBody.{FrameBody}
 use Rattle.amqp_session_frames.specs.declared.frame.FrameBody.TheVariants as body
 use Rattle.amqp_link_base.specs.State.{is_attached}
-use Rattle.amqp_link_ends.specs.declared.end.End.TheVariants.{Receiver}
+use Rattle.amqp_link.specs.declared.end.End.TheVariants.{Receiver}
 use Rattle.amqp_link_message.specs.declared.delivery.Delivery.{Delivery}
 use Rattle.amqp_link_message.specs.declared.raw.Raw.{Raw}
 use Rattle.amqp_link_base.specs.Readings.{Piece}

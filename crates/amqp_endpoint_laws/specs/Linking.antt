@@ -1,6 +1,6 @@
 -- How the links of an endpoint came about (part 2, 2.6.1).
 use Rattle.std.specs.Prelude.{List}
-use Rattle.amqp_link_ends.specs.declared.end.End.{End}
+use Rattle.amqp_link.specs.declared.end.End.{End}
 use Rattle.amqp_endpoint_tables.specs.LinkState.{fresh}
 use Rattle.amqp_endpoint_tables.specs.LinkSteps.{History, Act}
 use Rattle.amqp_endpoint_linking.specs.Linking.{Links}

@@ -14,13 +14,13 @@ use Rattle.amqp_session_core.specs.Steps.{Allocates, SendsBehind}
 use Rattle.amqp_link_base.specs.declared.exchange.AttachExchange.{AttachExchange}
 use Rattle.amqp_link_base.specs.declared.detached.Detached.{Detached}
 use Rattle.amqp_link_receiver.specs.declared.answer.Told.{Told}
-use Rattle.amqp_link_ends.specs.declared.end.End.{End}
-use Rattle.amqp_link_ends.specs.declared.relay.AttachTold.{AttachTold}
-use Rattle.amqp_link_ends.specs.declared.standing.Standing.{Standing}
-use Rattle.amqp_link_ends.specs.declared.standing.Standing.TheVariants.{Attached, Detaching, Apart}
-use Rattle.amqp_link_ends.specs.Ends.{flow_answer, state_of}
-use Rattle.amqp_link_ends.specs.Gives.{flows_at}
-use Rattle.amqp_link_ends.specs.Standing.{standing_of}
+use Rattle.amqp_link.specs.declared.end.End.{End}
+use Rattle.amqp_link.specs.declared.relay.AttachTold.{AttachTold}
+use Rattle.amqp_link.specs.declared.standing.Standing.{Standing}
+use Rattle.amqp_link.specs.declared.standing.Standing.TheVariants.{Attached, Detaching, Apart}
+use Rattle.amqp_link.specs.Ends.{flow_answer, state_of}
+use Rattle.amqp_link.specs.Gives.{flows_at}
+use Rattle.amqp_link.specs.Standing.{standing_of}
 use Rattle.amqp_link_unsettled.specs.Listing.{FitsFrame}
 use Rattle.amqp_endpoint_links.specs.declared.numbered.Numbered.{Numbered}
 use Rattle.amqp_endpoint_links.specs.History.{AskingHistory, AskingAct, AnswersLink, InSession}

@@ -8,7 +8,7 @@ use Rattle.amqp_session_performatives.specs.declared.session_frame.SessionFrame.
 use Rattle.amqp_session_core.specs.declared.batch.BehindFrame.TheVariants as behind
 use Rattle.amqp_session_core.specs.Steps.{Allocates}
 use Rattle.amqp_link_base.specs.declared.exchange.AttachExchange.{AttachExchange}
-use Rattle.amqp_link_ends.specs.declared.end.End.{End}
+use Rattle.amqp_link.specs.declared.end.End.{End}
 use Rattle.amqp_endpoint_conversation.specs.Inside.{DoneInside}
 use Rattle.amqp_endpoint_conversation.proofs.Inside.{none-inside, one-inside, said-inside, step-inside}
 use Rattle.amqp_endpoint_attached.specs.Answering.{Replies}

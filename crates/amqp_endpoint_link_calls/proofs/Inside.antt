@@ -7,7 +7,7 @@ use Rattle.amqp_session_core.specs.Steps.{Changes}
 use Rattle.amqp_session_core.specs.declared.batch.BehindFrame.{BehindFrame}
 use Rattle.amqp_session_core.specs.declared.batch.BehindFrame.TheVariants.{Detach, Flow}
 use Rattle.amqp_link_receiver.specs.Flowing.{credited}
-use Rattle.amqp_link_ends.specs.declared.end.End.{End}
+use Rattle.amqp_link.specs.declared.end.End.{End}
 use Rattle.amqp_endpoint_links.specs.declared.numbered.Numbered.{Numbered}
 use Rattle.amqp_endpoint_model.specs.declared.event.Event.{Event}
 use Rattle.amqp_endpoint_conversation.specs.Inside.{DoneInside}

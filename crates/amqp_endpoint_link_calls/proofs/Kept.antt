@@ -4,7 +4,7 @@ use Rattle.std.proofs.Common.{sym}
 use Rattle.std.proofs.Common.{ap, subst, ◌∙◌, append_assoc}
 use Rattle.std.specs.Prelude.{◌||◌, Option}
 use Rattle.std.specs.Option.{option_to_list}
-use Rattle.amqp_link_ends.specs.declared.end.End.{End}
+use Rattle.amqp_link.specs.declared.end.End.{End}
 use Rattle.amqp_endpoint_tables.specs.LinkState.{place_at}
 use Rattle.amqp_endpoint_link_calls.specs.Places.{LinksBy, LinkTalk, end_of}
 use Rattle.amqp_endpoint_link_calls.specs.Keeping.{keeps, kept_tag, kept_tags, one_keeps}

@@ -11,8 +11,8 @@ use Rattle.amqp_link_receiver.specs.declared.disposable.Disposable.{Disposable}
 use Rattle.amqp_link_receiver.specs.declared.disposable.DisposeRefusal.{DisposeRefusal}
 use Rattle.amqp_link_receiver.specs.Disposing.{disposable_now}
 use Rattle.amqp_link_receiver.specs.State.{ReceiverState}
-use Rattle.amqp_link_ends.specs.declared.end.End.{End}
-use Rattle.amqp_link_ends.specs.declared.end.End.TheVariants.{Receiver, Sender}
+use Rattle.amqp_link.specs.declared.end.End.{End}
+use Rattle.amqp_link.specs.declared.end.End.TheVariants.{Receiver, Sender}
 use Rattle.amqp_endpoint_tables.specs.LinkState.{place_at}
 use Rattle.amqp_endpoint_tables.specs.declared.link_place.LinkPlace.TheVariants.{Held, AtRest}
 use Rattle.amqp_endpoint_tables.specs.State.{live_at}

@@ -4,7 +4,7 @@ use Rattle.std.specs.Global.{Box}
 use Rattle.amqp_session_types.specs.declared.handles.InputHandle.{InputHandle}
 use Rattle.amqp_session_performatives.specs.declared.session_frame.SessionFrame.{SessionFrame}
 use Rattle.amqp_link_base.specs.declared.exchange.AttachExchange.{AttachExchange}
-use Rattle.amqp_link_ends.specs.declared.end.End.{End}
+use Rattle.amqp_link.specs.declared.end.End.{End}
 use Rattle.amqp_endpoint_attached.specs.Answering.{Answers}
 use Rattle.amqp_endpoint_attached.specs.Attaching.{Attaches}
 use Rattle.amqp_endpoint_attached.specs.Linked.{Linked}

@@ -3,7 +3,7 @@ use Rattle.std.specs.Prelude.{◌≡◌, ℕ, List, Option, Some, None, IsSome, 
 use Rattle.std.specs.Global.{Box}
 use Rattle.amqp_session_types.specs.declared.handles.InputHandle.{InputHandle}
 use Rattle.amqp_session_types.specs.declared.refusals.SessionError.TheVariants.{HandleInUse as InUse}
-use Rattle.amqp_link_ends.specs.declared.end.End.{End}
+use Rattle.amqp_link.specs.declared.end.End.{End}
 use Rattle.amqp_endpoint_attached.specs.Answering.{RefusesAnswer}
 use Rattle.amqp_endpoint_attached.specs.Attaching.{RefusesAttach}
 use Rattle.amqp_endpoint_attached.specs.Linked.{Linked}

@@ -8,8 +8,8 @@ use Rattle.amqp_link_receiver.specs.declared.disposable.DisposeRefusal.{DisposeR
 use Rattle.amqp_link_receiver.specs.declared.disposable.DisposeRefusal.TheVariants as refusal
 use Rattle.amqp_link_receiver.specs.Disposing.{disposable_now}
 use Rattle.amqp_link_receiver.specs.State.{ReceiverState}
-use Rattle.amqp_link_ends.specs.declared.end.End.{End}
-use Rattle.amqp_link_ends.specs.declared.end.End.TheVariants.{Receiver}
+use Rattle.amqp_link.specs.declared.end.End.{End}
+use Rattle.amqp_link.specs.declared.end.End.TheVariants.{Receiver}
 use Rattle.amqp_endpoint_tables.specs.LinkState.{place_at}
 use Rattle.amqp_endpoint_model.specs.declared.call.Disposal.{Disposal}
 use Rattle.amqp_endpoint_model.specs.declared.error.EndpointError.{EndpointError}

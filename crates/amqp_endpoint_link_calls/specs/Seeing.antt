@@ -1,6 +1,6 @@
 -- What is told of a link: part 2, 2.6.7.
 use Rattle.std.specs.Prelude.{ℕ, Option, Some, None, Result, Ok, Err}
-use Rattle.amqp_link_ends.specs.declared.end.End.{End}
+use Rattle.amqp_link.specs.declared.end.End.{End}
 use Rattle.amqp_endpoint_model.specs.declared.error.EndpointError.{EndpointError}
 use Rattle.amqp_endpoint_model.specs.declared.error.EndpointError.TheVariants.{UnknownLink}
 use Rattle.amqp_endpoint_attached.specs.Ends.{credit_of}

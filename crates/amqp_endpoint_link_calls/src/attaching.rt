@@ -1,7 +1,7 @@
 //! How a link attaches in one of an endpoint's sessions (part 2, 2.6.3).
 ghost use Rattle.std.specs.Prelude.{◌≡◌, ℕ, true, Ok, IfErr, IfOk, OnErr};
-ghost use Rattle.amqp_link_ends.specs.Ends.{state_of};
-ghost use Rattle.amqp_link_ends.specs.declared.end.End.{End};
+ghost use Rattle.amqp_link.specs.Ends.{state_of};
+ghost use Rattle.amqp_link.specs.declared.end.End.{End};
 ghost use Rattle.amqp_endpoint_attached.specs.Links.{is_at_rest, receiver_by, sender_by};
 ghost use Rattle.amqp_endpoint_conversation.specs.Ending.{IsMapped};
 ghost use Rattle.amqp_endpoint_conversation.specs.Going.{Goes, Rests, Within};
@@ -15,7 +15,7 @@ use crate::placing::attach_live;
 use amqp_endpoint_attached::{receiver, sender};
 use amqp_endpoint_model::{EndpointError, LinkSettings};
 use amqp_endpoint_tables::Links;
-use amqp_link_ends::LinkEnd;
+use amqp_link::LinkEnd;
 use amqp_session_performatives::SessionFrame;
 use std::alloc::{AllocError, Global};
 use std::collections::VecDeque;

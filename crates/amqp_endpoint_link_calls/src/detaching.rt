@@ -12,7 +12,7 @@ use amqp_endpoint_attached as attached;
 use amqp_endpoint_fitting::frames_are_read;
 use amqp_endpoint_model::EndpointError;
 use amqp_endpoint_tables::Links;
-use amqp_link_ends::LinkEnd;
+use amqp_link::LinkEnd;
 use amqp_session_performatives::SessionFrame;
 use amqp_session_types::OutputHandle;
 use std::alloc::Global;

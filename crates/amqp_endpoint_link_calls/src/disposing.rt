@@ -20,7 +20,7 @@ use crate::{LinkTalk, holder};
 use amqp_endpoint_messages as disposing;
 use amqp_endpoint_model::{Disposal, EndpointError};
 use amqp_endpoint_tables::Links;
-use amqp_link_ends::LinkEnd;
+use amqp_link::LinkEnd;
 use amqp_session_performatives::SessionFrame;
 use amqp_session_states::DeliveryState;
 use amqp_session_types::{DeliveryTag, OutputHandle};

@@ -9,7 +9,7 @@ use crate::LinkTalk;
 use crate::placed::Placed;
 use amqp_endpoint_model::EndpointError;
 use amqp_endpoint_tables::{LinkRefusal, Links, NewName};
-use amqp_link_ends::LinkEnd;
+use amqp_link::LinkEnd;
 use serde_amqp_types::Text;
 
 /// Room for a link with this name that is to attach in the session with this number.

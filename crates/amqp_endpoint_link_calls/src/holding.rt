@@ -8,7 +8,7 @@ use amqp_endpoint_conversation::Conversation;
 use amqp_endpoint_links::Numbered;
 use amqp_endpoint_model::EndpointError;
 use amqp_endpoint_tables::{LinkPlace, Links};
-use amqp_link_ends::LinkEnd;
+use amqp_link::LinkEnd;
 use amqp_session_types::OutputHandle;
 
 /// The sessions of an endpoint, with links that bear their numbers.

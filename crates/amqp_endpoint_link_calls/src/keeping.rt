@@ -10,7 +10,7 @@ ghost use Rattle.amqp_endpoint_link_calls.specs.Keeping.{keeps, kept_tag, kept_t
 
 use crate::LinkTalk;
 use amqp_endpoint_tables::{LinkPlace, Links};
-use amqp_link_ends::{End, LinkEnd};
+use amqp_link::{End, LinkEnd};
 use amqp_link_receiver::ReceiverLink;
 use amqp_session_types::{DeliveryTag, OutputHandle};
 use std::alloc::{AllocError, Global};

@@ -4,7 +4,7 @@ ghost use Rattle.amqp_endpoint_link_calls.specs.Naming.{Meets, are_both};
 
 use amqp_endpoint_attached::role;
 use amqp_endpoint_links::AskedLinks;
-use amqp_link_ends::LinkEnd;
+use amqp_link::LinkEnd;
 use amqp_session_types::{InputHandle, Role};
 
 /// The handle of the asked link that the link answers: the one with its name, of which the peer has the other end.

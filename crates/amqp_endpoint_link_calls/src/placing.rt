@@ -1,7 +1,7 @@
 //! How a link attaches in its session (part 2, 2.6.3).
 ghost use Rattle.std.specs.Prelude.{◌≡◌, ℕ, None, Some, true, IfErr, IfOk, IsSome, OnErr};
 ghost use Rattle.std.specs.FinMap as map;
-ghost use Rattle.amqp_link_ends.specs.Ends.{state_of};
+ghost use Rattle.amqp_link.specs.Ends.{state_of};
 ghost use Rattle.amqp_endpoint_attached.specs.Answering.{RefusesAnswer};
 ghost use Rattle.amqp_endpoint_attached.specs.Attaching.{RefusesAttach};
 ghost use Rattle.amqp_endpoint_attached.specs.Links.{is_at_rest};
@@ -16,7 +16,7 @@ use crate::placed::Placed;
 use amqp_endpoint_attached::{Answered, AttachRefusal, LinkSession, answer, attach};
 use amqp_endpoint_fitting::frames_are_read;
 use amqp_endpoint_model::EndpointError;
-use amqp_link_ends::LinkEnd;
+use amqp_link::LinkEnd;
 use amqp_session_performatives::SessionFrame;
 use amqp_session_types::{InputHandle, SessionError};
 use serde_amqp_types::Array;

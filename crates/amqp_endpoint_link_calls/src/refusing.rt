@@ -15,7 +15,7 @@ use crate::keeping::one_keeps;
 use amqp_endpoint_messages::{is_receiving, state_fits};
 use amqp_endpoint_model::{Disposal, EndpointError};
 use amqp_endpoint_tables::{LinkPlace, Links};
-use amqp_link_ends::{End, LinkEnd};
+use amqp_link::{End, LinkEnd};
 use amqp_link_receiver::{Disposable, DisposeRefusal, ReceiverLink};
 use amqp_session_states::DeliveryState;
 use amqp_session_types::OutputHandle;

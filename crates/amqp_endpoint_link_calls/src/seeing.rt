@@ -9,7 +9,7 @@ use crate::holding::LinkTalk;
 use amqp_endpoint_attached as attached;
 use amqp_endpoint_model::EndpointError;
 use amqp_endpoint_tables::{LinkPlace, Links};
-use amqp_link_ends::LinkEnd;
+use amqp_link::LinkEnd;
 use amqp_session_types::OutputHandle;
 
 /// How many more deliveries may be sent by the link with this number, as its end knows, in its session or at rest (part

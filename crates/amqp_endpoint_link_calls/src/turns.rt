@@ -11,7 +11,7 @@ use amqp_endpoint_attached::LinkSession;
 use amqp_endpoint_links::{AskedSession, Numbered};
 use amqp_endpoint_model::EndpointError;
 use amqp_endpoint_tables::Place;
-use amqp_link_ends::LinkEnd;
+use amqp_link::LinkEnd;
 use amqp_session_core::Session;
 use amqp_session_types::OutputHandle;
 use std::alloc::{AllocError, Global};

@@ -13,7 +13,7 @@ use Rattle.amqp_session_core.specs.declared.batch.TransferFrame.{TransferFrame}
 use Rattle.amqp_session_core.specs.declared.fields.SessionFields.{SessionFields}
 use Rattle.amqp_session_outgoing.specs.Queues.{room_behind}
 use Rattle.amqp_session_outgoing.specs.State as sending
-use Rattle.amqp_link_ends.specs.declared.relay.AttachTold.{AttachTold}
+use Rattle.amqp_link.specs.declared.relay.AttachTold.{AttachTold}
 use Rattle.amqp_endpoint_links.specs.declared.asking.AttachTaken.TheVariants as attach
 use Rattle.amqp_endpoint_links.specs.declared.asking.NamedLink.{NamedLink}
 use Rattle.amqp_endpoint_links.specs.declared.asking.NamedLink.TheVariants.{Absent, Attached, Waiting}

@@ -8,7 +8,7 @@ use Rattle.amqp_session_performatives.specs.declared.session_frame.SessionFrame.
 use Rattle.amqp_session_core.specs.declared.batch.BehindFrame.TheVariants as behind
 use Rattle.amqp_session_core.specs.Steps.{Changes, Deallocates, SendsBehind}
 use Rattle.amqp_link_base.specs.declared.detached.Detached.{Detached}
-use Rattle.amqp_link_ends.specs.declared.relay.AttachTold.{AttachTold}
+use Rattle.amqp_link.specs.declared.relay.AttachTold.{AttachTold}
 use Rattle.amqp_link_receiver.specs.declared.answer.Told.{Told}
 use Rattle.amqp_endpoint_links.specs.History.{AskingHistory, AskingAct, InSession}
 use Rattle.amqp_endpoint_model.specs.State.{error_of, fits, frame_of}

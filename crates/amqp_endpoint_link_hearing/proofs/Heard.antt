@@ -14,7 +14,7 @@ use Rattle.amqp_session_core.specs.State.{State, StepsAt, link_at, reached}
 use Rattle.amqp_session_core.specs.Told.{AttachTaken, DetachTaken}
 use Rattle.amqp_session_core.specs.Told as told_core
 use Rattle.amqp_link_base.specs.declared.detached.Detached.{Detached}
-use Rattle.amqp_link_ends.specs.declared.relay.AttachTold.{AttachTold}
+use Rattle.amqp_link.specs.declared.relay.AttachTold.{AttachTold}
 use Rattle.amqp_link_receiver.specs.declared.answer.Told.{Told}
 use Rattle.amqp_endpoint_links.specs.declared.session.AskedSession.{AskedSession}
 use Rattle.amqp_endpoint_links.specs.declared.asking.AttachTaken.TheVariants as attach

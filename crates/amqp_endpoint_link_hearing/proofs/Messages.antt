@@ -11,7 +11,7 @@ use Rattle.amqp_session_core.specs.Steps.{Changes}
 use Rattle.amqp_link_receiver.specs.declared.answer.Message.{Message}
 use Rattle.amqp_link_receiver.specs.declared.answer.Told.{Told}
 use Rattle.amqp_link_receiver.specs.declared.answer.Told.TheVariants as tells
-use Rattle.amqp_link_ends.specs.declared.end.End.{End}
+use Rattle.amqp_link.specs.declared.end.End.{End}
 use Rattle.amqp_endpoint_links.specs.History.{InSession}
 use Rattle.amqp_endpoint_fitting.specs.Read.{IsRead}
 use Rattle.amqp_endpoint_tables.specs.State.{live_at}

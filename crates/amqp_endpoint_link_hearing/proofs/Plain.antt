@@ -2,12 +2,12 @@
 use Rattle.std.proofs.Common.{◌≡◌, Option, Some, None, Result, Ok, ap}
 use Rattle.amqp_session_performatives.specs.declared.link_flow.LinkFlow.{LinkFlow}
 use Rattle.amqp_session_core.specs.declared.relay.RelayError.{RelayError}
-use Rattle.amqp_link_ends.specs.Ends.{flow_answer, state_of}
-use Rattle.amqp_link_ends.specs.Gives.{flows_at}
-use Rattle.amqp_link_ends.specs.Standing.{standing_of}
-use Rattle.amqp_link_ends.specs.declared.end.End.{End}
-use Rattle.amqp_link_ends.specs.declared.standing.Standing.{Standing}
-use Rattle.amqp_link_ends.specs.declared.standing.Standing.TheVariants.{Attached, Detaching, Apart}
+use Rattle.amqp_link.specs.Ends.{flow_answer, state_of}
+use Rattle.amqp_link.specs.Gives.{flows_at}
+use Rattle.amqp_link.specs.Standing.{standing_of}
+use Rattle.amqp_link.specs.declared.end.End.{End}
+use Rattle.amqp_link.specs.declared.standing.Standing.{Standing}
+use Rattle.amqp_link.specs.declared.standing.Standing.TheVariants.{Attached, Detaching, Apart}
 use Rattle.amqp_endpoint_conversation.specs.Going.{AnswersPlain}
 use Rattle.amqp_endpoint_attached.specs.Linked.{gives}
 use Rattle.amqp_endpoint_attached.proofs.Fitting.{reply_plain}

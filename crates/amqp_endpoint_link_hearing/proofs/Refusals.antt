@@ -11,7 +11,7 @@ use Rattle.amqp_endpoint_links.specs.declared.hearing.LinkPerformative.TheVarian
 use Rattle.amqp_endpoint_links.specs.Hearing.{Hears, says_flow}
 use Rattle.amqp_endpoint_links.specs.declared.hearing.PerformativeTaken.{PerformativeTaken}
 use Rattle.amqp_link_base.specs.declared.detached.Detached.{Detached}
-use Rattle.amqp_link_ends.specs.declared.relay.AttachTold.{AttachTold}
+use Rattle.amqp_link.specs.declared.relay.AttachTold.{AttachTold}
 use Rattle.amqp_link_receiver.specs.declared.answer.Told.{Told}
 use Rattle.amqp_endpoint_conversation.specs.declared.hearing.Heard.TheVariants.{Asked, Live, Dropped}
 use Rattle.amqp_endpoint_tables.specs.State.{asked_at, live_at, reached}

@@ -9,7 +9,7 @@ use Rattle.amqp_session_performatives.specs.declared.session_frame.SessionFrameB
 use Rattle.amqp_session_core.specs.State.{link_at}
 use Rattle.amqp_link_base.specs.declared.state.LinkState.{LinkState}
 use Rattle.amqp_link_base.specs.declared.state.LinkState.TheVariants as state
-use Rattle.amqp_link_ends.specs.Ends.{state_of}
+use Rattle.amqp_link.specs.Ends.{state_of}
 use Rattle.amqp_endpoint_links.specs.declared.hearing.LinkPerformative.TheVariants as said
 use Rattle.amqp_endpoint_model.specs.declared.event.Event.{Event}
 use Rattle.amqp_endpoint_attached.specs.Linked.{Linked}

@@ -8,8 +8,8 @@ use Rattle.amqp_session_performatives.specs.declared.attach.Attach.{Attach}
 use Rattle.amqp_session_core.specs.State.{link_at}
 use Rattle.amqp_link_base.specs.declared.state.LinkState.{LinkState}
 use Rattle.amqp_link_base.specs.declared.state.LinkState.TheVariants as state
-use Rattle.amqp_link_ends.specs.Ends.{state_of}
-use Rattle.amqp_link_ends.specs.declared.end.End.{End}
+use Rattle.amqp_link.specs.Ends.{state_of}
+use Rattle.amqp_link.specs.declared.end.End.{End}
 use Rattle.amqp_endpoint_links.specs.declared.asking.NamedLink.{NamedLink}
 use Rattle.amqp_endpoint_links.specs.declared.asking.NamedLink.TheVariants.{Absent, Attached, Waiting}
 use Rattle.amqp_endpoint_tables.specs.LinkState.{Names, held_at}

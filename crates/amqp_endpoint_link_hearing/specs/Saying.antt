@@ -5,7 +5,7 @@ use Rattle.amqp_session_types.specs.declared.refusals.ConnectionError.TheVariant
 use Rattle.amqp_session_types.specs.declared.refusals.SessionError.{SessionError}
 use Rattle.amqp_session_performatives.specs.declared.session_frame.SessionFrame.{SessionFrame}
 use Rattle.amqp_link_base.specs.declared.detached.Detached.{Detached}
-use Rattle.amqp_link_ends.specs.declared.relay.AttachTold.{AttachTold}
+use Rattle.amqp_link.specs.declared.relay.AttachTold.{AttachTold}
 use Rattle.amqp_link_receiver.specs.declared.answer.Told.{Told}
 use Rattle.amqp_endpoint_links.specs.declared.hearing.LinkPerformative.{LinkPerformative}
 use Rattle.amqp_endpoint_conversation.specs.declared.hearing.Heard.{Heard}

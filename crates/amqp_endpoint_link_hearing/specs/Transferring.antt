@@ -18,8 +18,8 @@ use Rattle.amqp_link_receiver.specs.declared.answer.Message.{Message}
 use Rattle.amqp_link_receiver.specs.declared.answer.Told.{Told}
 use Rattle.amqp_link_receiver.specs.declared.answer.Told.TheVariants as told
 use Rattle.amqp_link_receiver.specs.Disposing.{message_numbered}
-use Rattle.amqp_link_ends.specs.declared.end.End.{End}
-use Rattle.amqp_link_ends.specs.declared.end.End.TheVariants.{Receiver, Sender}
+use Rattle.amqp_link.specs.declared.end.End.{End}
+use Rattle.amqp_link.specs.declared.end.End.TheVariants.{Receiver, Sender}
 use Rattle.amqp_endpoint_links.specs.declared.hearing.LinkPerformative.TheVariants as said
 use Rattle.amqp_endpoint_links.specs.declared.hearing.PerformativeTaken.TheVariants as taken
 use Rattle.amqp_endpoint_conversation.specs.declared.hearing.Heard.TheVariants.{Live}

@@ -27,7 +27,7 @@ use amqp_endpoint_links::{LinkPerformative, NamedLink, Numbered};
 use amqp_endpoint_model::{Attached as AttachedEvent, EndpointError, Event, LinkAsked, Refused};
 use amqp_endpoint_tables::Links;
 use amqp_link_base::AttachExchange;
-use amqp_link_ends::{AttachTold, LinkEnd};
+use amqp_link::{AttachTold, LinkEnd};
 use amqp_link_receiver::Attached;
 use amqp_link_sender::{AttachAnswer, Attaching};
 use amqp_link_types::LinkError;

@@ -18,7 +18,7 @@ use amqp_endpoint_attached::{LinkSession, detach_placed};
 use amqp_endpoint_conversation::Conversation;
 use amqp_endpoint_fitting::frames_are_read;
 use amqp_endpoint_links::Numbered;
-use amqp_link_ends::LinkEnd;
+use amqp_link::LinkEnd;
 use amqp_session_performatives::SessionFrame;
 use amqp_session_types::{OutputHandle, definitions};
 use serde_amqp_types::Symbol;

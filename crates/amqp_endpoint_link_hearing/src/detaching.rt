@@ -28,7 +28,7 @@ use amqp_endpoint_messages::open_count;
 use amqp_endpoint_model::{Detached as DetachedEvent, EndpointError, Event};
 use amqp_endpoint_tables::Links;
 use amqp_link_base::Detached;
-use amqp_link_ends::LinkEnd;
+use amqp_link::LinkEnd;
 use amqp_session_performatives::{Detach, SessionFrame};
 use amqp_session_types::{IncomingChannel, InputHandle, OutputHandle, definitions};
 use std::alloc::{AllocError, Global};

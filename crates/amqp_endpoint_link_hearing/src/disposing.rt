@@ -20,7 +20,7 @@ use amqp_endpoint_messages::{Echoes, make_echoes, reached_by, send_echoes, tell_
 use amqp_endpoint_model::{EndpointError, Event};
 use amqp_endpoint_tables::Links;
 use amqp_link_base::Detached;
-use amqp_link_ends::{AttachTold, LinkEnd};
+use amqp_link::{AttachTold, LinkEnd};
 use amqp_link_receiver::Told;
 use amqp_session_core::{DeliveryRuns, Touched};
 use amqp_session_performatives::{Disposition, SessionFrame};

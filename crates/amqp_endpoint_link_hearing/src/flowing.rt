@@ -20,7 +20,7 @@ use amqp_endpoint_links::{LinkPerformative, Numbered};
 use amqp_endpoint_model::{EndpointError, Event};
 use amqp_endpoint_tables::Links;
 use amqp_link_base::LinkState;
-use amqp_link_ends::LinkEnd;
+use amqp_link::LinkEnd;
 use amqp_session_performatives::{Flow, SessionFrame, SessionFrameBody};
 use amqp_session_types::{IncomingChannel, OutputHandle};
 use std::alloc::Global;

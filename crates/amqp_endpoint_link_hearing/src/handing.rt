@@ -14,7 +14,7 @@ use amqp_endpoint_attached::LinkSession;
 use amqp_endpoint_conversation::Conversation;
 use amqp_endpoint_links::Numbered;
 use amqp_endpoint_model::Event;
-use amqp_link_ends::{End, LinkEnd};
+use amqp_link::{End, LinkEnd};
 use amqp_link_message::{Delivery, Raw};
 use amqp_link_receiver::Message;
 use amqp_session_types::{DeliveryTag, Handle, InputHandle, OutputHandle};

@@ -26,7 +26,7 @@ use amqp_endpoint_links::Numbered;
 use amqp_endpoint_messages::tell_first;
 use amqp_endpoint_model::Event;
 use amqp_endpoint_tables::Links;
-use amqp_link_ends::LinkEnd;
+use amqp_link::LinkEnd;
 use amqp_link_unsettled::fits_text;
 use amqp_session_core::BehindFrame;
 use amqp_session_outgoing::Place;

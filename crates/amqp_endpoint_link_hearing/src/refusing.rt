@@ -8,7 +8,7 @@ use amqp_endpoint_linking::give_back;
 use amqp_endpoint_links::Numbered;
 use amqp_endpoint_model::{EndpointError, Event, Refused};
 use amqp_endpoint_tables::Links;
-use amqp_link_ends::LinkEnd;
+use amqp_link::LinkEnd;
 use amqp_session_types::ConnectionError;
 
 /// A session that ended by its fault gives its links back, and this is told; any other refusal ends the connection.

@@ -29,7 +29,7 @@ use amqp_endpoint_links::{LinkPerformative, Numbered, PerformativeTaken};
 use amqp_endpoint_model::{EndpointError, Event, Refused};
 use amqp_endpoint_tables::Links;
 use amqp_link_base::Detached;
-use amqp_link_ends::{AttachTold, LinkEnd};
+use amqp_link::{AttachTold, LinkEnd};
 use amqp_link_receiver::Told;
 use amqp_link_types::{LinkError, ReceiverTransferError};
 use amqp_session_core::TransferTaken;

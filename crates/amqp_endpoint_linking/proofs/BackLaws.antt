@@ -2,7 +2,7 @@
 use Rattle.std.proofs.Common.{◌≡◌, ℕ, zero, suc, List, [], ◌∷◌, Bool, true, false, Option, Some, None, Ok, Err, refl}
 use Rattle.std.proofs.Common.{subst, length}
 use Rattle.std.proofs.lemmas.List.Elements.{All-cons, All-nil}
-use Rattle.amqp_link_ends.specs.declared.end.End.{End}
+use Rattle.amqp_link.specs.declared.end.End.{End}
 use Rattle.std.specs.Prelude.{Result, ⊤}
 use Rattle.amqp_endpoint_tables.specs.declared.link_place.LinkPlace.{LinkPlace}
 use Rattle.amqp_endpoint_tables.specs.LinkSteps.{Closed, Closes, Rested, Rests}

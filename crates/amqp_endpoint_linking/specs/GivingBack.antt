@@ -1,6 +1,6 @@
 -- What becomes of the links of a session that is over (part 2, 2.5.2, 2.6.4, 2.6.6).
 use Rattle.std.specs.Prelude.{◌≡◌, ℕ, List, [], ◌∷◌, Bool, true, false, Option, Some, None, Result, ⊤, All}
-use Rattle.amqp_link_ends.specs.declared.end.End.{End}
+use Rattle.amqp_link.specs.declared.end.End.{End}
 use Rattle.amqp_endpoint_tables.specs.declared.link_place.LinkPlace.{LinkPlace}
 use Rattle.amqp_endpoint_tables.specs.LinkSteps.{Closed, Closes, History, Rested, Rests, Act}
 use Rattle.amqp_endpoint_attached.specs.Ends.{broken, is_closed_end}

@@ -5,7 +5,7 @@ ghost use Rattle.amqp_endpoint_linking.specs.Linking.{links_of};
 use amqp_endpoint_attached::{LinkSession, break_off, is_closed};
 use amqp_endpoint_links::Numbered;
 use amqp_endpoint_tables::Links;
-use amqp_link_ends::LinkEnd;
+use amqp_link::LinkEnd;
 use amqp_session_core::Links as LinksLeft;
 
 /// A session is over, whose links come back, one after the other by rising own handle (part 2, 2.6.4). Each is detached

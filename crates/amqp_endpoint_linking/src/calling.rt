@@ -11,7 +11,7 @@ use amqp_endpoint_conversation::{AcceptRefusal, Conversation};
 use amqp_endpoint_links::Numbered;
 use amqp_endpoint_model::{EndpointError, Event, Refused};
 use amqp_endpoint_tables::Links;
-use amqp_link_ends::LinkEnd;
+use amqp_link::LinkEnd;
 use amqp_session_performatives::SessionFrame;
 use amqp_session_types::{BeginError, IncomingChannel, SessionError};
 use std::alloc::Global;

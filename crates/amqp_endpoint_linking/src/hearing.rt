@@ -15,7 +15,7 @@ use amqp_endpoint_conversation::{BeginHeard, BeginRefusal, Conversation, EndHear
 use amqp_endpoint_links::Numbered;
 use amqp_endpoint_model::{Begun, Ended, EndpointError, Event, SessionAsked};
 use amqp_endpoint_tables::Links;
-use amqp_link_ends::LinkEnd;
+use amqp_link::LinkEnd;
 use amqp_session_frames::{Connection, ConnectionState};
 use amqp_session_performatives::{Begin, End, SessionFrame};
 use amqp_session_types::{IncomingChannel, definitions};

@@ -11,7 +11,7 @@ use amqp_endpoint_attached::LinkSession;
 use amqp_endpoint_conversation::Conversation;
 use amqp_endpoint_links::{AskedSession, Numbered};
 use amqp_endpoint_tables::{Links, Place, Sessions};
-use amqp_link_ends::LinkEnd;
+use amqp_link::LinkEnd;
 use amqp_session_types::OutgoingChannel;
 
 /// The own Close was sent: each session that has begun is ending, without a frame, and its links are given back, as

@@ -6,8 +6,8 @@ use Rattle.amqp_session_performatives.specs.declared.disposition.Disposition.{Di
 use Rattle.amqp_link_receiver.specs.declared.disposable.DisposeRefusal.{DisposeRefusal}
 use Rattle.amqp_link_receiver.specs.DisposingAll.{AllDisposed, Named, named_all}
 use Rattle.amqp_link_receiver.specs.State.{ReceiverState}
-use Rattle.amqp_link_ends.specs.declared.end.End.{End}
-use Rattle.amqp_link_ends.specs.declared.end.End.TheVariants.{Sender, Receiver}
+use Rattle.amqp_link.specs.declared.end.End.{End}
+use Rattle.amqp_link.specs.declared.end.End.TheVariants.{Sender, Receiver}
 use Rattle.amqp_endpoint_messages.specs.Disposing.{EndDisposes}
 use Rattle.amqp_endpoint_messages.proofs.StatesTold.{few}
 

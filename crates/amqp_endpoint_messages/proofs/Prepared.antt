@@ -11,8 +11,8 @@ use Rattle.amqp_link_sender.specs.declared.sending.SendRefusal.TheVariants as li
 use Rattle.amqp_link_sender.specs.Sending.{Sending}
 use Rattle.amqp_link_sender.specs.Sends.{is_too_large, refusal, takes_messages}
 use Rattle.amqp_link_unsettled.specs.Messages.{open_at}
-use Rattle.amqp_link_ends.specs.declared.end.End.{End}
-use Rattle.amqp_link_ends.specs.declared.end.End.TheVariants.{Sender}
+use Rattle.amqp_link.specs.declared.end.End.{End}
+use Rattle.amqp_link.specs.declared.end.End.TheVariants.{Sender}
 use Rattle.amqp_endpoint_links.specs.declared.numbered.Numbered.{Numbered}
 use Rattle.amqp_endpoint_attached.specs.Linked.{LinksIn, end_in}
 use Rattle.amqp_endpoint_attached.proofs.There.{end_there, none_there}

@@ -24,8 +24,8 @@ use Rattle.amqp_link_sender.specs.declared.sending.SendRefusal.TheVariants as li
 use Rattle.amqp_link_sender.specs.Sending.{Sending}
 use Rattle.amqp_link_sender.specs.Sends.{entry_unless, is_absent, sent, with_room}
 use Rattle.amqp_link_unsettled.specs.declared.open.Open.{Open}
-use Rattle.amqp_link_ends.specs.declared.end.End.{End}
-use Rattle.amqp_link_ends.specs.declared.end.End.TheVariants.{Sender, Receiver}
+use Rattle.amqp_link.specs.declared.end.End.{End}
+use Rattle.amqp_link.specs.declared.end.End.TheVariants.{Sender, Receiver}
 use Rattle.amqp_endpoint_links.specs.declared.numbered.Numbered.{Numbered}
 use Rattle.amqp_endpoint_model.specs.declared.error.EndpointError.{EndpointError}
 use Rattle.amqp_endpoint_model.specs.declared.error.EndpointError.TheVariants.{Memory, FrameTooLarge, NumberInUse}

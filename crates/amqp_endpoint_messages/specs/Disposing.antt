@@ -10,8 +10,8 @@ use Rattle.amqp_link_receiver.specs.Disposing.{Disposes, disposable_now, dispose
 use Rattle.amqp_link_receiver.specs.DisposingAll.{AllDisposed, Named, TellsRuns, each_disposed, named_all}
 use Rattle.amqp_link_receiver.specs.declared.disposing.DisposeError.{DisposeError}
 use Rattle.amqp_link_receiver.specs.State.{ReceiverState}
-use Rattle.amqp_link_ends.specs.declared.end.End.{End}
-use Rattle.amqp_link_ends.specs.declared.end.End.TheVariants.{Receiver}
+use Rattle.amqp_link.specs.declared.end.End.{End}
+use Rattle.amqp_link.specs.declared.end.End.TheVariants.{Receiver}
 use Rattle.amqp_endpoint_attached.specs.Linked.{LinksIn, gives}
 use Rattle.amqp_endpoint_attached.specs.Receiving.{receiving}
 

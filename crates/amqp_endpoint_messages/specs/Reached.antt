@@ -5,8 +5,8 @@ use Rattle.amqp_session_core.specs.State.{link_at}
 use Rattle.amqp_link_unsettled.specs.declared.resolution.Resolution.{Resolution}
 use Rattle.amqp_link_sender.specs.Results.{send_result}
 use Rattle.amqp_link_sender.specs.Sending.{Sending}
-use Rattle.amqp_link_ends.specs.declared.end.End.{End}
-use Rattle.amqp_link_ends.specs.declared.end.End.TheVariants.{Sender, Receiver}
+use Rattle.amqp_link.specs.declared.end.End.{End}
+use Rattle.amqp_link.specs.declared.end.End.TheVariants.{Sender, Receiver}
 use Rattle.amqp_endpoint_links.specs.declared.numbered.Numbered.{Numbered}
 use Rattle.amqp_endpoint_attached.specs.Linked.{LinksIn}
 use Rattle.amqp_endpoint_model.specs.declared.event.Event.{Event}

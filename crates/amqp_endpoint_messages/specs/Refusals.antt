@@ -11,8 +11,8 @@ use Rattle.amqp_link_receiver.specs.DisposingAll.{Named, NotNamed, named_all}
 use Rattle.amqp_link_receiver.specs.declared.disposing.DisposeError.{DisposeError}
 use Rattle.amqp_link_receiver.specs.declared.disposing.DisposeError.TheVariants.{Refused}
 use Rattle.amqp_link_receiver.specs.declared.disposing.DisposeError.TheVariants as no_memory
-use Rattle.amqp_link_ends.specs.declared.end.End.{End}
-use Rattle.amqp_link_ends.specs.declared.end.End.TheVariants.{Receiver}
+use Rattle.amqp_link.specs.declared.end.End.{End}
+use Rattle.amqp_link.specs.declared.end.End.TheVariants.{Receiver}
 use Rattle.amqp_endpoint_model.specs.declared.error.EndpointError.{EndpointError}
 use Rattle.amqp_endpoint_model.specs.declared.error.EndpointError.TheVariants.{Memory, FrameTooLarge}
 use Rattle.amqp_endpoint_model.specs.declared.error.EndpointError.TheVariants.{AlreadyDisposed, NotAssociated}

@@ -21,8 +21,8 @@ use Rattle.amqp_link_sender.specs.Sending.{Sending}
 use Rattle.amqp_link_sender.specs.Sends.{entry_unless, first_transfer, goes_settled, is_absent, prepared, refusal}
 use Rattle.amqp_link_sender.specs.Sends.{sent, with_room}
 use Rattle.amqp_link_unsettled.specs.declared.open.Open.{Open}
-use Rattle.amqp_link_ends.specs.declared.end.End.{End}
-use Rattle.amqp_link_ends.specs.declared.end.End.TheVariants.{Sender, Receiver}
+use Rattle.amqp_link.specs.declared.end.End.{End}
+use Rattle.amqp_link.specs.declared.end.End.TheVariants.{Sender, Receiver}
 use Rattle.amqp_endpoint_fitting.specs.Fits.{UnitFits}
 use Rattle.amqp_endpoint_links.specs.declared.numbered.Numbered.{Numbered}
 use Rattle.amqp_endpoint_model.specs.declared.call.Sending.{Sending as Given}

@@ -13,7 +13,7 @@ use crate::measuring::state_fits;
 use amqp_endpoint_attached::LinkSession;
 use amqp_endpoint_links::Numbered;
 use amqp_endpoint_model::EndpointError;
-use amqp_link_ends::{End, LinkEnd};
+use amqp_link::{End, LinkEnd};
 use amqp_link_receiver::DisposeError;
 use amqp_session_core::Session;
 use amqp_session_performatives::{Disposition, SessionFrame};

@@ -12,7 +12,7 @@ ghost use Rattle.amqp_endpoint_messages.specs.Told.{outcome_told};
 use amqp_endpoint_attached::LinkSession;
 use amqp_endpoint_links::Numbered;
 use amqp_endpoint_model::{Event, Outcome};
-use amqp_link_ends::{End, LinkEnd};
+use amqp_link::{End, LinkEnd};
 use amqp_link_sender::{SendResult, SenderLink};
 use amqp_link_types::{LinkStateError, SendError};
 use amqp_link_unsettled::{Failure, Resolution};

@@ -7,7 +7,7 @@ ghost use Rattle.amqp_endpoint_messages.specs.Refusals.{IsErrorOf, IsLookedAt, e
 
 use amqp_endpoint_links::Numbered;
 use amqp_endpoint_model::EndpointError;
-use amqp_link_ends::{End, LinkEnd};
+use amqp_link::{End, LinkEnd};
 use amqp_link_receiver::{Disposable, DisposeError, DisposeRefusal, ReceiverLink};
 use amqp_link_unsettled::UnsettledMap;
 use amqp_session_core::Session;

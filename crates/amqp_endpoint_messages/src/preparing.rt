@@ -9,7 +9,7 @@ ghost use Rattle.amqp_endpoint_messages.specs.Sending.{with_tag};
 
 use amqp_endpoint_links::Numbered;
 use amqp_endpoint_model::{EndpointError, Sending};
-use amqp_link_ends::{End, LinkEnd};
+use amqp_link::{End, LinkEnd};
 use amqp_link_sender::{PreparedSend, SendRefusal, SenderLink};
 use amqp_link_unsettled::Entry;
 use amqp_session_core::Session;

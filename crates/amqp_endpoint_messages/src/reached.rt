@@ -11,7 +11,7 @@ ghost use Rattle.amqp_endpoint_messages.specs.Reached.{link_told, reached_told, 
 use amqp_endpoint_attached::LinkSession;
 use amqp_endpoint_links::Numbered;
 use amqp_endpoint_model::{Event, Outcome as OutcomeEvent};
-use amqp_link_ends::{End, LinkEnd};
+use amqp_link::{End, LinkEnd};
 use amqp_link_sender::{SendResult, SenderLink};
 use amqp_link_types::{LinkStateError, SendError};
 use amqp_link_unsettled::{Failure, Resolution};

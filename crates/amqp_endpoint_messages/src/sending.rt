@@ -13,7 +13,7 @@ use crate::preparing::{commit_in, lower_room_in, prepare_in, refusal_of, room_in
 use amqp_endpoint_attached::LinkSession;
 use amqp_endpoint_links::Numbered;
 use amqp_endpoint_model::{EndpointError, Sending};
-use amqp_link_ends::LinkEnd;
+use amqp_link::LinkEnd;
 use amqp_link_sender::{PreparedBatch, PreparedSend};
 use amqp_session_core::{Batch, Session};
 use amqp_session_performatives::SessionFrame;

@@ -13,14 +13,14 @@ use Rattle.amqp_session_core.specs.declared.relay.RelayError.{RelayError}
 use Rattle.amqp_session_core.specs.declared.relay.RelayError.TheVariants.{UnattachedHandle, TransferFrameToSender, Memory}
 use Rattle.amqp_session_core.specs.declared.relay.TransferAnswer.{TransferAnswer}
 use Rattle.amqp_link_receiver.specs.declared.answer.Told.{Told}
-use Rattle.amqp_link_ends.specs.Gives.{attaches, detaches, disposes, flows_at, transfers_at}
-use Rattle.amqp_link_ends.specs.Standing.{standing_of}
-use Rattle.amqp_link_ends.specs.declared.end.End.{End}
-use Rattle.amqp_link_ends.specs.declared.end.End.TheVariants.{Sender, Receiver}
-use Rattle.amqp_link_ends.specs.declared.relay.AttachTold.{AttachTold}
-use Rattle.amqp_link_ends.specs.declared.relay.AttachTold.TheVariants as told
-use Rattle.amqp_link_ends.specs.declared.standing.Standing.{Standing}
-use Rattle.amqp_link_ends.specs.declared.standing.Standing.TheVariants.{Attached, Detaching, Apart}
+use Rattle.amqp_link.specs.Gives.{attaches, detaches, disposes, flows_at, transfers_at}
+use Rattle.amqp_link.specs.Standing.{standing_of}
+use Rattle.amqp_link.specs.declared.end.End.{End}
+use Rattle.amqp_link.specs.declared.end.End.TheVariants.{Sender, Receiver}
+use Rattle.amqp_link.specs.declared.relay.AttachTold.{AttachTold}
+use Rattle.amqp_link.specs.declared.relay.AttachTold.TheVariants as told
+use Rattle.amqp_link.specs.declared.standing.Standing.{Standing}
+use Rattle.amqp_link.specs.declared.standing.Standing.TheVariants.{Attached, Detaching, Apart}
 use Rattle.amqp_link_sender.specs.Dispositions.{disposed}
 use Rattle.amqp_link_sender.specs.Sending.{Sending, flowed}
 use Rattle.amqp_link_sender.specs.declared.ending.DetachRefusal.TheVariants as refusal

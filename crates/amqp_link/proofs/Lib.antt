@@ -1,3 +1,4 @@
+pub mod Kept
 pub mod Ready
 pub mod Counting
 pub mod Steps

@@ -7,10 +7,10 @@ use Rattle.amqp_link_base.specs.Flows.{draining}
 use Rattle.amqp_session_core.specs.Relay.{Changes, LinkHistory, LinkAct, OwnerKeeps, Relations, StepKeeps}
 use Rattle.amqp_link_receiver.specs.declared.answer.Told.{Told}
 use Rattle.amqp_link_base.specs.declared.detached.Detached.{Detached}
-use Rattle.amqp_link_ends.specs.Gives.{attaches, flows, transfers, disposes, detaches}
-use Rattle.amqp_link_ends.specs.declared.relay.AttachTold.{AttachTold}
-use Rattle.amqp_link_ends.specs.declared.end.End.{End}
-use Rattle.amqp_link_ends.specs.declared.end.End.TheVariants.{Sender, Receiver}
+use Rattle.amqp_link.specs.Gives.{attaches, flows, transfers, disposes, detaches}
+use Rattle.amqp_link.specs.declared.relay.AttachTold.{AttachTold}
+use Rattle.amqp_link.specs.declared.end.End.{End}
+use Rattle.amqp_link.specs.declared.end.End.TheVariants.{Sender, Receiver}
 use Rattle.amqp_link_receiver.specs.Attaching as receiver_attaching
 use Rattle.amqp_link_receiver.specs.Disposing.{disposed_of}
 use Rattle.amqp_link_receiver.specs.DisposingAll.{Named, each_disposed}

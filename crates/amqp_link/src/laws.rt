@@ -2,8 +2,8 @@
 ghost use Rattle.std.specs.Prelude.{◌≡◌, ℕ, ◌+◌, List};
 ghost use Rattle.amqp_link_sender.specs.Sending.{Sending};
 ghost use Rattle.amqp_link.specs.History.{SenderHistory, SenderAct, sent_in, taken_in};
-ghost use Rattle.amqp_link_ends.specs.declared.end.End.{End};
-ghost use Rattle.amqp_link_ends.specs.declared.end.End.TheVariants as variant;
+ghost use Rattle.amqp_link.specs.declared.end.End.{End};
+ghost use Rattle.amqp_link.specs.declared.end.End.TheVariants as variant;
 ghost use Rattle.amqp_session_core.specs.Relay.{OwnerKeeps};
 ghost use Rattle.amqp_link.specs.Owner.{EndHistory, EndAct, Owns, changes_of, owned};
 ghost use Rattle.amqp_link.specs.Times.{times_in, times};

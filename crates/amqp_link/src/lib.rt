@@ -1,10 +1,14 @@
 //! The links of AMQP 1.0 and their messages without a network (OASIS AMQP 1.0, part 2, 2.6; part 3, 3.2): sections and
-//! messages, places in them, cutting and joining, credit, attaching and detaching, and unsettled deliveries; and laws of
-//! histories of a link.
+//! messages, places in them, cutting and joining, credit, attaching and detaching, and unsettled deliveries; either end of
+//! a link as its session sees it, of which specs/Gives.antt says what the peer's frames make; and laws of histories of a
+//! link.
 #![tactic(auto)]
 
+mod end;
 pub mod laws;
 mod owner;
+mod relay;
+mod standing;
 
 pub use amqp_link_base::AttachExchange;
 pub use amqp_link_base::Detached;
@@ -29,10 +33,6 @@ pub use amqp_link_base::place;
 pub use amqp_link_base::read_place;
 pub use amqp_link_base::verify_attach_as_receiver;
 pub use amqp_link_base::verify_attach_as_sender;
-pub use amqp_link_ends::AttachTold;
-pub use amqp_link_ends::End;
-pub use amqp_link_ends::LinkEnd;
-pub use amqp_link_ends::Standing;
 pub use amqp_link_message::Body;
 pub use amqp_link_message::Builder;
 pub use amqp_link_message::Delivery;
@@ -131,4 +131,7 @@ pub use amqp_link_unsettled::resume_delivery;
 pub use amqp_session_states::Source;
 pub use amqp_session_states::Target;
 pub use amqp_session_states::TargetArchetype;
+pub use end::{End, LinkEnd};
 pub use owner::Owner;
+pub use relay::AttachTold;
+pub use standing::Standing;

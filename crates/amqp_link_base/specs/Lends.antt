@@ -4,8 +4,8 @@ use Rattle.std.specs.Hash as fed
 use Rattle.std.specs.Str.{bytes_eq}
 use Rattle.std.specs.contracts.option.Option as option
 use Rattle.serde_amqp_types.specs.contracts.symbol.Symbol as symbol
-use Rattle.serde_amqp_raw.specs.contracts.value.RawValue as raw
-use Rattle.serde_amqp_map.specs.Lends.{map_row}
+use Rattle.serde_amqp_values.specs.contracts.raw_value.RawValue as raw
+use Rattle.serde_amqp_values.specs.Lends.{map_row}
 use Rattle.amqp_session_types.specs.contracts.boxed.Boxed as boxed
 use Rattle.amqp_link_base.specs.declared.inner.LinkFlowStateInner.{LinkFlowStateInner}
 use Rattle.amqp_link_base.specs.contracts.flow_state.LinkFlowState.{the_row}

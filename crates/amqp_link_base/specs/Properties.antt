@@ -1,7 +1,7 @@
 -- The properties of a link, which both ends give: part 2, 2.7.3.
 use Rattle.std.specs.Prelude.{ℕ, List, Option, Some, None}
 use Rattle.std.specs.Str.{bytes_eq}
-use Rattle.serde_amqp_map.specs.Pairs.{all_inserted}
+use Rattle.serde_amqp_values.specs.Pairs.{all_inserted}
 
 -- values by their names
 abbrev pub Properties : Type 0

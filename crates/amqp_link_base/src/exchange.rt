@@ -5,7 +5,7 @@ ghost use Rattle.amqp_link_base.specs.Exchange.{exchange, lists_none, complete_o
 use crate::state::LinkState;
 use amqp_session_states::DeliveryState;
 use amqp_session_types::DeliveryTag;
-use serde_amqp_map::OrderedMap;
+use serde_amqp_values::OrderedMap;
 
 /// What two Attach that were exchanged leave to be done for deliveries that are unsettled (part 2, 2.6.13).
 #[derive(Debug, Clone, Copy, PartialEq, Eq)]

@@ -6,7 +6,7 @@ ghost use Rattle.amqp_link_base.specs.Source.{filter_tests, is_in_place, unsuppo
 use amqp_link_types::{DesiredFilterNotSupported, ReceiverAttachError};
 use amqp_session_types::definitions::FilterSet;
 use indexmap::map::Iter;
-use serde_amqp_raw::RawValue;
+use serde_amqp_values::RawValue;
 use serde_amqp_types::{Array, Symbol};
 use std::alloc::{AllocError, Global};
 

@@ -1,13 +1,13 @@
 //! The properties of a link, which both ends give (part 2, 2.7.3).
 ghost use Rattle.std.specs.Prelude.{◌≡◌, IfOk, OnOk, OnErr};
 ghost use Rattle.std.specs.Str.{bytes_eq};
-ghost use Rattle.serde_amqp_map.specs.Pairs.{all_inserted};
+ghost use Rattle.serde_amqp_values.specs.Pairs.{all_inserted};
 ghost use Rattle.amqp_link_base.specs.Properties.{merged};
 
 use amqp_session_types::Boxed;
 use amqp_session_types::definitions::Fields;
 use indexmap::map::Iter;
-use serde_amqp_raw::RawValue;
+use serde_amqp_values::RawValue;
 use serde_amqp_types::Symbol;
 use std::alloc::{AllocError, Global};
 

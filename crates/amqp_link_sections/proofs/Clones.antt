@@ -2,7 +2,7 @@
 use Rattle.std.proofs.Common.{◌≡◌, ℕ, List, Result, Ok, Err, subst}
 use Rattle.std.specs.Prelude.{IfOk}
 use Rattle.std.specs.List.{AllZip}
-use Rattle.serde_amqp_map.proofs.PairLaws.{clones_equal}
+use Rattle.serde_amqp_values.proofs.PairLaws.{clones_equal}
 
 -- the clone of a map has the same pairs
 pub pairs_cloned : (ps qs : List (List ℕ × List ℕ)) → AllZip (λ p q. (q.0 ≡ p.0) × (q.1 ≡ p.1)) ps qs → qs ≡ ps

@@ -6,8 +6,8 @@ use Rattle.serde_amqp_item.specs.Item.{scalar, uint, ulong, binary, string, symb
 use Rattle.serde_amqp_item.specs.Canon.{canon}
 use Rattle.serde_amqp_de.specs.Takes.{descriptor_taken}
 use Rattle.serde_amqp_de.specs.Maps.{pairs_taken}
-use Rattle.serde_amqp_map.specs.Items.{ordered_item}
-use Rattle.serde_amqp_map.specs.Takes.{ordered_taken}
+use Rattle.serde_amqp_values.specs.Items.{ordered_item}
+use Rattle.serde_amqp_values.specs.MapTakes.{ordered_taken}
 use Rattle.amqp_link_sections.specs.Described.{described_as}
 use Rattle.amqp_link_sections.specs.Header.{default_header, header_item}
 use Rattle.amqp_link_sections.specs.Annotations.{application_properties_item, footer_item, footer_taken}

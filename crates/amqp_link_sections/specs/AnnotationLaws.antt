@@ -7,8 +7,8 @@ use Rattle.serde_amqp_de.specs.Deciding.{string_decided}
 use Rattle.serde_amqp_de.specs.Kept.{raw_taken, raw_decided, raw_faithful}
 use Rattle.serde_amqp_de.specs.Takes.{string_taken}
 use Rattle.serde_amqp_types.specs.Faithful.{string_faithful}
-use Rattle.serde_amqp_map.specs.Again.{ordered_again, ordered_faithful}
-use Rattle.serde_amqp_map.specs.Deciding.{ordered_decided}
+use Rattle.serde_amqp_values.specs.MapAgain.{ordered_again, ordered_faithful}
+use Rattle.serde_amqp_values.specs.MapDeciding.{ordered_decided}
 use Rattle.amqp_link_sections.specs.DescribedLaws.{described_decided, described_again, described_same}
 use Rattle.amqp_link_sections.specs.Annotations.{annotations_item, annotations_taken, named_values_item}
 use Rattle.amqp_link_sections.specs.Annotations.{named_values_taken, delivery_annotations_name}

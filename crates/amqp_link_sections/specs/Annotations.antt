@@ -4,8 +4,8 @@ use Rattle.std.specs.Prelude.{ℕ, List, [], ◌∷◌, Option, bytes_eq}
 use Rattle.serde_amqp_item.specs.Item.{Item, scalar, string, raw}
 use Rattle.serde_amqp_de.specs.Takes.{string_taken}
 use Rattle.serde_amqp_de.specs.Kept.{raw_taken}
-use Rattle.serde_amqp_map.specs.Items.{ordered_item}
-use Rattle.serde_amqp_map.specs.Takes.{ordered_taken}
+use Rattle.serde_amqp_values.specs.Items.{ordered_item}
+use Rattle.serde_amqp_values.specs.MapTakes.{ordered_taken}
 use Rattle.amqp_link_sections.specs.Described.{described_item, described_as}
 use Rattle.amqp_link_sections.specs.declared.delivery_annotations.DeliveryAnnotations.{DeliveryAnnotations}
 use Rattle.amqp_link_sections.specs.declared.message_annotations.MessageAnnotations.{MessageAnnotations}

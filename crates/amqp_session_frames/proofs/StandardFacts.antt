@@ -5,7 +5,7 @@ use Rattle.std.specs.Str.{is_utf8, chars}
 use Rattle.std.specs.Char.{encode_utf8}
 use Rattle.serde_amqp_item.specs.Item.{scalar, ulong, symbol, described, list, no_items}
 use Rattle.serde_amqp_de.specs.Takes.{option_taken}
-use Rattle.serde_amqp_choice.specs.Choice.{choice_taken, row_said}
+use Rattle.serde_amqp_values.specs.Choice.{choice_taken, row_said}
 use Rattle.serde_amqp_item.specs.Wire.{Wire, row_of, code_of}
 use Rattle.amqp_session_performatives.specs.PerformativeLaws.{performative_again}
 use Rattle.amqp_session_performatives.specs.declared.performative.Performative.TheVariants as performing

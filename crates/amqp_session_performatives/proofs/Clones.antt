@@ -2,7 +2,7 @@
 use Rattle.std.proofs.Common.{◌≡◌, ℕ, List, Option, Some, None, Result, Ok, Err, refl, ap, subst}
 use Rattle.std.specs.Prelude.{IfOk}
 use Rattle.std.specs.List.{AllZip, each_same}
-use Rattle.serde_amqp_map.proofs.PairLaws.{clones_equal}
+use Rattle.serde_amqp_values.proofs.PairLaws.{clones_equal}
 use Rattle.amqp_session_states.specs.declared.delivery_state.DeliveryState.{DeliveryState}
 
 -- an array's clone has the same symbols

@@ -14,8 +14,8 @@ use Rattle.serde_amqp_de.specs.Reads.{At, Head, Refuses, Took}
 use Rattle.serde_amqp_de.specs.Takes.{descriptor_taken, list_with, fields_taken, record_taken}
 use Rattle.serde_amqp_de.proofs.Heads.{behind_head, plain_form, refusal_weaker}
 use Rattle.serde_amqp_de.proofs.Records.{described_reads, described_parts}
-use Rattle.serde_amqp_choice.specs.Choice.{Row, fields_chosen, takes_coded, RefusesList, TookList}
-use Rattle.serde_amqp_choice.proofs.Choosing.{chosen_took, chosen_refused, not_chosen}
+use Rattle.serde_amqp_values.specs.Choice.{Row, fields_chosen, takes_coded, RefusesList, TookList}
+use Rattle.serde_amqp_values.proofs.Choosing.{chosen_took, chosen_refused, not_chosen}
 use Rattle.amqp_session_performatives.specs.Performative.{performative_item}
 use Rattle.amqp_session_performatives.specs.Reading.{TookRecord}
 use Rattle.amqp_session_performatives.specs.declared.performative.Performative.{Performative}

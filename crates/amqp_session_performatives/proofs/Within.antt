@@ -9,7 +9,7 @@ use Rattle.serde_amqp_item.specs.Record.{option_item, all_null, trimmed, record_
 use Rattle.serde_amqp_item.specs.Entries.{pair_items, map_item}
 use Rattle.serde_amqp_de.specs.Takes.{or_null, is_boolean, is_ushort, is_uint}
 use Rattle.serde_amqp_types.specs.Takes.{is_ubyte}
-use Rattle.serde_amqp_map.specs.Items.{are_apart, no_map, ordered_item}
+use Rattle.serde_amqp_values.specs.Items.{are_apart, no_map, ordered_item}
 use Rattle.amqp_session_types.specs.Error.{error_item, error_fields}
 use Rattle.amqp_session_types.specs.Fields.{named_values_item, symbols_item}
 use Rattle.amqp_session_types.specs.Modes.{role_item, sender_settle_mode_item, receiver_settle_mode_item}

@@ -14,8 +14,8 @@ use Rattle.serde_amqp_de.specs.Takes.{string_taken, option_taken, reads_as_null,
 use Rattle.serde_amqp_de.specs.Takes.{is_uint}
 use Rattle.serde_amqp_types.specs.Takes.{is_ubyte}
 use Rattle.serde_amqp_types.specs.Faithful.{string_faithful, binary_faithful}
-use Rattle.serde_amqp_map.specs.Again.{ordered_again, ordered_faithful, ordered_present}
-use Rattle.serde_amqp_map.specs.Deciding.{ordered_decided}
+use Rattle.serde_amqp_values.specs.MapAgain.{ordered_again, ordered_faithful, ordered_present}
+use Rattle.serde_amqp_values.specs.MapDeciding.{ordered_decided}
 use Rattle.amqp_session_types.specs.Again.{named_values_again, named_values_present, error_again}
 use Rattle.amqp_session_types.specs.Deciding.{named_values_decided, error_decided}
 use Rattle.amqp_session_types.specs.Error.{error_item, error_taken}

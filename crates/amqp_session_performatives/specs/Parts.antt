@@ -3,8 +3,8 @@ use Rattle.std.specs.Prelude.{ℕ, List, Option, bytes_eq}
 use Rattle.serde_amqp_item.specs.Item.{Item, scalar, uint, binary}
 use Rattle.serde_amqp_item.specs.Record.{option_item}
 use Rattle.serde_amqp_de.specs.Takes.{binary_taken, option_taken}
-use Rattle.serde_amqp_map.specs.Items.{ordered_item}
-use Rattle.serde_amqp_map.specs.Takes.{ordered_taken}
+use Rattle.serde_amqp_values.specs.Items.{ordered_item}
+use Rattle.serde_amqp_values.specs.MapTakes.{ordered_taken}
 use Rattle.amqp_session_types.specs.declared.handles.Handle.{Handle}
 use Rattle.amqp_session_states.specs.DeliveryState.{delivery_state_item, delivery_state_taken}
 use Rattle.amqp_session_states.specs.declared.delivery_state.DeliveryState.{DeliveryState}

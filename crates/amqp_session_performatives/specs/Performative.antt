@@ -1,7 +1,7 @@
 -- The performatives: part 2, 2.7.
 use Rattle.std.specs.Prelude.{ℕ, List, [], ◌∷◌, Option}
 use Rattle.serde_amqp_item.specs.Item.{Item}
-use Rattle.serde_amqp_choice.specs.Choice.{Row, choice_taken}
+use Rattle.serde_amqp_values.specs.Choice.{Row, choice_taken}
 use Rattle.amqp_session_performatives.specs.Open.{open_name, open_item, open_takes}
 use Rattle.amqp_session_performatives.specs.Begin.{begin_name, begin_item, begin_takes}
 use Rattle.amqp_session_performatives.specs.Attach.{attach_name, attach_item, attach_takes}

@@ -5,9 +5,9 @@ use Rattle.serde_amqp_item.specs.Item.{Item}
 use Rattle.serde_amqp_item.specs.Record.{record_item}
 use Rattle.serde_amqp_de.specs.Decides.{Decided}
 use Rattle.serde_amqp_de.specs.Takes.{reads_as_null}
-use Rattle.serde_amqp_choice.specs.Choice.{RowsDecided, codes_differ}
-use Rattle.serde_amqp_choice.specs.Again.{choice_again, items_apart}
-use Rattle.serde_amqp_choice.specs.Deciding.{choice_decided}
+use Rattle.serde_amqp_values.specs.Choice.{RowsDecided, codes_differ}
+use Rattle.serde_amqp_values.specs.ChoiceAgain.{choice_again, items_apart}
+use Rattle.serde_amqp_values.specs.ChoiceDeciding.{choice_decided}
 use Rattle.amqp_session_performatives.specs.Open.{open_name, open_fields, open_takes}
 use Rattle.amqp_session_performatives.specs.Begin.{begin_name, begin_fields, begin_takes}
 use Rattle.amqp_session_performatives.specs.Attach.{attach_name, attach_fields, attach_takes}

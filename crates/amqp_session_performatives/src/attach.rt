@@ -2,7 +2,7 @@
 ghost use Rattle.std.specs.Prelude.{◌≡◌, IfOk, OnOk, None, refl};
 ghost use Rattle.serde_amqp_read.specs.Reads.{Unless};
 ghost use Rattle.serde_amqp_de.specs.Reads.{at_of};
-ghost use Rattle.serde_amqp_choice.specs.Choice.{TookList, RefusesList};
+ghost use Rattle.serde_amqp_values.specs.Choice.{TookList, RefusesList};
 ghost use Rattle.amqp_session_performatives.specs.Attach.{attach_fields, attach_item, attach_takes, attach_taken};
 ghost use Rattle.amqp_session_performatives.specs.AttachLaws.{attach_decided, attach_again, attach_same};
 
@@ -13,9 +13,8 @@ use amqp_session_types::{
     Aside, Boxed, DeliveryTag, Fields, Handle, OrDefault, ReceiverSettleMode, Role,
     SenderSettleMode,
 };
-use serde_amqp_choice::read_fields_of;
+use serde_amqp_values::{OrderedMap, read_fields_of};
 use serde_amqp_de::{Deserialize, Deserializer, NeverNull, Read};
-use serde_amqp_map::OrderedMap;
 use serde_amqp_round_trip::{Faithful, RoundTrip};
 use serde_amqp_ser::{Serialize, Serializer, Sink, serialize_record};
 use serde_amqp_types::{Array, BoolOr, Multiple, Symbol, Text};

@@ -5,7 +5,7 @@ ghost use Rattle.serde_amqp_item.specs.Record.{record_item};
 ghost use Rattle.serde_amqp_read.specs.Reads.{Unless};
 ghost use Rattle.serde_amqp_de.specs.Reads.{Refuses, Took, at_of};
 ghost use Rattle.serde_amqp_de.specs.Takes.{record_taken};
-ghost use Rattle.serde_amqp_choice.specs.Choice.{TookList, RefusesList};
+ghost use Rattle.serde_amqp_values.specs.Choice.{TookList, RefusesList};
 ghost use Rattle.amqp_session_performatives.specs.Performative.{performative_item};
 
 use crate::performative::Performative;

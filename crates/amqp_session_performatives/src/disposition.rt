@@ -9,7 +9,7 @@ use crate::composite::{Composite, Performs, read_composite};
 use crate::performative::Performative;
 use amqp_session_states::DeliveryState;
 use amqp_session_types::Role;
-use serde_amqp_choice::read_fields_of;
+use serde_amqp_values::read_fields_of;
 use serde_amqp_de::{Deserialize, Deserializer, NeverNull, Read};
 use serde_amqp_round_trip::{Faithful, RoundTrip};
 use serde_amqp_ser::{Serialize, Serializer, Sink, serialize_record};

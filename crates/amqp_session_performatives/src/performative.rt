@@ -2,7 +2,7 @@
 ghost use Rattle.std.specs.Prelude.{◌≡◌, IfOk, OnOk, None, refl};
 ghost use Rattle.serde_amqp_read.specs.Reads.{Unless};
 ghost use Rattle.serde_amqp_de.specs.Reads.{at_of};
-ghost use Rattle.serde_amqp_choice.specs.Choice.{RefusesList};
+ghost use Rattle.serde_amqp_values.specs.Choice.{RefusesList};
 ghost use Rattle.amqp_session_performatives.specs.Reading.{TookRecord};
 ghost use Rattle.amqp_session_performatives.specs.Attach.{attach_takes};
 ghost use Rattle.amqp_session_performatives.specs.Performative.{performative_item, performative_table};
@@ -22,7 +22,7 @@ use crate::flow::{self, Flow};
 use crate::open::{self, Open};
 use crate::transfer::{self, Transfer};
 use amqp_session_types::Boxed;
-use serde_amqp_choice::{Choice, read_choice};
+use serde_amqp_values::{Choice, read_choice};
 use serde_amqp_de::{Deserialize, Deserializer, NeverNull, Read};
 use serde_amqp_item::Error;
 use serde_amqp_round_trip::{Faithful, RoundTrip};
@@ -199,7 +199,7 @@ impl Deserialize for Performative {
 
     ghost take = { performative_taken };
 
-    #[tactic(auto, unfolding(serde_amqp_choice::specs::Choice::choice_taken))]
+    #[tactic(auto, unfolding(serde_amqp_values::specs::Choice::choice_taken))]
     fn absent(_alloc: Global) -> Option<Performative> {
         None
     }

@@ -11,7 +11,7 @@ use Rattle.serde_amqp_read.specs.Reads.{Otherwise, Refusal, Unless, faultless}
 use Rattle.serde_amqp_de.specs.Kept.{raw_taken, raw_is_its_bytes}
 use Rattle.serde_amqp_de.specs.Reads.{At, Reads, Refuses, Took}
 use Rattle.serde_amqp_de.specs.Takes.{descriptor_taken, record_taken}
-use Rattle.serde_amqp_map.specs.Deciding.{no_wire}
+use Rattle.serde_amqp_values.specs.MapDeciding.{no_wire}
 use Rattle.amqp_session_states.specs.Target.{target_taken}
 use Rattle.amqp_session_states.specs.TargetArchetype.{is_other, no_target, target_archetype_item, target_archetype_taken}
 use Rattle.amqp_session_states.specs.declared.target_archetype.TargetArchetype.TheVariants.{Other}

@@ -5,7 +5,7 @@ use Rattle.std.proofs.lemmas.Bool.Decides.{nat_tests}
 use Rattle.serde_amqp_item.specs.Item.{Item}
 use Rattle.serde_amqp_item.specs.Canon.{◌>>=◌}
 use Rattle.serde_amqp_de.specs.Reads.{At, Refuses, Took}
-use Rattle.serde_amqp_choice.specs.Choice.{Row, row_coded, fields_of, fields_chosen}
+use Rattle.serde_amqp_values.specs.Choice.{Row, row_coded, fields_of, fields_chosen}
 use Rattle.amqp_session_states.specs.DeliveryState.{delivery_state_item, delivery_state_rows}
 use Rattle.amqp_session_states.specs.Outcome.{outcome_item, outcome_rows}
 use Rattle.amqp_session_states.specs.Received.{received_name, received_takes}

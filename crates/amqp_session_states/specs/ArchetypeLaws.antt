@@ -22,7 +22,7 @@ use Rattle.serde_amqp_de.specs.Deciding.{no_form}
 use Rattle.serde_amqp_de.specs.Kept.{raw_is_its_bytes}
 use Rattle.serde_amqp_de.specs.Takes.{descriptor_taken, record_taken, list_with, fields_taken, kind_seen, is_null_kind}
 use Rattle.serde_amqp_de.specs.Takes.{reads_as_null}
-use Rattle.serde_amqp_map.specs.Deciding.{no_wire}
+use Rattle.serde_amqp_values.specs.MapDeciding.{no_wire}
 use Rattle.amqp_session_states.specs.Target.{target_item, target_name, target_takes, target_taken}
 use Rattle.amqp_session_states.specs.TargetArchetype.{begins_with_one, is_other, no_target, target_archetype_item}
 use Rattle.amqp_session_states.specs.TargetArchetype.{target_archetype_taken, target_descriptors}

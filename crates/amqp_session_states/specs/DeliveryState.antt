@@ -1,7 +1,7 @@
 -- The states of a delivery: part 3, 3.4.
 use Rattle.std.specs.Prelude.{ℕ, List, [], ◌∷◌, Option}
 use Rattle.serde_amqp_item.specs.Item.{Item}
-use Rattle.serde_amqp_choice.specs.Choice.{Row, choice_taken}
+use Rattle.serde_amqp_values.specs.Choice.{Row, choice_taken}
 use Rattle.amqp_session_states.specs.Accepted.{accepted_item}
 use Rattle.amqp_session_states.specs.Modified.{modified_item}
 use Rattle.amqp_session_states.specs.Outcome.{outcome_rows}

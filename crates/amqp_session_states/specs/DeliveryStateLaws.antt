@@ -2,9 +2,9 @@
 use Rattle.std.proofs.Common.{◌≡◌, [], true, false, Some, ap, refl}
 use Rattle.serde_amqp_de.specs.Decides.{Decided}
 use Rattle.serde_amqp_de.specs.Takes.{reads_as_null}
-use Rattle.serde_amqp_choice.specs.Choice.{RowsDecided, codes_differ}
-use Rattle.serde_amqp_choice.specs.Again.{choice_again}
-use Rattle.serde_amqp_choice.specs.Deciding.{choice_decided}
+use Rattle.serde_amqp_values.specs.Choice.{RowsDecided, codes_differ}
+use Rattle.serde_amqp_values.specs.ChoiceAgain.{choice_again}
+use Rattle.serde_amqp_values.specs.ChoiceDeciding.{choice_decided}
 use Rattle.amqp_session_states.specs.Accepted.{accepted_name, accepted_takes}
 use Rattle.amqp_session_states.specs.Modified.{modified_name, modified_takes, modified_fields}
 use Rattle.amqp_session_states.specs.Received.{received_name, received_takes, received_fields}

@@ -6,9 +6,9 @@ use Rattle.serde_amqp_item.specs.Item.{Item}
 use Rattle.serde_amqp_item.specs.Record.{record_item}
 use Rattle.serde_amqp_de.specs.Decides.{Decided}
 use Rattle.serde_amqp_de.specs.Takes.{reads_as_null}
-use Rattle.serde_amqp_choice.specs.Choice.{RowsDecided, codes_differ}
-use Rattle.serde_amqp_choice.specs.Again.{choice_again, codes_apart}
-use Rattle.serde_amqp_choice.specs.Deciding.{choice_decided}
+use Rattle.serde_amqp_values.specs.Choice.{RowsDecided, codes_differ}
+use Rattle.serde_amqp_values.specs.ChoiceAgain.{choice_again, codes_apart}
+use Rattle.serde_amqp_values.specs.ChoiceDeciding.{choice_decided}
 use Rattle.amqp_session_states.specs.Accepted.{accepted_name, accepted_takes}
 use Rattle.amqp_session_states.specs.Modified.{modified_name, modified_takes, modified_fields}
 use Rattle.amqp_session_states.specs.Rejected.{rejected_name, rejected_takes, rejected_fields}

@@ -2,7 +2,7 @@
 ghost use Rattle.std.specs.Prelude.{◌≡◌, ◌≢◌, IfOk, MatchResult, OnOk, Some, None, refl};
 ghost use Rattle.serde_amqp_read.specs.Reads.{Unless};
 ghost use Rattle.serde_amqp_de.specs.Reads.{Refuses, Took, at_of};
-ghost use Rattle.serde_amqp_choice.specs.Choice.{fields_chosen};
+ghost use Rattle.serde_amqp_values.specs.Choice.{fields_chosen};
 ghost use Rattle.amqp_session_states.specs.DeliveryStateLaws.{delivery_state_rows_decided, delivery_state_rows_differ};
 ghost use Rattle.amqp_session_states.specs.DeliveryStateLaws.{delivery_state_decided, delivery_state_again};
 ghost use Rattle.amqp_session_states.specs.DeliveryStateLaws.{delivery_state_same, delivery_state_present};
@@ -17,7 +17,7 @@ use crate::outcome::Outcome;
 use crate::received::{self, Received};
 use crate::rejected::Rejected;
 use crate::released::Released;
-use serde_amqp_choice::{Choice, read_choice, read_fields_of};
+use serde_amqp_values::{Choice, read_choice, read_fields_of};
 use serde_amqp_de::{Deserialize, Deserializer, NeverNull, Read};
 use serde_amqp_item::Error;
 use serde_amqp_round_trip::{Faithful, RoundTrip};
@@ -186,7 +186,7 @@ impl Deserialize for DeliveryState {
 
     ghost take = { delivery_state_taken };
 
-    #[tactic(auto, using(serde_amqp_choice::proofs::Choosing::absents))]
+    #[tactic(auto, using(serde_amqp_values::proofs::Choosing::absents))]
     fn absent(_alloc: Global) -> Option<DeliveryState> {
         None
     }

@@ -2,7 +2,7 @@
 ghost use Rattle.std.specs.Prelude.{◌≡◌, IfOk, OnOk, None, refl};
 ghost use Rattle.serde_amqp_read.specs.Reads.{Unless};
 ghost use Rattle.serde_amqp_de.specs.Reads.{Refuses, Took, at_of};
-ghost use Rattle.serde_amqp_choice.specs.Choice.{fields_chosen};
+ghost use Rattle.serde_amqp_values.specs.Choice.{fields_chosen};
 ghost use Rattle.amqp_session_states.specs.OutcomeLaws.{outcome_rows_decided, outcome_rows_differ, outcome_decided};
 ghost use Rattle.amqp_session_states.specs.OutcomeLaws.{outcome_again, outcome_same, outcome_present};
 ghost use Rattle.amqp_session_states.specs.Outcome.{outcome_item, outcome_rows, outcome_taken};
@@ -12,7 +12,7 @@ use crate::modified::{self, Modified};
 use crate::rejected::{self, Rejected};
 use crate::released::{self, Released};
 use amqp_session_types::Aside;
-use serde_amqp_choice::{Choice, read_choice, read_fields_of};
+use serde_amqp_values::{Choice, read_choice, read_fields_of};
 use serde_amqp_de::{Deserialize, Deserializer, NeverNull, Read};
 use serde_amqp_item::Error;
 use serde_amqp_round_trip::{Faithful, RoundTrip};
@@ -83,7 +83,7 @@ impl Choice for Outcome {
         None
     }
 
-    #[tactic(auto, using(serde_amqp_choice::proofs::Choosing::chosen))]
+    #[tactic(auto, using(serde_amqp_values::proofs::Choosing::chosen))]
     fn read_fields<R: Read>(
         alloc: Global,
         de: &mut Deserializer<R>,
@@ -194,7 +194,7 @@ impl Deserialize for Outcome {
 
     ghost take = { outcome_taken };
 
-    #[tactic(auto, using(serde_amqp_choice::proofs::Choosing::absents))]
+    #[tactic(auto, using(serde_amqp_values::proofs::Choosing::absents))]
     fn absent(_alloc: Global) -> Option<Outcome> {
         None
     }

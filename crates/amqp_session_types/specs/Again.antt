@@ -5,7 +5,7 @@ use Rattle.serde_amqp_item.specs.Item.{scalar, symbol, string, raw}
 use Rattle.serde_amqp_de.specs.Again.{option_again, multiple_again, record_again}
 use Rattle.serde_amqp_de.specs.Kept.{raw_taken}
 use Rattle.serde_amqp_de.specs.Takes.{string_taken, symbol_taken, reads_as_null}
-use Rattle.serde_amqp_map.specs.Again.{ordered_again, ordered_present}
+use Rattle.serde_amqp_values.specs.MapAgain.{ordered_again, ordered_present}
 use Rattle.amqp_session_types.specs.Error.{error_name, error_fields, error_item, error_takes, error_taken}
 use Rattle.amqp_session_types.specs.Fields.{named_values_item, named_values_taken, symbols_item, symbols_taken}
 use Rattle.amqp_session_types.specs.declared.error.Error.{Error}

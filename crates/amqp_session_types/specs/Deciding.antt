@@ -3,7 +3,7 @@ use Rattle.serde_amqp_de.specs.Decides.{Decided}
 use Rattle.serde_amqp_de.specs.Deciding.{string_decided, symbol_decided, option_decided, multiple_decided, record_decided}
 use Rattle.serde_amqp_de.specs.Kept.{raw_taken, raw_decided}
 use Rattle.serde_amqp_de.specs.Takes.{string_taken, symbol_taken}
-use Rattle.serde_amqp_map.specs.Deciding.{ordered_decided}
+use Rattle.serde_amqp_values.specs.MapDeciding.{ordered_decided}
 use Rattle.amqp_session_types.specs.Error.{error_name, error_takes, error_taken}
 use Rattle.amqp_session_types.specs.Fields.{named_values_taken, symbols_taken}
 

@@ -6,7 +6,7 @@ use Rattle.serde_amqp_item.specs.Record.{option_item}
 use Rattle.serde_amqp_de.specs.Again.{option_faithful, several_faithful, record_faithful}
 use Rattle.serde_amqp_de.specs.Kept.{raw_faithful}
 use Rattle.serde_amqp_types.specs.Faithful.{symbol_faithful, string_faithful}
-use Rattle.serde_amqp_map.specs.Again.{ordered_faithful}
+use Rattle.serde_amqp_values.specs.MapAgain.{ordered_faithful}
 use Rattle.amqp_session_types.specs.Again.{named_values_present}
 use Rattle.amqp_session_types.specs.Error.{error_fields, error_item}
 use Rattle.amqp_session_types.specs.Fields.{named_values_item, symbols_item}

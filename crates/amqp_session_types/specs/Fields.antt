@@ -3,8 +3,8 @@ use Rattle.std.specs.Prelude.{ℕ, List, Option, map, bytes_eq}
 use Rattle.serde_amqp_item.specs.Item.{Item, scalar, symbol, raw}
 use Rattle.serde_amqp_de.specs.Takes.{several, multiple_taken, symbol_taken}
 use Rattle.serde_amqp_de.specs.Kept.{raw_taken}
-use Rattle.serde_amqp_map.specs.Items.{ordered_item}
-use Rattle.serde_amqp_map.specs.Takes.{ordered_taken}
+use Rattle.serde_amqp_values.specs.Items.{ordered_item}
+use Rattle.serde_amqp_values.specs.MapTakes.{ordered_taken}
 
 -- a map of symbols to values of any type
 abbrev pub named_values_item : List (List ℕ × List ℕ) → Item

@@ -2,8 +2,7 @@
 pub use crate::error::Error;
 pub use crate::handles::Handle;
 pub use crate::modes::{ReceiverSettleMode, Role, SenderSettleMode};
-use serde_amqp_map::OrderedMap;
-use serde_amqp_raw::RawValue;
+use serde_amqp_values::{OrderedMap, RawValue};
 use serde_amqp_types::{ByteBuf, Symbol};
 
 /// Values of any type by their names (part 2, 2.8.13).

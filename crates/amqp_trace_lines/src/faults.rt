@@ -6,7 +6,7 @@ use amqp_link_sections::{
     MessageAnnotations, Properties, Section,
 };
 use serde_amqp_item::Error;
-use serde_amqp_raw::RawValue;
+use serde_amqp_values::RawValue;
 use std::alloc::{AllocError, Global};
 
 /// The sections, in the order in which they are looked for.

@@ -12,7 +12,7 @@ use amqp_link_sections::Section;
 use amqp_trace_text::text_of;
 use bytes::Bytes;
 use serde_amqp_item::Error;
-use serde_amqp_raw::RawValue;
+use serde_amqp_values::RawValue;
 use std::alloc::Global;
 
 /// Reads a message of which these bytes are the payload, and says what it is written as (part 3, 3.2).

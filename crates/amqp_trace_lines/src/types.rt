@@ -13,7 +13,7 @@ use amqp_session_types::definitions::Error as Details;
 use amqp_session_types::{Handle, OrDefault, ReceiverSettleMode, Role, SenderSettleMode};
 use serde_amqp_de::from_slice;
 use serde_amqp_item::Error;
-use serde_amqp_raw::RawValue;
+use serde_amqp_values::RawValue;
 use serde_amqp_ser::to_vec;
 use std::alloc::Global;
 

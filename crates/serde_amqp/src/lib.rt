@@ -16,8 +16,6 @@ pub use serde_amqp_item::{
     Error, Float, IsDescribed, MAX_ARRAY_COUNT, OFFSET_ARRAY8, OFFSET_ARRAY32, OFFSET_LIST8,
     OFFSET_LIST32, OFFSET_MAP8, OFFSET_MAP32, UNTAGGED_ENUM, VALUE,
 };
-pub use serde_amqp_map::OrderedMap;
-pub use serde_amqp_raw::{RawValue, raw_value_is_strict};
 pub use serde_amqp_round_trip::{Faithful, RoundTrip, written_is_read, written_is_read_equal};
 pub use serde_amqp_ser::{
     Counter, Fields, IsArrayElement, MapSerializer, SeqSerializer, Serialize, Serializer, Sink,
@@ -26,11 +24,13 @@ pub use serde_amqp_ser::{
 };
 
 // types, and what tells them apart
-pub use serde_amqp_choice::{Choice, read_choice, read_fields_of};
 pub use serde_amqp_types::{
     Array, Binary, BinaryRef, BoolOr, Boolean, Byte, ByteBuf, Char, Dec32, Dec64, Dec128, Decimal,
     Described, Descriptor, Int, List, Long, Multiple, Short, Symbol, SymbolRef, Text, Timestamp,
     UByteOr, UIntOr, UShortOr, Ubyte, Uint, Ulong, Ushort, Uuid,
+};
+pub use serde_amqp_values::{
+    Choice, OrderedMap, RawValue, raw_value_is_strict, read_choice, read_fields_of,
 };
 
 #[cfg(test)]

@@ -1,5 +1,5 @@
 use Rattle.std.proofs.Common.{◌≡◌, true, false, Option, sym, ap, ◌∙◌}
-use Rattle.amqp_link_ends.specs.declared.end.End.{End}
+use Rattle.amqp_link.specs.declared.end.End.{End}
 use Rattle.amqp_endpoint_attached.specs.Detaching.{is_there}
 use Rattle.amqp_endpoint_attached.proofs.Detached.{detaches_in}
 use Rattle.amqp_endpoint_attached.proofs.There.{end_there, none_there, replaced_there}

@@ -1,7 +1,7 @@
 use Rattle.std.proofs.Common.{Option, sym, ap, ◌∙◌}
 use Rattle.amqp_link_base.specs.State.{is_attached}
 use Rattle.amqp_link_base.specs.declared.state.LinkState.{LinkState}
-use Rattle.amqp_link_ends.specs.declared.end.End.{End}
+use Rattle.amqp_link.specs.declared.end.End.{End}
 use Rattle.amqp_endpoint_attached.specs.Detaching.{is_there}
 use Rattle.amqp_endpoint_attached.proofs.There.{end_there, none_there}
 use Rattle.amqp_endpoint_attached.proofs.detaching.is_there.Goals as goal

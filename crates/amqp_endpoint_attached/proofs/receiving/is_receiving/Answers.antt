@@ -1,5 +1,5 @@
 use Rattle.std.proofs.Common.{Option, sym, ap, ◌∙◌}
-use Rattle.amqp_link_ends.specs.declared.end.End.{End}
+use Rattle.amqp_link.specs.declared.end.End.{End}
 use Rattle.amqp_endpoint_attached.specs.Receiving.{is_receiving}
 use Rattle.amqp_endpoint_attached.proofs.There.{end_there, none_there}
 use Rattle.amqp_endpoint_attached.proofs.receiving.is_receiving.Goals as goal

@@ -1,6 +1,6 @@
 use Rattle.std.proofs.Common.{None, Option, subst}
 use Rattle.std.specs.Prelude.{IsSome}
-use Rattle.amqp_link_ends.specs.declared.end.End.{End}
+use Rattle.amqp_link.specs.declared.end.End.{End}
 use Rattle.amqp_endpoint_attached.proofs.There.{none_there}
 use Rattle.amqp_endpoint_link_hearing.proofs.Messages.{remembers-in}
 use Rattle.amqp_endpoint_link_hearing.proofs.handing.remember_in.Goals as goal

@@ -1,6 +1,6 @@
 use Rattle.std.proofs.Common.{◌++◌, sym, ap, ◌∙◌}
-use Rattle.amqp_link_ends.specs.declared.end.End.{End}
-use Rattle.amqp_link_ends.specs.declared.end.End.TheVariants.{Sender}
+use Rattle.amqp_link.specs.declared.end.End.{End}
+use Rattle.amqp_link.specs.declared.end.End.TheVariants.{Sender}
 use Rattle.amqp_link_sender.specs.Sending.{Sending}
 use Rattle.amqp_endpoint_messages.specs.Reached.{end_behind, end_told}
 use Rattle.amqp_endpoint_messages.proofs.reached.tell_first.Goals as goal

@@ -1,6 +1,6 @@
 use Rattle.std.proofs.Common.{◌≡◌, length}
 use Rattle.std.specs.Str.{bytes_eq}
-use Rattle.serde_amqp_map.specs.Pairs.{all_inserted}
+use Rattle.serde_amqp_values.specs.Pairs.{all_inserted}
 use Rattle.amqp_link_base.proofs.properties.insert_all.Given as goal
 
 abbrev pub invariant-loop-name : goal.invariant-loop-name

@@ -1,6 +1,6 @@
 use Rattle.std.proofs.Common.{refl}
 use Rattle.serde_amqp_de.proofs.Heads.{carried}
-use Rattle.serde_amqp_choice.proofs.Choosing.{chosen_took, chosen_refused}
+use Rattle.serde_amqp_values.proofs.Choosing.{chosen_took, chosen_refused}
 use Rattle.amqp_session_states.specs.DeliveryState.{delivery_state_rows}
 use Rattle.amqp_session_states.specs.Received.{received_fields, received_takes}
 use Rattle.amqp_session_states.proofs.delivery_state.read_received.Goals as goal

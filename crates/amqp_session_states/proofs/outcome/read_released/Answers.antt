@@ -1,6 +1,6 @@
 use Rattle.std.proofs.Common.{[], refl}
 use Rattle.serde_amqp_de.proofs.Heads.{carried}
-use Rattle.serde_amqp_choice.proofs.Choosing.{chosen_took, chosen_refused}
+use Rattle.serde_amqp_values.proofs.Choosing.{chosen_took, chosen_refused}
 use Rattle.amqp_session_states.specs.Released.{released_takes}
 use Rattle.amqp_session_states.specs.Outcome.{outcome_rows}
 use Rattle.amqp_session_states.proofs.outcome.read_released.Goals as goal

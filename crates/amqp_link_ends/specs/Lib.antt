@@ -1,4 +1,0 @@
-pub mod Standing
-pub mod Ends
-pub mod Gives
-pub mod Lends

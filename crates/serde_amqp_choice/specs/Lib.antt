@@ -1,4 +1,0 @@
-pub mod Choice
-pub mod Rows
-pub mod Deciding
-pub mod Again

@@ -1,5 +1,0 @@
-pub mod Ordered
-pub mod PairLaws
-pub mod PairLemmas
-pub mod Reading
-pub mod SameLaws

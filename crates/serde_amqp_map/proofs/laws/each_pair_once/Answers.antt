@@ -1,5 +1,0 @@
-use Rattle.serde_amqp_map.proofs.PairLaws.{places_apart}
-use Rattle.serde_amqp_map.proofs.laws.each_pair_once.Goals as goal
-
-pub returns : goal.returns
-returns g c = places_apart g.K.PartialEq.eq

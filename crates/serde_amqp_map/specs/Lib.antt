@@ -1,9 +1,0 @@
-pub mod Again
-pub mod Compared
-pub mod Deciding
-pub mod Drained
-pub mod Items
-pub mod Lends
-pub mod Merging
-pub mod Pairs
-pub mod Takes

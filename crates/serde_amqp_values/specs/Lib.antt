@@ -1,0 +1,13 @@
+pub mod Choice
+pub mod ChoiceAgain
+pub mod ChoiceDeciding
+pub mod Compared
+pub mod Drained
+pub mod Items
+pub mod Lends
+pub mod MapAgain
+pub mod MapDeciding
+pub mod MapTakes
+pub mod Merging
+pub mod Pairs
+pub mod Rows
