@@ -3,8 +3,8 @@ ghost use Rattle.std.specs.Prelude.{◌≡◌, IfOk};
 ghost use Rattle.amqp_endpoint_attached.specs.Links.{base_by, receiver_by, sender_by, terms_by};
 
 use amqp_endpoint_model::LinkSettings;
-use amqp_link_base::{LinkBase, Terms, both};
 use amqp_link::LinkEnd;
+use amqp_link_base::{LinkBase, Terms, both};
 use amqp_link_receiver::ReceiverLink;
 use amqp_link_sender::SenderLink;
 use amqp_session_types::Boxed;

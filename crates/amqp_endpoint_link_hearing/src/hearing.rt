@@ -4,8 +4,8 @@ ghost use Rattle.amqp_endpoint_link_hearing.specs.Heard.{attach_of, detach_of, s
 
 use amqp_endpoint_conversation::Heard;
 use amqp_endpoint_links::{AttachTaken, DetachTaken, PerformativeTaken};
-use amqp_link_base::Detached;
 use amqp_link::AttachTold;
+use amqp_link_base::Detached;
 use amqp_link_receiver::Told;
 
 /// What comes of a peer's Attach.

@@ -8,8 +8,8 @@ use amqp_endpoint_attached::role;
 use amqp_endpoint_conversation::Conversation;
 use amqp_endpoint_links::{NamedLink, Numbered};
 use amqp_endpoint_tables::Links;
-use amqp_link_base::LinkState;
 use amqp_link::LinkEnd;
+use amqp_link_base::LinkState;
 use amqp_session_performatives::Attach;
 use amqp_session_types::{IncomingChannel, OutputHandle, Role};
 

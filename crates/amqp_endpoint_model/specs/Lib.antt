@@ -5,3 +5,4 @@ pub mod Relay
 pub mod State
 pub mod Step
 pub mod History
+pub mod Defaults

@@ -2,11 +2,12 @@
 ghost use Rattle.std.specs.Prelude.{◌≡◌};
 ghost use Rattle.amqp_endpoint_model.specs.declared.error.EndpointError.TheVariants.{Memory};
 ghost use Rattle.amqp_endpoint_model.specs.Numbers.{number};
-ghost use Rattle.amqp_endpoint_model.specs.Refusals.{of_connection};
+ghost use Rattle.amqp_endpoint_model.specs.Refusals.{of_codec, of_connection, of_frame, of_link, of_session};
 
 use amqp_link_types::LinkError;
 use amqp_session_frames::Error as FrameError;
 use amqp_session_types::{ConnectionError, SessionError};
+use serde_amqp_item::Error as CodecError;
 use std::alloc::{AllocError, AllocFailed};
 use thiserror::Error;
 
@@ -185,6 +186,55 @@ impl From<ConnectionError> for EndpointError {
         match refusal {
             ConnectionError::Memory => EndpointError::Memory,
             other => EndpointError::Connection(other),
+        }
+    }
+}
+
+/// Want of memory is the endpoint's own; any other refusal is the frame layer's (26).
+impl From<FrameError> for EndpointError {
+    ghost from_gives = { λ refusal e. e ≡ of_frame refusal };
+
+    fn from(refusal: FrameError) -> EndpointError {
+        match refusal {
+            FrameError::Memory => EndpointError::Memory,
+            other => EndpointError::Frame(other),
+        }
+    }
+}
+
+/// Want of memory is the endpoint's own; any other refusal is the session's (28).
+impl From<SessionError> for EndpointError {
+    ghost from_gives = { λ refusal e. e ≡ of_session refusal };
+
+    fn from(refusal: SessionError) -> EndpointError {
+        match refusal {
+            SessionError::Memory => EndpointError::Memory,
+            other => EndpointError::Session(other),
+        }
+    }
+}
+
+/// Want of memory is the endpoint's own; any other refusal is the link's (29).
+impl From<LinkError> for EndpointError {
+    ghost from_gives = { λ refusal e. e ≡ of_link refusal };
+
+    fn from(refusal: LinkError) -> EndpointError {
+        match refusal {
+            LinkError::Memory => EndpointError::Memory,
+            other => EndpointError::Link(other),
+        }
+    }
+}
+
+/// Want of memory is the endpoint's own; anything else is that the bytes can't be decoded (26; part 2, 2.8.15), as where a
+/// program reads a message that isn't what it takes.
+impl From<CodecError> for EndpointError {
+    ghost from_gives = { λ refusal e. e ≡ of_codec refusal };
+
+    fn from(refusal: CodecError) -> EndpointError {
+        match refusal {
+            CodecError::Memory => EndpointError::Memory,
+            _ => EndpointError::Frame(FrameError::DecodeError),
         }
     }
 }

@@ -6,8 +6,8 @@ ghost use Rattle.amqp_link_base.specs.Source.{filter_tests, is_in_place, unsuppo
 use amqp_link_types::{DesiredFilterNotSupported, ReceiverAttachError};
 use amqp_session_types::definitions::FilterSet;
 use indexmap::map::Iter;
-use serde_amqp_values::RawValue;
 use serde_amqp_types::{Array, Symbol};
+use serde_amqp_values::RawValue;
 use std::alloc::{AllocError, Global};
 
 /// What a receiver answers to the filters of the sender's source: all of those that it wants are in place.

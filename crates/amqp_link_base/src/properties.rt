@@ -7,8 +7,8 @@ ghost use Rattle.amqp_link_base.specs.Properties.{merged};
 use amqp_session_types::Boxed;
 use amqp_session_types::definitions::Fields;
 use indexmap::map::Iter;
-use serde_amqp_values::RawValue;
 use serde_amqp_types::Symbol;
+use serde_amqp_values::RawValue;
 use std::alloc::{AllocError, Global};
 
 /// The own properties with the peer's: a name that both have keeps its place and has the peer's value, and names that

@@ -7,10 +7,10 @@ ghost use Rattle.amqp_link_sections.specs.AnnotationLaws.{application_properties
 use crate::described::read_described;
 use serde_amqp_de::{Deserialize, Deserializer, NeverNull, Read};
 use serde_amqp_item::Error;
-use serde_amqp_values::{OrderedMap, RawValue};
 use serde_amqp_round_trip::{Faithful, RoundTrip};
 use serde_amqp_ser::{Serialize, Serializer, Sink};
 use serde_amqp_types::Text;
+use serde_amqp_values::{OrderedMap, RawValue};
 use std::alloc::{AllocError, Global};
 
 /// What an application says of a message, of values of any type by names (part 3, 3.2.5).

@@ -4,15 +4,31 @@ ghost use Rattle.std.specs.Prelude.{◌≡◌};
 use amqp_session_types::{SessionStopReason, definitions};
 use serde_amqp_types::{Array, Symbol};
 use std::alloc::AllocError;
+use std::fmt;
 use thiserror::Error;
 
 /// Filters that are wanted, and that the peer doesn't apply (part 3, 3.5.3).
-#[derive(Debug, Clone, PartialEq, Eq, Drop, Error)]
-#[error("wanted filters are not supported")]
+#[derive(Debug, Clone, PartialEq, Eq, Drop)]
 pub struct DesiredFilterNotSupported {
     /// The names of all of them, in the order in which they are wanted.
     pub not_supported: Array<Symbol>,
 }
+
+/// What is wrong, and behind a colon the names, parted by commas.
+impl fmt::Display for DesiredFilterNotSupported {
+    fn fmt<W: fmt::Write>(&self, f: &mut fmt::Formatter<W>) -> fmt::Result {
+        f.write_str("wanted filters are not supported")?;
+        let mut before = ": ";
+        for name in self.not_supported.iter() {
+            f.write_str(before)?;
+            f.write_str(name.as_str())?;
+            before = ", ";
+        }
+        Ok(())
+    }
+}
+
+impl std::error::Error for DesiredFilterNotSupported {}
 
 /// Why a sending link isn't attached.
 #[derive(Debug, Clone, PartialEq, Eq, Drop, Error)]
@@ -21,7 +37,7 @@ pub enum SenderAttachError {
     #[error("illegal state of the link")]
     IllegalState,
     /// The link's session has stopped (part 2, 2.5.2).
-    #[error("the session has stopped")]
+    #[error("the session has stopped: {0}")]
     SessionStopped(SessionStopReason),
     /// The session is not begun (part 2, 2.5.5).
     #[error("the session is not mapped")]
@@ -33,7 +49,7 @@ pub enum SenderAttachError {
     #[error("the peer is about to detach the link")]
     ExpectImmediateDetach,
     /// The peer closed the link and gave this error.
-    #[error("the peer closed the link with an error")]
+    #[error("the peer closed the link with an error: {0}")]
     RemoteClosedWithError(definitions::Error),
     /// A link of this name is there already (part 2, 2.6.1).
     #[error("the name of the link is in use")]
@@ -68,7 +84,7 @@ pub enum ReceiverAttachError {
     #[error("illegal state of the link")]
     IllegalState,
     /// The link's session has stopped (part 2, 2.5.2).
-    #[error("the session has stopped")]
+    #[error("the session has stopped: {0}")]
     SessionStopped(SessionStopReason),
     /// The session is not begun (part 2, 2.5.5).
     #[error("the session is not mapped")]
@@ -80,7 +96,7 @@ pub enum ReceiverAttachError {
     #[error("the peer is about to detach the link")]
     ExpectImmediateDetach,
     /// The peer closed the link and gave this error.
-    #[error("the peer closed the link with an error")]
+    #[error("the peer closed the link with an error: {0}")]
     RemoteClosedWithError(definitions::Error),
     /// A link of this name is there already (part 2, 2.6.1).
     #[error("the name of the link is in use")]
@@ -89,7 +105,7 @@ pub enum ReceiverAttachError {
     #[error("the peer's attach has no source")]
     IncomingSourceIsNone,
     /// The peer doesn't apply all filters that are wanted (part 3, 3.5.3).
-    #[error("wanted filters are not supported")]
+    #[error("{0}")]
     DesiredFilterNotSupported(DesiredFilterNotSupported),
     /// The source that the sender made has no address (part 3, 3.5.3).
     #[error("the dynamic source has no address")]

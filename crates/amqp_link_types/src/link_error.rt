@@ -13,28 +13,28 @@ use thiserror::Error;
 #[derive(Debug, Clone, PartialEq, Eq, Drop, Error)]
 pub enum LinkError {
     /// A message has no outcome.
-    #[error("a message has no outcome")]
+    #[error("a message has no outcome: {0}")]
     Send(SendError),
     /// The link's state does not allow it.
-    #[error("the state of the link does not allow it")]
+    #[error("the state of the link does not allow it: {0}")]
     LinkState(LinkStateError),
     /// What comes of a peer's Detach that needs no answer.
-    #[error("the peer detached the link")]
+    #[error("the peer detached the link: {0}")]
     ApplyRemoteDetach(ApplyRemoteDetachError),
     /// The link isn't detached, or the peer says why it is.
-    #[error("the link is not detached")]
+    #[error("the link is not detached: {0}")]
     Detach(DetachError),
     /// The link sends no Flow and no Disposition.
-    #[error("the state of the link does not allow it")]
+    #[error("the state of the link does not allow it: {0}")]
     IllegalLinkState(IllegalLinkStateError),
     /// The sending link isn't attached.
-    #[error("the sender is not attached")]
+    #[error("the sender is not attached: {0}")]
     SenderAttach(SenderAttachError),
     /// The receiving link isn't attached.
-    #[error("the receiver is not attached")]
+    #[error("the receiver is not attached: {0}")]
     ReceiverAttach(ReceiverAttachError),
     /// The receiving link refuses a transfer.
-    #[error("a transfer is refused")]
+    #[error("a transfer is refused: {0}")]
     ReceiverTransfer(ReceiverTransferError),
     /// There was no memory.
     #[error("out of memory")]

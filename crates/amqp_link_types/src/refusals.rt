@@ -22,19 +22,19 @@ pub enum LinkStateError {
     #[error("illegal state of the link")]
     IllegalState,
     /// The link's session has stopped (part 2, 2.5.2).
-    #[error("the session has stopped")]
+    #[error("the session has stopped: {0}")]
     SessionStopped(SessionStopReason),
     /// The peer detached the link (part 2, 2.7.7).
     #[error("the peer detached the link")]
     RemoteDetached,
     /// The peer detached the link and gave this error.
-    #[error("the peer detached the link with an error")]
+    #[error("the peer detached the link with an error: {0}")]
     RemoteDetachedWithError(definitions::Error),
     /// The peer closed the link (part 2, 2.7.7).
     #[error("the peer closed the link")]
     RemoteClosed,
     /// The peer closed the link and gave this error.
-    #[error("the peer closed the link with an error")]
+    #[error("the peer closed the link with an error: {0}")]
     RemoteClosedWithError(definitions::Error),
     /// The peer refuses the link: it answers the attach without a terminus, and a Detach is to follow (part 2, 2.6.3).
     #[error("the peer is about to detach the link")]
@@ -48,7 +48,7 @@ pub enum LinkStateError {
 #[derive(Debug, Clone, PartialEq, Eq, Drop, Error)]
 pub enum SendError {
     /// The link's state does not allow it.
-    #[error("the state of the link does not allow it")]
+    #[error("the state of the link does not allow it: {0}")]
     LinkStateError(LinkStateError),
     /// The message was settled with a state that is not terminal.
     #[error("a state of the delivery that is not terminal")]
@@ -68,10 +68,10 @@ pub enum ApplyRemoteDetachError {
     #[error("illegal state of the link")]
     IllegalState,
     /// The link is detached, and the peer gave this error.
-    #[error("the peer detached the link with an error")]
+    #[error("the peer detached the link with an error: {0}")]
     RemoteDetachedWithError(definitions::Error),
     /// The link is closed, and the peer gave this error.
-    #[error("the peer closed the link with an error")]
+    #[error("the peer closed the link with an error: {0}")]
     RemoteClosedWithError(definitions::Error),
     /// There was no memory.
     #[error("out of memory")]
@@ -85,13 +85,13 @@ pub enum DetachError {
     #[error("illegal state of the link")]
     IllegalState,
     /// The link's session has stopped (part 2, 2.5.2).
-    #[error("the session has stopped")]
+    #[error("the session has stopped: {0}")]
     SessionStopped(SessionStopReason),
     /// The link is detached, and the peer gave this error.
-    #[error("the peer detached the link with an error")]
+    #[error("the peer detached the link with an error: {0}")]
     RemoteDetachedWithError(definitions::Error),
     /// The link is closed, and the peer gave this error.
-    #[error("the peer closed the link with an error")]
+    #[error("the peer closed the link with an error: {0}")]
     RemoteClosedWithError(definitions::Error),
     /// There was no memory.
     #[error("out of memory")]
@@ -105,7 +105,7 @@ pub enum IllegalLinkStateError {
     #[error("illegal state of the link")]
     IllegalState,
     /// The link's session has stopped (part 2, 2.5.2).
-    #[error("the session has stopped")]
+    #[error("the session has stopped: {0}")]
     SessionStopped(SessionStopReason),
     /// There was no memory.
     #[error("out of memory")]

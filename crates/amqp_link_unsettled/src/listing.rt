@@ -14,8 +14,8 @@ use crate::message::UnsettledMessage;
 use amqp_session_performatives::Attach;
 use amqp_session_states::DeliveryState;
 use amqp_session_types::DeliveryTag;
-use serde_amqp_values::OrderedMap;
 use serde_amqp_ser::{Serialize, serialized_size};
+use serde_amqp_values::OrderedMap;
 use std::alloc::{AllocError, Global};
 use thiserror::Error;
 

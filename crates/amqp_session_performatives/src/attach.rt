@@ -13,11 +13,11 @@ use amqp_session_types::{
     Aside, Boxed, DeliveryTag, Fields, Handle, OrDefault, ReceiverSettleMode, Role,
     SenderSettleMode,
 };
-use serde_amqp_values::{OrderedMap, read_fields_of};
 use serde_amqp_de::{Deserialize, Deserializer, NeverNull, Read};
 use serde_amqp_round_trip::{Faithful, RoundTrip};
 use serde_amqp_ser::{Serialize, Serializer, Sink, serialize_record};
 use serde_amqp_types::{Array, BoolOr, Multiple, Symbol, Text};
+use serde_amqp_values::{OrderedMap, read_fields_of};
 use std::alloc::{AllocError, Global};
 
 /// Attaches a link to a session (part 2, 2.7.3).

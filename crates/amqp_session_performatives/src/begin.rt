@@ -6,11 +6,11 @@ ghost use Rattle.amqp_session_performatives.specs.BeginLaws.{begin_decided, begi
 use crate::composite::{Composite, Performs, read_composite};
 use crate::performative::Performative;
 use amqp_session_types::{Aside, Boxed, Fields};
-use serde_amqp_values::read_fields_of;
 use serde_amqp_de::{Deserialize, Deserializer, NeverNull, Read};
 use serde_amqp_round_trip::{Faithful, RoundTrip};
 use serde_amqp_ser::{Serialize, Serializer, Sink, serialize_record};
 use serde_amqp_types::{Array, Multiple, Symbol, UIntOr};
+use serde_amqp_values::read_fields_of;
 use std::alloc::{AllocError, Global};
 
 /// Begins a session on a channel (part 2, 2.7.2).

@@ -7,11 +7,11 @@ use crate::composite::{Composite, Performs, read_composite};
 use crate::performative::Performative;
 use amqp_session_types::Handle;
 use amqp_session_types::definitions::Error;
-use serde_amqp_values::read_fields_of;
 use serde_amqp_de::{Deserialize, Deserializer, NeverNull, Read};
 use serde_amqp_round_trip::{Faithful, RoundTrip};
 use serde_amqp_ser::{Serialize, Serializer, Sink, serialize_record};
 use serde_amqp_types::BoolOr;
+use serde_amqp_values::read_fields_of;
 use std::alloc::{AllocError, Global};
 
 /// Detaches a link from its session (part 2, 2.7.7).

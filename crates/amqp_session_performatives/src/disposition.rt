@@ -9,11 +9,11 @@ use crate::composite::{Composite, Performs, read_composite};
 use crate::performative::Performative;
 use amqp_session_states::DeliveryState;
 use amqp_session_types::Role;
-use serde_amqp_values::read_fields_of;
 use serde_amqp_de::{Deserialize, Deserializer, NeverNull, Read};
 use serde_amqp_round_trip::{Faithful, RoundTrip};
 use serde_amqp_ser::{Serialize, Serializer, Sink, serialize_record};
 use serde_amqp_types::BoolOr;
+use serde_amqp_values::read_fields_of;
 use std::alloc::{AllocError, Global};
 
 /// Tells the state of deliveries with consecutive numbers (part 2, 2.7.6).

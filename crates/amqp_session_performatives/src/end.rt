@@ -6,10 +6,10 @@ ghost use Rattle.amqp_session_performatives.specs.EndLaws.{end_decided, end_agai
 use crate::composite::{Composite, Performs, read_composite};
 use crate::performative::Performative;
 use amqp_session_types::definitions::Error;
-use serde_amqp_values::read_fields_of;
 use serde_amqp_de::{Deserialize, Deserializer, NeverNull, Read};
 use serde_amqp_round_trip::{Faithful, RoundTrip};
 use serde_amqp_ser::{Serialize, Serializer, Sink, serialize_record};
+use serde_amqp_values::read_fields_of;
 use std::alloc::{AllocError, Global};
 
 /// Ends a session (part 2, 2.7.8).

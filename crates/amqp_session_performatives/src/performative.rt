@@ -22,11 +22,11 @@ use crate::flow::{self, Flow};
 use crate::open::{self, Open};
 use crate::transfer::{self, Transfer};
 use amqp_session_types::Boxed;
-use serde_amqp_values::{Choice, read_choice};
 use serde_amqp_de::{Deserialize, Deserializer, NeverNull, Read};
 use serde_amqp_item::Error;
 use serde_amqp_round_trip::{Faithful, RoundTrip};
 use serde_amqp_ser::{Serialize, Serializer, Sink};
+use serde_amqp_values::{Choice, read_choice};
 use std::alloc::{AllocError, Global};
 
 /// What a frame says (part 2, 2.7).

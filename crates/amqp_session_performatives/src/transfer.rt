@@ -8,11 +8,11 @@ use crate::composite::{Composite, Performs, read_composite};
 use crate::performative::Performative;
 use amqp_session_states::DeliveryState;
 use amqp_session_types::{DeliveryTag, Handle, ReceiverSettleMode};
-use serde_amqp_values::read_fields_of;
 use serde_amqp_de::{Deserialize, Deserializer, NeverNull, Read};
 use serde_amqp_round_trip::{Faithful, RoundTrip};
 use serde_amqp_ser::{Serialize, Serializer, Sink, serialize_record};
 use serde_amqp_types::BoolOr;
+use serde_amqp_values::read_fields_of;
 use std::alloc::{AllocError, Global};
 
 /// Carries a delivery, or a part of it, on a link (part 2, 2.7.5).

@@ -1,5 +1,5 @@
 -- The source of a link: part 3, 3.5.3.
-use Rattle.std.specs.Prelude.{ℕ, Bool, false, List, [], ◌∷◌, Option}
+use Rattle.std.specs.Prelude.{ℕ, Bool, false, List, [], ◌∷◌, Option, Some, None}
 use Rattle.serde_amqp_item.specs.Item.{Item, scalar, boolean, uint, string}
 use Rattle.serde_amqp_item.specs.Record.{option_item, record_item}
 use Rattle.serde_amqp_de.specs.Takes.{boolean_taken, uint_taken, string_taken, option_taken, mapped, or_null}
@@ -11,6 +11,8 @@ use Rattle.amqp_session_states.specs.Terminus.{durability_item, durability_taken
 use Rattle.amqp_session_states.specs.Terminus.{expiry_policy_taken, session_end_name, distribution_mode_item}
 use Rattle.amqp_session_states.specs.Terminus.{distribution_mode_taken}
 use Rattle.amqp_session_states.specs.declared.source.Source.{Source}
+use Rattle.amqp_session_states.specs.declared.terminus.TerminusDurability.TheVariants.{None as Undurable}
+use Rattle.amqp_session_states.specs.declared.terminus.TerminusExpiryPolicy.TheVariants.{SessionEnd}
 
 -- amqp:source:list
 abbrev pub source_name : List ℕ
@@ -55,3 +57,19 @@ source_takes =
 -- the items that are read as a source, and the item of that source
 abbrev pub source_taken : Item → Option Item
 source_taken = record_taken 0x28 source_name source_takes
+
+-- the source with an address, whose other fields have their defaults
+abbrev pub source_of : List ℕ → Source
+source_of address = record {
+  address = Some address;
+  durable = Undurable;
+  expiry_policy = SessionEnd;
+  timeout = 0;
+  dynamic = false;
+  dynamic_node_properties = None;
+  distribution_mode = None;
+  filter = None;
+  default_outcome = None;
+  outcomes = [];
+  capabilities = [];
+}

@@ -1,5 +1,5 @@
 -- The target of a link: part 3, 3.5.4.
-use Rattle.std.specs.Prelude.{ℕ, Bool, false, List, [], ◌∷◌, Option}
+use Rattle.std.specs.Prelude.{ℕ, Bool, false, List, [], ◌∷◌, Option, Some, None}
 use Rattle.serde_amqp_item.specs.Item.{Item, scalar, boolean, uint, string}
 use Rattle.serde_amqp_item.specs.Record.{option_item, record_item}
 use Rattle.serde_amqp_de.specs.Takes.{boolean_taken, uint_taken, string_taken, option_taken, mapped, or_null}
@@ -9,6 +9,8 @@ use Rattle.amqp_session_types.specs.Limits.{is_symbol_of}
 use Rattle.amqp_session_states.specs.Terminus.{durability_item, durability_taken, expiry_policy_item}
 use Rattle.amqp_session_states.specs.Terminus.{expiry_policy_taken, session_end_name}
 use Rattle.amqp_session_states.specs.declared.target.Target.{Target}
+use Rattle.amqp_session_states.specs.declared.terminus.TerminusDurability.TheVariants.{None as Undurable}
+use Rattle.amqp_session_states.specs.declared.terminus.TerminusExpiryPolicy.TheVariants.{SessionEnd}
 
 -- amqp:target:list
 abbrev pub target_name : List ℕ
@@ -44,3 +46,15 @@ target_takes =
 -- the items that are read as a target, and the item of that target
 abbrev pub target_taken : Item → Option Item
 target_taken = record_taken 0x29 target_name target_takes
+
+-- the target with an address, whose other fields have their defaults
+abbrev pub target_of : List ℕ → Target
+target_of address = record {
+  address = Some address;
+  durable = Undurable;
+  expiry_policy = SessionEnd;
+  timeout = 0;
+  dynamic = false;
+  dynamic_node_properties = None;
+  capabilities = [];
+}

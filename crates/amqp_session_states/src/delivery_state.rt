@@ -17,11 +17,11 @@ use crate::outcome::Outcome;
 use crate::received::{self, Received};
 use crate::rejected::Rejected;
 use crate::released::Released;
-use serde_amqp_values::{Choice, read_choice, read_fields_of};
 use serde_amqp_de::{Deserialize, Deserializer, NeverNull, Read};
 use serde_amqp_item::Error;
 use serde_amqp_round_trip::{Faithful, RoundTrip};
 use serde_amqp_ser::{Serialize, Serializer, Sink};
+use serde_amqp_values::{Choice, read_choice, read_fields_of};
 use std::alloc::{AllocError, Global};
 
 /// The state of a delivery at one end of its link (part 3, 3.4).

@@ -12,11 +12,11 @@ use crate::modified::{self, Modified};
 use crate::rejected::{self, Rejected};
 use crate::released::{self, Released};
 use amqp_session_types::Aside;
-use serde_amqp_values::{Choice, read_choice, read_fields_of};
 use serde_amqp_de::{Deserialize, Deserializer, NeverNull, Read};
 use serde_amqp_item::Error;
 use serde_amqp_round_trip::{Faithful, RoundTrip};
 use serde_amqp_ser::{Serialize, Serializer, Sink};
+use serde_amqp_values::{Choice, read_choice, read_fields_of};
 use std::alloc::{AllocError, Global};
 
 /// A terminal state of a delivery (part 3, 3.4).

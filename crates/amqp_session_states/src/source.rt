@@ -1,6 +1,8 @@
 //! The source of a link (part 3, 3.5.3).
-ghost use Rattle.std.specs.Prelude.{◌≡◌, IfOk, refl};
-ghost use Rattle.amqp_session_states.specs.Source.{source_item, source_taken};
+ghost use Rattle.std.specs.Prelude.{◌≡◌, ◌∷◌, [], IfOk, refl};
+ghost use Rattle.serde_amqp_item.specs.Item.{scalar, string};
+ghost use Rattle.serde_amqp_item.specs.Record.{record_item};
+ghost use Rattle.amqp_session_states.specs.Source.{source_item, source_of, source_taken};
 ghost use Rattle.amqp_session_states.specs.SourceLaws.{source_again, source_decided, source_same};
 
 use crate::outcome::Outcome;
@@ -116,6 +118,29 @@ impl Clone for Source {
 }
 
 impl Source {
+    /// The source with this address. All else is as the standard has it where a field is absent (part 3, 3.5.3): nothing
+    /// of it is durable, it expires with its session and at once, and the address is the peer's, not to be made.
+    pub fn of(address: Text) -> Self
+        ensures value { result ≡ source_of address }
+        ensures absent { source_item result ≡ record_item 0x28 (scalar (string address) ∷ []) }
+    {
+        let text = address.into_inner();
+        let alloc = *text.allocator();
+        Source {
+            address: Some(Text::new(text)),
+            durable: TerminusDurability::None,
+            expiry_policy: TerminusExpiryPolicy::SessionEnd,
+            timeout: 0,
+            dynamic: false,
+            dynamic_node_properties: None,
+            distribution_mode: None,
+            filter: None,
+            default_outcome: None,
+            outcomes: Array::new(alloc),
+            capabilities: Array::new(alloc),
+        }
+    }
+
     /// Clones of the address and of what the node is to be like.
     #[tactic(auto, using(amqp_session_types::proofs::Clones::clones))]
     fn clone_node(&self) -> Result<(Option<Text>, Option<Properties>), AllocError>

@@ -1,6 +1,8 @@
 //! The target of a link (part 3, 3.5.4).
-ghost use Rattle.std.specs.Prelude.{◌≡◌, refl};
-ghost use Rattle.amqp_session_states.specs.Target.{target_item, target_taken};
+ghost use Rattle.std.specs.Prelude.{◌≡◌, ◌∷◌, [], refl};
+ghost use Rattle.serde_amqp_item.specs.Item.{scalar, string};
+ghost use Rattle.serde_amqp_item.specs.Record.{record_item};
+ghost use Rattle.amqp_session_states.specs.Target.{target_item, target_of, target_taken};
 ghost use Rattle.amqp_session_states.specs.TargetLaws.{target_again, target_decided, target_same};
 
 use crate::terminus::{TerminusDurability, TerminusExpiryPolicy};
@@ -69,6 +71,27 @@ type Fields = (
         ),
     ),
 );
+
+impl Target {
+    /// The target with this address. All else is as the standard has it where a field is absent (part 3, 3.5.4): nothing
+    /// of it is durable, it expires with its session and at once, and the address is the peer's, not to be made.
+    pub fn of(address: Text) -> Self
+        ensures value { result ≡ target_of address }
+        ensures absent { target_item result ≡ record_item 0x29 (scalar (string address) ∷ []) }
+    {
+        let text = address.into_inner();
+        let alloc = *text.allocator();
+        Target {
+            address: Some(Text::new(text)),
+            durable: TerminusDurability::None,
+            expiry_policy: TerminusExpiryPolicy::SessionEnd,
+            timeout: 0,
+            dynamic: false,
+            dynamic_node_properties: None,
+            capabilities: Array::new(alloc),
+        }
+    }
+}
 
 impl Clone for Target {
     ghost is_clone = { λ x y. y ≡ x };

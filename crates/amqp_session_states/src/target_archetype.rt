@@ -8,9 +8,9 @@ ghost use Rattle.amqp_session_states.specs.TargetArchetype.{target_archetype_tak
 use crate::target::Target;
 use serde_amqp_de::{Deserialize, Deserializer, NeverNull, Read};
 use serde_amqp_item::Error;
-use serde_amqp_values::RawValue;
 use serde_amqp_round_trip::{Faithful, RoundTrip};
 use serde_amqp_ser::{Serialize, Serializer, Sink};
+use serde_amqp_values::RawValue;
 use std::alloc::{AllocError, Global};
 
 /// What stands as a link's target: a target, or a described value of another type, which is kept as it is (part 2,

@@ -1,5 +1,5 @@
 -- An error: part 2, 2.8.14.
-use Rattle.std.specs.Prelude.{ℕ, List, [], ◌∷◌, Option}
+use Rattle.std.specs.Prelude.{ℕ, List, [], ◌∷◌, ◌++◌, Option, Some, None}
 use Rattle.serde_amqp_item.specs.Item.{Item, scalar, string, symbol}
 use Rattle.serde_amqp_item.specs.Record.{option_item, record_item}
 use Rattle.serde_amqp_de.specs.Takes.{string_taken, symbol_taken, option_taken, record_taken}
@@ -27,3 +27,12 @@ error_takes = symbol_taken ∷ option_taken string_taken ∷ option_taken named_
 -- the items that are read as an error, and the item of that error
 abbrev pub error_taken : Item → Option Item
 error_taken = record_taken 0x1d error_name error_takes
+
+-- what is said behind the condition: a colon, a space and the description
+abbrev pub description_said : Option (List ℕ) → List ℕ
+description_said None = []
+description_said (Some text) = 0x3a ∷ 0x20 ∷ text
+
+-- an error as a person reads it
+abbrev pub error_said : Error → List ℕ
+error_said e = e.condition ++ description_said e.description

@@ -2,8 +2,8 @@
 pub use crate::error::Error;
 pub use crate::handles::Handle;
 pub use crate::modes::{ReceiverSettleMode, Role, SenderSettleMode};
-use serde_amqp_values::{OrderedMap, RawValue};
 use serde_amqp_types::{ByteBuf, Symbol};
+use serde_amqp_values::{OrderedMap, RawValue};
 
 /// Values of any type by their names (part 2, 2.8.13).
 pub type Fields = OrderedMap<Symbol, RawValue>;

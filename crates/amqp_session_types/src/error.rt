@@ -1,6 +1,6 @@
 //! Details of an error (part 2, 2.8.14).
-ghost use Rattle.std.specs.Prelude.{◌≡◌, refl};
-ghost use Rattle.amqp_session_types.specs.Error.{error_item, error_taken};
+ghost use Rattle.std.specs.Prelude.{◌≡◌, Some, refl};
+ghost use Rattle.amqp_session_types.specs.Error.{error_item, error_said, error_taken};
 ghost use Rattle.amqp_session_types.specs.Deciding.{error_decided};
 ghost use Rattle.amqp_session_types.specs.Again.{error_again};
 ghost use Rattle.amqp_session_types.specs.Faithful.{error_same};
@@ -13,6 +13,7 @@ use serde_amqp_round_trip::{Faithful, RoundTrip};
 use serde_amqp_ser::{Serialize, Serializer, Sink, serialize_record};
 use serde_amqp_types::{Symbol, Text};
 use std::alloc::{AllocError, Global};
+use std::fmt;
 
 /// Details of an error (part 2, 2.8.14).
 #[derive(Debug, PartialEq, Eq)]
@@ -55,6 +56,22 @@ impl Clone for Error {
         })
     }
 }
+
+/// The condition, and behind a colon the description where there is one.
+impl fmt::Display for Error {
+    ghost output = { λ e. Some (error_said e) };
+
+    fn fmt<W: fmt::Write>(&self, f: &mut fmt::Formatter<W>) -> fmt::Result {
+        f.write_str(self.condition.as_str())?;
+        if let Some(description) = &self.description {
+            f.write_str(": ")?;
+            f.write_str(description.as_str())?;
+        }
+        Ok(())
+    }
+}
+
+impl std::error::Error for Error {}
 
 impl Serialize for Error {
     ghost item = { error_item };

@@ -24,7 +24,7 @@ pub enum OpenError {
     #[error("the peer closed the connection")]
     RemoteClosed,
     /// The peer closed the connection and gave this error.
-    #[error("the peer closed the connection with an error")]
+    #[error("the peer closed the connection with an error: {0}")]
     RemoteClosedWithError(definitions::Error),
     /// There was no memory.
     #[error("out of memory")]
@@ -50,7 +50,7 @@ pub enum ConnectionError {
     #[error("the peer closed the connection")]
     RemoteClosed,
     /// The peer closed the connection and gave this error.
-    #[error("the peer closed the connection with an error")]
+    #[error("the peer closed the connection with an error: {0}")]
     RemoteClosedWithError(definitions::Error),
     /// There was no memory.
     #[error("out of memory")]
@@ -73,7 +73,7 @@ pub enum BeginError {
     #[error("the peer ended the session")]
     RemoteEnded,
     /// The peer ended the session and gave this error.
-    #[error("the peer ended the session with an error")]
+    #[error("the peer ended the session with an error: {0}")]
     RemoteEndedWithError(definitions::Error),
     /// No channel is left that the peer allows (part 2, 2.7.1).
     #[error("all channels are in use")]
@@ -108,7 +108,7 @@ pub enum SessionError {
     #[error("the peer ended the session")]
     RemoteEnded,
     /// The peer ended the session and gave this error.
-    #[error("the peer ended the session with an error")]
+    #[error("the peer ended the session with an error: {0}")]
     RemoteEndedWithError(definitions::Error),
     /// The next delivery number is of a delivery that is still unsettled (part 2, 2.8.7).
     #[error("the delivery number is in use")]
@@ -150,13 +150,13 @@ pub enum ConnectionStopReason {
     #[error("the connection was closed")]
     Closed,
     /// It was closed here with this error.
-    #[error("the connection was closed with an error")]
+    #[error("the connection was closed with an error: {0}")]
     ClosedWithError(definitions::Error),
     /// The peer closed it (part 2, 2.7.9).
     #[error("the peer closed the connection")]
     RemoteClosed,
     /// The peer closed it and gave this error.
-    #[error("the peer closed the connection with an error")]
+    #[error("the peer closed the connection with an error: {0}")]
     RemoteClosedWithError(definitions::Error),
 }
 
@@ -175,7 +175,7 @@ impl Drop for ConnectionStopReason {
 #[derive(Debug, Clone, PartialEq, Eq, Error)]
 pub enum SessionStopReason {
     /// Its connection stopped.
-    #[error("the connection has stopped")]
+    #[error("the connection has stopped: {0}")]
     ConnectionStopped(ConnectionStopReason),
     /// It was ended here.
     #[error("the session was ended")]
@@ -184,7 +184,7 @@ pub enum SessionStopReason {
     #[error("the peer ended the session")]
     RemoteEnded,
     /// The peer ended it and gave this error.
-    #[error("the peer ended the session with an error")]
+    #[error("the peer ended the session with an error: {0}")]
     RemoteEndedWithError(definitions::Error),
 }
 

@@ -13,8 +13,8 @@ use amqp_session_types::definitions::Error as Details;
 use amqp_session_types::{Handle, OrDefault, ReceiverSettleMode, Role, SenderSettleMode};
 use serde_amqp_de::from_slice;
 use serde_amqp_item::Error;
-use serde_amqp_values::RawValue;
 use serde_amqp_ser::to_vec;
+use serde_amqp_values::RawValue;
 use std::alloc::Global;
 
 /// Reads a value of the type with this name from the front of the bytes, and says what it is written as.

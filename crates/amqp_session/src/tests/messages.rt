@@ -30,7 +30,13 @@ fn want_of_memory(rt: HostRuntime) -> Result<(), Fail> {
 #[test]
 fn stop_reasons(rt: HostRuntime) -> Result<(), Fail> {
     let stopped = SessionStopReason::from(ConnectionStopReason::Closed);
-    assert!(rt; is_said(rt.alloc(), stopped, "the connection has stopped")?);
+    assert!(rt;
+        is_said(
+            rt.alloc(),
+            stopped,
+            "the connection has stopped: the connection was closed"
+        )?
+    );
     Ok(())
 }
 
