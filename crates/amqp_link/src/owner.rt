@@ -1,5 +1,5 @@
 //! Who owns links of a session (part 2, 2.6).
-use amqp_link::LinkEnd;
+use crate::LinkEnd;
 use amqp_session_core::LinkOwner;
 
 /// Who makes, sends, gives credit, disposes, attaches and detaches by the calls of the two ends alone: each change that
