@@ -64,7 +64,7 @@ impl<K: MapKey + Drop, V: Deserialize + Drop> Deserialize for OrderedMap<K, V> {
 
     ghost take = { ordered_taken K.take V.take };
 
-    #[tactic(auto, unfolding(crate::specs::Takes::ordered_taken, serde_amqp_de::specs::Maps::pairs_taken))]
+    #[tactic(auto, unfolding(crate::specs::MapTakes::ordered_taken, serde_amqp_de::specs::Maps::pairs_taken))]
     fn absent(_alloc: Global) -> Option<OrderedMap<K, V>> {
         None
     }
