@@ -17,3 +17,4 @@ pub mod EndLaws
 pub mod OnTheWay
 pub mod Connections
 pub mod MoveLaws
+pub mod TurnLaws

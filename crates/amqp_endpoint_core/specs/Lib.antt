@@ -3,9 +3,11 @@ pub mod Queue
 pub mod Reading
 pub mod NoSessions
 pub mod Messages
+pub mod Disposing
 pub mod WorldState
 pub mod WorldSaid
 pub mod WorldStep
 pub mod EndHistory
 pub mod Pulling
 pub mod Moves
+pub mod Turns

@@ -1,12 +1,12 @@
 -- How bytes move between an endpoint and its stream.
 use Rattle.std.specs.Prelude.{◌≡◌, ℕ, ◌<◌, Bool, true, false, List, [], ◌++◌, length, take, drop, Option, ⊤}
-use Rattle.std.specs.Io.KnownBytes.{Appends, Consumes}
+use Rattle.std.specs.Io.KnownBytes.{Appends, Consumes, IsAtEnd, Keeps}
 use Rattle.amqp_endpoint_model.specs.declared.error.EndpointError.{EndpointError}
 use Rattle.amqp_endpoint_model.specs.declared.error.EndpointError.TheVariants.{Memory}
 use Rattle.amqp_endpoint_model.specs.declared.event.Event.{Event}
 use Rattle.amqp_endpoint_model.specs.Relay.{Relations}
 use Rattle.amqp_endpoint_model.specs.State.{State}
-use Rattle.amqp_endpoint_model.specs.Step.{FeedsIn}
+use Rattle.amqp_endpoint_model.specs.Step.{Breaks, FeedsIn}
 use Rattle.amqp_endpoint_core.specs.Queue.{texts_of}
 use Rattle.amqp_endpoint_core.specs.declared.error.CallerError.{CallerError}
 use Rattle.amqp_endpoint_core.specs.declared.error.CallerError.TheVariants.{Endpoint, Stream}
@@ -53,3 +53,9 @@ module _ {S : Type 0} (does : Relations S) where
     pub came : Consumes left left_new bytes
     pub some : 0 < length bytes
     pub fed : FeedsIn does old.phase old bytes events fault new
+
+  -- no more bytes come: the endpoint is broken off
+  pub record EndsReading (left left_new : Option (List ℕ)) (old new : State S) : Type 0 where
+    pub nothing : Keeps left left_new
+    pub at_end : IsAtEnd left_new
+    pub breaks : Breaks does old new

@@ -29,6 +29,7 @@ use std::marker::Model;
 
 mod answering;
 mod calling;
+mod disposing;
 mod feeding;
 mod linking;
 mod messaging;

@@ -1,8 +1,10 @@
 //! Why a caller's loop stops before its end.
 ghost use Rattle.std.specs.Prelude.{◌≡◌};
 ghost use Rattle.amqp_endpoint_core.specs.declared.error.CallerError.TheVariants.{Endpoint, Stream};
+ghost use Rattle.amqp_endpoint_model.specs.declared.error.EndpointError.TheVariants.{Memory};
 
 use amqp_endpoint_model::EndpointError;
+use std::alloc::AllocError;
 use std::io;
 use thiserror::Error;
 
@@ -30,5 +32,14 @@ impl From<EndpointError> for CallerError {
 
     fn from(refusal: EndpointError) -> CallerError {
         CallerError::Endpoint(refusal)
+    }
+}
+
+/// Want of memory is the endpoint's own refusal.
+impl From<AllocError> for CallerError {
+    ghost from_gives = { λ _ e. e ≡ Endpoint Memory };
+
+    fn from(_e: AllocError) -> CallerError {
+        CallerError::Endpoint(EndpointError::Memory)
     }
 }

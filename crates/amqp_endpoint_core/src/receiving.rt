@@ -1,8 +1,7 @@
 //! What the peer sends is read and fed.
 ghost use Rattle.std.specs.Prelude.{◌≡◌, ◌<◌, length, IfOk, MatchOption, OnErr};
-ghost use Rattle.std.specs.Io.KnownBytes.{IsAtEnd, Keeps};
-ghost use Rattle.amqp_endpoint_model.specs.Step.{Breaks};
-ghost use Rattle.amqp_endpoint_core.specs.Moves.{Receives};
+ghost use Rattle.std.specs.Io.KnownBytes.{Keeps};
+ghost use Rattle.amqp_endpoint_core.specs.Moves.{EndsReading, Receives};
 
 use crate::Endpoint;
 use amqp_endpoint_model::{Fed, SessionRelay};
@@ -20,7 +19,7 @@ pub fn read_in<S: SessionRelay, R: Read>(
 ) -> io::Result<Option<Fed>>
     requires room { 0 < length input.old }
     ensures ok { IfOk result (λ came. MatchOption came
-        (IsAtEnd (R.remaining reader.new) × Breaks S.does endpoint.old endpoint.new)
+        (EndsReading S.does (R.remaining reader.old) (R.remaining reader.new) endpoint.old endpoint.new)
         (λ fed. Receives S.does (R.remaining reader.old) (R.remaining reader.new)
         endpoint.old (fed.events.items) fed.fault endpoint.new)) }
     ensures room { length input.new ≡ length input.old }
