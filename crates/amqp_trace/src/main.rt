@@ -1,8 +1,23 @@
 //! Answers the lines of standard input on standard output: what AMQP bytes say. docs/TRACE.md has the words.
 #![tactic(auto)]
 
+mod calls;
+mod codec;
+mod connection;
+mod division;
+mod faults;
+mod frames;
+mod hexadecimal;
+mod lines;
+mod messages;
+mod reading;
+mod refusal;
+mod stream;
+mod text;
+mod types;
+
 use amqp_rows::run;
-use amqp_trace_lines::answer;
+use lines::answer;
 use std::io;
 use std::process::ExitCode;
 
