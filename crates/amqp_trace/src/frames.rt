@@ -2,12 +2,14 @@
 ghost use Rattle.std.specs.Prelude.{◌≡◌, IfOk, IfErr, Some};
 ghost use Rattle.serde_amqp_item.specs.Canon.{canon};
 ghost use Rattle.amqp_session_frames.specs.Text.{FrameText, NotRead, performative_of, performative_text};
-ghost use Rattle.amqp_trace.specs.Seen.{IsSeen, NotSeen, NotWritten, Shows, payload_of};
+ghost use Rattle.amqp_trace.specs.Seen.{IsSeen, NotSeen, NotWritten, Shows, effect_of, part_of, payload_of};
 
+use crate::deliveries::{Deliveries, Effect, Part};
 use crate::messages::push_message;
 use crate::refusal::Refusal;
 use crate::text::text_of;
 use amqp_session_frames::{Error as FrameError, Frame, FrameBody, FrameDecoder};
+use amqp_session_performatives::Transfer;
 use bytes::Bytes;
 use serde_amqp_item::Error;
 use serde_amqp_ser::{Serialize, to_vec};
@@ -22,6 +24,18 @@ pub struct SeenFrame {
     pub performative: Vec<u8>,
     /// The bytes that a transfer carries.
     pub payload: Option<Bytes>,
+    /// What it does to the deliveries of its channel that are under way.
+    pub effect: Effect,
+}
+
+impl SeenFrame {
+    /// The bytes that it carries behind its performative: none where it is no transfer.
+    pub(crate) fn payload(&self) -> &[u8] {
+        match &self.payload {
+            Some(payload) => payload.as_slice(),
+            None => &[],
+        }
+    }
 }
 
 /// The frame that these bytes are, with their size field (part 2, 2.3).
@@ -60,6 +74,7 @@ fn shown(alloc: Global, frame: &Frame) -> Result<SeenFrame, FrameError>
         channel: frame.channel(),
         performative,
         payload,
+        effect: effect_of(frame.body()),
     })
 }
 
@@ -109,23 +124,71 @@ fn payload_of(body: &FrameBody) -> Result<Option<Bytes>, FrameError>
     }
 }
 
-/// The line for a frame.
-pub(crate) fn frame_line(alloc: Global, bytes: &[u8]) -> Result<String, Refusal> {
+/// What the frame does to the deliveries of its channel that are under way.
+fn effect_of(body: &FrameBody) -> Effect
+    ensures { result ≡ effect_of body.now }
+{
+    match body {
+        FrameBody::Begin(_) | FrameBody::End(_) => Effect::BreaksSession,
+        FrameBody::Attach(attach) => Effect::BreaksLink(attach.handle),
+        FrameBody::Detach(detach) => Effect::BreaksLink(detach.handle),
+        FrameBody::Transfer { performative, .. } => Effect::Carries(part_of(performative)),
+        _ => Effect::Nothing,
+    }
+}
+
+/// What the transfer says of the part that it carries.
+fn part_of(transfer: &Transfer) -> Part
+    ensures { result ≡ part_of transfer.now }
+{
+    Part {
+        handle: transfer.handle,
+        delivery_id: transfer.delivery_id,
+        more: transfer.more,
+        aborted: transfer.aborted,
+    }
+}
+
+/// The line for a frame behind which these deliveries are under way, and of which it may carry the last part.
+pub(crate) fn frame_line(
+    alloc: Global,
+    deliveries: &mut Deliveries,
+    bytes: &[u8],
+) -> Result<String, Refusal> {
     let frame = seen_frame(alloc, bytes)?;
-    let channel = frame.channel;
-    let mut line = format!(in alloc; "channel {channel} ")?;
-    push_performative(alloc, &mut line, frame.performative.as_slice())?;
-    if let Some(payload) = &frame.payload {
-        push_payload(alloc, &mut line, payload.as_slice())?;
+    let whole = deliveries.take(alloc, &frame)?;
+    let mut line = performative_line(alloc, &frame)?;
+    if frame.payload.is_some() {
+        push_payload(alloc, &mut line, frame.payload().len(), whole)?;
     }
     Ok(line)
 }
 
-/// Appends how many bytes a transfer carries, and the message that they are, if they are one.
-fn push_payload(alloc: Global, line: &mut String, payload: &[u8]) -> Result<(), Refusal> {
-    let length = payload.len();
+/// The channel of a frame, and its performative, or that there is none.
+fn performative_line(alloc: Global, frame: &SeenFrame) -> Result<String, Refusal> {
+    let channel = frame.channel;
+    let mut line = format!(in alloc; "channel {channel} ")?;
+    push_performative(alloc, &mut line, frame.performative.as_slice())?;
+    Ok(line)
+}
+
+/// Appends how many bytes a transfer carries. Where a delivery is whole with them, it appends how many bytes that has, if it
+/// has others, and the message that they are, if they are one.
+fn push_payload(
+    alloc: Global,
+    line: &mut String,
+    length: usize,
+    whole: Option<Vec<u8>>,
+) -> Result<(), Refusal> {
     write!(line, " payload {length}")?;
-    push_message(alloc, line, payload)
+    let Some(whole) = whole else {
+        return Ok(());
+    };
+    let all = whole.len();
+    if all != length {
+        write!(line, " of {all}")?;
+    }
+    push_message(alloc, line, whole.as_slice())
 }
 
 /// Appends a performative, or that there is none.

@@ -1,6 +1,7 @@
 //! Which line asks what.
 use crate::codec;
 use crate::connection::connection_line;
+use crate::deliveries::Deliveries;
 use crate::division::division_line;
 use crate::frames::frame_line;
 use crate::hexadecimal::{hex_word, read_bytes};
@@ -31,6 +32,9 @@ fn read_line(alloc: Global, given: &str) -> Result<String, Refusal> {
         "divide" => divide(alloc, asked),
         "read" => read(alloc, asked),
         "write" => write(alloc, asked),
+        "stream" => stream_lines(alloc, asked, "\n"),
+        "out" | "in" => stream_lines(alloc, given, "\n"),
+        "frames" => stream_lines(alloc, asked, " ; "),
         "as" | "array" | "beginnings" | "constructors" => typed(alloc, given),
         _ => of_bytes(alloc, word, asked),
     }
@@ -51,9 +55,7 @@ fn of_bytes(alloc: Global, word: &str, asked: &str) -> Result<String, Refusal> {
         "value" => Ok(text_of(alloc, bytes.as_slice())?),
         "canonical" => canonical_word(alloc, bytes.as_slice()),
         "performative" | "message" => read_as(alloc, word, bytes.as_slice()),
-        "frame" => frame_line(alloc, bytes.as_slice()),
-        "stream" => stream_lines(alloc, bytes.as_slice(), "\n"),
-        "frames" => stream_lines(alloc, bytes.as_slice(), " ; "),
+        "frame" => frame_line(alloc, &mut Deliveries::new(alloc), bytes.as_slice()),
         _ => Err(Refusal::Unreadable),
     }
 }
