@@ -84,14 +84,16 @@ impl Direction {
         }
     }
 
-    /// Takes more bytes, and appends a line for each frame that is whole with them.
-    fn take(&mut self, alloc: Global, bytes: &[u8], lines: &mut Lines) -> Result<(), AllocError> {
+    /// Takes the bytes of a word, and appends a line for each frame that is whole with them.
+    fn take(&mut self, alloc: Global, word: &str, lines: &mut Lines) -> Result<(), Refusal> {
+        let bytes = read_bytes(alloc, word)?;
         if self.progress == Progress::Over {
             return Ok(());
         }
         self.progress = Progress::Reading;
-        self.bytes.extend_from_slice(bytes)?;
-        self.read_on(alloc, lines)
+        self.bytes.extend_from_slice(bytes.as_slice())?;
+        self.read_on(alloc, lines)?;
+        Ok(())
     }
 
     /// Appends a line for each frame that is whole and not read yet.
@@ -184,23 +186,26 @@ impl Streams {
 
     /// Takes a piece: `<hex>`, `out <hex>` or `in <hex>`.
     fn take(&mut self, alloc: Global, piece: &str) -> Result<(), Refusal> {
-        let (direction, word) = match piece.split_once(' ') {
-            None => (&mut self.alone, piece),
-            Some(("out", word)) => (&mut self.sent, word),
-            Some(("in", word)) => (&mut self.received, word),
-            Some(_) => return Err(Refusal::Unreadable),
-        };
-        let bytes = read_bytes(alloc, word)?;
-        direction.take(alloc, bytes.as_slice(), &mut self.lines)?;
-        Ok(())
+        match piece.split_once(' ') {
+            None => self.alone.take(alloc, piece, &mut self.lines),
+            Some(("out", word)) => self.sent.take(alloc, word, &mut self.lines),
+            Some(("in", word)) => self.received.take(alloc, word, &mut self.lines),
+            Some(_) => Err(Refusal::Unreadable),
+        }
     }
 
     /// All lines, with the faults of what ends early.
-    fn end(mut self) -> Result<String, AllocError> {
-        self.alone.end(&mut self.lines)?;
-        self.sent.end(&mut self.lines)?;
-        self.received.end(&mut self.lines)?;
-        Ok(self.lines.text)
+    fn end(self) -> Result<String, AllocError> {
+        let Streams {
+            alone,
+            sent,
+            received,
+            mut lines,
+        } = self;
+        alone.end(&mut lines)?;
+        sent.end(&mut lines)?;
+        received.end(&mut lines)?;
+        Ok(lines.text)
     }
 }
 
