@@ -44,10 +44,9 @@ time:
 edits:
 	@tools/try_edits $(CRATES)
 
-# Counts the instructions that the codec, the frames of a session, sessions, the endpoint and links take, by valgrind.
+# Counts the instructions that an endpoint takes, by valgrind. The program is built once, and nothing is proved.
 bench:
-	@crates/amqp_scenario/measure
-	@crates/amqp_script/measure
+	@tools/bench
 
 # Proves and builds the program, and runs the script once for each of its requests for memory, with that request refused.
 memory:

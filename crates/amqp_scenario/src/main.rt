@@ -1,6 +1,5 @@
 //! Runs a script on standard input, and prints what it comes to on standard output. With the argument `rows` it reads
-//! rows instead, each a script and what it prints, and tells which differ; or work that is done a number of times, so
-//! that the instructions that it takes can be counted.
+//! rows instead, each a script and what it prints, and tells which differ.
 #![tactic(auto)]
 
 mod rows;

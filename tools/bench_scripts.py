@@ -1,0 +1,189 @@
+"""Scripts of amqp_scenario whose instructions tools/bench counts. docs/SCENARIOS.md says what their lines do."""
+
+HEADER = "a feed 414d515000010000"
+
+# An Empty frame (part 2, 2.4.5), and how many of them a block has.
+EMPTY = "0000000802000000"
+BLOCK = 2048
+
+# Performatives of a peer (part 2, 2.7): an Open that takes frames of 512 bytes, a Close, a Begin that answers the one on
+# channel 0, and one that answers none.
+OPEN = b"\x00\x53\x10\xc0\x0a\x03\xa1\x01b\x40\x70\x00\x00\x02\x00"
+CLOSE = b"\x00\x53\x18\x45"
+WINDOWS = b"\x43\x70\x00\x00\x08\x00\x70\x00\x00\x08\x00"
+ANSWER = b"\x00\x53\x11\xc0\x0f\x04\x60\x00\x00" + WINDOWS
+BEGIN = b"\x00\x53\x11\xc0\x0d\x04\x40" + WINDOWS
+
+# The first transfer of a delivery with a tag of eight bytes, a Flow that gives 200 credits, a Disposition that accepts and
+# settles eight deliveries, and a Detach that closes the link with the handle 0.
+TRANSFER = b"\x00\x53\x14\xc0\x10\x05\x43\x52\x00\xa0\x08\x00\x00\x00\x00\x00\x00\x00\x00\x43\x42"
+FLOW = b"\x00\x53\x13\xc0\x11\x07\x43\x70\x00\x00\x08\x00\x43\x70\x00\x00\x08\x00\x43\x43\x52\xc8"
+DISPOSITION = b"\x00\x53\x15\xc0\x0a\x05\x41\x43\x52\x07\x41\x00\x53\x24\x45"
+DETACH = b"\x00\x53\x16\xc0\x03\x02\x43\x41"
+
+# An Attach of a sender whose source and target have an address alone, one of a receiver, and one of a sender with a
+# source and a target in which each field is set (part 2, 2.7.3; part 3, 3.5.3, 3.5.4).
+ENDS = (
+    b"\x40\x40\x00\x53\x28\xc0\x08\x01\xa1\x05queue\x00\x53\x29\xc0\x08\x01\xa1\x05queue\x40\x40\x43"
+)
+SENDER = b"\x00\x53\x12\xc0\x28\x0a\xa1\x04link\x43\x42" + ENDS
+RECEIVER = b"\x00\x53\x12\xc0\x28\x0a\xa1\x04link\x43\x41" + ENDS
+TWO_SYMBOLS = b"\xe0\x14\x02\xb3\x00\x00\x00\x05queue\x00\x00\x00\x05queue"
+LIFETIME = b"\xa1\x05queue\x52\x02\xa3\x05never\x52\x3c\x41\xc1\x0c\x02\xa3\x08lifetime\x40"
+FULL = (
+    b"\x00\x53\x12\xd0\x00\x00\x01\x17\x00\x00\x00\x0e\xa1\x04link\x43\x42\x50\x00\x50\x01"
+    b"\x00\x53\x28\xc0\x80\x0b" + LIFETIME + b"\xa3\x04move\xc1\x0c\x02\xa3\x08selector\x40\x00\x53\x24\x45"
+    b"\xe0\x2e\x02\xb3\x00\x00\x00\x12amqp:accepted:list\x00\x00\x00\x12amqp:accepted:list" + TWO_SYMBOLS
+    + b"\x00\x53\x29\xc0\x38\x07" + LIFETIME + TWO_SYMBOLS
+    + b"\x40\x40\x43\x80\x00\x00\x00\x00\x00\x01\x00\x00" + 2 * TWO_SYMBOLS.replace(b"queue", b"topic")
+    + b"\xc1\x0b\x02\xa3\x07product\x40"
+)
+
+
+def script(*parts):
+    """The text of lists of lines."""
+    return "\n".join([*(line for part in parts for line in part), ""])
+
+
+def repeated(lines_at, count, first=0):
+    """The lines of each of so many numbers."""
+    return [line for number in range(first, first + count) for line in lines_at(number)]
+
+
+def move(*ends):
+    return [f"move {end} all" for end in ends]
+
+
+def with_windows(lines_at, count):
+    """The same, where `a` hears now and then of a new window of the session, which takes 2,048 transfers."""
+    return repeated(lambda number: lines_at(number) + (move("b") if number % 500 == 499 else []), count)
+
+
+# Two ends. `a` begins sessions, and sends.
+
+TWO = ["two", "settings a a 65536 65535 2048 0", "settings b b 65536 65535 2048 0", "a connect", "b connect"]
+OPENED = TWO + move("a", "b", "a", "b")
+
+
+def begin(channel):
+    return ["a begin", "move a all", f"b accept {channel}", "move b all"]
+
+
+def attach(number):
+    """A link of the first session, by its number as its name."""
+    return [f"a sender 0 {number} 0 mixed first", "move a all", f"b receiver 0 {number} first", "move b all"]
+
+
+def grant(link):
+    return [f"b grant {link} 1000000", "move b all"]
+
+
+def send(how, size, link=0):
+    return [f"a send {link} {how} {'00' * size}", "move a all"]
+
+
+# A script keeps what an endpoint tells, and with it the bytes that were fed: behind a message of 64 KiB the endpoint has room
+# for many such.
+ROOM = send("settled", 65536)
+ATTACHED = OPENED + begin(0) + attach(0) + grant(0) + ROOM
+
+
+def dispose(message):
+    return [f"b dispose 0 {message} accepted mode", "move b all"]
+
+
+def messages(how, size, count):
+    """So many messages of so many bytes; unsettled ones are accepted as they come."""
+    if how == "settled":
+        return script(ATTACHED, send(how, size) * count)
+    return script(ATTACHED, repeated(lambda number: send(how, size) + dispose(number), count, 1))
+
+
+def turns(links, count):
+    """So many settled messages of 100 bytes, over so many links in turn."""
+    each = repeated(lambda link: attach(link) + grant(link), links)
+    return script(OPENED, begin(0), each, ROOM, with_windows(lambda number: send("settled", 100, number % links), count))
+
+
+def sessions(there, count):
+    """So many sessions that begin and end one after the other, where so many are there."""
+    one = ["a begin", "move a all", f"b accept {there}", "move b all"]
+    ended = repeated(lambda number: [*one, f"a end {number}", *move("a", "b")], count, there)
+    return script(OPENED, repeated(begin, there), ended)
+
+
+def links(there, count):
+    """So many links that attach and are detached one after the other, where so many are there."""
+    gone = repeated(lambda number: [*attach(number), f"a detach {number}", *move("a", "b")], count, there)
+    return script(OPENED, begin(0), repeated(attach, there), gone)
+
+
+def message_beside(there, count):
+    """So many settled messages of 100 bytes by the last of so many links."""
+    return script(ATTACHED, repeated(attach, there - 1, 1), grant(there - 1), send("settled", 100, there - 1) * count)
+
+
+def oldest_accepted(there, count):
+    """So many unsettled messages of 100 bytes, of which each is sent where so many are open, and the oldest accepted then."""
+    each = repeated(lambda number: send("unsettled", 100) + dispose(number), count, 1)
+    return script(ATTACHED, with_windows(lambda _: send("unsettled", 100), there), each)
+
+
+def newest_accepted(there, count):
+    """The same, but each is accepted itself."""
+    each = repeated(lambda number: send("unsettled", 100) + dispose(number), count, there + 1)
+    return script(ATTACHED, with_windows(lambda _: send("unsettled", 100), there), each)
+
+
+# One end, whose peer is the script.
+
+
+def feed(performative, payload=0, channel=0):
+    """The peer's frame with this performative and a payload of so many bytes."""
+    frame = bytes([2, 0, 0, channel]) + performative + bytes(payload)
+    return [f"a feed {(len(frame) + 4).to_bytes(4, 'big').hex()}{frame.hex()}"]
+
+
+PULL = ["a pull"]
+CONNECTED = ["a connect", HEADER, *feed(OPEN), *PULL * 2]
+BEGUN = ["one", *CONNECTED, "a begin", *PULL, *feed(ANSWER)]
+SENDS = [*BEGUN, "a sender 0 link 0 mixed first", *PULL, *feed(RECEIVER), *feed(FLOW)]
+RECEIVES = [*BEGUN, "a receiver 0 link first", *PULL, *feed(SENDER), "a grant 0 1000", *PULL]
+
+
+# A connection that is opened and closed.
+CONNECTION = script(["one", *CONNECTED, "a close", *PULL, *feed(CLOSE)])
+
+
+def empty_frames(blocks, piece):
+    """So many blocks of Empty frames, in pieces of so many bytes: of whole frames, or of 1."""
+    if piece == 1:
+        pieces = [EMPTY[at : at + 2] for at in range(0, len(EMPTY), 2)] * BLOCK
+    else:
+        pieces = [EMPTY * (piece * 2 // len(EMPTY))] * (BLOCK * len(EMPTY) // 2 // piece)
+    return script(["one", *CONNECTED], [f"a feed {it}" for it in pieces] * blocks)
+
+
+# What is read: a name, the lines before, and the frame.
+READ = [
+    ("a first transfer with 100 bytes of payload, of 129 bytes in all", RECEIVES, feed(TRANSFER, 100)),
+    ("the same with 200 bytes of payload", RECEIVES, feed(TRANSFER, 200)),
+    ("a flow of a link", SENDS, feed(FLOW)),
+    ("a begin", BEGUN, feed(BEGIN, channel=1)),
+    ("a disposition of eight deliveries, accepted", SENDS, feed(DISPOSITION)),
+    ("a detach that closes a link", SENDS, feed(DETACH)),
+    ("an attach whose source and target have an address alone", BEGUN, feed(SENDER)),
+    ("an attach with a source and a target in which each field is set, of 295 bytes", BEGUN, feed(FULL)),
+]
+
+# What is written: a name, the lines before, and the call after which it is pulled.
+TAKEN = [*RECEIVES, *feed(TRANSFER, 100)]
+WRITTEN = [
+    ("a first transfer with 100 bytes of payload", SENDS, ["a send 0 settled " + "00" * 100]),
+    ("the same with 200 bytes of payload", SENDS, ["a send 0 settled " + "00" * 200]),
+    ("a flow of a link", RECEIVES, ["a grant 0 2000"]),
+    ("a begin", BEGUN, ["a begin"]),
+    ("a disposition of one delivery, accepted", TAKEN, ["a dispose 0 0 accepted settled"]),
+    ("a detach that closes a link", SENDS, ["a closelink 0"]),
+    ("an attach without source and target", BEGUN, ["a sender 0 next 0 mixed first"]),
+]
