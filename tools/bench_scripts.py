@@ -6,16 +6,16 @@ HEADER = "a feed 414d515000010000"
 EMPTY = "0000000802000000"
 BLOCK = 2048
 
-# Performatives of a peer (part 2, 2.7): an Open that takes frames of 512 bytes, a Close, a Begin that answers the one on
-# channel 0, and one that answers none.
+# Performatives of a peer (part 2, 2.7): an Open that takes frames of 512 bytes, a Close, a Begin that answers channel
+# 0, and one that answers none.
 OPEN = b"\x00\x53\x10\xc0\x0a\x03\xa1\x01b\x40\x70\x00\x00\x02\x00"
 CLOSE = b"\x00\x53\x18\x45"
 WINDOWS = b"\x43\x70\x00\x00\x08\x00\x70\x00\x00\x08\x00"
 ANSWER = b"\x00\x53\x11\xc0\x0f\x04\x60\x00\x00" + WINDOWS
 BEGIN = b"\x00\x53\x11\xc0\x0d\x04\x40" + WINDOWS
 
-# The first transfer of a delivery with a tag of eight bytes, a Flow that gives 200 credits, a Disposition that accepts and
-# settles eight deliveries, and a Detach that closes the link with the handle 0.
+# The first transfer of a delivery with a tag of eight bytes, a Flow that gives 200 credits, a Disposition that accepts
+# and settles eight deliveries, and a Detach that closes the link with the handle 0.
 TRANSFER = b"\x00\x53\x14\xc0\x10\x05\x43\x52\x00\xa0\x08\x00\x00\x00\x00\x00\x00\x00\x00\x43\x42"
 FLOW = b"\x00\x53\x13\xc0\x11\x07\x43\x70\x00\x00\x08\x00\x43\x70\x00\x00\x08\x00\x43\x43\x52\xc8"
 DISPOSITION = b"\x00\x53\x15\xc0\x0a\x05\x41\x43\x52\x07\x41\x00\x53\x24\x45"
@@ -82,8 +82,8 @@ def send(how, size, link=0):
     return [f"a send {link} {how} {'00' * size}", "move a all"]
 
 
-# A script keeps what an endpoint tells, and with it the bytes that were fed: behind a message of 64 KiB the endpoint has room
-# for many such.
+# A script keeps what an endpoint tells, and with it the bytes that were fed. Behind a message of 64 KiB the endpoint
+# has room for many more.
 ROOM = send("settled", 65536)
 ATTACHED = OPENED + begin(0) + attach(0) + grant(0) + ROOM
 
@@ -102,13 +102,13 @@ def messages(how, size, count):
 def turns(links, count):
     """So many settled messages of 100 bytes, over so many links in turn."""
     each = repeated(lambda link: attach(link) + grant(link), links)
-    return script(OPENED, begin(0), each, ROOM, with_windows(lambda number: send("settled", 100, number % links), count))
+    sent = with_windows(lambda number: send("settled", 100, number % links), count)
+    return script(OPENED, begin(0), each, ROOM, sent)
 
 
 def sessions(there, count):
     """So many sessions that begin and end one after the other, where so many are there."""
-    one = ["a begin", "move a all", f"b accept {there}", "move b all"]
-    ended = repeated(lambda number: [*one, f"a end {number}", *move("a", "b")], count, there)
+    ended = repeated(lambda number: [*begin(there), f"a end {number}", *move("a", "b")], count, there)
     return script(OPENED, repeated(begin, there), ended)
 
 
@@ -124,7 +124,7 @@ def message_beside(there, count):
 
 
 def oldest_accepted(there, count):
-    """So many unsettled messages of 100 bytes, of which each is sent where so many are open, and the oldest accepted then."""
+    """So many unsettled messages of 100 bytes: each is sent where so many are open, and the oldest accepted then."""
     each = repeated(lambda number: send("unsettled", 100) + dispose(number), count, 1)
     return script(ATTACHED, with_windows(lambda _: send("unsettled", 100), there), each)
 

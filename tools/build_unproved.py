@@ -1,9 +1,8 @@
-#!/usr/bin/env python3
-"""Builds a program without any proof, as a proved one is built, and keeps it: build_unproved.py CRATE PROGRAM.
+"""Builds a program without any proof, as a proved one is built, and keeps it.
 
 `rt try` compiles what it runs with checks and without optimising, and keeps nothing. It is run here with a kit whose
-compiler puts aside what it is to compile. The checks are left out of that, what the sources say of inlining is put back,
-and the rest is compiled and linked by the words that a proved program is. It takes some four minutes of a processor.
+compiler puts aside what it is to compile. The checks are left out of it, what the sources say of inlining is put back,
+and it is compiled and linked by the words of a proved program. It takes some four minutes of a processor.
 """
 import os
 import re
@@ -40,9 +39,10 @@ def link_all(folder, to, but=()):
 
 
 def kit_in(room):
-    """A kit as the one that is there, but for its compiler. `rt` knows its kit by its own place, and is copied."""
+    """A kit as the one that is there, but for its compiler. `rt` knows its kit by its own place, and is copied. It asks
+    `rattle`, which is left out, for hints alone."""
     link_all(KIT, f"{room}/kit", ("bin", "toolchain"))
-    link_all(f"{KIT}/bin", f"{room}/kit/bin", ("rt", "rtlib.py"))
+    link_all(f"{KIT}/bin", f"{room}/kit/bin", ("rt", "rtlib.py", "rattle"))
     link_all(f"{KIT}/toolchain", f"{room}/kit/toolchain", ("bin",))
     link_all(f"{KIT}/toolchain/bin", f"{room}/kit/toolchain/bin", ("clang",))
     for name in ("rt", "rtlib.py"):
@@ -64,8 +64,8 @@ def put_aside(crate, room):
 
 
 def owner_of(header):
-    """How that begins and ends which a symbol names between the module of a function and the function, by the head of its
-    impl: with a type, and with a trait."""
+    """How that begins and ends which a symbol has between the module of a function and its name: with a type, and with
+    a trait, as the head of the impl says."""
     head = header
     for _ in range(3):
         head = re.sub(r"<[^<>]*>", "", head)
@@ -126,20 +126,22 @@ def is_owner(owner, header):
     return owner.startswith(begin) and owner.endswith(end)
 
 
+def text_file(path, mode):
+    return open(path, mode, encoding="utf-8", errors="surrogateescape")
+
+
 def mend(source, target, apart):
-    """Writes the module without its checks, and with the marks of its functions. Those whose symbols match stay apart."""
+    """Writes a module without its checks and with the marks of its functions. Those whose symbols match stay apart."""
     crates = [f"{TOP}/crates/{it}" for it in os.listdir(f"{TOP}/crates")]
     table = marks_of([*crates, *(f"{KIT}/rattle/{it}" for it in os.listdir(f"{KIT}/rattle"))])
     groups, plain = {}, ""
-    with open(source, encoding="utf-8", errors="surrogateescape") as file, open(target, "w", encoding="utf-8", errors="surrogateescape") as out:
-        for line in file:
-            if CHECK in line:
-                continue
+    with text_file(source, "r") as lines, text_file(target, "w") as out:
+        for line in (it for it in lines if CHECK not in it):
             if line.startswith("define internal"):
                 symbol = line.split('"')[1]
                 marks = APART if re.search(apart, symbol) else marks_on(symbol, table)
-                if marks:
-                    line = line.replace(") #0 ", f") #{groups.setdefault(marks, 1000 + len(groups))} ")
+                group = groups.setdefault(marks, 1000 + len(groups)) if marks else 0
+                line = line.replace(") #0 ", f") #{group} ")
             elif line.startswith("attributes #"):
                 line = without_checks(line)
                 plain = line if line.startswith("attributes #0 ") else plain
@@ -156,7 +158,7 @@ def without_checks(line):
 
 
 def build(crate, program, apart="^$"):
-    """Builds the program of a crate, unproved. Functions whose symbols match stay functions, and aren't put into others."""
+    """Builds the program of a crate, unproved. A function whose symbol matches isn't put into others."""
     clang = f"{KIT}/toolchain/bin/clang"
     with tempfile.TemporaryDirectory(prefix="unproved-") as room:
         put_aside(crate, room)
@@ -170,9 +172,3 @@ def build(crate, program, apart="^$"):
         link = ["--target", TARGET, "--toolchain", f"{KIT}/toolchain", "-o", program, f"{room}/module.o"]
         link += [f"{KIT}/c/libos_c.a", f"{KIT}/c/liblibc_c.a"]
         subprocess.run([f"{KIT}/bin/rattle-link", *link], check=True, stdout=subprocess.DEVNULL)
-
-
-if __name__ == "__main__":
-    if len(sys.argv) != 3:
-        sys.exit("build_unproved.py: name a crate and a program")
-    build(sys.argv[1], os.path.abspath(sys.argv[2]))
