@@ -1,12 +1,12 @@
 //! What gives the transfers of a link their numbers.
 use crate::fault::Fault;
-use crate::frames::begin;
-use crate::plain::Plain;
+use amqp_link::LinkEnd;
 use amqp_session::{
-    Batch, IncomingChannel, OutgoingChannel, OutputHandle, Session, SessionFrame, SessionFrameBody,
-    Transfer,
+    Batch, Begin, IncomingChannel, OutgoingChannel, OutputHandle, Session, SessionFrame,
+    SessionFrameBody, Transfer,
 };
 use bytes::Bytes;
+use serde_amqp::Array;
 use std::alloc::Global;
 use std::collections::VecDeque;
 
@@ -16,7 +16,7 @@ const PEERS_CHANNEL: IncomingChannel = IncomingChannel(0);
 /// The sending side of a session whose peer takes any number of transfers. It gives deliveries their numbers, and holds
 /// nothing back.
 pub struct Carrier {
-    session: Session<Plain>,
+    session: Session<LinkEnd>,
     handle: OutputHandle,
     out: VecDeque<SessionFrame>,
 }
@@ -33,9 +33,9 @@ impl Drop for Carrier {
 
 impl Carrier {
     /// One that has carried nothing. The link in its session stands for an end that isn't in it.
-    pub fn new(alloc: Global) -> Result<Carrier, Fault> {
+    pub fn new(alloc: Global, link: LinkEnd) -> Result<Carrier, Fault> {
         let mut session = Session::new(alloc, OutgoingChannel(0), 0, u32::MAX);
-        let handle = map(alloc, &mut session)?;
+        let handle = map(alloc, &mut session, link)?;
         Ok(Carrier {
             session,
             handle,
@@ -48,11 +48,6 @@ impl Carrier {
         self.session
             .on_outgoing_transfer(alloc, &mut self.out, self.handle, batch)?;
         Ok(self.out.len())
-    }
-
-    /// How many frames there are.
-    pub fn len(&self) -> usize {
-        self.out.len()
     }
 
     /// Takes the first frame out, which is a transfer with its payload.
@@ -72,11 +67,28 @@ fn transfer_in(frame: SessionFrame) -> Option<(Transfer, Bytes)> {
     }
 }
 
-/// Both Begin are exchanged, that of a peer which takes any number of transfers, and a link gets its handle.
-fn map(alloc: Global, session: &mut Session<Plain>) -> Result<OutputHandle, Fault> {
+/// Both Begin are exchanged, and the link gets its handle.
+fn map(
+    alloc: Global,
+    session: &mut Session<LinkEnd>,
+    link: LinkEnd,
+) -> Result<OutputHandle, Fault> {
     let mut out = VecDeque::new(alloc);
     drop(session.send_begin(alloc)?);
-    let peers = begin(alloc, 0, u32::MAX, u32::MAX);
-    session.on_incoming_begin(&mut out, PEERS_CHANNEL, &peers)?;
-    Ok(session.allocate_link(Plain::new(true, false))?)
+    session.on_incoming_begin(&mut out, PEERS_CHANNEL, &peers_begin(alloc))?;
+    Ok(session.allocate_link(link)?)
+}
+
+/// The Begin of a peer that takes any number of transfers.
+fn peers_begin(alloc: Global) -> Begin {
+    Begin {
+        remote_channel: None,
+        next_outgoing_id: 0,
+        incoming_window: u32::MAX,
+        outgoing_window: 0,
+        handle_max: u32::MAX,
+        offered_capabilities: Array::new(alloc),
+        desired_capabilities: Array::new(alloc),
+        properties: None,
+    }
 }

@@ -42,7 +42,7 @@ fn bytes_of_hex(alloc: Global, text: &str) -> Result<Bytes, Fault> {
 
 /// So many bytes by a number. Where it is even no section starts in them but the first, and where it is odd one
 /// starts at each sixteenth byte.
-pub fn made(alloc: Global, number: u32, size: u32) -> Result<Bytes, AllocError> {
+fn made(alloc: Global, number: u32, size: u32) -> Result<Bytes, AllocError> {
     let mut bytes = Vec::new(alloc);
     for at in 0..size {
         bytes.push(byte_at(number, at))?;

@@ -3,7 +3,7 @@ use amqp_link::{
     DisposeError, DisposeRefusal, FlowRefusal, GrantRefusal, IllegalState, ListError, SendRefusal,
     SplitRefusal,
 };
-use amqp_session::{BeginError, RelayError, SessionError, TransferError, Unallocated};
+use amqp_session::{BeginError, RelayError, SessionError, Unallocated};
 use std::alloc::{AllocError, AllocFailed};
 
 /// Why a step is not done.
@@ -20,6 +20,9 @@ const MEMORY: &str = "memory";
 
 /// The word for what a state doesn't allow.
 const ILLEGAL_STATE: &str = "illegal-state";
+
+/// The word for what the session refuses that gives deliveries their numbers.
+const SESSION: &str = "session";
 
 impl From<AllocError> for Fault {
     fn from(_error: AllocError) -> Self {
@@ -45,18 +48,11 @@ impl From<SessionError> for Fault {
     }
 }
 
-/// The word for what a session refuses.
+/// The word for what the session refuses that gives deliveries their numbers.
 fn session_word(error: &SessionError) -> &'static str {
     match error {
-        SessionError::UnattachedHandle => "unattached-handle",
-        SessionError::RemoteAttachingLinkNameNotFound => "remote-attaching-link-name-not-found",
-        SessionError::HandleInUse => "handle-in-use",
-        SessionError::IllegalState => ILLEGAL_STATE,
-        SessionError::TransferFrameToSender => "transfer-frame-to-sender",
-        SessionError::NumberInUse => "number-in-use",
-        SessionError::HandleMaxReached => "handle-max-reached",
         SessionError::Memory => MEMORY,
-        _ => "connection-or-session-ended",
+        _ => SESSION,
     }
 }
 
@@ -69,19 +65,9 @@ impl<R: Drop> From<Unallocated<R>> for Fault {
 impl From<BeginError> for Fault {
     fn from(error: BeginError) -> Self {
         Fault::Refused(match error {
-            BeginError::IllegalState => ILLEGAL_STATE,
             BeginError::Memory => MEMORY,
-            _ => "connection-or-session-ended",
+            _ => SESSION,
         })
-    }
-}
-
-/// The word for what the sending side of a session refuses.
-pub fn transfer_word(error: TransferError) -> &'static str {
-    match error {
-        TransferError::IllegalState => ILLEGAL_STATE,
-        TransferError::NumberInUse => "number-in-use",
-        TransferError::Memory => MEMORY,
     }
 }
 

@@ -2,61 +2,30 @@
 use crate::fault::Fault;
 use crate::words::{Words, large_number_of, named, needed, number_of};
 use amqp_session::{
-    Accepted, Begin, DeliveryState, DeliveryTag, Detach, Disposition, Handle, LinkFlow, Modified,
-    Received, ReceiverSettleMode, Rejected, Released, Transfer, definitions,
+    Accepted, DeliveryState, DeliveryTag, Detach, Handle, LinkFlow, Modified, Received,
+    ReceiverSettleMode, Rejected, Released, Transfer, definitions,
 };
-use serde_amqp::Array;
-use std::alloc::Global;
 
-/// A Begin of the peer.
-pub fn begin(alloc: Global, next_outgoing_id: u32, incoming_window: u32, handle_max: u32) -> Begin {
-    Begin {
-        remote_channel: None,
-        next_outgoing_id,
-        incoming_window,
-        outgoing_window: 0,
-        handle_max,
-        offered_capabilities: Array::new(alloc),
-        desired_capabilities: Array::new(alloc),
-        properties: None,
-    }
-}
+/// The handle of the link, at both ends.
+pub const HANDLE: u32 = 0;
 
 /// A Detach, which closes the link or doesn't.
-pub fn detach(handle: u32, closed: bool, error: Option<definitions::Error>) -> Detach {
+pub fn detach(closed: bool, error: Option<definitions::Error>) -> Detach {
     Detach {
-        handle: Handle(handle),
+        handle: Handle(HANDLE),
         closed,
         error,
     }
 }
 
-/// The first and only transfer of a message, as a link makes it (part 2, 2.7.5).
-pub fn transfer(handle: u32, delivery_tag: Option<DeliveryTag>, settled: bool) -> Transfer {
-    Transfer {
-        handle: Handle(handle),
-        delivery_id: None,
-        delivery_tag,
-        message_format: Some(0),
-        settled: Some(settled),
-        more: false,
-        rcv_settle_mode: None,
-        state: None,
-        resume: false,
-        aborted: false,
-        batchable: false,
-    }
-}
-
-/// Reads a transfer behind its handle, its number and its tag.
+/// Reads a transfer behind its number and its tag.
 pub fn read_transfer(
     words: &mut Words<'_>,
-    handle: u32,
     delivery_id: Option<u32>,
     delivery_tag: Option<DeliveryTag>,
 ) -> Transfer {
     Transfer {
-        handle: Handle(handle),
+        handle: Handle(HANDLE),
         delivery_id,
         delivery_tag,
         message_format: words.optional("format"),
@@ -70,24 +39,10 @@ pub fn read_transfer(
     }
 }
 
-/// Reads a disposition, which accepts deliveries.
-pub fn read_disposition(words: &mut Words<'_>) -> Result<Disposition, Fault> {
-    let role = words.role()?;
-    let first = words.field("first")?;
-    Ok(Disposition {
-        role,
-        first,
-        last: words.optional("last"),
-        settled: words.flag("settled"),
-        state: Some(DeliveryState::Accepted(Accepted {})),
-        batchable: false,
-    })
-}
-
 /// Reads the Flow of a link.
 pub fn read_link_flow(words: &mut Words<'_>) -> LinkFlow {
     LinkFlow {
-        handle: Handle(0),
+        handle: Handle(HANDLE),
         delivery_count: words.optional("delivery-count"),
         link_credit: words.optional("link-credit"),
         available: words.optional("available"),

@@ -12,54 +12,36 @@ mod taking;
 mod termini;
 
 use crate::fault::Fault;
-use crate::script::Subject;
 use crate::text::{NONE, OK, write_number};
 use crate::words::Words;
-pub use attaching::{accept, attach, attach_sent, own_attach, take_attach};
-use delivering::deliver_some;
-pub use delivering::{deliver, lose};
-use disposing::dispose_all;
-pub use disposing::{dispose, write_resolved};
-use ending::detach;
-pub use ending::{break_both, part};
-pub use ends::{Pair, Side, other};
-use flowing::echo;
-pub use flowing::{drain, grant};
-pub use seen::open;
+use attaching::{accept, attach, attach_anew};
+use delivering::{deliver_some, lose};
+use disposing::{dispose, dispose_all, write_resolved};
+use ending::{break_both, detach};
+pub use ends::Pair;
+use flowing::{drain, echo, grant};
 use seen::see;
-pub use sending::{Message, next_on, send, send_on, send_on_link};
-use sending::{read_message, send_many, write_last};
+use sending::{read_message, send_many, send_on, write_last};
 use std::alloc::Global;
 use taking::take_by_hand;
-pub use taking::with_list;
 use termini::read_terms;
 
-impl Subject for Pair {
-    fn read(alloc: Global, words: &mut Words<'_>) -> Result<Self, Fault> {
-        words.word()?;
-        Pair::new(alloc)
-    }
-
-    fn begin(&mut self, _alloc: Global, text: &mut String) -> Result<(), Fault> {
-        Ok(text.push_str(OK)?)
-    }
-
-    fn step(
-        &mut self,
-        alloc: Global,
-        words: &mut Words<'_>,
-        text: &mut String,
-    ) -> Result<(), Fault> {
-        match words.word()? {
-            "attach-anew" => attaching::attach_anew(self, alloc, text),
-            "send" => send_some(self, alloc, 1, words, text),
-            "send-many" => send_some(self, alloc, words.number()?, words, text),
-            "send-on" => send_on_text(self, alloc, text),
-            "dispose" => dispose_one(self, alloc, words, text),
-            "dispose-all" => dispose_several(self, alloc, words, text),
-            "resolved" => write_resolved(self, text),
-            word => step_without_text(self, alloc, word, words, text),
-        }
+/// Makes the call of a step, and appends what it answers.
+pub fn step(
+    pair: &mut Pair,
+    alloc: Global,
+    words: &mut Words<'_>,
+    text: &mut String,
+) -> Result<(), Fault> {
+    match words.word()? {
+        "attach-anew" => attach_anew(pair, alloc, text),
+        "send" => send_some(pair, alloc, 1, words, text),
+        "send-many" => send_some(pair, alloc, words.number()?, words, text),
+        "send-on" => send_on_text(pair, alloc, text),
+        "dispose" => dispose_one(pair, alloc, words, text),
+        "dispose-all" => dispose_several(pair, alloc, words, text),
+        "resolved" => write_resolved(pair, text),
+        word => step_without_text(pair, alloc, word, words, text),
     }
 }
 
@@ -98,7 +80,7 @@ fn step_at_end(
 ) -> Result<(), Fault> {
     let role = words.end()?;
     match word {
-        "make" => pair.side_mut(role).end = ends::made(alloc, role, read_terms(words))?,
+        "make" => pair.side_mut(role).end = ends::boxed(alloc, role, read_terms(words))?,
         "attach" => return attach(pair, alloc, role, text),
         "accept" => return accept(pair, alloc, role, text),
         "deliver" => return deliver_some(pair, alloc, role, words, text),

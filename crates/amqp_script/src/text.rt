@@ -1,5 +1,5 @@
 //! The text of answers.
-use amqp_session::{DeliveryState, Disposition, OutputHandle, Role};
+use amqp_session::{DeliveryState, Disposition, Role};
 use std::alloc::AllocError;
 
 /// What parts the steps of a script and of its answer.
@@ -37,39 +37,13 @@ pub fn write_count(text: &mut String, count: u128) -> Result<(), AllocError> {
     write!(text, "{count}")
 }
 
-/// Appends a number, if there is one.
-pub fn write_optional(text: &mut String, number: Option<u32>) -> Result<(), AllocError> {
-    match number {
-        Some(number) => write_number(text, number),
-        None => text.push_str(NONE),
-    }
-}
-
 /// Appends `true` or `false`.
 pub fn write_truth(text: &mut String, is_so: bool) -> Result<(), AllocError> {
     text.push_str(if is_so { "true" } else { "false" })
 }
 
-/// Appends numbers in order.
-pub fn write_numbers(text: &mut String, numbers: &[u32]) -> Result<(), AllocError> {
-    for number in numbers {
-        begin_item(text)?;
-        write_number(text, *number)?;
-    }
-    end_items(text)
-}
-
-/// Appends links that wait, in turn, each with how many of its transfers.
-pub fn write_turn(text: &mut String, waiting: &[(OutputHandle, usize)]) -> Result<(), AllocError> {
-    for (handle, count) in waiting {
-        begin_item(text)?;
-        write!(text, "{}:{count}", handle.0)?;
-    }
-    end_items(text)
-}
-
 /// Appends a field as `name=value` behind a space, where it is there.
-pub fn write_field(text: &mut String, name: &str, value: Option<u32>) -> Result<(), AllocError> {
+fn write_field(text: &mut String, name: &str, value: Option<u32>) -> Result<(), AllocError> {
     match value {
         Some(value) => write!(text, " {name}={value}"),
         None => Ok(()),
@@ -114,18 +88,6 @@ fn role_word(role: Role) -> &'static str {
         Role::Sender => "sender",
         Role::Receiver => "receiver",
     }
-}
-
-/// Appends several dispositions.
-pub fn write_dispositions(
-    text: &mut String,
-    dispositions: &[Disposition],
-) -> Result<(), AllocError> {
-    for disposition in dispositions {
-        begin_item(text)?;
-        write_disposition(text, disposition)?;
-    }
-    end_items(text)
 }
 
 /// Appends a state of a delivery, if there is one.

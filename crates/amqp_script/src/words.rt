@@ -28,11 +28,6 @@ pub fn number_of(word: &str) -> Option<u32> {
     u32::try_from(large_number_of(word)?).ok()
 }
 
-/// A byte in decimal digits.
-pub fn byte_of(word: &str) -> Option<u8> {
-    u8::try_from(number_of(word)?).ok()
-}
-
 /// What a table has under this word.
 pub fn named<T: Copy>(table: &[(&str, T)], word: &str) -> Option<T> {
     for (name, value) in table {
@@ -97,13 +92,6 @@ impl<'a> Words<'a> {
         Ok(word)
     }
 
-    /// Reads all that are left.
-    pub fn take_all(&mut self) -> &'a [&'a str] {
-        let read = self.read;
-        self.read = self.all.len();
-        self.all.get(read..).unwrap_or(&[])
-    }
-
     /// Reads the next word where it is this one, and says whether it was.
     pub fn takes(&mut self, word: &str) -> bool {
         if self.next() != Some(word) {
@@ -151,13 +139,5 @@ impl<'a> Words<'a> {
     /// Reads the next word, which names an end of a link.
     pub fn end(&mut self) -> Result<Role, Fault> {
         needed(role_of(self.word()?))
-    }
-
-    /// Reads a field whose value names an end of a link.
-    pub fn role(&mut self) -> Result<Role, Fault> {
-        match self.value("role") {
-            Some(word) => needed(role_of(word)),
-            None => Err(Fault::Unreadable),
-        }
     }
 }

@@ -69,7 +69,7 @@ fn send_attach(
 }
 
 /// The end's state moves on, as its Attach is sent, which lists all that is unsettled or not.
-pub fn attach_sent(side: &mut Side, incomplete: bool) -> Result<(), IllegalState> {
+fn attach_sent(side: &mut Side, incomplete: bool) -> Result<(), IllegalState> {
     match side.end.end_mut() {
         End::Sender(link) => link.send_attach(incomplete),
         End::Receiver(link) => link.send_attach(incomplete),

@@ -193,7 +193,7 @@ pub fn take_detach(
     })?;
     if detached.answer {
         text.push_str(" answered")?;
-        let answer = Boxed::new(alloc, frames::detach(0, detached.closed, None))?;
+        let answer = Boxed::new(alloc, frames::detach(detached.closed, None))?;
         pair.send_frame(role, Frame::Detach(answer))?;
     }
     Ok(())

@@ -1,6 +1,5 @@
 //! How attachments end.
-use super::ends::{Pair, Side};
-use crate::carrier::Carrier;
+use super::ends::{Pair, Side, carrier};
 use crate::fault::Fault;
 use crate::frame::Frame;
 use crate::frames;
@@ -11,27 +10,17 @@ use std::alloc::{AllocError, Global};
 
 /// The connection is lost: the frames under way are lost, the ends part, and numbers are worth nothing any more.
 pub fn break_both(pair: &mut Pair, alloc: Global) -> Result<(), Fault> {
-    pair.carrier = Carrier::new(alloc)?;
+    pair.carrier = carrier(alloc)?;
     pair.aborts.clear();
     lose_all(&mut pair.sender, alloc);
     lose_all(&mut pair.receiver, alloc);
-    part(pair);
     Ok(())
 }
 
-/// The frames under way to an end are lost, and the numbers of its deliveries.
+/// The frames under way to an end are lost, and the numbers of its deliveries, and it is told so.
 fn lose_all(side: &mut Side, alloc: Global) {
     side.under_way.clear();
     side.deliveries = Unsettled::new(alloc);
-}
-
-/// Both ends are told that the connection is lost.
-pub fn part(pair: &mut Pair) {
-    on_break(&mut pair.sender);
-    on_break(&mut pair.receiver);
-}
-
-fn on_break(side: &mut Side) {
     match side.end.end_mut() {
         End::Sender(link) => link.on_break(),
         End::Receiver(link) => link.on_break(),
@@ -66,7 +55,7 @@ pub fn detach_frame(
     for_error: bool,
 ) -> Result<Boxed<Detach>, AllocError> {
     let error = if for_error { Some(error(alloc)?) } else { None };
-    Boxed::new(alloc, frames::detach(0, closed, error))
+    Boxed::new(alloc, frames::detach(closed, error))
 }
 
 fn error(alloc: Global) -> Result<definitions::Error, AllocError> {

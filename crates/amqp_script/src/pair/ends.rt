@@ -1,11 +1,11 @@
 //! The two ends of a link.
-use super::termini::{Terms, boxed_terms};
+use super::termini::{Terms, USUAL, boxed_terms};
 use crate::carrier::Carrier;
 use crate::content::number_of_tag;
 use crate::fault::Fault;
 use crate::frame::Frame;
 use amqp_link::{Abort, End, LinkBase, LinkEnd, LinkFlowStateInner, ReceiverLink, SenderLink};
-use amqp_session::{Batch, DeliveryTag, ReceiverSettleMode, Role, Unsettled};
+use amqp_session::{DeliveryTag, Role, Unsettled};
 use bytes::Bytes;
 use serde_amqp::Text;
 use std::alloc::{AllocError, Global};
@@ -37,7 +37,7 @@ impl Drop for Side {
 impl Side {
     fn new(alloc: Global, role: Role, terms: Terms<'_>) -> Result<Side, AllocError> {
         Ok(Side {
-            end: made(alloc, role, terms)?,
+            end: boxed(alloc, role, terms)?,
             under_way: VecDeque::new(alloc),
             deliveries: Unsettled::new(alloc),
         })
@@ -82,8 +82,6 @@ pub struct Pair {
     pub messages: Vec<(u32, Bytes)>,
     /// How many bytes a frame may have.
     pub limit: u32,
-    /// What was sent last, whose memory is used again.
-    pub spare: Batch,
 }
 
 impl Drop for Pair {
@@ -95,7 +93,6 @@ impl Drop for Pair {
             aborts: _,
             messages: _,
             limit: _,
-            spare: _,
         } = self;
     }
 }
@@ -111,20 +108,13 @@ pub fn other(role: Role) -> Role {
 impl Pair {
     /// Two ends that were never attached, with the usual terms.
     pub fn new(alloc: Global) -> Result<Pair, Fault> {
-        Pair::with_mode(alloc, ReceiverSettleMode::First)
-    }
-
-    /// The same, whose receiver settles so.
-    pub fn with_mode(alloc: Global, mode: ReceiverSettleMode) -> Result<Pair, Fault> {
-        let terms = Terms::usual(mode);
         Ok(Pair {
-            sender: Side::new(alloc, Role::Sender, terms)?,
-            receiver: Side::new(alloc, Role::Receiver, terms)?,
-            carrier: Carrier::new(alloc)?,
+            sender: Side::new(alloc, Role::Sender, USUAL)?,
+            receiver: Side::new(alloc, Role::Receiver, USUAL)?,
+            carrier: carrier(alloc)?,
             aborts: VecDeque::new(alloc),
             messages: Vec::new(alloc),
             limit: LIMIT,
-            spare: Batch::new(alloc),
         })
     }
 
@@ -149,24 +139,6 @@ impl Pair {
         self.side_mut(other(role)).under_way.push_back(frame)?;
         Ok(())
     }
-
-    /// Whether a message waits to be sent on.
-    pub fn waits(&self) -> bool {
-        match self.sender.end.end() {
-            End::Sender(link) => link.first_waiting().is_some(),
-            End::Receiver(_) => false,
-        }
-    }
-
-    /// Whether one of the two Attach listed only a part of the unsettled deliveries.
-    pub fn is_incomplete(&self) -> bool {
-        self.sender.end.local_state().is_incomplete()
-    }
-
-    /// Whether a new message may be sent.
-    pub fn may_send(&self) -> bool {
-        self.sender.flow().link_credit != 0 && !self.is_incomplete()
-    }
 }
 
 /// The bytes of the message with this tag, the last one that was sent.
@@ -181,15 +153,24 @@ pub fn message_of<'a>(messages: &'a [(u32, Bytes)], tag: &DeliveryTag) -> Option
     found
 }
 
+/// What gives deliveries their numbers, from 0 on.
+pub fn carrier(alloc: Global) -> Result<Carrier, Fault> {
+    Carrier::new(alloc, made(alloc, Role::Sender, USUAL)?)
+}
+
+/// An end that was never attached, behind a pointer.
+pub fn boxed(alloc: Global, role: Role, terms: Terms<'_>) -> Result<Box<LinkEnd>, AllocError> {
+    Ok(Box::new(alloc, made(alloc, role, terms)?)?)
+}
+
 /// An end that was never attached.
-pub fn made(alloc: Global, role: Role, terms: Terms<'_>) -> Result<Box<LinkEnd>, AllocError> {
+fn made(alloc: Global, role: Role, terms: Terms<'_>) -> Result<LinkEnd, AllocError> {
     let base = base(alloc, terms)?;
     let count = terms.initial_delivery_count.unwrap_or(0);
-    let end = match role {
+    Ok(match role {
         Role::Sender => LinkEnd::new_sender(SenderLink::new(alloc, base, count, None)),
         Role::Receiver => LinkEnd::new_receiver(ReceiverLink::new(alloc, base, count, None)),
-    };
-    Ok(Box::new(alloc, end)?)
+    })
 }
 
 fn base(alloc: Global, terms: Terms<'_>) -> Result<LinkBase, AllocError> {

@@ -61,7 +61,7 @@ fn see_state(side: &Side, word: &str, text: &mut String) -> Result<(), Fault> {
 }
 
 /// How many deliveries are unsettled at an end.
-pub fn open(end: &LinkEnd) -> usize {
+fn open(end: &LinkEnd) -> usize {
     match end.end() {
         End::Sender(link) => link.unsettled_len(),
         End::Receiver(link) => link.unsettled_len(),

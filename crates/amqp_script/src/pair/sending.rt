@@ -26,15 +26,15 @@ pub struct MessageOf<'a> {
 
 /// A message that is to be sent.
 #[derive(Drop)]
-pub struct Message {
+struct Message {
     /// The number in its tag.
-    pub number: u32,
+    number: u32,
     /// How it is encoded.
-    pub format: u32,
+    format: u32,
     /// Whether it is to go settled, where that is said.
-    pub settled: Option<bool>,
+    settled: Option<bool>,
     /// Its bytes.
-    pub payload: Bytes,
+    payload: Bytes,
 }
 
 /// Reads what is said of messages.
@@ -76,21 +76,19 @@ fn message_of(alloc: Global, said: MessageOf<'_>, number: u32) -> Result<Message
 }
 
 /// A message is sent, and the answer is how many transfers it is.
-pub fn send(pair: &mut Pair, alloc: Global, message: Message) -> Result<usize, Fault> {
+fn send(pair: &mut Pair, alloc: Global, message: Message) -> Result<usize, Fault> {
     let number = message.number;
     let kept = message.payload.clone()?;
     let limit = pair.limit;
-    let spare = Batch::new(alloc);
-    let mut batch = send_on_link(&mut pair.sender, alloc, spare, message, limit)?;
+    let mut batch = send_on_link(&mut pair.sender, alloc, message, limit)?;
     pair.messages.push((number, kept))?;
     carry(pair, alloc, &mut batch)
 }
 
-/// The link takes a message as sent, and hands its transfers out, in the memory of `spare`.
-pub fn send_on_link(
+/// The link takes a message as sent, and hands its transfers out.
+fn send_on_link(
     side: &mut Side,
     alloc: Global,
-    spare: Batch,
     message: Message,
     limit: u32,
 ) -> Result<Batch, Fault> {
@@ -101,29 +99,20 @@ pub fn send_on_link(
         payload,
     } = message;
     let tag = tag_of(alloc, number)?;
-    send_ready(
-        side.sender()?,
-        alloc,
-        spare,
-        tag,
-        format,
-        payload,
-        settled,
-        limit,
-    )
+    send_ready(side.sender()?, alloc, tag, format, payload, settled, limit)
 }
 
 /// The same, with its tag.
 fn send_ready(
     link: &mut SenderLink,
     alloc: Global,
-    spare: Batch,
     tag: DeliveryTag,
     format: u32,
     payload: Bytes,
     settled: Option<bool>,
     limit: u32,
 ) -> Result<Batch, Fault> {
+    let spare = Batch::new(alloc);
     match link.send_payload(alloc, spare, tag, format, payload, settled, limit as usize) {
         Ok(PreparedBatch { batch, entry }) => {
             link.commit_send(entry);
@@ -148,7 +137,7 @@ fn carry_on(pair: &mut Pair, alloc: Global, batch: Batch) -> Result<Option<usize
 }
 
 /// The transfers of the first message that waits.
-pub fn next_on(link: &mut SenderLink, alloc: Global, limit: u32) -> Result<Option<Batch>, Fault> {
+fn next_on(link: &mut SenderLink, alloc: Global, limit: u32) -> Result<Option<Batch>, Fault> {
     let Some(prepared) = link.prepare_send_on()? else {
         return Ok(None);
     };

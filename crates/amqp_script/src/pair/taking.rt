@@ -77,7 +77,7 @@ fn take_read_transfer(
     let delivery_id = words.optional("delivery-id");
     let number = words.optional("tag");
     let tag = tag(alloc, number)?;
-    let transfer = Boxed::new(alloc, read_transfer(words, 0, delivery_id, tag))?;
+    let transfer = Boxed::new(alloc, read_transfer(words, delivery_id, tag))?;
     let payload = bytes_of(alloc, read_content(words)?, number.unwrap_or(0))?;
     take_transfer(pair, alloc, role, transfer.into_inner(), payload, text)
 }
@@ -111,7 +111,7 @@ fn read_attach(alloc: Global, from: Role, words: &mut Words<'_>) -> Result<Boxed
 }
 
 /// An Attach with this list, which is all that there is or isn't.
-pub fn with_list(attach: Boxed<Attach>, list: Option<UnsettledList>, incomplete: bool) -> Attach {
+fn with_list(attach: Boxed<Attach>, list: Option<UnsettledList>, incomplete: bool) -> Attach {
     Attach {
         unsettled: list,
         incomplete_unsettled: incomplete,

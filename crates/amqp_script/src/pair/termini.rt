@@ -29,27 +29,23 @@ pub struct Terms<'a> {
 /// The word for a source or a target without fields.
 const PLAIN: &str = "plain";
 
-impl<'a> Terms<'a> {
-    /// Those of an end of which no more is said.
-    pub fn usual(mode: ReceiverSettleMode) -> Terms<'a> {
-        Terms {
-            snd_settle_mode: SenderSettleMode::Mixed,
-            rcv_settle_mode: mode,
-            source: PLAIN,
-            target: PLAIN,
-            max_message_size: 0,
-            initial_delivery_count: Some(0),
-        }
-    }
-}
+/// The terms of an end of which no more is said.
+pub const USUAL: Terms<'static> = Terms {
+    snd_settle_mode: SenderSettleMode::Mixed,
+    rcv_settle_mode: ReceiverSettleMode::First,
+    source: PLAIN,
+    target: PLAIN,
+    max_message_size: 0,
+    initial_delivery_count: Some(0),
+};
 
 /// Reads the terms of an end.
 pub fn read_terms<'a>(words: &mut Words<'a>) -> Terms<'a> {
-    let snd_settle_mode = read_sender_mode(words).unwrap_or(SenderSettleMode::Mixed);
-    let mode = read_mode(words, "rcv-settle-mode");
+    let snd_settle_mode = read_sender_mode(words).unwrap_or(USUAL.snd_settle_mode);
+    let rcv_settle_mode = read_mode(words, "rcv-settle-mode").unwrap_or(USUAL.rcv_settle_mode);
     Terms {
         snd_settle_mode,
-        rcv_settle_mode: mode.unwrap_or(ReceiverSettleMode::First),
+        rcv_settle_mode,
         source: words.value("source").unwrap_or(PLAIN),
         target: words.value("target").unwrap_or(PLAIN),
         max_message_size: read_size(words).unwrap_or(0),
