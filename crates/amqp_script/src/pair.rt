@@ -12,7 +12,7 @@ mod taking;
 mod termini;
 
 use crate::fault::Fault;
-use crate::text::{NONE, OK, write_number};
+use crate::text::OK;
 use crate::words::Words;
 use attaching::{accept, attach, attach_anew};
 use delivering::{deliver_some, lose};
@@ -21,7 +21,7 @@ use ending::{break_both, detach};
 pub use ends::Pair;
 use flowing::{drain, echo, grant};
 use seen::see;
-use sending::{read_message, send_many, send_on, write_last};
+use sending::{send_many, send_on};
 use std::alloc::Global;
 use taking::take_by_hand;
 use termini::read_terms;
@@ -35,17 +35,18 @@ pub fn step(
 ) -> Result<(), Fault> {
     match words.word()? {
         "attach-anew" => attach_anew(pair, alloc, text),
-        "send" => send_some(pair, alloc, 1, words, text),
-        "send-many" => send_some(pair, alloc, words.number()?, words, text),
-        "send-on" => send_on_text(pair, alloc, text),
-        "dispose" => dispose_one(pair, alloc, words, text),
-        "dispose-all" => dispose_several(pair, alloc, words, text),
+        "send" => send_many(pair, alloc, 1, words, text),
+        "send-many" => send_many(pair, alloc, words.number()?, words, text),
+        "send-on" => send_on(pair, alloc, text),
+        "dispose" => dispose(pair, alloc, words, text),
+        "dispose-all" => dispose_all(pair, alloc, words, text),
         "resolved" => write_resolved(pair, text),
+        "grant" => grant(pair, alloc, words.number()?, text),
         word => step_without_text(pair, alloc, word, words, text),
     }
 }
 
-/// A call that answers nothing, or a number.
+/// A call that answers nothing.
 fn step_without_text(
     pair: &mut Pair,
     alloc: Global,
@@ -54,7 +55,6 @@ fn step_without_text(
     text: &mut String,
 ) -> Result<(), Fault> {
     match word {
-        "grant" => return grant_text(pair, alloc, words.number()?, text),
         "limit" => pair.limit = words.number()?,
         "drain" => drain(pair, alloc)?,
         "echo" => echo(pair, alloc)?,
@@ -62,12 +62,6 @@ fn step_without_text(
         _ => return step_at_end(pair, alloc, word, words, text),
     }
     Ok(text.push_str(OK)?)
-}
-
-fn grant_text(pair: &mut Pair, alloc: Global, credit: u32, text: &mut String) -> Result<(), Fault> {
-    let left = grant(pair, alloc, credit)?;
-    text.push_str("left=")?;
-    Ok(write_number(text, left)?)
 }
 
 /// A call of one of the ends.
@@ -92,49 +86,4 @@ fn step_at_end(
         _ => return Err(Fault::Unreadable),
     }
     Ok(text.push_str(OK)?)
-}
-
-/// So many messages with successive tags are sent. The answer shows the transfers of the last one.
-fn send_some(
-    pair: &mut Pair,
-    alloc: Global,
-    count: u32,
-    words: &mut Words<'_>,
-    text: &mut String,
-) -> Result<(), Fault> {
-    let said = read_message(words)?;
-    match send_many(pair, alloc, count, said)? {
-        Some(sent) => Ok(write_last(text, pair, sent)?),
-        None => Ok(text.push_str(NONE)?),
-    }
-}
-
-/// The first message that waits is sent on. The answer shows its transfers.
-fn send_on_text(pair: &mut Pair, alloc: Global, text: &mut String) -> Result<(), Fault> {
-    match send_on(pair, alloc)? {
-        Some(sent) => Ok(write_last(text, pair, sent)?),
-        None => Ok(text.push_str(NONE)?),
-    }
-}
-
-fn dispose_one(
-    pair: &mut Pair,
-    alloc: Global,
-    words: &mut Words<'_>,
-    text: &mut String,
-) -> Result<(), Fault> {
-    let number = words.number()?;
-    let outcome = words.word()?;
-    dispose(pair, alloc, number, outcome, words.truth("settled"), text)
-}
-
-fn dispose_several(
-    pair: &mut Pair,
-    alloc: Global,
-    words: &mut Words<'_>,
-    text: &mut String,
-) -> Result<(), Fault> {
-    let tags = words.word()?;
-    let outcome = words.word()?;
-    dispose_all(pair, alloc, tags, outcome, words.truth("settled"), text)
 }

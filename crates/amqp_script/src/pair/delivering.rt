@@ -1,7 +1,7 @@
 //! Frames that reach an end.
 use super::attaching::take_attach;
 use super::disposing::take_disposition;
-use super::ends::Pair;
+use super::ends::{Pair, Side};
 use super::shown::write_told;
 use crate::fault::Fault;
 use crate::frame::Frame;
@@ -10,8 +10,7 @@ use crate::text::{begin_item, end_items};
 use crate::words::Words;
 use amqp_link::Told;
 use amqp_session::{
-    Boxed, Delivery, Detach, LinkFlow, LinkRelay, OutputHandle, Registration, Role, Transfer,
-    TransferAnswer, Unsettled,
+    Boxed, Detach, LinkFlow, LinkRelay, Registration, Role, Transfer, TransferAnswer,
 };
 use bytes::Bytes;
 use std::alloc::{AllocError, Global};
@@ -67,21 +66,10 @@ pub fn deliver(
     role: Role,
     text: &mut String,
 ) -> Result<bool, Fault> {
-    match pair.side_mut(role).under_way.pop_front() {
-        Some(frame) => deliver_frame(pair, alloc, role, frame, text),
-        None => Ok(false),
-    }
-}
-
-fn deliver_frame(
-    pair: &mut Pair,
-    alloc: Global,
-    role: Role,
-    frame: Frame,
-    text: &mut String,
-) -> Result<bool, Fault> {
-    let taken = take(pair, alloc, role, frame, text);
-    if let Err(Fault::Refused(why)) = taken {
+    let Some(frame) = pair.side_mut(role).under_way.pop_front() else {
+        return Ok(false);
+    };
+    if let Err(Fault::Refused(why)) = take(pair, alloc, role, frame, text) {
         write!(text, "refused {why}")?;
     }
     Ok(true)
@@ -161,18 +149,15 @@ fn tell(
     let TransferAnswer { registration, told } = answer;
     let written = write_told(text, &told, pair.messages.as_slice());
     drop(told);
-    register(&mut pair.side_mut(role).deliveries, registration)?;
+    register(pair.side_mut(role), registration)?;
     Ok(written?)
 }
 
-fn register(deliveries: &mut Unsettled, registration: Registration) -> Result<(), AllocError> {
+fn register(side: &mut Side, registration: Registration) -> Result<(), AllocError> {
     match registration {
         Registration::Unchanged => {}
-        Registration::Unsettled { number, tag } => {
-            let handle = OutputHandle(0);
-            return deliveries.register(number, Delivery { handle, tag });
-        }
-        Registration::Settled { number } => deliveries.settle(number),
+        Registration::Unsettled { number, tag } => return side.register(number, tag),
+        Registration::Settled { number } => side.deliveries.settle(number),
     }
     Ok(())
 }

@@ -6,7 +6,7 @@ use crate::fault::Fault;
 use crate::frame::Frame;
 use crate::frames::needed_state;
 use crate::text::{begin_item, end_items, write_disposition};
-use crate::words::{needed, number_of};
+use crate::words::{Words, needed, number_of};
 use amqp_session::{Boxed, DeliveryRange, DeliveryTag, Disposition, LinkRelay, Role, Unsettled};
 use std::alloc::{AllocError, Global};
 
@@ -14,11 +14,12 @@ use std::alloc::{AllocError, Global};
 pub fn dispose(
     pair: &mut Pair,
     alloc: Global,
-    number: u32,
-    outcome: &str,
-    settled: Option<bool>,
+    words: &mut Words<'_>,
     text: &mut String,
 ) -> Result<(), Fault> {
+    let number = words.number()?;
+    let outcome = words.word()?;
+    let settled = words.truth("settled");
     let tag = tag_of(alloc, number)?;
     let link = pair.receiver.receiver()?;
     let disposition = link.dispose(alloc, &tag, needed_state(outcome)?, settled)?;
@@ -29,11 +30,12 @@ pub fn dispose(
 pub fn dispose_all(
     pair: &mut Pair,
     alloc: Global,
-    numbers: &str,
-    outcome: &str,
-    settled: Option<bool>,
+    words: &mut Words<'_>,
     text: &mut String,
 ) -> Result<(), Fault> {
+    let numbers = words.word()?;
+    let outcome = words.word()?;
+    let settled = words.truth("settled");
     let tags = tags_of(alloc, numbers)?;
     let link = pair.receiver.receiver()?;
     let told = link.dispose_all(alloc, &tags, needed_state(outcome)?, settled)?;

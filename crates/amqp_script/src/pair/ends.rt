@@ -4,8 +4,9 @@ use crate::carrier::Carrier;
 use crate::content::number_of_tag;
 use crate::fault::Fault;
 use crate::frame::Frame;
+use crate::frames::HANDLE;
 use amqp_link::{Abort, End, LinkBase, LinkEnd, LinkFlowStateInner, ReceiverLink, SenderLink};
-use amqp_session::{DeliveryTag, Role, Unsettled};
+use amqp_session::{Delivery, DeliveryTag, OutputHandle, Role, Unsettled};
 use bytes::Bytes;
 use serde_amqp::Text;
 use std::alloc::{AllocError, Global};
@@ -41,6 +42,12 @@ impl Side {
             under_way: VecDeque::new(alloc),
             deliveries: Unsettled::new(alloc),
         })
+    }
+
+    /// An unsettled delivery has this number from now on.
+    pub fn register(&mut self, number: u32, tag: DeliveryTag) -> Result<(), AllocError> {
+        let handle = OutputHandle(HANDLE);
+        self.deliveries.register(number, Delivery { handle, tag })
     }
 
     /// The link, where it sends.

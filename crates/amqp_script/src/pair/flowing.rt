@@ -5,11 +5,11 @@ use crate::frame::Frame;
 use amqp_session::{Boxed, LinkFlow, Role};
 use std::alloc::{AllocError, Global};
 
-/// The receiver gives this credit. The answer is the credit that was left.
-pub fn grant(pair: &mut Pair, alloc: Global, credit: u32) -> Result<u32, Fault> {
+/// The receiver gives this credit, and the answer is the credit that was left.
+pub fn grant(pair: &mut Pair, alloc: Global, credit: u32, text: &mut String) -> Result<(), Fault> {
     let granted = pair.receiver.receiver()?.grant(credit)?;
     send_flow(pair, alloc, granted.flow)?;
-    Ok(granted.left)
+    Ok(write!(text, "left={}", granted.left)?)
 }
 
 /// The receiver wants the credit used up.

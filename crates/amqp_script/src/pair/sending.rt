@@ -7,13 +7,13 @@ use crate::frame::Frame;
 use crate::text::{begin_item, end_items};
 use crate::words::Words;
 use amqp_link::{Abort, PreparedBatch, PreparedSendOn, SenderLink};
-use amqp_session::{Batch, Boxed, Delivery, DeliveryTag, OutputHandle, Role, Transfer, Unsettled};
+use amqp_session::{Batch, Boxed, DeliveryTag, Role, Transfer};
 use bytes::Bytes;
 use std::alloc::{AllocError, Global};
 
 /// What is said of messages that are to be sent.
 #[derive(Clone, Copy)]
-pub struct MessageOf<'a> {
+struct MessageOf<'a> {
     /// The number in the tag of the first one.
     number: u32,
     /// How they are encoded.
@@ -24,21 +24,8 @@ pub struct MessageOf<'a> {
     content: Content<'a>,
 }
 
-/// A message that is to be sent.
-#[derive(Drop)]
-struct Message {
-    /// The number in its tag.
-    number: u32,
-    /// How it is encoded.
-    format: u32,
-    /// Whether it is to go settled, where that is said.
-    settled: Option<bool>,
-    /// Its bytes.
-    payload: Bytes,
-}
-
 /// Reads what is said of messages.
-pub fn read_message<'a>(words: &mut Words<'a>) -> Result<MessageOf<'a>, Fault> {
+fn read_message<'a>(words: &mut Words<'a>) -> Result<MessageOf<'a>, Fault> {
     let number = words.field("tag")?;
     let format = words.optional("format").unwrap_or(0);
     let settled = words.truth("settled");
@@ -50,37 +37,28 @@ pub fn read_message<'a>(words: &mut Words<'a>) -> Result<MessageOf<'a>, Fault> {
     })
 }
 
-/// So many messages with successive tags are sent. The answer is how many transfers the last one is, if there is one.
+/// So many messages with successive tags are sent, and the answer shows the transfers of the last one.
 pub fn send_many(
     pair: &mut Pair,
     alloc: Global,
     count: u32,
-    said: MessageOf<'_>,
-) -> Result<Option<usize>, Fault> {
-    let mut sent = None;
+    words: &mut Words<'_>,
+    text: &mut String,
+) -> Result<(), Fault> {
+    let said = read_message(words)?;
+    let mut sent = 0;
     for step in 0..count {
-        let message = message_of(alloc, said, said.number.wrapping_add(step))?;
-        sent = Some(send(pair, alloc, message)?);
+        sent = send(pair, alloc, said, said.number.wrapping_add(step))?;
     }
-    Ok(sent)
+    Ok(write_last(text, pair, sent)?)
 }
 
-fn message_of(alloc: Global, said: MessageOf<'_>, number: u32) -> Result<Message, Fault> {
+/// The message with this number is sent, and the answer is how many transfers it is.
+fn send(pair: &mut Pair, alloc: Global, said: MessageOf<'_>, number: u32) -> Result<usize, Fault> {
     let payload = bytes_of(alloc, said.content, number)?;
-    Ok(Message {
-        number,
-        format: said.format,
-        settled: said.settled,
-        payload,
-    })
-}
-
-/// A message is sent, and the answer is how many transfers it is.
-fn send(pair: &mut Pair, alloc: Global, message: Message) -> Result<usize, Fault> {
-    let number = message.number;
-    let kept = message.payload.clone()?;
+    let kept = payload.clone()?;
     let limit = pair.limit;
-    let mut batch = send_on_link(&mut pair.sender, alloc, message, limit)?;
+    let mut batch = send_on_link(&mut pair.sender, alloc, said, number, payload, limit)?;
     pair.messages.push((number, kept))?;
     carry(pair, alloc, &mut batch)
 }
@@ -89,17 +67,14 @@ fn send(pair: &mut Pair, alloc: Global, message: Message) -> Result<usize, Fault
 fn send_on_link(
     side: &mut Side,
     alloc: Global,
-    message: Message,
+    said: MessageOf<'_>,
+    number: u32,
+    payload: Bytes,
     limit: u32,
 ) -> Result<Batch, Fault> {
-    let Message {
-        number,
-        format,
-        settled,
-        payload,
-    } = message;
     let tag = tag_of(alloc, number)?;
-    send_ready(side.sender()?, alloc, tag, format, payload, settled, limit)
+    let link = side.sender()?;
+    send_ready(link, alloc, tag, said.format, payload, said.settled, limit)
 }
 
 /// The same, with its tag.
@@ -122,18 +97,19 @@ fn send_ready(
     }
 }
 
-/// The first message that waits is sent on, and the answer is how many transfers that are, if one waits.
-pub fn send_on(pair: &mut Pair, alloc: Global) -> Result<Option<usize>, Fault> {
+/// The first message that waits is sent on, if one waits, and the answer shows its transfers.
+pub fn send_on(pair: &mut Pair, alloc: Global, text: &mut String) -> Result<(), Fault> {
     let limit = pair.limit;
-    match next_on(pair.sender.sender()?, alloc, limit)? {
-        Some(batch) => carry_on(pair, alloc, batch),
-        None => Ok(None),
-    }
+    let sent = match next_on(pair.sender.sender()?, alloc, limit)? {
+        Some(batch) => carry_on(pair, alloc, batch)?,
+        None => 0,
+    };
+    Ok(write_last(text, pair, sent)?)
 }
 
-fn carry_on(pair: &mut Pair, alloc: Global, batch: Batch) -> Result<Option<usize>, Fault> {
+fn carry_on(pair: &mut Pair, alloc: Global, batch: Batch) -> Result<usize, Fault> {
     let mut batch = batch;
-    Ok(Some(carry(pair, alloc, &mut batch)?))
+    carry(pair, alloc, &mut batch)
 }
 
 /// The transfers of the first message that waits.
@@ -189,39 +165,23 @@ fn send_carried(pair: &mut Pair, alloc: Global) -> Result<(), AllocError> {
         return Ok(());
     };
     let transfer = Boxed::new(alloc, transfer)?;
-    begin_delivery(&mut pair.sender.deliveries, &transfer)?;
+    begin_delivery(&mut pair.sender, &transfer)?;
     pair.send_frame(Role::Sender, Frame::Transfer(transfer, payload))
 }
 
 /// A delivery that begins unsettled has its number from now on.
-fn begin_delivery(deliveries: &mut Unsettled, transfer: &Transfer) -> Result<(), AllocError> {
-    let Some(number) = transfer.delivery_id else {
+fn begin_delivery(side: &mut Side, transfer: &Transfer) -> Result<(), AllocError> {
+    let (Some(number), Some(tag)) = (transfer.delivery_id, &transfer.delivery_tag) else {
         return Ok(());
     };
     if transfer.settled.unwrap_or(false) | transfer.aborted {
         return Ok(());
     }
-    register(deliveries, number, &transfer.delivery_tag)
-}
-
-/// A delivery has this number.
-fn register(
-    deliveries: &mut Unsettled,
-    number: u32,
-    tag: &Option<DeliveryTag>,
-) -> Result<(), AllocError> {
-    let Some(tag) = tag else {
-        return Ok(());
-    };
-    let delivery = Delivery {
-        handle: OutputHandle(0),
-        tag: tag.clone()?,
-    };
-    deliveries.register(number, delivery)
+    side.register(number, tag.clone()?)
 }
 
 /// Appends the sizes of the last so many frames that are under way to the receiver.
-pub fn write_last(text: &mut String, pair: &Pair, count: usize) -> Result<(), AllocError> {
+fn write_last(text: &mut String, pair: &Pair, count: usize) -> Result<(), AllocError> {
     let frames = &pair.receiver.under_way;
     for frame in frames.iter().skip(frames.len().saturating_sub(count)) {
         begin_item(text)?;

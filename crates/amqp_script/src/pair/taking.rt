@@ -1,18 +1,16 @@
 //! Frames that are made by hand.
-use super::attaching::take_attach;
+use super::attaching::{own_attach, take_attach};
 use super::delivering::{take_detach, take_flow, take_transfer};
 use super::ending::detach_frame;
-use super::ends::{Pair, other};
-use super::termini::{Terms, read_terms, source, target};
+use super::ends::{Pair, boxed, other};
+use super::termini::{Terms, read_terms};
 use crate::content::{bytes_of, read_content, tag_of};
 use crate::fault::Fault;
 use crate::frames::{needed_state, read_link_flow, read_state, read_transfer};
 use crate::words::{Words, needed, number_of};
 use amqp_link::UnsettledList;
-use amqp_session::{
-    Attach, Boxed, DeliveryState, DeliveryTag, Handle, LinkRelay, Role, Source, TargetArchetype,
-};
-use serde_amqp::{Array, OrderedMap, Text};
+use amqp_session::{Attach, Boxed, DeliveryState, DeliveryTag, LinkRelay, Role};
+use serde_amqp::OrderedMap;
 use std::alloc::{AllocError, Global};
 
 /// A frame that is made by hand reaches an end, and the answer says what came of it.
@@ -106,60 +104,19 @@ fn read_attach(alloc: Global, from: Role, words: &mut Words<'_>) -> Result<Boxed
         terms.initial_delivery_count = None;
     }
     let list = read_list(alloc, words)?;
-    let attach = attach_of(alloc, from, terms)?;
-    Ok(Boxed::new(alloc, with_list(attach, list, words.flag("incomplete")))?)
-}
-
-/// An Attach with this list, which is all that there is or isn't.
-fn with_list(attach: Boxed<Attach>, list: Option<UnsettledList>, incomplete: bool) -> Attach {
-    Attach {
-        unsettled: list,
-        incomplete_unsettled: incomplete,
-        ..attach.into_inner()
-    }
-}
-
-/// An Attach with these terms.
-fn attach_of(alloc: Global, from: Role, terms: Terms<'_>) -> Result<Boxed<Attach>, AllocError> {
-    let name = Text::from_str(alloc, "l")?;
-    let target = target(alloc, terms.target)?;
-    let source = source(alloc, terms.source)?;
-    Boxed::new(
-        alloc,
-        named_attach(alloc, from, terms, name, (source, target)),
-    )
-}
-
-fn named_attach(
-    alloc: Global,
-    from: Role,
-    terms: Terms<'_>,
-    name: Text,
-    (source, target): (Option<Source>, Option<TargetArchetype>),
-) -> Attach {
-    Attach {
-        name,
-        handle: Handle(0),
-        role: from,
-        snd_settle_mode: terms.snd_settle_mode,
-        rcv_settle_mode: terms.rcv_settle_mode,
-        source,
-        target,
-        unsettled: None,
-        incomplete_unsettled: false,
+    let attach = Attach {
         initial_delivery_count: terms.initial_delivery_count,
-        max_message_size: size_of(terms),
-        offered_capabilities: Array::new(alloc),
-        desired_capabilities: Array::new(alloc),
-        properties: None,
-    }
+        unsettled: list,
+        incomplete_unsettled: words.flag("incomplete"),
+        ..attach_of(alloc, from, terms)?.into_inner()
+    };
+    Ok(Boxed::new(alloc, attach)?)
 }
 
-fn size_of(terms: Terms<'_>) -> Option<u64> {
-    if terms.max_message_size == 0 {
-        return None;
-    }
-    Some(terms.max_message_size)
+/// The Attach of an end with these terms that was never attached.
+fn attach_of(alloc: Global, from: Role, terms: Terms<'_>) -> Result<Boxed<Attach>, Fault> {
+    let end = boxed(alloc, from, terms)?;
+    Ok(own_attach(&end, alloc, u32::MAX)?)
 }
 
 /// The list of an Attach, if it has one.

@@ -2,11 +2,8 @@
 use crate::frames::read_mode;
 use crate::words::{Words, large_number_of, named};
 use amqp_link::Terms as LinkTerms;
-use amqp_session::{
-    Boxed, ReceiverSettleMode, SenderSettleMode, Source, Target, TargetArchetype,
-    TerminusDurability, TerminusExpiryPolicy,
-};
-use serde_amqp::{Array, OrderedMap, RawValue, Symbol, Text};
+use amqp_session::{Boxed, ReceiverSettleMode, SenderSettleMode, Source, Target, TargetArchetype};
+use serde_amqp::{OrderedMap, RawValue, Symbol, Text};
 use std::alloc::{AllocError, Global};
 
 /// The terms of an end.
@@ -116,11 +113,9 @@ fn is_dynamic(node: &str) -> bool {
     matches!(node, "dynamic" | "dynamic-address")
 }
 
-fn address(alloc: Global, node: &str) -> Result<Option<Text>, AllocError> {
-    match node {
-        "dynamic-address" => Ok(Some(Text::from_str(alloc, "a")?)),
-        _ => Ok(None),
-    }
+/// The address of a node that has one.
+fn address(alloc: Global) -> Result<Text, AllocError> {
+    Text::from_str(alloc, "a")
 }
 
 fn properties(alloc: Global, node: &str) -> Option<OrderedMap<Symbol, RawValue>> {
@@ -131,31 +126,21 @@ fn properties(alloc: Global, node: &str) -> Option<OrderedMap<Symbol, RawValue>>
 }
 
 fn some_source(alloc: Global, node: &str) -> Result<Option<Source>, AllocError> {
-    let address = address(alloc, node)?;
-    Ok(Some(Source {
-        address,
-        durable: TerminusDurability::None,
-        expiry_policy: TerminusExpiryPolicy::SessionEnd,
-        timeout: 0,
-        dynamic: is_dynamic(node),
-        dynamic_node_properties: properties(alloc, node),
-        distribution_mode: None,
-        filter: None,
-        default_outcome: None,
-        outcomes: Array::new(alloc),
-        capabilities: Array::new(alloc),
-    }))
+    let mut source = Source::of(address(alloc)?);
+    if node != "dynamic-address" {
+        source.address = None;
+    }
+    source.dynamic = is_dynamic(node);
+    source.dynamic_node_properties = properties(alloc, node);
+    Ok(Some(source))
 }
 
 fn some_target(alloc: Global, node: &str) -> Result<Option<TargetArchetype>, AllocError> {
-    let address = address(alloc, node)?;
-    Ok(Some(TargetArchetype::Target(Target {
-        address,
-        durable: TerminusDurability::None,
-        expiry_policy: TerminusExpiryPolicy::SessionEnd,
-        timeout: 0,
-        dynamic: is_dynamic(node),
-        dynamic_node_properties: properties(alloc, node),
-        capabilities: Array::new(alloc),
-    })))
+    let mut target = Target::of(address(alloc)?);
+    if node != "dynamic-address" {
+        target.address = None;
+    }
+    target.dynamic = is_dynamic(node);
+    target.dynamic_node_properties = properties(alloc, node);
+    Ok(Some(TargetArchetype::Target(target)))
 }
