@@ -1,12 +1,23 @@
 //! Scripts: steps that are called one after the other on the two ends of a link.
 use crate::fault::Fault;
-use crate::pair::{Pair, step};
+use crate::pair::{Pair, call};
 use crate::text::{BETWEEN_STEPS, OK};
 use crate::words::{Words, words_of};
 use std::alloc::{AllocError, Global};
 
 /// The first step of each script.
 const FIRST: &str = "links";
+
+/// A step of a script.
+#[derive(Drop)]
+pub struct Step<'a> {
+    /// For what the call makes.
+    pub alloc: Global,
+    /// Its words.
+    pub words: Words<'a>,
+    /// Its answer so far.
+    pub text: String,
+}
 
 /// What a line is answered with: the answers of its steps, or `unreadable` where one can't be read.
 pub fn answer(alloc: Global, line: &str) -> Result<String, AllocError> {
@@ -57,13 +68,16 @@ fn write_steps(
 /// Appends the answer of the step.
 fn write_step(text: &mut String, alloc: Global, pair: &mut Pair, said: &str) -> Result<(), Fault> {
     let all = words_of(alloc, said)?;
-    let mut words = Words::new(all.as_slice());
-    let mut answer = String::new(alloc);
-    let done = step(pair, alloc, &mut words, &mut answer);
-    if !words.is_empty() {
+    let mut step = Step {
+        alloc,
+        words: Words::new(all.as_slice()),
+        text: String::new(alloc),
+    };
+    let done = call(pair, &mut step);
+    if !step.words.is_empty() {
         return Err(Fault::Unreadable);
     }
-    append(text, answer.as_str(), done)
+    append(text, step.text.as_str(), done)
 }
 
 /// Appends an answer, or why there is none.

@@ -5,6 +5,7 @@ use super::sending::{carry, cut_abort};
 use super::shown::{write_attach, write_exchange, write_receivers_refusal, write_senders_refusal};
 use crate::fault::Fault;
 use crate::frame::Frame;
+use crate::script::Step;
 use crate::text::{NONE, begin_item};
 use amqp_link::{
     Abort, AttachAnswer, AttachTold, Attached, Attaching, End, IllegalState, LinkEnd, ListError,
@@ -15,26 +16,26 @@ use std::alloc::{AllocError, Global};
 use std::collections::VecDeque;
 
 /// An end sends its Attach, and the answer shows it.
-pub fn attach(pair: &mut Pair, alloc: Global, role: Role, text: &mut String) -> Result<(), Fault> {
-    let attach = own_attach(&pair.side(role).end, alloc, pair.limit)?;
-    send_attach(pair, alloc, role, attach, text)
+pub fn attach(pair: &mut Pair, role: Role, step: &mut Step<'_>) -> Result<(), Fault> {
+    let attach = own_attach(&pair.side(role).end, step.alloc, pair.limit)?;
+    send_attach(pair, role, attach, step)
 }
 
 /// An end takes the peer's Attach and answers it with its own, which says how the end stood before.
-pub fn accept(pair: &mut Pair, alloc: Global, role: Role, text: &mut String) -> Result<(), Fault> {
-    let attach = own_attach(&pair.side(role).end, alloc, pair.limit)?;
-    if !deliver(pair, alloc, role, text)? {
-        return Ok(text.push_str(NONE)?);
+pub fn accept(pair: &mut Pair, role: Role, step: &mut Step<'_>) -> Result<(), Fault> {
+    let attach = own_attach(&pair.side(role).end, step.alloc, pair.limit)?;
+    if !deliver(pair, role, step)? {
+        return Ok(step.text.push_str(NONE)?);
     }
-    begin_item(text)?;
-    send_attach(pair, alloc, role, attach, text)
+    begin_item(&mut step.text)?;
+    send_attach(pair, role, attach, step)
 }
 
 /// The sender sends its Attach anew, which lists nothing.
-pub fn attach_anew(pair: &mut Pair, alloc: Global, text: &mut String) -> Result<(), Fault> {
+pub fn attach_anew(pair: &mut Pair, step: &mut Step<'_>) -> Result<(), Fault> {
     pair.sender.sender()?.send_attach_anew()?;
-    let attach = own_attach(&pair.sender.end, alloc, pair.limit)?;
-    push_attach(pair, alloc, Role::Sender, attach, text)
+    let attach = own_attach(&pair.sender.end, step.alloc, pair.limit)?;
+    push_attach(pair, Role::Sender, attach, step)
 }
 
 /// The handle of the link, at both ends.
@@ -59,13 +60,12 @@ fn boxed<T: Drop>(alloc: Global, made: Result<T, ListError>) -> Result<Boxed<T>,
 /// The end's state moves on, and its Attach is under way.
 fn send_attach(
     pair: &mut Pair,
-    alloc: Global,
     role: Role,
     attach: Boxed<Attach>,
-    text: &mut String,
+    step: &mut Step<'_>,
 ) -> Result<(), Fault> {
     attach_sent(pair.side_mut(role), attach.incomplete_unsettled)?;
-    push_attach(pair, alloc, role, attach, text)
+    push_attach(pair, role, attach, step)
 }
 
 /// The end's state moves on, as its Attach is sent, which lists all that is unsettled or not.
@@ -79,15 +79,14 @@ fn attach_sent(side: &mut Side, incomplete: bool) -> Result<(), IllegalState> {
 /// An end's Attach is under way. The numbers of its deliveries before are worth nothing any more.
 fn push_attach(
     pair: &mut Pair,
-    alloc: Global,
     role: Role,
     attach: Boxed<Attach>,
-    text: &mut String,
+    step: &mut Step<'_>,
 ) -> Result<(), Fault> {
-    write_attach(text, &attach)?;
+    write_attach(&mut step.text, &attach)?;
     pair.send_frame(role, Frame::Attach(attach))?;
-    pair.side_mut(role).deliveries = Unsettled::new(alloc);
-    send_aborts(pair, alloc)
+    pair.side_mut(role).deliveries = Unsettled::new(step.alloc);
+    send_aborts(pair, step.alloc)
 }
 
 /// Once the sender is attached, it gives up what the exchange of the Attach leaves to be given up.
@@ -114,14 +113,16 @@ fn send_abort(pair: &mut Pair, alloc: Global) -> Result<(), Fault> {
 /// An Attach reaches an end.
 pub fn take_attach(
     pair: &mut Pair,
-    alloc: Global,
     role: Role,
     attach: &Attach,
-    text: &mut String,
+    step: &mut Step<'_>,
 ) -> Result<(), Fault> {
-    let told = pair.side_mut(role).end.on_incoming_attach(alloc, attach)?;
-    write_told(text, &mut pair.aborts, told)?;
-    send_aborts(pair, alloc)
+    let told = pair
+        .side_mut(role)
+        .end
+        .on_incoming_attach(step.alloc, attach)?;
+    write_told(&mut step.text, &mut pair.aborts, told)?;
+    send_aborts(pair, step.alloc)
 }
 
 /// Appends what came of an Attach. What is to be given up is put behind the others.

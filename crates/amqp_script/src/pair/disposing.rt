@@ -5,44 +5,35 @@ use crate::content::tag_of;
 use crate::fault::Fault;
 use crate::frame::Frame;
 use crate::frames::needed_state;
+use crate::script::Step;
 use crate::text::{begin_item, end_items, write_disposition};
-use crate::words::{Words, needed, number_of};
+use crate::words::{needed, number_of};
 use amqp_session::{Boxed, DeliveryRange, DeliveryTag, Disposition, LinkRelay, Role, Unsettled};
 use std::alloc::{AllocError, Global};
 
 /// The receiver disposes of a delivery, its disposition is under way, and the answer shows it.
-pub fn dispose(
-    pair: &mut Pair,
-    alloc: Global,
-    words: &mut Words<'_>,
-    text: &mut String,
-) -> Result<(), Fault> {
-    let number = words.number()?;
-    let outcome = words.word()?;
-    let settled = words.truth("settled");
-    let tag = tag_of(alloc, number)?;
+pub fn dispose(pair: &mut Pair, step: &mut Step<'_>) -> Result<(), Fault> {
+    let number = step.words.number()?;
+    let outcome = step.words.word()?;
+    let settled = step.words.truth("settled");
+    let tag = tag_of(step.alloc, number)?;
     let link = pair.receiver.receiver()?;
-    let disposition = link.dispose(alloc, &tag, needed_state(outcome)?, settled)?;
-    send_disposition(pair, alloc, disposition, text)
+    let disposition = link.dispose(step.alloc, &tag, needed_state(outcome)?, settled)?;
+    send_disposition(pair, disposition, step)
 }
 
 /// The receiver disposes of several deliveries at once, their dispositions are under way, and the answer shows them.
-pub fn dispose_all(
-    pair: &mut Pair,
-    alloc: Global,
-    words: &mut Words<'_>,
-    text: &mut String,
-) -> Result<(), Fault> {
-    let numbers = words.word()?;
-    let outcome = words.word()?;
-    let settled = words.truth("settled");
-    let tags = tags_of(alloc, numbers)?;
+pub fn dispose_all(pair: &mut Pair, step: &mut Step<'_>) -> Result<(), Fault> {
+    let numbers = step.words.word()?;
+    let outcome = step.words.word()?;
+    let settled = step.words.truth("settled");
+    let tags = tags_of(step.alloc, numbers)?;
     let link = pair.receiver.receiver()?;
-    let told = link.dispose_all(alloc, &tags, needed_state(outcome)?, settled)?;
+    let told = link.dispose_all(step.alloc, &tags, needed_state(outcome)?, settled)?;
     for disposition in told {
-        send_disposition(pair, alloc, disposition, text)?;
+        send_disposition(pair, disposition, step)?;
     }
-    Ok(end_items(text)?)
+    Ok(end_items(&mut step.text)?)
 }
 
 /// The tags with these numbers, which are parted by commas; `-` is none.
@@ -60,13 +51,12 @@ fn tags_of(alloc: Global, numbers: &str) -> Result<Vec<DeliveryTag>, Fault> {
 /// The receiver's disposition is under way.
 fn send_disposition(
     pair: &mut Pair,
-    alloc: Global,
     disposition: Disposition,
-    text: &mut String,
+    step: &mut Step<'_>,
 ) -> Result<(), Fault> {
-    let disposition = Boxed::new(alloc, disposition)?;
-    begin_item(text)?;
-    write_disposition(text, &disposition)?;
+    let disposition = Boxed::new(step.alloc, disposition)?;
+    begin_item(&mut step.text)?;
+    write_disposition(&mut step.text, &disposition)?;
     if disposition.settled {
         pair.receiver
             .deliveries
@@ -83,18 +73,17 @@ fn range_of(disposition: &Disposition) -> DeliveryRange {
 /// A disposition reaches an end: it is told of each delivery that has a number in it.
 pub fn take_disposition(
     pair: &mut Pair,
-    alloc: Global,
     role: Role,
     disposition: &Disposition,
-    text: &mut String,
+    step: &mut Step<'_>,
 ) -> Result<(), Fault> {
-    text.push_str("disposition")?;
+    step.text.push_str("disposition")?;
     let numbers = pair
         .side(role)
         .deliveries
-        .touched(alloc, range_of(disposition))?;
+        .touched(step.alloc, range_of(disposition))?;
     for number in numbers.as_slice() {
-        take_one(pair, alloc, role, disposition, *number, text)?;
+        take_one(pair, role, disposition, *number, step)?;
     }
     Ok(())
 }
@@ -102,11 +91,10 @@ pub fn take_disposition(
 /// The same of one delivery.
 fn take_one(
     pair: &mut Pair,
-    alloc: Global,
     role: Role,
     disposition: &Disposition,
     number: u32,
-    text: &mut String,
+    step: &mut Step<'_>,
 ) -> Result<(), Fault> {
     let side = pair.side_mut(role);
     let Some(tag) = tag_at(&side.deliveries, number)? else {
@@ -119,9 +107,9 @@ fn take_one(
     if disposition.settled | echoed {
         side.deliveries.settle(number);
     }
-    write_tag(text, " tag=", &tag)?;
+    write_tag(&mut step.text, " tag=", &tag)?;
     if echoed {
-        return send_echo(pair, alloc, role, disposition, number, text);
+        return send_echo(pair, role, disposition, number, step);
     }
     Ok(())
 }
@@ -136,13 +124,12 @@ fn tag_at(deliveries: &Unsettled, number: u32) -> Result<Option<DeliveryTag>, Al
 /// The same disposition of a delivery goes back, settled.
 fn send_echo(
     pair: &mut Pair,
-    alloc: Global,
     role: Role,
     disposition: &Disposition,
     number: u32,
-    text: &mut String,
+    step: &mut Step<'_>,
 ) -> Result<(), Fault> {
-    text.push_str(" echoed")?;
+    step.text.push_str(" echoed")?;
     let state = disposition.state.clone()?;
     let echo = Disposition {
         role,
@@ -152,22 +139,22 @@ fn send_echo(
         state,
         batchable: false,
     };
-    let echo = Boxed::new(alloc, echo)?;
+    let echo = Boxed::new(step.alloc, echo)?;
     Ok(pair.send_frame(role, Frame::Disposition(echo))?)
 }
 
 /// Appends what became of messages since the last such look.
-pub fn write_resolved(pair: &mut Pair, text: &mut String) -> Result<(), Fault> {
+pub fn write_resolved(pair: &mut Pair, step: &mut Step<'_>) -> Result<(), Fault> {
     for _ in 0..pair.messages.len() {
-        write_next_resolved(pair, text)?;
+        write_next_resolved(pair, step)?;
     }
-    Ok(end_items(text)?)
+    Ok(end_items(&mut step.text)?)
 }
 
 /// Appends what became of the first such message, if there is one.
-fn write_next_resolved(pair: &mut Pair, text: &mut String) -> Result<(), Fault> {
+fn write_next_resolved(pair: &mut Pair, step: &mut Step<'_>) -> Result<(), Fault> {
     let Some((tag, resolution)) = pair.sender.sender()?.take_resolved() else {
         return Ok(());
     };
-    Ok(write_resolution(text, &tag, &resolution)?)
+    Ok(write_resolution(&mut step.text, &tag, &resolution)?)
 }

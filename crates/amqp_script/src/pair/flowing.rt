@@ -2,14 +2,15 @@
 use super::ends::Pair;
 use crate::fault::Fault;
 use crate::frame::Frame;
+use crate::script::Step;
 use amqp_session::{Boxed, LinkFlow, Role};
 use std::alloc::{AllocError, Global};
 
 /// The receiver gives this credit, and the answer is the credit that was left.
-pub fn grant(pair: &mut Pair, alloc: Global, credit: u32, text: &mut String) -> Result<(), Fault> {
+pub fn grant(pair: &mut Pair, credit: u32, step: &mut Step<'_>) -> Result<(), Fault> {
     let granted = pair.receiver.receiver()?.grant(credit)?;
-    send_flow(pair, alloc, granted.flow)?;
-    Ok(write!(text, "left={}", granted.left)?)
+    send_flow(pair, step.alloc, granted.flow)?;
+    Ok(write!(&mut step.text, "left={}", granted.left)?)
 }
 
 /// The receiver wants the credit used up.

@@ -4,11 +4,11 @@ use super::ends::{Pair, Side};
 use super::shown::{mode_word, write_frame, write_tag, write_whole};
 use crate::content::tag_of;
 use crate::fault::Fault;
+use crate::script::Step;
 use crate::text::{
     NONE, begin_item, end_items, write_count, write_number, write_some_state, write_state,
     write_truth,
 };
-use crate::words::Words;
 use amqp_link::{
     End, Entry, LinkEnd, LinkState, ReceiverLink, Resumption, SenderLink, UnsettledList, Waiting,
 };
@@ -16,30 +16,19 @@ use amqp_session::{DeliveryState, DeliveryTag, Role, SenderSettleMode};
 use std::alloc::{AllocError, Global};
 
 /// Writes what is to be seen of an end.
-pub fn see(
-    pair: &Pair,
-    alloc: Global,
-    role: Role,
-    words: &mut Words<'_>,
-    text: &mut String,
-) -> Result<(), Fault> {
+pub fn see(pair: &Pair, role: Role, step: &mut Step<'_>) -> Result<(), Fault> {
     let side = pair.side(role);
-    match words.word()? {
-        "list" => write_list(text, &side.end, alloc),
-        "kept" => see_kept(side, alloc, words, text),
-        word => see_state(side, word, text),
+    match step.words.word()? {
+        "list" => write_list(&mut step.text, &side.end, step.alloc),
+        "kept" => see_kept(side, step),
+        word => see_state(side, word, &mut step.text),
     }
 }
 
-fn see_kept(
-    side: &Side,
-    alloc: Global,
-    words: &mut Words<'_>,
-    text: &mut String,
-) -> Result<(), Fault> {
-    let number = words.number()?;
-    match tag_of(alloc, number) {
-        Ok(tag) => write_kept(text, &side.end, &tag),
+fn see_kept(side: &Side, step: &mut Step<'_>) -> Result<(), Fault> {
+    let number = step.words.number()?;
+    match tag_of(step.alloc, number) {
+        Ok(tag) => write_kept(&mut step.text, &side.end, &tag),
         Err(error) => Err(error.into()),
     }
 }

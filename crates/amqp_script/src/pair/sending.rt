@@ -4,6 +4,7 @@ use super::shown::transfer_size;
 use crate::content::{Content, bytes_of, read_content, tag_of};
 use crate::fault::Fault;
 use crate::frame::Frame;
+use crate::script::Step;
 use crate::text::{begin_item, end_items};
 use crate::words::Words;
 use amqp_link::{Abort, PreparedBatch, PreparedSendOn, SenderLink};
@@ -38,19 +39,14 @@ fn read_message<'a>(words: &mut Words<'a>) -> Result<MessageOf<'a>, Fault> {
 }
 
 /// So many messages with successive tags are sent, and the answer shows the transfers of the last one.
-pub fn send_many(
-    pair: &mut Pair,
-    alloc: Global,
-    count: u32,
-    words: &mut Words<'_>,
-    text: &mut String,
-) -> Result<(), Fault> {
-    let said = read_message(words)?;
+pub fn send_many(pair: &mut Pair, count: u32, step: &mut Step<'_>) -> Result<(), Fault> {
+    let said = read_message(&mut step.words)?;
     let mut sent = 0;
-    for step in 0..count {
-        sent = send(pair, alloc, said, said.number.wrapping_add(step))?;
+    for following in 0..count {
+        let number = said.number.wrapping_add(following);
+        sent = send(pair, step.alloc, said, number)?;
     }
-    Ok(write_last(text, pair, sent)?)
+    Ok(write_last(&mut step.text, pair, sent)?)
 }
 
 /// The message with this number is sent, and the answer is how many transfers it is.
@@ -98,13 +94,13 @@ fn send_ready(
 }
 
 /// The first message that waits is sent on, if one waits, and the answer shows its transfers.
-pub fn send_on(pair: &mut Pair, alloc: Global, text: &mut String) -> Result<(), Fault> {
+pub fn send_on(pair: &mut Pair, step: &mut Step<'_>) -> Result<(), Fault> {
     let limit = pair.limit;
-    let sent = match next_on(pair.sender.sender()?, alloc, limit)? {
-        Some(batch) => carry_on(pair, alloc, batch)?,
+    let sent = match next_on(pair.sender.sender()?, step.alloc, limit)? {
+        Some(batch) => carry_on(pair, step.alloc, batch)?,
         None => 0,
     };
-    Ok(write_last(text, pair, sent)?)
+    Ok(write_last(&mut step.text, pair, sent)?)
 }
 
 fn carry_on(pair: &mut Pair, alloc: Global, batch: Batch) -> Result<usize, Fault> {

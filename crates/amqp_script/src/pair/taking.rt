@@ -7,6 +7,7 @@ use super::termini::{Terms, read_terms};
 use crate::content::{bytes_of, read_content, tag_of};
 use crate::fault::Fault;
 use crate::frames::{needed_state, read_link_flow, read_state, read_transfer};
+use crate::script::Step;
 use crate::words::{Words, needed, number_of};
 use amqp_link::UnsettledList;
 use amqp_session::{Attach, Boxed, DeliveryState, DeliveryTag, LinkRelay, Role};
@@ -14,70 +15,52 @@ use serde_amqp::OrderedMap;
 use std::alloc::{AllocError, Global};
 
 /// A frame that is made by hand reaches an end, and the answer says what came of it.
-pub fn take_by_hand(
-    pair: &mut Pair,
-    alloc: Global,
-    role: Role,
-    words: &mut Words<'_>,
-    text: &mut String,
-) -> Result<(), Fault> {
-    match words.word()? {
-        "attach" => take_read_attach(pair, alloc, role, words, text),
-        "flow" => take_flow(pair, alloc, role, read_link_flow(words), text),
-        "transfer" => take_read_transfer(pair, alloc, role, words, text),
-        "disposition" => take_read_disposition(pair, alloc, role, words, text),
-        "detach" => take_read_detach(pair, alloc, role, words, text),
+pub fn take_by_hand(pair: &mut Pair, role: Role, step: &mut Step<'_>) -> Result<(), Fault> {
+    match step.words.word()? {
+        "attach" => take_read_attach(pair, role, step),
+        "flow" => take_flow(pair, role, read_link_flow(&mut step.words), step),
+        "transfer" => take_read_transfer(pair, role, step),
+        "disposition" => take_read_disposition(pair, role, step),
+        "detach" => take_read_detach(pair, role, step),
         _ => Err(Fault::Unreadable),
     }
 }
 
 /// A disposition of the delivery with a tag reaches the link itself.
-fn take_read_disposition(
-    pair: &mut Pair,
-    alloc: Global,
-    role: Role,
-    words: &mut Words<'_>,
-    text: &mut String,
-) -> Result<(), Fault> {
-    let tag = tag_of(alloc, words.field("tag")?)?;
-    let state = read_state(words);
-    let settled = words.flag("settled");
+fn take_read_disposition(pair: &mut Pair, role: Role, step: &mut Step<'_>) -> Result<(), Fault> {
+    let tag = tag_of(step.alloc, step.words.field("tag")?)?;
+    let state = read_state(&mut step.words);
+    let settled = step.words.flag("settled");
     let echoed = pair
         .side_mut(role)
         .end
         .on_incoming_disposition(&tag, other(role), settled, state);
-    Ok(text.push_str(if echoed {
-        "disposition echoed"
-    } else {
-        "disposition"
-    })?)
+    Ok(
+        step.text.push_str(if echoed {
+            "disposition echoed"
+        } else {
+            "disposition"
+        })?,
+    )
 }
 
-fn take_read_detach(
-    pair: &mut Pair,
-    alloc: Global,
-    role: Role,
-    words: &mut Words<'_>,
-    text: &mut String,
-) -> Result<(), Fault> {
-    let closed = words.flag("closed");
-    let detach = detach_frame(alloc, closed, words.flag("error"))?;
-    take_detach(pair, alloc, role, &detach, text)
+fn take_read_detach(pair: &mut Pair, role: Role, step: &mut Step<'_>) -> Result<(), Fault> {
+    let closed = step.words.flag("closed");
+    let detach = detach_frame(step.alloc, closed, step.words.flag("error"))?;
+    take_detach(pair, role, &detach, step)
 }
 
-fn take_read_transfer(
-    pair: &mut Pair,
-    alloc: Global,
-    role: Role,
-    words: &mut Words<'_>,
-    text: &mut String,
-) -> Result<(), Fault> {
-    let delivery_id = words.optional("delivery-id");
-    let number = words.optional("tag");
-    let tag = tag(alloc, number)?;
-    let transfer = Boxed::new(alloc, read_transfer(words, delivery_id, tag))?;
-    let payload = bytes_of(alloc, read_content(words)?, number.unwrap_or(0))?;
-    take_transfer(pair, alloc, role, transfer.into_inner(), payload, text)
+fn take_read_transfer(pair: &mut Pair, role: Role, step: &mut Step<'_>) -> Result<(), Fault> {
+    let delivery_id = step.words.optional("delivery-id");
+    let number = step.words.optional("tag");
+    let tag = tag(step.alloc, number)?;
+    let transfer = Boxed::new(step.alloc, read_transfer(&mut step.words, delivery_id, tag))?;
+    let payload = bytes_of(
+        step.alloc,
+        read_content(&mut step.words)?,
+        number.unwrap_or(0),
+    )?;
+    take_transfer(pair, role, transfer.into_inner(), payload, step)
 }
 
 fn tag(alloc: Global, number: Option<u32>) -> Result<Option<DeliveryTag>, AllocError> {
@@ -87,15 +70,9 @@ fn tag(alloc: Global, number: Option<u32>) -> Result<Option<DeliveryTag>, AllocE
     }
 }
 
-fn take_read_attach(
-    pair: &mut Pair,
-    alloc: Global,
-    role: Role,
-    words: &mut Words<'_>,
-    text: &mut String,
-) -> Result<(), Fault> {
-    let attach = read_attach(alloc, other(role), words)?;
-    take_attach(pair, alloc, role, &attach, text)
+fn take_read_attach(pair: &mut Pair, role: Role, step: &mut Step<'_>) -> Result<(), Fault> {
+    let attach = read_attach(step.alloc, other(role), &mut step.words)?;
+    take_attach(pair, role, &attach, step)
 }
 
 fn read_attach(alloc: Global, from: Role, words: &mut Words<'_>) -> Result<Boxed<Attach>, Fault> {
