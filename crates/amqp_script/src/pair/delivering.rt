@@ -40,14 +40,21 @@ pub fn lose(pair: &mut Pair, role: Role, step: &mut Step<'_>) -> Result<(), Allo
 /// The first frame that is under way to an end reaches it, and the answer says what came of it. False where there is
 /// none.
 pub fn deliver(pair: &mut Pair, role: Role, step: &mut Step<'_>) -> Result<bool, Fault> {
-    let Some(frame) = pair.side_mut(role).under_way.pop_front() else {
+    if pair.side(role).under_way.is_empty() {
         return Ok(false);
-    };
+    }
     begin_item(&mut step.text)?;
-    if let Err(Fault::Refused(why)) = take(pair, role, frame, step) {
+    if let Err(Fault::Refused(why)) = take_first(pair, role, step) {
         write!(&mut step.text, "refused {why}")?;
     }
     Ok(true)
+}
+
+fn take_first(pair: &mut Pair, role: Role, step: &mut Step<'_>) -> Result<(), Fault> {
+    match pair.side_mut(role).under_way.pop_front() {
+        Some(frame) => take(pair, role, frame, step),
+        None => Ok(()),
+    }
 }
 
 /// A frame reaches an end.

@@ -81,13 +81,25 @@ fn read_attach(alloc: Global, from: Role, words: &mut Words<'_>) -> Result<Boxed
         terms.initial_delivery_count = None;
     }
     let list = read_list(alloc, words)?;
-    let attach = Attach {
-        initial_delivery_count: terms.initial_delivery_count,
+    let attach = attach_of(alloc, from, terms)?;
+    let count = terms.initial_delivery_count;
+    let incomplete = words.flag("incomplete");
+    Ok(Boxed::new(alloc, with_list(attach, count, list, incomplete))?)
+}
+
+/// An Attach with this count, and with this list, which is all that there is or isn't.
+fn with_list(
+    attach: Boxed<Attach>,
+    initial_delivery_count: Option<u32>,
+    list: Option<UnsettledList>,
+    incomplete: bool,
+) -> Attach {
+    Attach {
+        initial_delivery_count,
         unsettled: list,
-        incomplete_unsettled: words.flag("incomplete"),
-        ..attach_of(alloc, from, terms)?.into_inner()
-    };
-    Ok(Boxed::new(alloc, attach)?)
+        incomplete_unsettled: incomplete,
+        ..attach.into_inner()
+    }
 }
 
 /// The Attach of an end with these terms that was never attached.
