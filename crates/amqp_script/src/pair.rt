@@ -15,7 +15,7 @@ use crate::fault::Fault;
 use crate::script::Step;
 use crate::text::OK;
 use attaching::{accept, attach, attach_anew};
-use delivering::{deliver_some, lose};
+use delivering::deliver_some;
 use disposing::{dispose, dispose_all, write_resolved};
 use ending::{break_both, detach};
 pub use ends::Pair;
@@ -64,7 +64,6 @@ fn call_at_end(pair: &mut Pair, word: &str, step: &mut Step<'_>) -> Result<(), F
         "attach" => return attach(pair, role, step),
         "accept" => return accept(pair, role, step),
         "deliver" => return deliver_some(pair, role, step),
-        "lose" => return Ok(lose(pair, role, step)?),
         "detach" => detach(pair, step.alloc, role, false, step.words.flag("error"))?,
         "close" => detach(pair, step.alloc, role, true, step.words.flag("error"))?,
         "take" => return take_by_hand(pair, role, step),

@@ -29,14 +29,6 @@ pub fn deliver_some(pair: &mut Pair, role: Role, step: &mut Step<'_>) -> Result<
     Ok(end_items(&mut step.text)?)
 }
 
-/// The frames that are under way to an end are lost, and the answer is how many they are.
-pub fn lose(pair: &mut Pair, role: Role, step: &mut Step<'_>) -> Result<(), AllocError> {
-    let side = pair.side_mut(role);
-    write!(&mut step.text, "lost={}", side.under_way.len())?;
-    side.under_way.clear();
-    Ok(())
-}
-
 /// The first frame that is under way to an end reaches it, and the answer says what came of it. False where there is
 /// none.
 pub fn deliver(pair: &mut Pair, role: Role, step: &mut Step<'_>) -> Result<bool, Fault> {
