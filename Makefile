@@ -1,7 +1,7 @@
-# The script that `run` and `try` run.
-SCENARIO ?= examples/open_close.scenario
+# The script that `run`, `prove` and `try` run.
+SCENARIO ?= examples/hello.scenario
 
-# The lines that `trace` and `try-trace` answer.
+# The lines that `trace`, `prove-trace` and `try-trace` answer.
 TRACE ?= examples/connection.trace
 
 # How many crates the gate proves side by side: one on each processor, and one for each 6 GiB of memory.
@@ -11,25 +11,29 @@ JOBS ?= $(shell awk -v most=$$(nproc) '/MemTotal/ { n = int($$2 / 6291456); prin
 SEEDS ?= 20
 STEPS ?= 200
 
-.PHONY: run try trace try-trace test time edits bench memory soak
+# Said where a program is built without proofs.
+UNPROVED = Nothing is proved by this run: the program is built without proofs, in one to two minutes.
 
-# Proves and builds the program, runs the script with it and prints each step and what the endpoint answers.
-run:
-	@cd crates/amqp_scenario && ../../tools/with_steps "$(abspath $(SCENARIO))" ../../tools/rt_once run
+.PHONY: run prove try trace prove-trace try-trace test time edits bench memory soak
 
-# The same without any proof. It takes one to two minutes.
-try:
-	@echo "This run is tried only: nothing is proved." >&2
+# Builds the program without any proof, and runs the script with it: each step, what the endpoints answer, and behind the
+# number of a refusal what it says. It takes one to two minutes.
+run try:
+	@echo "$(UNPROVED)" >&2
 	@cd crates/amqp_scenario && ../../tools/with_steps "$(abspath $(SCENARIO))" ../../tools/rt_once try
 
-# Proves and builds amqp-trace, and prints what it says of the lines.
-trace:
-	@cd crates/amqp_trace && ../../tools/rt_once run < "$(abspath $(TRACE))"
+# The same with each function of the program and of the libraries below it proved first, crate by crate.
+prove:
+	@cd crates/amqp_scenario && ../../tools/with_steps "$(abspath $(SCENARIO))" ../../tools/by_crate ../../tools/rt_once run
 
-# The same without any proof. It takes one to two minutes.
-try-trace:
-	@echo "This run is tried only: nothing is proved." >&2
+# Builds amqp-trace without any proof, and prints what it says of the lines.
+trace try-trace:
+	@echo "$(UNPROVED)" >&2
 	@cd crates/amqp_trace && ../../tools/rt_once try < "$(abspath $(TRACE))"
+
+# The same, proved first.
+prove-trace:
+	@cd crates/amqp_trace && ../../tools/by_crate ../../tools/rt_once run < "$(abspath $(TRACE))"
 
 # Every proof, edit that must fail, test and program, from nothing: `rt ci`, which asks each library once for what is below
 # it. Without RT_JOBS rt counts twice the memory that these crates take, and leaves processors idle.
@@ -49,6 +53,7 @@ bench:
 	@tools/bench
 
 # Proves and builds the program, and runs the script once for each of its requests for memory, with that request refused.
+memory: SCENARIO = examples/open_close.scenario
 memory:
 	@tools/refuse_memory "$(SCENARIO)"
 
