@@ -8,6 +8,7 @@ use amqp_endpoint::{
 };
 use std::alloc::{AllocError, Global};
 use std::io;
+use std::io::BufWriter;
 
 /// What a client orders.
 #[derive(Drop)]
@@ -120,25 +121,18 @@ struct Ends {
 }
 
 impl Ends {
-    /// Carries to the shop what the client has queued, and back what the shop answers. It answers what the client is
-    /// told by that.
+    /// Carries to the shop what the client has queued, and back what the shop answers. It answers what that tells the
+    /// client. The writers are buffered, as a stream may be: what isn't flushed doesn't arrive.
     fn talk(&mut self) -> Result<Vec<Event>, CallerError> {
         let mut output = Vec::new(self.alloc);
         let mut input = [0u8; 4096];
-        let mut asked = Vec::new(self.alloc);
-        let mut answered = Vec::new(self.alloc);
+        let mut asked = BufWriter::new(self.alloc, Vec::new(self.alloc))?;
         write_out(&mut self.client, &mut output, &mut asked)?;
-        let mut reader = asked.as_slice();
-        turn(
-            &mut self.server,
-            &mut self.shop,
-            &mut output,
-            &mut input,
-            &mut reader,
-            &mut answered,
-        )?;
+        let mut reader = asked.get_ref().as_slice();
+        let mut answered = BufWriter::new(self.alloc, Vec::new(self.alloc))?;
+        turn(&mut self.server, &mut self.shop, &mut output, &mut input, &mut reader, &mut answered)?;
         write_out(&mut self.server, &mut output, &mut answered)?;
-        Ok(self.client.feed(answered.as_slice()).events)
+        Ok(self.client.feed(answered.get_ref().as_slice()).events)
     }
 }
 
