@@ -1,13 +1,12 @@
-//! Two endpoints in memory. A client orders at a shop, which gives credit for one order and accepts it.
+//! Two endpoints in memory. A client orders at a shop, which gives credit for one message and accepts it.
 #![tactic(auto)]
 
 use amqp_endpoint::{
-    Accepted, AmqpValue, ApplicationProperties, CallerError, DeliveryState, Disposal, Endpoint,
-    EndpointError, Event, LinkAsked, LinkSettings, LinkedSessions, Message, OrderedMap, Program,
-    RawValue, Sendable, SessionAsked, Settings, Source, Target, Text, turn, write_out,
+    AmqpValue, ApplicationProperties, CallerError, Endpoint, EndpointError, Event, LinkAsked,
+    LinkSettings, LinkedSessions, Message, MessageSections, OrderedMap, Program, RawValue,
+    Sendable, SessionAsked, Settings, Source, Target, Text, turn, write_out,
 };
 use std::alloc::{AllocError, Global};
-use std::io;
 use std::io::BufWriter;
 
 /// What a client orders.
@@ -27,7 +26,7 @@ struct Shop {
 impl Program<LinkedSessions> for Shop {
     fn react(&mut self, endpoint: &mut Endpoint, event: Event) -> Result<(), EndpointError> {
         match event {
-            Event::SessionAsked(asked) => accept_session(endpoint, &asked),
+            Event::SessionAsked(asked) => self.begin(endpoint, &asked),
             Event::LinkAsked(asked) => self.attach(endpoint, asked),
             Event::Message(came) => self.take(endpoint, &came),
             _ => Ok(()),
@@ -35,16 +34,16 @@ impl Program<LinkedSessions> for Shop {
     }
 }
 
-fn accept_session(endpoint: &mut Endpoint, asked: &SessionAsked) -> Result<(), EndpointError> {
-    endpoint.accept_begin(asked.channel)?;
-    Ok(())
-}
-
 impl Shop {
-    /// Answers the link that a client asks for, and gives credit for one message.
+    fn begin(&self, endpoint: &mut Endpoint, asked: &SessionAsked) -> Result<(), EndpointError> {
+        endpoint.accept_begin(asked.channel)?;
+        Ok(())
+    }
+
+    /// Attaches the other end of the link, and gives credit for one message.
     fn attach(&self, endpoint: &mut Endpoint, asked: LinkAsked) -> Result<(), EndpointError> {
-        let name = asked.attach.into_inner().name;
-        let settings = LinkSettings::receiver(name, client(self.alloc)?, orders(self.alloc)?);
+        let (source, target) = termini(self.alloc)?;
+        let settings = LinkSettings::receiver(asked.attach.into_inner().name, source, target);
         let link = endpoint.attach_receiver(asked.session, &settings)?.link;
         endpoint.grant(link, 1)?;
         Ok(())
@@ -53,60 +52,50 @@ impl Shop {
     /// Reads an order from a message whose body is a text, and accepts the message.
     fn take(&mut self, endpoint: &mut Endpoint, came: &Message) -> Result<(), EndpointError> {
         let message = came.delivery.read::<AmqpValue<Text>>(self.alloc)?;
-        let pieces = pieces_of(self.alloc, &message.application_properties)?;
+        let pieces = pieces_of(self.alloc, &message)?;
         self.orders.push(Order {
             what: message.body.0,
             pieces,
         })?;
-        endpoint.dispose(
-            came.link,
-            came.message,
-            &Disposal {
-                state: DeliveryState::Accepted(Accepted {}),
-                settled: None,
-            },
-        )
+        endpoint.accept(came.link, came.message)
     }
 }
 
-/// How many pieces a message's properties say, one where they don't.
-fn pieces_of(alloc: Global, said: &Option<ApplicationProperties>) -> Result<u32, EndpointError> {
-    let Some(properties) = said else {
+/// How many pieces the properties of the message say: one where they say nothing.
+fn pieces_of(
+    alloc: Global,
+    message: &MessageSections<AmqpValue<Text>>,
+) -> Result<u32, EndpointError> {
+    let Some(properties) = &message.application_properties else {
         return Ok(1);
     };
-    match properties.0.get(&Text::from_str(alloc, "pieces")?) {
-        Some(pieces) => Ok(pieces.read::<u32>(alloc)?),
-        None => Ok(1),
-    }
+    let Some(pieces) = properties.0.get(&Text::from_str(alloc, "pieces")?) else {
+        return Ok(1);
+    };
+    Ok(pieces.read::<u32>(alloc)?)
 }
 
-/// The message that orders so many pieces of this: a text, and a property of the application.
-fn message_of(
-    alloc: Global,
-    what: &str,
-    pieces: u32,
-) -> Result<Sendable<AmqpValue<Text>>, EndpointError> {
+/// The message that orders this: a text, and a property of the application.
+fn message_of(alloc: Global, order: Order) -> Result<Sendable<AmqpValue<Text>>, EndpointError> {
     let mut properties = OrderedMap::new(alloc);
-    properties.insert(
-        Text::from_str(alloc, "pieces")?,
-        RawValue::of(alloc, &pieces)?,
-    )?;
-    let mut sendable = Sendable::from(Text::from_str(alloc, what)?);
+    let pieces = RawValue::of(alloc, &order.pieces)?;
+    properties.insert(Text::from_str(alloc, "pieces")?, pieces)?;
+    let mut sendable = Sendable::from(order.what);
     sendable.message.application_properties = Some(ApplicationProperties(properties));
     Ok(sendable)
 }
 
-fn client(alloc: Global) -> Result<Source, AllocError> {
-    Ok(Source::of(Text::from_str(alloc, "client")?))
+/// Where messages of the link come from and go to.
+fn termini(alloc: Global) -> Result<(Source, Target), AllocError> {
+    let source = Source::of(Text::from_str(alloc, "client")?);
+    let target = Target::of(Text::from_str(alloc, "orders")?);
+    Ok((source, target))
 }
 
-fn orders(alloc: Global) -> Result<Target, AllocError> {
-    Ok(Target::of(Text::from_str(alloc, "orders")?))
-}
-
-/// An endpoint with this container-id, which queues its protocol header.
+/// An endpoint with this container-id, which has its protocol header queued.
 fn connected(alloc: Global, container_id: &str) -> Result<Endpoint, EndpointError> {
-    let mut endpoint = Endpoint::new(alloc, Settings::new(Text::from_str(alloc, container_id)?))?;
+    let settings = Settings::new(Text::from_str(alloc, container_id)?);
+    let mut endpoint = Endpoint::new(alloc, settings)?;
     endpoint.connect()?;
     Ok(endpoint)
 }
@@ -121,64 +110,67 @@ struct Ends {
 }
 
 impl Ends {
-    /// Carries to the shop what the client has queued, and back what the shop answers. It answers what that tells the
-    /// client. The writers are buffered, as a stream may be: what isn't flushed doesn't arrive.
+    /// Carries to the shop what the client has queued, and back what the shop answers: what the client is told by that.
+    /// The writers are buffered, as those of a stream are, so what isn't flushed doesn't arrive.
     fn talk(&mut self) -> Result<Vec<Event>, CallerError> {
         let mut output = Vec::new(self.alloc);
         let mut input = [0u8; 4096];
         let mut asked = BufWriter::new(self.alloc, Vec::new(self.alloc))?;
+        let mut answered = BufWriter::new(self.alloc, Vec::new(self.alloc))?;
         write_out(&mut self.client, &mut output, &mut asked)?;
         let mut reader = asked.get_ref().as_slice();
-        let mut answered = BufWriter::new(self.alloc, Vec::new(self.alloc))?;
-        turn(&mut self.server, &mut self.shop, &mut output, &mut input, &mut reader, &mut answered)?;
+        turn(
+            &mut self.server,
+            &mut self.shop,
+            &mut output,
+            &mut input,
+            &mut reader,
+            &mut answered,
+        )?;
         write_out(&mut self.server, &mut output, &mut answered)?;
         Ok(self.client.feed(answered.get_ref().as_slice()).events)
     }
 }
 
-/// The client's part: it asks for a session and a link, orders, and orders more than it has credit for.
+/// The client's part: it begins a session, attaches a link, and orders once more than it has credit for.
 fn order(rt: &impl Print, ends: &mut Ends) -> Result<(), CallerError> {
     let alloc = ends.alloc;
     ends.talk()?;
     let session = ends.client.begin()?;
     ends.talk()?;
-    let name = Text::from_str(alloc, "orders")?;
-    let settings = LinkSettings::sender(name, client(alloc)?, orders(alloc)?);
+    let (source, target) = termini(alloc)?;
+    let settings = LinkSettings::sender(Text::from_str(alloc, "orders")?, source, target);
     let link = ends.client.attach_sender(session, &settings)?.link;
     ends.talk()?;
-    let message = message_of(alloc, "chairs", 2)?;
+    println!(rt; "credit: {}", ends.client.credit(link)?)?;
+    let chairs = Order {
+        what: Text::from_str(alloc, "chairs")?,
+        pieces: 2,
+    };
+    let message = message_of(alloc, chairs)?;
     ends.client.send(link, &message)?;
     if let Err(refusal) = ends.client.send(link, &message) {
         println!(rt; "refused: {refusal:?}, {refusal}")?;
     }
-    tell(rt, ends.talk()?.as_slice())?;
-    ends.client.close()?;
-    tell(rt, ends.talk()?.as_slice())?;
-    Ok(())
-}
-
-/// Prints the outcomes that the client is told, and that the shop closed.
-fn tell(rt: &impl Print, events: &[Event]) -> io::Result<()> {
-    for event in events.iter() {
-        match event {
-            Event::Outcome(outcome) => println!(rt; "outcome: {:?}", outcome.result)?,
-            Event::Closed(_) => println!(rt; "closed")?,
-            _ => {}
+    for event in ends.talk()?.iter() {
+        if let Event::Outcome(outcome) = event {
+            println!(rt; "outcome: {:?}", outcome.result)?;
         }
     }
+    ends.client.close()?;
+    ends.talk()?;
+    println!(rt; "closed: {}", ends.client.is_closed())?;
     Ok(())
 }
 
 fn main(rt: HostRuntime) -> Result<(), CallerError> {
     let alloc = rt.alloc();
+    let orders = Vec::new(alloc);
     let mut ends = Ends {
         alloc,
         client: connected(alloc, "client")?,
         server: connected(alloc, "shop")?,
-        shop: Shop {
-            alloc,
-            orders: Vec::new(alloc),
-        },
+        shop: Shop { alloc, orders },
     };
     order(&rt, &mut ends)?;
     for order in ends.shop.orders.iter() {
