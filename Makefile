@@ -14,7 +14,7 @@ STEPS ?= 200
 # Said where a program is built without proofs.
 UNPROVED = Nothing is proved by this run: the program is built without proofs, in one to two minutes.
 
-.PHONY: run prove try trace prove-trace try-trace test time edits bench memory soak
+.PHONY: run prove try trace prove-trace try-trace test time edits bench memory soak live
 
 # Builds the program without any proof, and runs the script with it: each step, what the endpoints answer, and behind the
 # number of a refusal what it says. It takes one to two minutes.
@@ -60,3 +60,7 @@ memory:
 # Runs random scripts of two endpoints, and of one, and judges what they print. The program is built once, and nothing is proved.
 soak:
 	@tools/soak "$(SEEDS)" "$(STEPS)"
+
+# Takes the program out of CALLING.md, builds it in a workspace of its own, and runs it against real peers. Nothing is proved.
+live:
+	@tools/live/live
