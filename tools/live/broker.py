@@ -1,5 +1,5 @@
-"""A broker over Qpid Proton's reactor: broker.py PORT FRAME. It has a queue for each address, in memory, settles as the
-peer asks, takes frames of FRAME bytes at most, answers a Close, and prints what an end of a connection says is wrong."""
+"""A broker over Qpid Proton's reactor: broker.py PORT FRAME. It has a queue for each address, in memory, settles as its
+peer asks, takes frames of FRAME bytes at most, answers a Close, and prints what ends a connection otherwise."""
 import collections
 import sys
 

@@ -1,5 +1,5 @@
 """Sends the lines of a file over Qpid Proton, once something listens there: sender.py PORT FILE MODE, settled or
-unsettled. The status is 0 where each was sent, each unsettled one was accepted, and both ends closed without an error."""
+unsettled. The status is 0 where each was sent, each unsettled one was accepted, and both ends closed in order."""
 import sys
 import time
 
@@ -70,7 +70,7 @@ class Sender(MessagingHandler):
 def main():
     port, file, mode = int(sys.argv[1]), sys.argv[2], sys.argv[3]
     while not listens(port):
-        time.sleep(0.1)
+        time.sleep(0.5)
     with open(file, encoding="utf-8") as lines:
         sender = Sender(port, lines.read().split("\n")[:-1], mode == "settled")
     Container(sender).run()
