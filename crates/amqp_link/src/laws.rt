@@ -20,7 +20,8 @@ pub fn each_message_is_resolved_at_most_once()
 
 /// A link that sends has such a history inside each history of a link as its session sees it, where its owner changes
 /// it by its calls alone, and what its owner does in it are just these changes, in order. So the law above holds of
-/// links in sessions; and such a link never becomes one that receives.
+/// links in sessions of such an owner; and such a link never becomes one that receives. An endpoint numbers messages and
+/// takes several that ended at once, and so isn't such an owner yet.
 pub fn a_sending_end_has_a_history_of_its_own()
     ensures { (start : Sending) (end : End) (steps : List EndAct) →
         EndHistory (variant.Sender start) steps end → (keeps : OwnerKeeps Owns steps) →
