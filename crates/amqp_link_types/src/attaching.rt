@@ -14,15 +14,12 @@ pub struct DesiredFilterNotSupported {
     pub not_supported: Array<Symbol>,
 }
 
-/// What is wrong, and behind a colon the names, parted by commas.
+/// What is wrong, and behind a colon the names.
 impl fmt::Display for DesiredFilterNotSupported {
     fn fmt<W: fmt::Write>(&self, f: &mut fmt::Formatter<W>) -> fmt::Result {
-        f.write_str("wanted filters are not supported")?;
-        let mut before = ": ";
+        f.write_str("wanted filters are not supported:")?;
         for name in self.not_supported.iter() {
-            f.write_str(before)?;
-            f.write_str(name.as_str())?;
-            before = ", ";
+            write!(f, " {name}")?;
         }
         Ok(())
     }
