@@ -13,8 +13,8 @@ use Rattle.amqp_endpoint_core.specs.Moves.{EndsReading, Receives, Sends, StopsWr
 use Rattle.amqp_endpoint_core.specs.declared.error.CallerError.{CallerError}
 use Rattle.amqp_endpoint_core.specs.declared.error.CallerError.TheVariants.{Endpoint, Stream}
 
--- what a caller has: its program, the endpoint, the bytes that were pulled and aren't written, and, where they are known,
--- the bytes that the peer still sends and those that are written
+-- what a caller has: its program, the endpoint, the bytes that were pulled and aren't written, and, where they are
+-- known, the bytes that the peer still sends and those that are written
 pub record Caller (P S : Type 0) : Type 0 where
   pub program : P
   pub endpoint : State S

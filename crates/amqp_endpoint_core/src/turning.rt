@@ -19,7 +19,8 @@ pub trait Program<S: SessionRelay> {
 
     /// What it may do at an event: the program and its endpoint before, the event, what it answers, and both behind.
     /// A program that says nothing of this leaves it open.
-    ghost reacts: { Self → State S → Event → Result (Unit {0}) EndpointError → Self → State S → Type 0 } = { λ _ _ _ _ _ _. ⊤ };
+    ghost reacts: { Self → State S → Event → Result (Unit {0}) EndpointError
+        → Self → State S → Type 0 } = { λ _ _ _ _ _ _. ⊤ };
 
     /// Answers an event, by calls of the endpoint. An error ends the loop, and the events behind it go.
     fn react(&mut self, endpoint: &mut Endpoint<S>, event: Event) -> Result<(), EndpointError>
@@ -30,7 +31,8 @@ pub trait Program<S: SessionRelay> {
 /// sends no more.
 ///
 /// The errors are those of `turn`; `Stream` with `TimedOut` also after 2^64 - 1 turns that all went on. What was pulled
-/// and isn't written is lost with an error: a program that goes on behind one calls `turn`, with an `output` of its own.
+/// and isn't written is lost with an error: a program that goes on behind one calls `turn`, with an `output` of its
+/// own.
 pub fn serve<S: SessionRelay, P: Program<S>, R: Read, W: Write>(
     alloc: Global,
     endpoint: &mut Endpoint<S>,
@@ -54,14 +56,14 @@ pub fn serve<S: SessionRelay, P: Program<S>, R: Read, W: Write>(
 }
 
 /// Writes what `output` holds and what is queued; where not both Close went before, reads once, and has the program
-/// answer each event that this tells, in order. It answers whether the connection goes on. It doesn't exactly where both
-/// Close went, the peer sends no more, or a fault came: nothing is left to be written then, also not what the fault and
-/// the program's answers queued.
+/// answer each event that this tells, in order. It answers whether the connection goes on. It doesn't exactly where
+/// both Close went, the peer sends no more, or a fault came: nothing is left to be written then, also not what the
+/// fault and the program's answers queued.
 ///
 /// `Stream` where the reader or the writer refuses, and `Endpoint` where the program does, or where there is no memory
 /// to pull what is queued. Where the reader refuses nothing was read, and nothing is left to be written. Where the
-/// program refuses, the events behind that one are gone, and nothing is held; what is queued stays so. Where the writing
-/// stops, also behind a fault, what isn't written stands in `output` or stays queued.
+/// program refuses, the events behind that one are gone, and nothing is held; what is queued stays so. Where the
+/// writing stops, also behind a fault, what isn't written stands in `output` or stays queued.
 pub fn turn<S: SessionRelay, P: Program<S>, R: Read, W: Write>(
     endpoint: &mut Endpoint<S>,
     program: &mut P,

@@ -1,6 +1,5 @@
 //! The calls that dispose of a message by an outcome.
 ghost use Rattle.std.specs.Prelude.{◌≡◌, IfErr, OnOk};
-ghost use Rattle.amqp_session_states.specs.declared.delivery_state.DeliveryState.TheVariants as state;
 ghost use Rattle.amqp_endpoint_core.specs.Disposing.{disposal_by};
 ghost use Rattle.amqp_endpoint_model.specs.Said.{done};
 ghost use Rattle.amqp_endpoint_model.specs.Step.{IsRefused, SessionsDo};
@@ -17,9 +16,9 @@ impl<S: SessionRelay> Endpoint<S> {
     /// It is refused as `dispose` is. A refusal changes nothing.
     pub fn accept(&mut self, link: u64, message: u64) -> Result<(), EndpointError>
         ensures ok { OnOk result (SessionsDo S.does self.old
-            (Call.Dispose link message (disposal_by (state.Accepted (record {})))) done self.new) }
+            (Call.Dispose link message (disposal_by (DeliveryState.Accepted (record {})))) done self.new) }
         ensures err { IfErr result (λ e. IsRefused S.does self.old
-            (Call.Dispose link message (disposal_by (state.Accepted (record {})))) e × (self.new ≡ self.old)) }
+            (Call.Dispose link message (disposal_by (DeliveryState.Accepted (record {})))) e × (self.new ≡ self.old)) }
     {
         self.dispose_by(link, message, DeliveryState::Accepted(Accepted {}))
     }
@@ -30,15 +29,15 @@ impl<S: SessionRelay> Endpoint<S> {
     /// It is refused as `dispose` is. A refusal changes nothing.
     pub fn release(&mut self, link: u64, message: u64) -> Result<(), EndpointError>
         ensures ok { OnOk result (SessionsDo S.does self.old
-            (Call.Dispose link message (disposal_by (state.Released (record {})))) done self.new) }
+            (Call.Dispose link message (disposal_by (DeliveryState.Released (record {})))) done self.new) }
         ensures err { IfErr result (λ e. IsRefused S.does self.old
-            (Call.Dispose link message (disposal_by (state.Released (record {})))) e × (self.new ≡ self.old)) }
+            (Call.Dispose link message (disposal_by (DeliveryState.Released (record {})))) e × (self.new ≡ self.old)) }
     {
         self.dispose_by(link, message, DeliveryState::Released(Released {}))
     }
 
-    /// Rejects the message with this number, which came by the link with that number (part 3, 3.4.3): it is invalid, and
-    /// the error in `rejected` may say why. It is settled as its transfers say, or else its link (part 2, 2.8.3).
+    /// Rejects the message with this number, which came by the link with that number (part 3, 3.4.3): it is invalid,
+    /// and the error in `rejected` may say why. It is settled as its transfers say, or else its link (part 2, 2.8.3).
     ///
     /// It is refused as `dispose` is. A refusal changes nothing.
     pub fn reject(
@@ -48,16 +47,16 @@ impl<S: SessionRelay> Endpoint<S> {
         rejected: Rejected,
     ) -> Result<(), EndpointError>
         ensures ok { OnOk result (SessionsDo S.does self.old
-            (Call.Dispose link message (disposal_by (state.Rejected rejected))) done self.new) }
+            (Call.Dispose link message (disposal_by (DeliveryState.Rejected rejected))) done self.new) }
         ensures err { IfErr result (λ e. IsRefused S.does self.old
-            (Call.Dispose link message (disposal_by (state.Rejected rejected))) e × (self.new ≡ self.old)) }
+            (Call.Dispose link message (disposal_by (DeliveryState.Rejected rejected))) e × (self.new ≡ self.old)) }
     {
         self.dispose_by(link, message, DeliveryState::Rejected(rejected))
     }
 
     /// Hands back the message with this number, which came by the link with that number, modified (part 3, 3.4.5):
-    /// `modified` says whether the delivery failed, whether this link is not to be given the message again, and what is to be
-    /// merged into its annotations. It is settled as its transfers say, or else its link (part 2, 2.8.3).
+    /// `modified` says whether the delivery failed, whether this link is not to be given the message again, and what is
+    /// to be merged into its annotations. It is settled as its transfers say, or else its link (part 2, 2.8.3).
     ///
     /// It is refused as `dispose` is. A refusal changes nothing.
     pub fn modify(
@@ -67,9 +66,9 @@ impl<S: SessionRelay> Endpoint<S> {
         modified: Modified,
     ) -> Result<(), EndpointError>
         ensures ok { OnOk result (SessionsDo S.does self.old
-            (Call.Dispose link message (disposal_by (state.Modified modified))) done self.new) }
+            (Call.Dispose link message (disposal_by (DeliveryState.Modified modified))) done self.new) }
         ensures err { IfErr result (λ e. IsRefused S.does self.old
-            (Call.Dispose link message (disposal_by (state.Modified modified))) e × (self.new ≡ self.old)) }
+            (Call.Dispose link message (disposal_by (DeliveryState.Modified modified))) e × (self.new ≡ self.old)) }
     {
         self.dispose_by(link, message, DeliveryState::Modified(modified))
     }
