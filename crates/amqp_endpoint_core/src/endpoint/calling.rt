@@ -11,9 +11,9 @@ use amqp_session_types::{IncomingChannel, TryEndError};
 impl<S: SessionRelay> Endpoint<S> {
     /// Begins a session: its Begin is queued (part 2, 2.5.1, 2.7.2). Answers the number that it has from now on.
     ///
-    /// `NotConnected` unless both Open were exchanged and no Close of either end went, then `NumbersUsedUp` where there
-    /// is no number left, then `LocalChannelMaxReached` where no channel is left that the peer takes (part 2, 2.7.1).
-    /// `Memory` where there is no memory. A refusal changes nothing.
+    /// `NotConnected` unless both Open were exchanged and no Close of either end went, then `LocalChannelMaxReached` where
+    /// no channel is left that the peer takes (part 2, 2.7.1). `Memory` where there is no memory. A refusal changes
+    /// nothing.
     pub fn begin(&mut self) -> Result<u64, EndpointError>
         ensures ok { IfOk result (λ number.
             SessionsDo S.does self.old Call.Begin (session_begun number) self.new) }

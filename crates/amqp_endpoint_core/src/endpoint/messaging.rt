@@ -19,10 +19,10 @@ impl<S: SessionRelay> Endpoint<S> {
     /// queued that the peer's window lets leave, and the others wait (part 2, 2.5.6, 2.6.12, 2.6.14). Answers the tag
     /// of its delivery, which no other message of the endpoint has, and that it is accepted where it went settled.
     ///
-    /// `UnknownLink` where no link has the number, then `IllegalState` where it receives or isn't attached, then
-    /// `MessageTooLarge` where the message is larger than both ends allow, or has 2^32 bytes, then `CreditMissing`,
-    /// then `NumberInUse` where the number of its delivery is still unsettled, then `NumbersUsedUp`. `Memory` where
-    /// there is no memory. A refusal changes nothing. Exactly when each comes say the sessions (`bars` of their
+    /// `NumbersUsedUp` where no number is left for its tag, then `UnknownLink` where no link has the number, then
+    /// `IllegalState` where it receives or isn't attached, then `MessageTooLarge` where the message is larger than both
+    /// ends allow, or has 2^32 bytes, then `CreditMissing`, then `NumberInUse` where the number of its delivery is still
+    /// unsettled. `Memory` where there is no memory. A refusal changes nothing. Exactly when each comes say the sessions (`bars` of their
     /// relations).
     pub fn send_raw(&mut self, link: u64, message: &Sending) -> Result<Sent, EndpointError>
         ensures ok { IfOk result (λ s. SessionsDo S.does self.old (Call.Send link message.now)
