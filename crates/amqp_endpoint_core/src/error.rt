@@ -4,7 +4,7 @@ ghost use Rattle.amqp_endpoint_core.specs.declared.error.CallerError.TheVariants
 ghost use Rattle.amqp_endpoint_model.specs.declared.error.EndpointError.TheVariants.{Memory};
 
 use amqp_endpoint_model::EndpointError;
-use std::alloc::AllocError;
+use std::alloc::{AllocError, AllocFailed};
 use std::io;
 use thiserror::Error;
 
@@ -41,5 +41,14 @@ impl From<AllocError> for CallerError {
 
     fn from(_e: AllocError) -> CallerError {
         CallerError::Endpoint(EndpointError::Memory)
+    }
+}
+
+/// Want of memory is the endpoint's own refusal.
+impl<T: Drop> From<AllocFailed<T>> for CallerError {
+    ghost from_gives = { λ _ e. e ≡ Endpoint Memory };
+
+    fn from(_e: AllocFailed<T>) -> CallerError {
+        EndpointError::Memory.into()
     }
 }
