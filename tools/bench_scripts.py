@@ -6,6 +6,9 @@ HEADER = "a feed 414d515000010000"
 EMPTY = "0000000802000000"
 BLOCK = 2048
 
+# The roles of an Attach's sender, as they are written (part 2, 2.8.1).
+SENDER, RECEIVER = 0x42, 0x41
+
 # Performatives of a peer (part 2, 2.7): an Open that takes frames of 512 bytes, a Close, a Begin that answers channel
 # 0, and one that answers none.
 OPEN = b"\x00\x53\x10\xc0\x0a\x03\xa1\x01b\x40\x70\x00\x00\x02\x00"
@@ -14,30 +17,40 @@ WINDOWS = b"\x43\x70\x00\x00\x08\x00\x70\x00\x00\x08\x00"
 ANSWER = b"\x00\x53\x11\xc0\x0f\x04\x60\x00\x00" + WINDOWS
 BEGIN = b"\x00\x53\x11\xc0\x0d\x04\x40" + WINDOWS
 
-# The first transfer of a delivery with a tag of eight bytes, a Flow that gives 200 credits, a Disposition that accepts
-# and settles eight deliveries, and a Detach that closes the link with the handle 0.
-TRANSFER = b"\x00\x53\x14\xc0\x10\x05\x43\x52\x00\xa0\x08\x00\x00\x00\x00\x00\x00\x00\x00\x43\x42"
+# A Flow that gives 200 credits, and a Disposition that accepts and settles eight deliveries.
 FLOW = b"\x00\x53\x13\xc0\x11\x07\x43\x70\x00\x00\x08\x00\x43\x70\x00\x00\x08\x00\x43\x43\x52\xc8"
 DISPOSITION = b"\x00\x53\x15\xc0\x0a\x05\x41\x43\x52\x07\x41\x00\x53\x24\x45"
-DETACH = b"\x00\x53\x16\xc0\x03\x02\x43\x41"
 
-# An Attach of a sender whose source and target have an address alone, one of a receiver, and one of a sender with a
-# source and a target in which each field is set (part 2, 2.7.3; part 3, 3.5.3, 3.5.4).
-ENDS = (
-    b"\x40\x40\x00\x53\x28\xc0\x08\x01\xa1\x05queue\x00\x53\x29\xc0\x08\x01\xa1\x05queue\x40\x40\x43"
-)
-SENDER = b"\x00\x53\x12\xc0\x28\x0a\xa1\x04link\x43\x42" + ENDS
-RECEIVER = b"\x00\x53\x12\xc0\x28\x0a\xa1\x04link\x43\x41" + ENDS
+# The ends of a link that have an address alone, and parts of such in which each field is set (part 3, 3.5.3, 3.5.4).
+ENDS = b"\x00\x53\x28\xc0\x08\x01\xa1\x05queue\x00\x53\x29\xc0\x08\x01\xa1\x05queue"
 TWO_SYMBOLS = b"\xe0\x14\x02\xb3\x00\x00\x00\x05queue\x00\x00\x00\x05queue"
+TWO_OUTCOMES = b"\xe0\x2e\x02\xb3\x00\x00\x00\x12amqp:accepted:list\x00\x00\x00\x12amqp:accepted:list"
 LIFETIME = b"\xa1\x05queue\x52\x02\xa3\x05never\x52\x3c\x41\xc1\x0c\x02\xa3\x08lifetime\x40"
-FULL = (
-    b"\x00\x53\x12\xd0\x00\x00\x01\x17\x00\x00\x00\x0e\xa1\x04link\x43\x42\x50\x00\x50\x01"
-    b"\x00\x53\x28\xc0\x80\x0b" + LIFETIME + b"\xa3\x04move\xc1\x0c\x02\xa3\x08selector\x40\x00\x53\x24\x45"
-    b"\xe0\x2e\x02\xb3\x00\x00\x00\x12amqp:accepted:list\x00\x00\x00\x12amqp:accepted:list" + TWO_SYMBOLS
-    + b"\x00\x53\x29\xc0\x38\x07" + LIFETIME + TWO_SYMBOLS
-    + b"\x40\x40\x43\x80\x00\x00\x00\x00\x00\x01\x00\x00" + 2 * TWO_SYMBOLS.replace(b"queue", b"topic")
-    + b"\xc1\x0b\x02\xa3\x07product\x40"
-)
+FILTER = b"\xa3\x04move\xc1\x0c\x02\xa3\x08selector\x40\x00\x53\x24\x45"
+FULL_SOURCE = b"\x00\x53\x28\xc0\x80\x0b" + LIFETIME + FILTER + TWO_OUTCOMES + TWO_SYMBOLS
+FULL_ENDS = FULL_SOURCE + b"\x00\x53\x29\xc0\x38\x07" + LIFETIME + TWO_SYMBOLS
+REST = b"\x80\x00\x00\x00\x00\x00\x01\x00\x00" + 2 * TWO_SYMBOLS + b"\xc1\x0b\x02\xa3\x07product\x40"
+
+
+def transfer(number):
+    """The first transfer of the delivery with this number, whose tag has eight bytes (part 2, 2.7.5)."""
+    return b"\x00\x53\x14\xc0\x10\x05\x43\x52" + bytes([number, 0xA0, 8]) + bytes(7) + bytes([number, 0x43, 0x42])
+
+
+def attach_of(number, role):
+    """An Attach by a handle and a name of this number, whose ends have an address alone (part 2, 2.7.3)."""
+    return b"\x00\x53\x12\xc0\x29\x0a\xa1\x04lin%d\x52%c%c\x40\x40" % (number, number, role) + ENDS + b"\x40\x40\x43"
+
+
+def full_attach_of(number):
+    """An Attach in which each field is set."""
+    begin = b"\x00\x53\x12\xd0\x00\x00\x01\x18\x00\x00\x00\x0e\xa1\x04lin%d\x52%c\x42\x50\x00\x50\x01"
+    return begin % (number, number) + FULL_ENDS + b"\x40\x40\x43" + REST
+
+
+def detach_of(number):
+    """A Detach that closes the link with this handle (part 2, 2.7.7)."""
+    return b"\x00\x53\x16\xc0\x04\x02\x52%c\x41" % number
 
 
 def script(*parts):
@@ -147,9 +160,14 @@ def feed(performative, payload=0, channel=0):
 PULL = ["a pull"]
 CONNECTED = ["a connect", HEADER, *feed(OPEN), *PULL * 2]
 BEGUN = ["one", *CONNECTED, "a begin", *PULL, *feed(ANSWER)]
-SENDS = [*BEGUN, "a sender 0 link 0 mixed first", *PULL, *feed(RECEIVER), *feed(FLOW)]
-RECEIVES = [*BEGUN, "a receiver 0 link first", *PULL, *feed(SENDER), "a grant 0 1000", *PULL]
 
+
+def send_by(number):
+    return [f"a sender 0 lin{number} 0 mixed first", *PULL, *feed(attach_of(number, RECEIVER))]
+
+
+SENDS = [*BEGUN, *send_by(0), *feed(FLOW)]
+RECEIVES = [*BEGUN, "a receiver 0 lin0 first", *PULL, *feed(attach_of(0, SENDER)), "a grant 0 1000", *PULL]
 
 # A connection that is opened and closed.
 CONNECTION = script(["one", *CONNECTED, "a close", *PULL, *feed(CLOSE)])
@@ -164,26 +182,42 @@ def empty_frames(blocks, piece):
     return script(["one", *CONNECTED], [f"a feed {it}" for it in pieces] * blocks)
 
 
-# What is read: a name, the lines before, and the frame.
+# How many frames of a kind are read and written.
+TIMES = 8
+
+
+def times(lines_at):
+    return repeated(lines_at, TIMES)
+
+
+# What is read: a name, the lines before, and those that feed so many.
 READ = [
-    ("a first transfer with 100 bytes of payload, of 129 bytes in all", RECEIVES, feed(TRANSFER, 100)),
-    ("the same with 200 bytes of payload", RECEIVES, feed(TRANSFER, 200)),
-    ("a flow of a link", SENDS, feed(FLOW)),
-    ("a begin", BEGUN, feed(BEGIN, channel=1)),
-    ("a disposition of eight deliveries, accepted", SENDS, feed(DISPOSITION)),
-    ("a detach that closes a link", SENDS, feed(DETACH)),
-    ("an attach whose source and target have an address alone", BEGUN, feed(SENDER)),
-    ("an attach with a source and a target in which each field is set, of 295 bytes", BEGUN, feed(FULL)),
+    ("a first transfer with 100 bytes of payload, of 129 in all", RECEIVES, times(lambda it: feed(transfer(it), 100))),
+    ("the same with 200 bytes of payload", RECEIVES, times(lambda it: feed(transfer(it), 200))),
+    ("a flow of a link", SENDS, times(lambda _: feed(FLOW))),
+    ("a begin", BEGUN, times(lambda it: feed(BEGIN, channel=it + 1))),
+    ("a disposition of eight deliveries, accepted", SENDS, times(lambda _: feed(DISPOSITION))),
+    ("a detach that closes a link", [*BEGUN, *times(send_by)], times(lambda it: feed(detach_of(it)))),
+    ("an attach whose source and target have an address alone", BEGUN, times(lambda it: feed(attach_of(it, SENDER)))),
+    ("an attach in which each field is set, of 296 bytes", BEGUN, times(lambda it: feed(full_attach_of(it)))),
 ]
 
-# What is written: a name, the lines before, and the call after which it is pulled.
-TAKEN = [*RECEIVES, *feed(TRANSFER, 100)]
+
+def pulled(line_at):
+    return times(lambda number: [line_at(number), *PULL])
+
+
+# What is written: a name, the lines before, and those of the calls after which so many are pulled.
 WRITTEN = [
-    ("a first transfer with 100 bytes of payload", SENDS, ["a send 0 settled " + "00" * 100]),
-    ("the same with 200 bytes of payload", SENDS, ["a send 0 settled " + "00" * 200]),
-    ("a flow of a link", RECEIVES, ["a grant 0 2000"]),
-    ("a begin", BEGUN, ["a begin"]),
-    ("a disposition of one delivery, accepted", TAKEN, ["a dispose 0 0 accepted settled"]),
-    ("a detach that closes a link", SENDS, ["a closelink 0"]),
-    ("an attach without source and target", BEGUN, ["a sender 0 next 0 mixed first"]),
+    ("a first transfer with 100 bytes of payload", SENDS, pulled(lambda _: "a send 0 settled " + "00" * 100)),
+    ("the same with 200 bytes of payload", SENDS, pulled(lambda _: "a send 0 settled " + "00" * 200)),
+    ("a flow of a link", RECEIVES, pulled(lambda it: f"a grant 0 {2000 + it}")),
+    ("a begin", BEGUN, pulled(lambda _: "a begin")),
+    (
+        "a disposition of one delivery, accepted",
+        [*RECEIVES, *times(lambda it: feed(transfer(it), 100))],
+        pulled(lambda it: f"a dispose 0 {it} accepted settled"),
+    ),
+    ("a detach that closes a link", [*BEGUN, *times(send_by)], pulled(lambda it: f"a closelink {it}")),
+    ("an attach without source and target", BEGUN, pulled(lambda it: f"a sender 0 lin{it} 0 mixed first")),
 ]
