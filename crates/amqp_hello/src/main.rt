@@ -4,7 +4,7 @@
 use amqp_endpoint::{
     AmqpValue, ApplicationProperties, CallerError, Endpoint, EndpointError, Event, LinkAsked,
     LinkSettings, LinkedSessions, Message, MessageSections, OrderedMap, Program, RawValue,
-    Sendable, SessionAsked, Settings, Source, Target, Text, turn, write_out,
+    Sendable, SessionAsked, Settings, Source, Target, Text, serve, turn, write_out,
 };
 use std::alloc::{AllocError, Global};
 use std::io::BufWriter;
@@ -130,6 +130,24 @@ impl Ends {
         write_out(&mut self.server, &mut output, &mut answered)?;
         Ok(self.client.feed(answered.get_ref().as_slice()).events)
     }
+
+    /// Carries to the shop what the client has queued, and serves the shop's end until the connection is over.
+    fn finish(&mut self) -> Result<(), CallerError> {
+        let mut output = Vec::new(self.alloc);
+        let mut asked = Vec::new(self.alloc);
+        let mut answered = Vec::new(self.alloc);
+        write_out(&mut self.client, &mut output, &mut asked)?;
+        let mut reader = asked.as_slice();
+        serve(
+            self.alloc,
+            &mut self.server,
+            &mut self.shop,
+            &mut reader,
+            &mut answered,
+        )?;
+        self.client.feed(answered.as_slice());
+        Ok(())
+    }
 }
 
 /// The client's part: it begins a session, attaches a link, and orders once more than it has credit for.
@@ -158,7 +176,7 @@ fn order(rt: &impl Print, ends: &mut Ends) -> Result<(), CallerError> {
         }
     }
     ends.client.close()?;
-    ends.talk()?;
+    ends.finish()?;
     println!(rt; "closed: {}", ends.client.is_closed())?;
     Ok(())
 }
