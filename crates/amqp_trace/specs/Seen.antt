@@ -21,8 +21,8 @@ payload_of body = None
 abbrev pub part_of : Transferring → Part
 part_of t = record { handle = t.handle; delivery_id = t.delivery_id; more = t.more; aborted = t.aborted }
 
--- What a frame does to the deliveries of its channel that are under way (part 2, 2.6.14): a transfer carries a part of one,
--- and none goes on behind a Begin or an End of its session, or behind an Attach or a Detach of its link.
+-- What a frame does to the deliveries of its channel that are under way (part 2, 2.6.14): a transfer carries a part of
+-- one, and none goes on behind a Begin or an End of its session, or behind an Attach or a Detach of its link.
 abbrev pub effect_of : FrameBody → Effect
 effect_of (Transfer t payload) = Carries (part_of t)
 effect_of (Begin b) = BreaksSession

@@ -5,8 +5,8 @@ use crate::refusal::Refusal;
 use amqp_session_frames::{Error as FrameError, Frame, FrameEncoder, Piece, Pieces};
 use std::alloc::Global;
 
-/// The frames that the frame of these bytes is written as, each with its size in front, where each may have so many bytes
-/// behind its size. A limit of less than four is taken for four.
+/// The frames that the frame of these bytes is written as, each with its size in front, where each may have so many
+/// bytes behind its size. A limit of less than four is taken for four.
 pub fn divided(alloc: Global, limit: usize, bytes: &[u8]) -> Result<Vec<Vec<u8>>, FrameError> {
     decoded(alloc, bytes).and_then(|frame| encoded(alloc, limit, &frame))
 }

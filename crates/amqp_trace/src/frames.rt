@@ -172,8 +172,8 @@ fn performative_line(alloc: Global, frame: &SeenFrame) -> Result<String, Refusal
     Ok(line)
 }
 
-/// Appends how many bytes a transfer carries. Where a delivery is whole with them, it appends how many bytes that has, if it
-/// has others, and the message that they are, if they are one.
+/// Appends how many bytes a transfer carries. Where a delivery is whole with them, it appends how many bytes that has,
+/// if it has others, and the message that they are, if they are one.
 fn push_payload(
     alloc: Global,
     line: &mut String,

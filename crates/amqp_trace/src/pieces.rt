@@ -1,9 +1,9 @@
 //! Pieces of a connection's bytes that stand on lines of their own.
 use std::alloc::{AllocError, Global};
 
-/// A text of lines, in which each run of lines `out <hex>` and `in <hex>` is one line, the pieces parted by ` ; `. A line
-/// that is left out may stand between two of them, and is left out. Empty lines stand in the place of the others, so that each
-/// line keeps its number.
+/// A text of lines, in which each run of lines `out <hex>` and `in <hex>` is one line, the pieces parted by ` ; `.
+/// Empty lines and comments may stand between two of them, and are left out. Empty lines stand in the place of the
+/// others, so that each line keeps its number.
 pub fn with_pieces_joined(alloc: Global, text: &[u8]) -> Result<Vec<u8>, AllocError> {
     let mut joined = Joined {
         text: Vec::new(alloc),

@@ -209,9 +209,9 @@ impl Streams {
     }
 }
 
-/// The lines of streams, with this between them: of each direction its protocol header, then each frame, each with its offset
-/// in front, in the order in which they get whole. The pieces are parted by ` ; `. What can't be read has its fault. Behind a
-/// frame that isn't whole nothing is read.
+/// The lines of streams, with this between them: of each direction its protocol header, then each frame, each with its
+/// offset in front, in the order in which they get whole. The pieces are parted by ` ; `. What can't be read has its
+/// fault. Behind a frame that isn't whole nothing is read.
 pub(crate) fn stream_lines(
     alloc: Global,
     pieces: &str,

@@ -1,4 +1,5 @@
-//! The text of AMQP's values: one line that a person reads, and no two values have the same. docs/TRACE.md has its grammar.
+//! The text of AMQP's values: one line that a person reads, and no two values have the same. docs/TRACE.md has its
+//! grammar.
 
 mod composites;
 mod escapes;

@@ -6,8 +6,8 @@ pub(crate) fn is_printable(byte: u8) -> bool {
     (0x20..=0x7e).contains(&byte)
 }
 
-/// Appends text in these quotes. A quote and a backslash in it have a backslash in front, and what isn't visible ASCII is
-/// written `\u{..}`, by its code in hex digits.
+/// Appends text in these quotes. A quote and a backslash in it have a backslash in front, and what isn't visible ASCII
+/// is written `\u{..}`, by its code in hex digits.
 pub(crate) fn push_quoted(out: &mut String, text: &str, quote: char) -> Result<(), AllocError> {
     out.push(quote)?;
     for character in text.chars() {

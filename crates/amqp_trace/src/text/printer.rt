@@ -37,8 +37,8 @@ fn content_of<'a>(bytes: &'a [u8], token: &Token) -> &'a [u8] {
     bytes.get(token.start..token.end).unwrap_or(&[])
 }
 
-/// The composite that a described value is, by the tokens behind its own: a descriptor that is the code of one, and a list
-/// of no more fields than it has.
+/// The composite that a described value is, by the tokens behind its own: a descriptor that is the code of one, and a
+/// list of no more fields than it has.
 fn known_composite(bytes: &[u8], behind: &[Token]) -> Option<Composite> {
     let [descriptor, value, ..] = behind else {
         return None;
