@@ -1,3 +1,4 @@
+pub mod Carrying
 pub mod Reread
 pub mod Rewriting
 pub mod Seen

@@ -1,4 +1,8 @@
 //! Deliveries that take more than one transfer (part 2, 2.6.14).
+ghost use Rattle.std.specs.Prelude.{◌≡◌, [], IfOk};
+ghost use Rattle.std.specs.Option.{option_map};
+ghost use Rattle.amqp_trace.specs.Carrying.{goes_on, came, named, at, whole, behind, parts_of};
+
 use crate::frames::SeenFrame;
 use amqp_session_types::Handle;
 use std::alloc::{AllocError, Global};
@@ -41,7 +45,10 @@ struct Delivery {
 
 impl Delivery {
     /// A delivery of which nothing came.
-    fn new(alloc: Global, delivery_id: Option<u32>) -> Self {
+    fn new(alloc: Global, delivery_id: Option<u32>) -> Self
+        ensures payload { result.payload.items ≡ [] }
+        ensures name { result.delivery_id ≡ delivery_id }
+    {
         Delivery {
             delivery_id,
             payload: Vec::new(alloc),
@@ -49,8 +56,14 @@ impl Delivery {
     }
 
     /// Whether a transfer with this number may carry a part of it: one with another number may not (part 2, 2.7.5).
-    fn may_go_on(&self, delivery_id: Option<u32>) -> bool {
-        delivery_id.is_none() || delivery_id == self.delivery_id
+    fn may_go_on(&self, delivery_id: Option<u32>) -> bool
+        ensures { result ≡ goes_on self.now.delivery_id delivery_id }
+    {
+        match (self.delivery_id, delivery_id) {
+            (_, None) => true,
+            (None, Some(_)) => false,
+            (Some(own), Some(id)) => own == id,
+        }
     }
 }
 
@@ -99,7 +112,16 @@ impl Deliveries {
         channel: u16,
         part: Part,
         bytes: &[u8],
-    ) -> Result<Option<Vec<u8>>, AllocError> {
+    ) -> Result<Option<Vec<u8>>, AllocError>
+        ensures answer { IfOk result
+            (λ payload.
+            option_map (λ v. v.items) payload
+            ≡ whole (at self.old channel part.handle.0) part bytes.now) }
+        ensures rest { IfOk result
+            (λ payload.
+            option_map parts_of (at self.new channel part.handle.0)
+            ≡ behind (at self.old channel part.handle.0) part bytes.now) }
+    {
         let place = (channel, part.handle.0);
         let begun = self.under_way.remove(&place);
         if part.aborted {
@@ -116,7 +138,10 @@ impl Deliveries {
 }
 
 /// The delivery that a transfer with this number carries a part of: the one that begun, or another.
-fn continued(alloc: Global, begun: Option<Delivery>, delivery_id: Option<u32>) -> Delivery {
+fn continued(alloc: Global, begun: Option<Delivery>, delivery_id: Option<u32>) -> Delivery
+    ensures payload { result.payload.items ≡ came begun delivery_id }
+    ensures name { result.delivery_id ≡ named begun delivery_id }
+{
     match begun {
         Some(delivery) if delivery.may_go_on(delivery_id) => delivery,
         _ => Delivery::new(alloc, delivery_id),
