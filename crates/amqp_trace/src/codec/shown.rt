@@ -1,5 +1,5 @@
 //! The text of a value, made of the value and not of its bytes.
-mod bytes;
+mod binaries;
 mod compounds;
 mod maps;
 mod numbers;

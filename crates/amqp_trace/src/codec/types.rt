@@ -1,6 +1,5 @@
 //! The types that are asked about, by their names.
 mod arrays;
-mod bytes;
 mod defaults;
 mod described;
 mod fixed;
@@ -12,6 +11,7 @@ mod numbers;
 mod optional;
 mod scalar_arrays;
 mod scalar_lists;
+mod sized;
 mod sorted_maps;
 mod tuples;
 

@@ -1,7 +1,7 @@
 //! Types of fixed width other than numbers, by name.
 use crate::codec::asked::typed;
 use crate::codec::question::Question;
-use crate::codec::types::bytes;
+use crate::codec::types::sized;
 use serde_amqp::{Dec32, Dec64, Dec128, Double, Float, Timestamp, Uuid};
 use std::alloc::{AllocError, Global};
 
@@ -18,6 +18,6 @@ pub fn ask(alloc: Global, question: &Question<'_>) -> Result<Option<String>, All
         "char" => typed::<char>(alloc, question),
         "timestamp" => typed::<Timestamp>(alloc, question),
         "uuid" => typed::<Uuid>(alloc, question),
-        _ => bytes::ask(alloc, question),
+        _ => sized::ask(alloc, question),
     }
 }
