@@ -151,7 +151,7 @@ impl Ends {
 }
 
 /// The client's part: it begins a session, attaches a link, and orders once more than it has credit for.
-fn order(rt: &impl Print, ends: &mut Ends) -> Result<(), CallerError> {
+fn buy(rt: &impl Print, ends: &mut Ends) -> Result<(), CallerError> {
     let alloc = ends.alloc;
     ends.talk()?;
     let session = ends.client.begin()?;
@@ -190,7 +190,7 @@ fn main(rt: HostRuntime) -> Result<(), CallerError> {
         server: connected(alloc, "shop")?,
         shop: Shop { alloc, orders },
     };
-    order(&rt, &mut ends)?;
+    buy(&rt, &mut ends)?;
     for order in ends.shop.orders.iter() {
         println!(rt; "ordered: {} {}", order.pieces, order.what)?;
     }
