@@ -19,7 +19,7 @@ use Rattle.amqp_session_core.specs.declared.dispositions.Touched.{Touched as Tou
 use Rattle.amqp_session_types.specs.declared.modes.Role.{Role}
 use Rattle.amqp_session_types.specs.declared.modes.Role.TheVariants.{Sender, Receiver}
 use Rattle.amqp_session_outgoing.specs.Table.{Deliveries}
-use Rattle.amqp_session_core.specs.Disposing.{IsOfLink, deliveries_of, each_number}
+use Rattle.amqp_session_core.specs.Disposing.{StandsIn, deliveries_of, each_number}
 use Rattle.amqp_session_core.specs.State.{State}
 use Rattle.amqp_session_core.specs.Steps.{table_of}
 use Rattle.amqp_session_core.specs.Echoes.{without}
@@ -102,7 +102,7 @@ pub forgotten-named : (first : ℕ) (last : Option ℕ) (table : Table) → firs
 forgotten-named first None table f = forgotten-each first table (count_of first first) f (count-fits first first)
 forgotten-named first (Some last) table f = forgotten-each first table (count_of first last) f (count-fits first last)
 
--- one more delivery is told, with the handle of its link
+-- one more delivery is told, with the handle of its link and its tag
 pub told-next : (table : Table) (ns : List ℕ) (i : ℕ) (old new : List TouchedDelivery) (t : TouchedDelivery) → i < length ns → t.number ≡ get_or ns i 0 → new ≡ old ++ t ∷ []
     → each_number old ≡ take i ns → each_number new ≡ take (i + 1) ns
 told-next table ns i old new t lt is pushed so_far =
@@ -112,8 +112,8 @@ told-next table ns i old new t lt is pushed so_far =
     ∙ ap (λ (n : ℕ). take i ns ++ n ∷ []) is
     ∙ sym (take_more ns i 0 lt)
 
-pub all-told : (table : Table) (old new : List TouchedDelivery) (t : TouchedDelivery) → IsOfLink table t → new ≡ old ++ t ∷ [] → All (IsOfLink table) old → All (IsOfLink table) new
-all-told table old new t of pushed all = All-same (IsOfLink table) new (old ++ t ∷ []) pushed (All-push (IsOfLink table) old t all of)
+pub all-told : (table : Table) (old new : List TouchedDelivery) (t : TouchedDelivery) → StandsIn table t → new ≡ old ++ t ∷ [] → All (StandsIn table) old → All (StandsIn table) new
+all-told table old new t of pushed all = All-same (StandsIn table) new (old ++ t ∷ []) pushed (All-push (StandsIn table) old t all of)
 
 -- the deliveries of a role are the session's
 pub table-is : {R : Type 0} (role : Role) (s : State R) (received : Deliveries) → received.table ≡ s.received → deliveries_of role s.outgoing received ≡ table_of role s

@@ -1,5 +1,5 @@
 -- How a session takes a disposition, part by part.
-use Rattle.std.specs.Prelude.{◌≡◌, ℕ, ◌+◌, ◌%◌, ◌^◌, ◌==◌, List, [], ◌∷◌, Bool, false, Option, Some, None, All, IfSome}
+use Rattle.std.specs.Prelude.{◌≡◌, ℕ, ◌+◌, ◌%◌, ◌^◌, ◌==◌, List, [], ◌∷◌, Bool, false, Option, Some, None, All}
 use Rattle.std.specs.Prelude.{map, length, ◌≤◌, if◌then◌else◌, slice_index_or}
 use Rattle.std.specs.FinMap as tables
 use Rattle.amqp_session_types.specs.declared.modes.Role.{Role}
@@ -25,9 +25,9 @@ pub record AreCopies (state : Option DeliveryState) (states : List (Option Deliv
   pub each : All (λ s. s ≡ state) states
   pub enough : length states ≡ count
 
--- a delivery is that of its number, and its handle that of its link
-abbrev pub IsOfLink : Table → Touched → Type 0
-IsOfLink table t = IfSome (tables.get table t.number) (λ d. t.handle ≡ d.handle)
+-- a delivery is that of its number, with the handle of its link and the link's tag
+abbrev pub StandsIn : Table → Touched → Type 0
+StandsIn table t = tables.get table t.number ≡ Some (record { handle = t.handle; tag = t.tag })
 
 -- the numbers of deliveries
 abbrev pub each_number : List Touched → List ℕ
@@ -36,7 +36,7 @@ each_number touched = map (λ t. t.number) touched
 -- the deliveries that a disposition touches, each once, in order from the first of its range (part 2, 2.7.6)
 pub record AreTouched (d : Disposition) (table : Table) (touched : List Touched) : Type 0 where
   pub numbers : Touches (range_of d.first d.last) table (each_number touched)
-  pub handles : All (IsOfLink table) touched
+  pub deliveries : All (StandsIn table) touched
 
 -- room for the way of a disposition to the links of its deliveries
 pub record HasRoomFor (d : Disposition) (table : Table) (room : DispositionRoom) : Type 0 where

@@ -1,9 +1,9 @@
 //! How a session takes dispositions and sends them (part 2, 2.7.6).
-ghost use Rattle.std.specs.Prelude.{◌≡◌, ℕ, List, ◌≤◌, [], ◌<◌, length, map, All, IfOk, IfErr, IfSome, vec_len};
+ghost use Rattle.std.specs.Prelude.{◌≡◌, ℕ, List, ◌≤◌, [], ◌<◌, length, map, All, IfOk, IfErr, IfSome, OnOk, vec_len};
 ghost use Rattle.std.specs.Prelude.{vec_capacity, option_copied};
 ghost use Rattle.smallvec.specs.SmallVec.{small_vec_len};
 ghost use Rattle.amqp_session_core.specs.Echoes.{echo_of, opposite, runs_of, without};
-ghost use Rattle.amqp_session_core.specs.Disposing.{AreTouched, IsOfLink, each_number, HasRoomFor, Walked, AreCopies};
+ghost use Rattle.amqp_session_core.specs.Disposing.{AreTouched, StandsIn, each_number, HasRoomFor, Walked, AreCopies};
 ghost use Rattle.amqp_session_core.specs.Disposing.{behind_runs, deliveries_of, settled_own, ReachesOne};
 ghost use Rattle.amqp_session_core.specs.Steps.{table_of, with_table};
 ghost use Rattle.amqp_session_outgoing.specs.Outside.{outside};
@@ -18,18 +18,20 @@ use crate::session::Session;
 use amqp_session_outgoing::{Delivery, DeliveryRange, Outgoing, Unsettled};
 use amqp_session_performatives::{Disposition, SessionFrame, SessionFrameBody};
 use amqp_session_states::DeliveryState;
-use amqp_session_types::{OutputHandle, Role, SessionError};
+use amqp_session_types::{DeliveryTag, OutputHandle, Role, SessionError};
 use slab::Slab;
 use smallvec::SmallVec;
 use std::alloc::{AllocError, Global};
 
 /// A delivery that a disposition touches (part 2, 2.7.6).
-#[derive(Debug, Clone, Copy, PartialEq, Eq)]
+#[derive(Debug, Drop)]
 pub struct Touched {
     /// Its number.
     pub number: u32,
     /// The own handle of its link.
     pub handle: OutputHandle,
+    /// What the link calls it.
+    pub tag: DeliveryTag,
 }
 
 /// How many numbers or runs lie in a value itself: a disposition mostly touches one delivery or a few.
@@ -76,7 +78,7 @@ impl<R: LinkRelay> Session<R> {
         let numbers = self.numbers(alloc, disposition)?;
         let mut touched = Vec::with_capacity(alloc, numbers.len())?;
         let deliveries = deliveries_of(disposition.role, &self.outgoing, &self.received);
-        tell_touched(deliveries, &numbers, &mut touched);
+        tell_touched(deliveries, &numbers, &mut touched)?;
         Ok(touched)
     }
 
@@ -390,25 +392,38 @@ fn echo(disposition: &Disposition, run: (u32, u32)) -> Result<Disposition, Alloc
     })
 }
 
-/// The deliveries of these numbers, each with the own handle of its link.
-fn tell_touched(deliveries: &Unsettled, numbers: &[u32], touched: &mut Vec<Touched>)
+/// The deliveries of these numbers, each with the own handle of its link and what that calls it. It is refused where
+/// there is no memory.
+fn tell_touched(
+    deliveries: &Unsettled,
+    numbers: &[u32],
+    touched: &mut Vec<Touched>,
+) -> Result<(), AllocError>
     requires empty { touched.old.items ≡ [] }
     requires room { length numbers.now ≤ vec_capacity touched.old }
     requires there { All (λ n. IsUnsettled deliveries.now.table n) numbers.now }
-    ensures numbers { each_number touched.new.items ≡ numbers.now }
-    ensures handles { All (IsOfLink deliveries.now.table) touched.new.items }
+    ensures numbers { OnOk result (each_number touched.new.items ≡ numbers.now) }
+    ensures deliveries { OnOk result (All (StandsIn deliveries.now.table) touched.new.items) }
 {
     for number in numbers {
-        touched.push_reserved(touched_at(deliveries, *number));
+        touched.push_reserved(touched_at(deliveries, *number)?);
     }
+    Ok(())
 }
 
-/// The delivery of this number, with the own handle of its link.
-fn touched_at(deliveries: &Unsettled, number: u32) -> Touched
+/// The delivery of this number, with the own handle of its link and what that calls it. It is refused where there is no
+/// memory.
+fn touched_at(deliveries: &Unsettled, number: u32) -> Result<Touched, AllocError>
     requires { IsUnsettled deliveries.now.table number }
-    ensures number { result.number ≡ number }
-    ensures handle { IsOfLink deliveries.now.table result }
+    ensures number { IfOk result (λ touched. touched.number ≡ number) }
+    ensures stands { IfOk result (StandsIn deliveries.now.table) }
 {
-    let handle = deliveries.get(number).unwrap().handle;
-    Touched { number, handle }
+    let delivery = deliveries.get(number).unwrap();
+    let handle = delivery.handle;
+    let tag = delivery.tag.clone()?;
+    Ok(Touched {
+        number,
+        handle,
+        tag,
+    })
 }
