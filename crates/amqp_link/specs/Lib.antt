@@ -5,3 +5,4 @@ pub mod Standing
 pub mod Times
 pub mod History
 pub mod Owner
+pub mod Preparing

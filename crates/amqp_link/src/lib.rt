@@ -7,6 +7,7 @@
 mod end;
 pub mod laws;
 mod owner;
+mod preparing;
 mod relay;
 mod standing;
 
@@ -134,5 +135,6 @@ pub use amqp_session_states::TargetArchetype;
 pub use end::End;
 pub use end::LinkEnd;
 pub use owner::Owner;
+pub use preparing::PreparedAttach;
 pub use relay::AttachTold;
 pub use standing::Standing;

@@ -1,9 +1,9 @@
 //! A link as both of its ends keep it.
-ghost use Rattle.std.specs.Prelude.{◌≡◌, None, IfOk};
+ghost use Rattle.std.specs.Prelude.{◌≡◌, None, Some, IfOk};
 ghost use Rattle.amqp_link_base.specs.declared.state.LinkState.TheVariants.{Unattached};
 ghost use Rattle.amqp_link_base.specs.State.{is_attached};
-ghost use Rattle.amqp_link_base.specs.Moves.{Moves, broken_off, is_closed, moved_to, sent_attach, sent_detach};
-ghost use Rattle.amqp_link_base.specs.Moves.{took_attach, took_detach};
+ghost use Rattle.amqp_link_base.specs.Moves.{Moves, broken_off, is_closed, sent_attach, sent_detach, took_attach};
+ghost use Rattle.amqp_link_base.specs.Moves.{took_detach};
 ghost use Rattle.amqp_link_base.specs.Own.{bound, handle_of, own_attach};
 
 use crate::values::{both, put};
@@ -169,23 +169,21 @@ impl LinkBase {
         let Some(state) = self.local_state.on_incoming_attach(incomplete) else {
             return Err(IllegalState);
         };
-        self.move_to(attach, state);
+        self.local_state = state;
+        self.input_handle = Some(InputHandle(attach.handle.0));
         Ok(())
     }
 
-    /// The link is in this state from now on, and the handle of the peer's Attach stands for it.
-    pub fn move_to(&mut self, attach: &Attach, state: LinkState)
-        ensures { self.new ≡ moved_to self.old attach.now state }
+    /// The link is in this state from now on, this handle of the peer's stands for it, and its terms are these.
+    pub fn adopt(&mut self, handle: InputHandle, state: LinkState, terms: Boxed<Terms>)
+        ensures { self.new ≡ record self.old {
+          local_state = state;
+          input_handle = Some handle;
+          terms = terms;
+        } }
     {
         self.local_state = state;
-        self.input_handle = Some(InputHandle(attach.handle.0));
-    }
-
-    /// The link is in this state from now on, the handle of the peer's Attach stands for it, and its terms are these.
-    pub fn adopt(&mut self, attach: &Attach, state: LinkState, terms: Boxed<Terms>)
-        ensures { self.new ≡ record (moved_to self.old attach.now state) { terms = terms } }
-    {
-        self.move_to(attach, state);
+        self.input_handle = Some(handle);
         put(&mut self.terms, terms);
     }
 

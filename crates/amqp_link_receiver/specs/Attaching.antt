@@ -1,6 +1,7 @@
 -- How an attachment of a receiving link begins: part 2, 2.6.3 and 2.6.13.
-use Rattle.std.specs.Prelude.{◌≡◌, ◌⊎◌, Bool, Option, Some, None, option_map, unwrap_or, Result, Ok, Err, alloc_error}
+use Rattle.std.specs.Prelude.{◌≡◌, ◌⊎◌, ℕ, Bool, Option, Some, None, option_map, unwrap_or, Result, Ok, Err, alloc_error}
 use Rattle.std.specs.declared.alloc.AllocError.{AllocError}
+use Rattle.amqp_session_types.specs.declared.handles.InputHandle.{InputHandle}
 use Rattle.amqp_session_types.specs.declared.handles.OutputHandle.{OutputHandle}
 use Rattle.amqp_session_types.specs.declared.modes.Role.TheVariants.{Receiver}
 use Rattle.amqp_session_performatives.specs.declared.attach.Attach.{Attach}
@@ -8,12 +9,16 @@ use Rattle.amqp_link_types.specs.declared.attaching.ReceiverAttachError.{Receive
 use Rattle.amqp_link_types.specs.declared.attaching.ReceiverAttachError.TheVariants as refused
 use Rattle.amqp_link_base.specs.Attach.{receiver_tests}
 use Rattle.amqp_link_base.specs.Exchange.{exchange, lists_none}
-use Rattle.amqp_link_base.specs.Properties.{merged}
+use Rattle.amqp_link_base.specs.Properties.{Properties, merged}
+use Rattle.amqp_link_base.specs.State.{after_incoming_attach}
 use Rattle.amqp_link_base.specs.Terms.{adopted_by_receiver}
 use Rattle.amqp_link_base.specs.Tests.{first_of, IsOfFilters}
 use Rattle.amqp_link_base.specs.Moves.{sent_attach, took_attach}
 use Rattle.amqp_link_base.specs.Own.{own_attach}
 use Rattle.amqp_link_base.specs.declared.base.LinkBase.{LinkBase}
+use Rattle.amqp_link_base.specs.declared.exchange.AttachExchange.{AttachExchange}
+use Rattle.amqp_link_base.specs.declared.state.LinkState.{LinkState}
+use Rattle.amqp_link_base.specs.declared.terms.Terms.{Terms}
 use Rattle.amqp_link_base.specs.Flows.{attached}
 use Rattle.amqp_link_receiver.specs.Listed.{listed_as}
 use Rattle.amqp_link_unsettled.specs.Listing.{Entries, entries_listed}
@@ -55,6 +60,53 @@ accepted s moved attach =
 -- what is left to be done then
 abbrev pub left_to_do : LinkBase → Attach → Attached
 left_to_do moved attach = answer.Attached (exchange moved.local_state (lists_none attach.unsettled))
+
+-- what the peer's Attach makes of a link: where it stands, the handle that stands for it, its terms and properties, its
+-- count of deliveries, and what is left to be done
+pub record Plan : Type 0 where
+  pub state : LinkState
+  pub handle : InputHandle
+  pub terms : Terms
+  pub properties : Option Properties
+  pub count : ℕ
+  pub exchange : AttachExchange
+
+-- by an Attach that is accepted and leads to this state
+abbrev pub planned : ReceiverState → LinkState → Attach → Plan
+planned s state attach =
+    record {
+      state = state;
+      handle = record { 0 = attach.handle.0 };
+      terms = adopted_by_receiver s.base.terms attach;
+      properties = merged s.properties attach.properties;
+      count = unwrap_or attach.initial_delivery_count 0;
+      exchange = exchange state (lists_none attach.unsettled);
+    }
+
+-- the link as it is planned
+abbrev pub carried_out : ReceiverState → Plan → ReceiverState
+carried_out s plan =
+    record s {
+      base = record s.base { local_state = plan.state; input_handle = Some plan.handle; terms = plan.terms };
+      end = record s.end { flow = attached s.end.flow plan.count };
+      properties = plan.properties;
+    }
+
+-- what is planned where the state allows an Attach and no test refuses it, or why it is refused
+abbrev pub planned_by : Option LinkState → Option ReceiverAttachError → ReceiverState → Attach
+    → Result Plan ReceiverAttachError
+planned_by None error s attach = Err refused.IllegalState
+planned_by (Some state) (Some error) s attach = Err error
+planned_by (Some state) None s attach = Ok (planned s state attach)
+
+abbrev pub attach_planned : ReceiverState → Attach → Result Plan ReceiverAttachError
+attach_planned s attach =
+    planned_by (after_incoming_attach s.base.local_state attach.incomplete_unsettled) (attach_error s attach) s attach
+
+-- there may be no memory for what is planned, or for the list of filters that an Attach is refused with
+abbrev pub MayWantMemory : Result Plan ReceiverAttachError → Type 0
+MayWantMemory (Ok plan) = Unit {0}
+MayWantMemory (Err error) = IsOfFilters (Some error)
 
 -- there is no memory for what is taken over, and the link stays; or the peer's Attach is accepted
 abbrev pub Accepts : LinkBase → ReceiverState → Attach → Result Attached AllocError → ReceiverState → Type 0

@@ -1,12 +1,11 @@
 //! How an attachment of a receiving link begins (part 2, 2.6.3 and 2.6.13).
-ghost use Rattle.std.specs.Prelude.{◌≡◌, IfOk, IfErr, unwrap_or};
+ghost use Rattle.std.specs.Prelude.{◌≡◌, IfOk, IfErr};
 ghost use Rattle.amqp_link_base.specs.Terms.{adopted_by_receiver};
-ghost use Rattle.amqp_link_base.specs.Moves.{moved_to};
-ghost use Rattle.amqp_link_base.specs.Flows.{attached};
 ghost use Rattle.amqp_link_unsettled.specs.Listing.{Lists, FitsNowhere};
 ghost use Rattle.amqp_link_unsettled.specs.declared.listing.ListError.TheVariants.{TooLarge};
 ghost use Rattle.amqp_link_receiver.specs.State.{MovesLink};
-ghost use Rattle.amqp_link_receiver.specs.Attaching.{unlisted, to_list, attach_sent, AttachTaken, Accepts};
+ghost use Rattle.amqp_link_receiver.specs.Attaching.{AttachTaken, MayWantMemory, attach_planned, attach_sent};
+ghost use Rattle.amqp_link_receiver.specs.Attaching.{carried_out, planned, to_list, unlisted};
 
 use crate::link::ReceiverLink;
 use amqp_link_base::{
@@ -16,8 +15,9 @@ use amqp_link_base::{
 use amqp_link_types::ReceiverAttachError;
 use amqp_link_unsettled::{ListError, with_entries};
 use amqp_session_performatives::Attach;
-use amqp_session_types::{Boxed, Fields, OutputHandle, Role};
+use amqp_session_types::{Boxed, Fields, InputHandle, OutputHandle, Role};
 use std::alloc::{AllocError, Global};
+use std::marker::Model;
 
 /// What comes of the peer's Attach.
 #[derive(Debug, Drop)]
@@ -30,6 +30,31 @@ pub enum Attached {
         /// What is left to be done.
         exchange: AttachExchange,
     },
+}
+
+/// What the peer's Attach makes of a receiving link, made ready before anything changes. A clause sees all of it.
+#[derive(Drop)]
+pub struct PreparedAttach {
+    state: LinkState,
+    handle: InputHandle,
+    taken: Taken,
+    initial_delivery_count: u32,
+    exchange: AttachExchange,
+}
+
+impl Model for PreparedAttach {
+    ghost use Rattle.amqp_link_receiver.specs.Attaching.{Plan};
+
+    ghost Value = { Plan };
+
+    ghost view = { λ p. record {
+      state = p.state;
+      handle = p.handle;
+      terms = p.taken.0;
+      properties = p.taken.1;
+      count = p.initial_delivery_count;
+      exchange = p.exchange;
+    } };
 }
 
 impl ReceiverLink {
@@ -78,6 +103,7 @@ impl ReceiverLink {
     /// moved then.
     ///
     /// Errors: want of memory alone. Nothing changes then.
+    #[tactic(auto, using(crate::proofs::Planning::rules))]
     pub fn on_incoming_attach(
         &mut self,
         alloc: Global,
@@ -85,14 +111,10 @@ impl ReceiverLink {
     ) -> Result<Attached, AllocError>
         ensures { AttachTaken self.old attach.now result self.new }
     {
-        let incomplete = attach.incomplete_unsettled;
-        let Some(state) = self.base.local_state.on_incoming_attach(incomplete) else {
-            return Ok(Attached::Refused(ReceiverAttachError::IllegalState));
-        };
-        let terms = &self.base.terms;
-        match verify_attach_as_receiver(alloc, &terms.source, &terms.target, attach) {
-            Ok(()) => self.accept(alloc, attach, state),
-            Err(ReceiverAttachError::Memory) => Err(AllocError),
+        match self.prepare_attach(alloc, attach)? {
+            Ok(prepared) => Ok(Attached::Attached {
+                exchange: self.commit_attach(prepared),
+            }),
             Err(error) => {
                 let _ = self.base.on_incoming_attach(attach);
                 Ok(Attached::Refused(error))
@@ -100,43 +122,67 @@ impl ReceiverLink {
         }
     }
 
-    /// Takes over what the peer's Attach says, and brings the link into this state. Growths come first.
-    fn accept(
-        &mut self,
+    /// What the peer's Attach makes of the link is made ready, or the answer is why it is refused: `IllegalState` where
+    /// the link's state allows no Attach, else the error of the first test that applies. Nothing changes yet.
+    ///
+    /// Errors: want of memory alone, and only where the Attach isn't refused, or in place of a list of filters.
+    pub fn prepare_attach(
+        &self,
         alloc: Global,
         attach: &Attach,
-        state: LinkState,
-    ) -> Result<Attached, AllocError>
-        ensures { Accepts (moved_to self.old.base attach.now state) self.old attach.now result
-            self.new }
+    ) -> Result<Result<PreparedAttach, ReceiverAttachError>, AllocError>
+        ensures ok { IfOk result (λ decided. decided ≡ attach_planned self.now attach.now) }
+        ensures err { IfErr result (λ _. MayWantMemory (attach_planned self.now attach.now)) }
     {
-        let properties = merged_properties(alloc, &self.properties, &attach.properties);
-        match both(adopted(alloc, &self.base.terms, attach), properties) {
-            Err(error) => Err(error),
-            Ok(taken) => {
-                self.adopt(attach, state, taken);
-                Ok(Attached::Attached {
-                    exchange: AttachExchange::of_receiver(state, &attach.unsettled),
-                })
-            }
+        let incomplete = attach.incomplete_unsettled;
+        let Some(state) = self.base.local_state.on_incoming_attach(incomplete) else {
+            return Ok(Err(ReceiverAttachError::IllegalState));
+        };
+        let terms = &self.base.terms;
+        match verify_attach_as_receiver(alloc, &terms.source, &terms.target, attach) {
+            Ok(()) => Ok(Ok(self.prepare(alloc, attach, state)?)),
+            Err(ReceiverAttachError::Memory) => Err(AllocError),
+            Err(error) => Ok(Err(error)),
         }
     }
 
-    /// Brings the link into the state that an Attach leads to, with these terms and these properties. It takes no
-    /// memory.
-    fn adopt(&mut self, attach: &Attach, state: LinkState, taken: Taken)
-        ensures { self.new ≡ record self.old {
-          base = record (moved_to self.old.base attach.now state) { terms = taken.0 };
-          end = record self.old.end {
-            flow = attached self.old.end.flow (unwrap_or attach.now.initial_delivery_count 0);
-          };
-          properties = taken.1;
-        } }
+    /// What an Attach makes of the link that isn't refused and leads to this state.
+    fn prepare(
+        &self,
+        alloc: Global,
+        attach: &Attach,
+        state: LinkState,
+    ) -> Result<PreparedAttach, AllocError>
+        ensures { IfOk result (λ plan. plan ≡ planned self.now state attach.now) }
     {
+        let properties = merged_properties(alloc, &self.properties, &attach.properties);
+        let taken = both(adopted(alloc, &self.base.terms, attach), properties)?;
+        Ok(PreparedAttach {
+            state,
+            handle: InputHandle(attach.handle.0),
+            taken,
+            initial_delivery_count: attach.initial_delivery_count.unwrap_or(0),
+            exchange: AttachExchange::of_receiver(state, &attach.unsettled),
+        })
+    }
+
+    /// The Attach is taken that was made ready, and what is left to be done is answered. It takes no memory.
+    pub fn commit_attach(&mut self, prepared: PreparedAttach) -> AttachExchange
+        ensures link { self.new ≡ carried_out self.old prepared }
+        ensures left { result ≡ prepared.exchange }
+    {
+        let PreparedAttach {
+            state,
+            handle,
+            taken,
+            initial_delivery_count,
+            exchange,
+        } = prepared;
         let (terms, properties) = taken;
-        self.base.adopt(attach, state, terms);
-        self.end.attach(attach.initial_delivery_count.unwrap_or(0));
+        self.base.adopt(handle, state, terms);
+        self.end.attach(initial_delivery_count);
         put(&mut self.properties, properties);
+        exchange
     }
 }
 

@@ -29,7 +29,7 @@ mod state;
 
 pub use answer::{Answer, Message, Registering, Told};
 pub use arriving::Incoming;
-pub use attaching::Attached;
+pub use attaching::{Attached, PreparedAttach};
 pub use attachment::Attachment;
 pub use disposable::{Disposable, DisposeRefusal};
 pub use disposing::DisposeError;

@@ -1,7 +1,8 @@
 -- How an attachment of a sending link begins: part 2, 2.6.3 and 2.6.13.
 use Rattle.std.specs.Prelude.{◌≡◌, ◌⊎◌, ◌==◌, ◌&&◌, ℕ, Bool, true, false, length, Option, Some, None, option_map}
-use Rattle.std.specs.Prelude.{Result, Ok, Err, alloc_error}
+use Rattle.std.specs.Prelude.{Result, Ok, Err, IsOk, alloc_error}
 use Rattle.std.specs.declared.alloc.AllocError.{AllocError}
+use Rattle.amqp_session_types.specs.declared.handles.InputHandle.{InputHandle}
 use Rattle.amqp_session_types.specs.declared.handles.OutputHandle.{OutputHandle}
 use Rattle.amqp_session_performatives.specs.declared.attach.Attach.{Attach}
 use Rattle.amqp_session_performatives.specs.declared.transfer.Transfer.{Transfer}
@@ -10,15 +11,19 @@ use Rattle.amqp_link_types.specs.declared.attaching.SenderAttachError.{SenderAtt
 use Rattle.amqp_link_types.specs.declared.attaching.SenderAttachError.TheVariants.{IllegalState}
 use Rattle.amqp_link_base.specs.Attach.{sender_tests}
 use Rattle.amqp_link_base.specs.Exchange.{exchange, lists_none}
-use Rattle.amqp_link_base.specs.Properties.{merged}
+use Rattle.amqp_link_base.specs.Properties.{Properties, merged}
 use Rattle.amqp_link_base.specs.Terms.{adopted_by_sender}
 use Rattle.amqp_link_base.specs.Tests.{first_of}
 use Rattle.amqp_link_base.specs.declared.exchange.AttachExchange.{AttachExchange}
-use Rattle.amqp_link_base.specs.Moves.{sent_attach, took_attach}
+use Rattle.amqp_link_base.specs.Moves.{moved_to, sent_attach, took_attach}
 use Rattle.amqp_link_base.specs.Own.{own_attach}
+use Rattle.amqp_link_base.specs.State.{after_incoming_attach}
 use Rattle.amqp_link_base.specs.declared.base.LinkBase.{LinkBase}
+use Rattle.amqp_link_base.specs.declared.state.LinkState.{LinkState}
+use Rattle.amqp_link_base.specs.declared.terms.Terms.{Terms}
 use Rattle.amqp_link_base.specs.Flows.{attached}
 use Rattle.amqp_link_unsettled.specs.Exchanging.{aborts, exchanged}
+use Rattle.amqp_link_unsettled.specs.Exchanging as messages
 use Rattle.amqp_link_unsettled.specs.Messages.{failed}
 use Rattle.amqp_link_unsettled.specs.declared.exchanging.Abort.{Abort}
 use Rattle.amqp_link_unsettled.specs.declared.resolution.Failure.TheVariants as failure
@@ -27,6 +32,7 @@ use Rattle.amqp_link_unsettled.specs.declared.listing.ListError.{ListError}
 use Rattle.amqp_link_unsettled.specs.declared.listing.ListError.TheVariants.{TooLarge, Memory}
 use Rattle.amqp_link_sender.specs.declared.attaching.AttachAnswer.{AttachAnswer}
 use Rattle.amqp_link_sender.specs.declared.attaching.AttachAnswer.TheVariants.{Refused, Attached}
+use Rattle.amqp_link_sender.specs.declared.attaching.Attaching.{Attaching}
 use Rattle.amqp_link_sender.specs.Sending.{Sending}
 
 -- the own Attach under an own handle, without its list: its count of deliveries is that of the link
@@ -104,6 +110,51 @@ TakesTested None moved old attach answer new = TakesOver moved old attach answer
 abbrev pub TakesMoved : Option LinkBase → Sending → Attach → Result AttachAnswer AllocError → Sending → Type 0
 TakesMoved None old attach answer new = (answer ≡ Ok (Refused IllegalState)) × (new ≡ old)
 TakesMoved (Some moved) old attach answer new = TakesTested (attach_refusal old attach) moved old attach answer new
+
+-- what the receiver's Attach makes of a link: where it stands, the handle that stands for it, its terms and properties,
+-- what becomes of its open messages, and what is left to be done for them
+pub record Plan : Type 0 where
+  pub state : LinkState
+  pub handle : InputHandle
+  pub terms : Terms
+  pub properties : Option Properties
+  pub messages : messages.Plan
+  pub exchange : AttachExchange
+
+-- by an Attach that is taken and leads to this state
+abbrev pub planned : Sending → LinkState → Attach → Plan
+planned s state attach =
+    record {
+      state = state;
+      handle = record { 0 = attach.handle.0 };
+      terms = adopted_by_sender s.base.terms attach;
+      properties = merged s.flow.properties attach.properties;
+      messages = messages.planned s.messages attach.unsettled attach.incomplete_unsettled;
+      exchange = exchange_left s (moved_to s.base attach state) attach;
+    }
+
+-- the link as it is planned
+abbrev pub carried_out : Sending → Plan → Sending
+carried_out s plan =
+    record s {
+      base = record s.base { local_state = plan.state; input_handle = Some plan.handle; terms = plan.terms };
+      flow = record s.flow { properties = plan.properties };
+      messages = messages.carried_out s.messages plan.messages;
+    }
+
+-- and what is left to be done
+abbrev pub left_by : Plan → Attaching
+left_by plan = record { exchange = plan.exchange; aborts = plan.messages.aborts }
+
+-- what is planned where the state allows an Attach and no test refuses it, or why it is refused
+abbrev pub planned_by : Option LinkState → Option SenderAttachError → Sending → Attach → Result Plan SenderAttachError
+planned_by None error s attach = Err IllegalState
+planned_by (Some state) (Some error) s attach = Err error
+planned_by (Some state) None s attach = Ok (planned s state attach)
+
+abbrev pub attach_planned : Sending → Attach → Result Plan SenderAttachError
+attach_planned s attach =
+    planned_by (after_incoming_attach s.base.local_state attach.incomplete_unsettled) (attach_refusal s attach) s attach
 
 -- the receiver's Attach comes
 abbrev pub TakesAttach : Sending → Attach → Result AttachAnswer AllocError → Sending → Type 0

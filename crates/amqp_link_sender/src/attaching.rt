@@ -1,13 +1,10 @@
 //! How an attachment of a sending link begins (part 2, 2.6.3 and 2.6.13).
-ghost use Rattle.std.specs.Prelude.{◌≡◌, IfOk, OnOk, OnErr};
+ghost use Rattle.std.specs.Prelude.{◌≡◌, IfErr, IfOk, IsOk};
 ghost use Rattle.amqp_link_base.specs.Attach.{sender_tests};
-ghost use Rattle.amqp_link_base.specs.Properties.{merged};
 ghost use Rattle.amqp_link_base.specs.Terms.{adopted_by_sender};
 ghost use Rattle.amqp_link_base.specs.Tests.{FirstOf};
-ghost use Rattle.amqp_link_unsettled.specs.Exchanging.{aborts, exchanged};
-ghost use Rattle.amqp_link_base.specs.Moves.{moved_to};
-ghost use Rattle.amqp_link_sender.specs.Attaching.{TakesAttach, TakesOver, TellsAttach, abort_transfer, attach_sent};
-ghost use Rattle.amqp_link_sender.specs.Attaching.{attach_sent_anew};
+ghost use Rattle.amqp_link_sender.specs.Attaching.{TakesAttach, TellsAttach, abort_transfer, attach_planned, attach_sent};
+ghost use Rattle.amqp_link_sender.specs.Attaching.{attach_sent_anew, carried_out, left_by, planned};
 ghost use Rattle.amqp_link_sender.specs.Sending.{MovesLink};
 
 use crate::link::SenderLink;
@@ -16,11 +13,12 @@ use amqp_link_base::{
     put, verify_attach_as_sender,
 };
 use amqp_link_types::SenderAttachError;
-use amqp_link_unsettled::{Abort, Failure, ListError, Messages, with_entries};
+use amqp_link_unsettled::{Abort, Failure, ListError, PreparedExchange, with_entries};
 use amqp_session_performatives::{Attach, Transfer};
-use amqp_session_types::{Boxed, Fields, Handle, OutputHandle, Role};
+use amqp_session_types::{Boxed, Fields, Handle, InputHandle, OutputHandle, Role};
 use serde_amqp_types::Array;
 use std::alloc::{AllocError, Global};
+use std::marker::Model;
 
 /// What is told of the receiver's Attach.
 #[derive(Debug, Drop)]
@@ -39,6 +37,31 @@ pub struct Attaching {
     /// The deliveries that are given up, in the order in which their transfers go: own ones, then those that only the
     /// receiver knows.
     pub aborts: Array<Abort>,
+}
+
+/// What the receiver's Attach makes of a sending link, made ready before anything changes. A clause sees all of it.
+#[derive(Drop)]
+pub struct PreparedAttach {
+    state: LinkState,
+    handle: InputHandle,
+    taken: Taken,
+    messages: PreparedExchange,
+    exchange: AttachExchange,
+}
+
+impl Model for PreparedAttach {
+    ghost use Rattle.amqp_link_sender.specs.Attaching.{Plan};
+
+    ghost Value = { Plan };
+
+    ghost view = { λ p. record {
+      state = p.state;
+      handle = p.handle;
+      terms = p.taken.0;
+      properties = p.taken.1;
+      messages = p.messages;
+      exchange = p.exchange;
+    } };
 }
 
 impl SenderLink {
@@ -95,6 +118,7 @@ impl SenderLink {
     /// on, or they end, or they are given up. What isn't listed is left open where the list is incomplete.
     ///
     /// Errors: want of memory alone. All is as before then.
+    #[tactic(auto, using(crate::proofs::Planning::rules))]
     pub fn on_incoming_attach(
         &mut self,
         alloc: Global,
@@ -102,68 +126,83 @@ impl SenderLink {
     ) -> Result<AttachAnswer, AllocError>
         ensures { TakesAttach self.old attach.now result self.new }
     {
-        let incomplete = attach.incomplete_unsettled;
-        let Some(state) = self.base.local_state.on_incoming_attach(incomplete) else {
-            return Ok(AttachAnswer::Refused(SenderAttachError::IllegalState));
-        };
-        match verify(&self.base.terms, attach) {
+        match self.prepare_attach(alloc, attach)? {
+            Ok(prepared) => Ok(AttachAnswer::Attached(self.commit_attach(prepared))),
             Err(error) => {
-                self.base.move_to(attach, state);
+                let _ = self.base.on_incoming_attach(attach);
                 Ok(AttachAnswer::Refused(error))
             }
-            Ok(()) => self.take_over(alloc, attach, state),
         }
     }
 
-    /// Takes an Attach over that isn't refused, and brings the link into this state.
-    fn take_over(
-        &mut self,
+    /// What the receiver's Attach makes of the link is made ready, or the answer is why it is refused: `IllegalState` where
+    /// the link's state doesn't allow it, else the error of the first test that it fails. Nothing changes yet.
+    ///
+    /// Errors: want of memory alone, and only where the Attach isn't refused.
+    pub fn prepare_attach(
+        &self,
+        alloc: Global,
+        attach: &Attach,
+    ) -> Result<Result<PreparedAttach, SenderAttachError>, AllocError>
+        ensures ok { IfOk result (λ decided. decided ≡ attach_planned self.now attach.now) }
+        ensures err { IfErr result (λ _. IsOk (attach_planned self.now attach.now)) }
+    {
+        let incomplete = attach.incomplete_unsettled;
+        let Some(state) = self.base.local_state.on_incoming_attach(incomplete) else {
+            return Ok(Err(SenderAttachError::IllegalState));
+        };
+        match verify(&self.base.terms, attach) {
+            Err(error) => Ok(Err(error)),
+            Ok(()) => Ok(Ok(self.prepare(alloc, attach, state)?)),
+        }
+    }
+
+    /// What an Attach makes of the link that isn't refused and leads to this state.
+    fn prepare(
+        &self,
         alloc: Global,
         attach: &Attach,
         state: LinkState,
-    ) -> Result<AttachAnswer, AllocError>
-        ensures { TakesOver (moved_to self.old.base attach.now state) self.old attach.now result
-            self.new }
-    {
-        let own_is_empty = self.messages.len() == 0;
-        match self.grow(alloc, attach) {
-            Err(error) => Err(error),
-            Ok((aborts, taken)) => {
-                self.adopt(attach, state, taken);
-                Ok(AttachAnswer::Attached(Attaching {
-                    exchange: AttachExchange::of_sender(state, own_is_empty, &attach.unsettled),
-                    aborts,
-                }))
-            }
-        }
-    }
-
-    /// What the messages come to by an Attach, what is given up, and the terms and the properties that the link has then.
-    fn grow(&mut self, alloc: Global, attach: &Attach) -> Result<(Array<Abort>, Taken), AllocError>
-        ensures ok { IfOk result (λ r.
-            (r.0 ≡ aborts self.old.messages attach.now.unsettled attach.now.incomplete_unsettled)
-            × (r.1.0 ≡ adopted_by_sender self.old.base.terms attach.now)
-            × (r.1.1 ≡ merged self.old.flow.properties attach.now.properties)) }
-        ensures messages { OnOk result (self.new ≡ record self.old {
-          messages = exchanged self.old.messages attach.now.unsettled attach.now.incomplete_unsettled;
-        }) }
-        ensures err { OnErr result (self.new ≡ self.old) }
+    ) -> Result<PreparedAttach, AllocError>
+        ensures { IfOk result (λ plan. plan ≡ planned self.now state attach.now) }
     {
         let properties = merged_properties(alloc, self.flow.properties(), &attach.properties);
-        let taken = both(adopted(alloc, &self.base.terms, attach), properties)?;
-        exchange(alloc, &mut self.messages, attach, taken)
+        let taken = both(adopted(alloc, &self.base.terms, attach), properties);
+        let incomplete = attach.incomplete_unsettled;
+        let messages = self
+            .messages
+            .prepare_exchange(alloc, &attach.unsettled, incomplete);
+        let (taken, messages) = both(taken, messages)?;
+        let own_is_empty = self.messages.len() == 0;
+        Ok(PreparedAttach {
+            state,
+            handle: InputHandle(attach.handle.0),
+            taken,
+            messages,
+            exchange: AttachExchange::of_sender(state, own_is_empty, &attach.unsettled),
+        })
     }
 
-    /// Brings the link into the state that an Attach leads to, with these terms and these properties. It takes no memory.
-    fn adopt(&mut self, attach: &Attach, state: LinkState, taken: Taken)
-        ensures { self.new ≡ record self.old {
-          base = record (moved_to self.old.base attach.now state) { terms = taken.0 };
-          flow = record self.old.flow { properties = taken.1 };
-        } }
+    /// The Attach is taken that was made ready, and what is left to be done is answered. It takes no memory.
+    pub fn commit_attach(&mut self, prepared: PreparedAttach) -> Attaching
+        ensures link { self.new ≡ carried_out self.old prepared }
+        ensures left { result ≡ left_by prepared }
     {
+        let PreparedAttach {
+            state,
+            handle,
+            taken,
+            messages,
+            exchange,
+        } = prepared;
         let (terms, properties) = taken;
-        self.base.adopt(attach, state, terms);
+        self.base.adopt(handle, state, terms);
         put(self.flow.properties_mut(), properties);
+        let aborts = self.messages.commit_exchange(messages);
+        Attaching {
+            exchange,
+            aborts: Array::from(aborts),
+        }
     }
 
     /// The transfer that gives a delivery up (part 2, 2.6.13 and 2.7.5). Its session writes its link and its number into
@@ -189,23 +228,6 @@ impl SenderLink {
 
 /// The terms and the properties of a link once an Attach is taken over.
 type Taken = (Boxed<Terms>, Option<Boxed<Fields>>);
-
-/// What an Attach makes of the messages, and what is given up, with something that is kept meanwhile.
-fn exchange<T: Drop>(
-    alloc: Global,
-    messages: &mut Messages,
-    attach: &Attach,
-    kept: T,
-) -> Result<(Array<Abort>, T), AllocError>
-    ensures ok { IfOk result (λ r. (r.0 ≡ aborts messages.old attach.now.unsettled attach.now.incomplete_unsettled)
-        × (r.1 ≡ kept)) }
-    ensures messages { OnOk result (messages.new
-        ≡ exchanged messages.old attach.now.unsettled attach.now.incomplete_unsettled) }
-    ensures err { OnErr result (messages.new ≡ messages.old) }
-{
-    let aborts = messages.exchange(alloc, &attach.unsettled, attach.incomplete_unsettled)?;
-    Ok((Array::from(aborts), kept))
-}
 
 /// What a sending link answers to the receiver's Attach, by its terms.
 fn verify(terms: &Terms, attach: &Attach) -> Result<(), SenderAttachError>

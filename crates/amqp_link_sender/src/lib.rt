@@ -17,7 +17,7 @@ mod sending;
 mod sending_on;
 mod splitting;
 
-pub use attaching::{AttachAnswer, Attaching};
+pub use attaching::{AttachAnswer, Attaching, PreparedAttach};
 pub use ending::DetachRefusal;
 pub use link::SenderLink;
 pub use payloads::PreparedBatch;

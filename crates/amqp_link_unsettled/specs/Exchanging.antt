@@ -108,14 +108,6 @@ abbrev pub all_ended : MessageLists → List (List ℕ × Resolution) → Messag
 all_ended s [] = s
 all_ended s (e ∷ es) = all_ended (ended_at s e.0 e.1 (open_at s e.0)) es
 
--- the messages end that are to end; then those wait that are to be sent on, first those of which bytes are left behind
--- what the receiver has
-abbrev pub exchanged : MessageLists → Listing → Bool → MessageLists
-exchanged s listed incomplete =
-    record (all_ended (interrupted s) (becoming s listed incomplete).ended) {
-      waiting = (becoming s listed incomplete).going ++ (becoming s listed incomplete).others;
-    }
-
 -- a delivery that isn't known is given up
 abbrev pub unless_known : Bool → List ℕ → List GivenUp → List GivenUp
 unless_known known tag rest = if known then rest else (record { tag = tag; message_format = 0 } ∷ rest)
@@ -132,3 +124,26 @@ unknown_of s (Some list) = unknown s list
 -- the deliveries that are given up: messages of the link in their order, then those that only the peer knows
 abbrev pub aborts : MessageLists → Listing → Bool → List GivenUp
 aborts s listed incomplete = (becoming s listed incomplete).aborts ++ unknown_of s listed
+
+-- what an Attach makes of the open messages: those that end, those that wait to be sent on, in the order in which they
+-- go, and the deliveries that are given up
+pub record Plan : Type 0 where
+  pub ended : List (List ℕ × Resolution)
+  pub waiting : List Waiting
+  pub aborts : List GivenUp
+
+-- those wait first of which bytes are left behind what the receiver has
+abbrev pub planned : MessageLists → Listing → Bool → Plan
+planned s listed incomplete =
+    record {
+      ended = (becoming s listed incomplete).ended;
+      waiting = (becoming s listed incomplete).going ++ (becoming s listed incomplete).others;
+      aborts = aborts s listed incomplete;
+    }
+
+-- the messages end that are to end; then those wait that are to be sent on
+abbrev pub carried_out : MessageLists → Plan → MessageLists
+carried_out s plan = record (all_ended (interrupted s) plan.ended) { waiting = plan.waiting }
+
+abbrev pub exchanged : MessageLists → Listing → Bool → MessageLists
+exchanged s listed incomplete = carried_out s (planned s listed incomplete)

@@ -1,9 +1,8 @@
 //! What the peer's Attach makes of the open messages of a sending link (part 2, 2.6.13 and 2.7.3).
-ghost use Rattle.std.specs.Prelude.{◌≡◌, ◌++◌, [], ◌∷◌, IfOk, OnOk, OnErr};
-ghost use Rattle.amqp_link_unsettled.specs.Exchanging.{aborts, all_ended, becoming, ends_too, exchanged};
-ghost use Rattle.amqp_link_unsettled.specs.Exchanging.{given_up_too, nothing, unknown, unknown_of, waits_too};
-ghost use Rattle.amqp_link_unsettled.specs.Exchanging.{with_message, with_messages};
-ghost use Rattle.amqp_link_unsettled.specs.Messages.{interrupted};
+ghost use Rattle.std.specs.Prelude.{◌≡◌, ◌++◌, [], ◌∷◌, IfOk, OnOk};
+ghost use Rattle.amqp_link_unsettled.specs.Exchanging.{all_ended, carried_out, ends_too, given_up_too, nothing};
+ghost use Rattle.amqp_link_unsettled.specs.Exchanging.{planned, unknown, unknown_of, waits_too, with_message};
+ghost use Rattle.amqp_link_unsettled.specs.Exchanging.{with_messages};
 
 use crate::fate::{Fate, fate_of, listed_of};
 use crate::messages::Messages;
@@ -113,34 +112,69 @@ impl Gathering {
     }
 }
 
+/// What the peer's Attach makes of the open messages of a link, made ready before anything changes. A clause sees which
+/// messages end, which wait to be sent on, and what is given up.
+#[derive(Debug, Drop)]
+pub struct PreparedExchange {
+    ended: VecDeque<(DeliveryTag, Resolution)>,
+    waiting: VecDeque<Waiting>,
+    aborts: Vec<Abort>,
+}
+
+impl Model for PreparedExchange {
+    ghost use Rattle.amqp_link_unsettled.specs.Exchanging.{Plan};
+
+    ghost Value = { Plan };
+
+    ghost view = { λ p. record {
+      ended = p.ended.items;
+      waiting = p.waiting.items;
+      aborts = p.aborts.items;
+    } };
+}
+
 impl Messages {
-    /// The open messages come to what the peer's Attach lists of them (part 2, 2.6.13 and 2.7.3), and the answer is what is
-    /// given up: messages of the link, in the order in which they were accepted, and then deliveries that the peer lists
-    /// and the link doesn't know, in the order of the list.
+    /// Makes ready what the peer's Attach lists of the open messages (part 2, 2.6.13 and 2.7.3). Nothing changes yet.
     ///
-    /// A message is sent on, or it ends, by what was told of it and by what is listed; one that isn't listed only where the
-    /// list isn't incomplete. First those wait to be sent on of which the receiver has a part and bytes are left, then the
-    /// others, each in the order in which they were accepted.
+    /// A message is to be sent on, or it is to end, by what was told of it and by what is listed; one that isn't listed
+    /// only where the list isn't incomplete. First those wait to be sent on of which the receiver has a part and bytes are
+    /// left, then the others, each in the order in which they were accepted. What is given up are messages of the link, in
+    /// that order, and then deliveries that the peer lists and the link doesn't know, in the order of the list.
     ///
-    /// It is refused where there is no memory, and nothing changes then. It takes time by the messages and by the list.
-    pub fn exchange(
-        &mut self,
+    /// It is refused where there is no memory. It takes time by the messages and by the list.
+    pub fn prepare_exchange(
+        &self,
         alloc: Global,
         listed: &Option<UnsettledList>,
         incomplete: bool,
-    ) -> Result<Vec<Abort>, AllocError>
-        ensures ok { OnOk result (self.new ≡ exchanged self.old listed.now incomplete) }
-        ensures aborts { IfOk result (λ v. v.items ≡ aborts self.old listed.now incomplete) }
-        ensures err { OnErr result (self.new ≡ self.old) }
+    ) -> Result<PreparedExchange, AllocError>
+        ensures { IfOk result (λ plan. plan ≡ planned self.now listed.now incomplete) }
     {
         let mut gathering = Gathering::new(alloc);
         gather(self.iter(), listed, incomplete, &mut gathering)?;
         let (ended, waiting, given_up) = gathering.into_parts()?;
-        let given_up = with_unknown(self, listed, given_up)?;
+        let aborts = with_unknown(self, listed, given_up)?;
+        Ok(PreparedExchange {
+            ended,
+            waiting,
+            aborts,
+        })
+    }
+
+    /// The open messages come to what was made ready, and the answer is what is given up. It takes no memory.
+    pub fn commit_exchange(&mut self, prepared: PreparedExchange) -> Vec<Abort>
+        ensures messages { self.new ≡ carried_out self.old prepared }
+        ensures aborts { result.items ≡ prepared.aborts }
+    {
+        let PreparedExchange {
+            ended,
+            waiting,
+            aborts,
+        } = prepared;
         self.interrupt();
         end_all(self, ended);
         self.set_waiting(waiting);
-        Ok(given_up)
+        aborts
     }
 }
 

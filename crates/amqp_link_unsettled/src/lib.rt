@@ -22,7 +22,7 @@ mod resumption;
 
 pub use entry::Entry;
 pub use exchange::SenderAttachExchange;
-pub use exchanging::Abort;
+pub use exchanging::{Abort, PreparedExchange};
 pub use iter::Iter;
 pub use laws::places_are_ordered;
 pub use listing::{
