@@ -27,7 +27,7 @@ module _ {A S : Type 0} (s : State A S) (n : ℕ) (x : S) where
           (ap (λ (p : Place A S). slice_set s.places n (with_live p x)) here
           ∙ ap (λ (p : Place A S). slice_set s.places n p) same
           ∙ set-get_or s.places n (Over Missing false))
-      by (Some (Ending c)) e q = absurd (none-some _ q)
+      by (Some (Ending c own_end)) e q = absurd (none-some _ q)
       by (Some (Over p c)) e q = absurd (none-some _ q)
 
 get-same : {X : Type 0} (xs : List X) (i : ℕ) (x v : X) → slice_get xs i ≡ Some x → slice_get (slice_set xs i v) i ≡ Some v
@@ -49,7 +49,7 @@ module _ {A S : Type 0} (s : State A S) (n : ℕ) (x : S) where
           ap live_of
           (get-same s.places n (Live c z) (with_live (slice_index_or s.places n (Over Missing false)) x) e)
           ∙ ap (λ (p : Place A S). live_of (Some (with_live p x))) here
-      by (Some (Ending c)) e q = absurd (none-some _ q)
+      by (Some (Ending c own_end)) e q = absurd (none-some _ q)
       by (Some (Over p c)) e q = absurd (none-some _ q)
 
 -- one that is asked for and lent, and stays as it was
@@ -68,7 +68,7 @@ module _ {A S : Type 0} (s : State A S) (n : ℕ) (x : A) where
           ∙ ap (λ (p : Place A S). slice_set s.places n p) same
           ∙ set-get_or s.places n (Over Missing false))
       by (Some (Live c y)) e q = absurd (none-some _ q)
-      by (Some (Ending c)) e q = absurd (none-some _ q)
+      by (Some (Ending c own_end)) e q = absurd (none-some _ q)
       by (Some (Over p c)) e q = absurd (none-some _ q)
 
 -- what is known of a session that was accepted

@@ -39,24 +39,24 @@ module _ {A S : Type 0} (old : State A S) (number : ℕ) where
       }
 
   -- the own side of a session is over, where it has begun
-  pub left-clears : (new : State A S) (left : Option (OutgoingChannel × S)) → EndSent old number left new
+  pub left-clears : (new : State A S) (left : Option (OutgoingChannel × S)) → EndSent false old number left new
       → Clears old number new
   left-clears new None s = unchanged new s.0 s.1
   left-clears new (Some given) s =
-      put new (Live given.0 given.1) (Ending given.0) s.0 refl (ap (λ (x : State A S). x.places) s.1)
+      put new (Live given.0 given.1) (Ending given.0 false) s.0 refl (ap (λ (x : State A S). x.places) s.1)
       (still-same old.connection new.connection (ap (λ (x : State A S). x.connection) s.1))
 
   gives-back : (stood : Place A S) (c : channels.State) (asked : channels.Table) → GivesBack old stood c asked
       → StandsStill old.connection c
   gives-back (Asked channel a) c asked g = still-same old.connection c g.0
   gives-back (Live channel s) c asked g = still-back old.connection c channel.0 _ g.0
-  gives-back (Ending channel) c asked g = still-back old.connection c channel.0 _ g.0
+  gives-back (Ending channel own_end) c asked g = still-back old.connection c channel.0 _ g.0
   gives-back (Over peer_end complete) c asked g = still-same old.connection c g.0
 
   finished-none : (stood : Place A S) → live_of (Some (finished_place stood)) ≡ None
   finished-none (Asked channel a) = refl
   finished-none (Live channel s) = refl
-  finished-none (Ending channel) = refl
+  finished-none (Ending channel own_end) = refl
   finished-none (Over peer_end complete) = refl
 
   -- its connection is over, where there is a session

@@ -1,6 +1,6 @@
 -- Steps of the sessions that hand frames out: what holds in each session that has begun goes on to hold, and something
 -- holds of each frame.
-use Rattle.std.proofs.Common.{◌≡◌, ℕ, List, [], ◌∷◌, ◌++◌, sym, ap, ◌∙◌, append-nil, append_assoc}
+use Rattle.std.proofs.Common.{◌≡◌, ℕ, List, [], ◌∷◌, ◌++◌, sym, ap, ◌∙◌, append-nil, append_assoc, true}
 use Rattle.std.specs.Prelude.{All, Option}
 use Rattle.std.specs.Global.{Box}
 use Rattle.std.proofs.lemmas.List.Elements.{All-append, All-cons, All-head, All-nil, All-tail}
@@ -72,7 +72,7 @@ module _ {R : Type 0} (P : State R → Type 0) (F : SessionFrame → Type 0) whe
       → EndsHere old out number error session new out_new → Hands old.sessions new.sessions out out_new
   end-handed old new number error session out out_new says e =
       record {
-        keeps = ends (Holds P) old.sessions new.sessions number e.channel session e.stepped;
+        keeps = ends (Holds P) old.sessions new.sessions number e.channel session true e.stepped;
         frames = end_frame e.channel error ∷ [];
         queued = e.queued;
         suit = λ all reads.

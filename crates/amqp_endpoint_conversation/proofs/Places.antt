@@ -1,5 +1,5 @@
 -- What holds in each session that has begun: what steps of the sessions keep so, and of their connection.
-use Rattle.std.proofs.Common.{◌≡◌, ℕ, zero, suc, List, [], ◌∷◌, ◌++◌, Option, Some, None, Result, Ok, Err, sym, ap, subst, ◌∙◌, slice_get, slice_set, slice_index_or, false}
+use Rattle.std.proofs.Common.{◌≡◌, ℕ, zero, suc, List, [], ◌∷◌, ◌++◌, Option, Some, None, Result, Ok, Err, sym, ap, subst, ◌∙◌, slice_get, slice_set, slice_index_or, false, Bool}
 use Rattle.std.specs.FinMap as map
 use Rattle.std.specs.Prelude.{⊤}
 use Rattle.std.proofs.lemmas.Option.{none-some, same_Some}
@@ -85,19 +85,19 @@ module _ {A S : Type 0} (P : S → Type 0) where
   changed : (place : Place A S) (after : S) → P after → HoldsAt (with_live place after)
   changed (Asked c a) after holds session live = absurd (none-some _ live)
   changed (Live c s) after holds session live = subst P (same_Some _ _ live) holds
-  changed (Ending c) after holds session live = absurd (none-some _ live)
+  changed (Ending c own_end) after holds session live = absurd (none-some _ live)
   changed (Over p c) after holds session live = absurd (none-some _ live)
 
   asked-changed : (place : Place A S) (after : A) → HoldsAt place → HoldsAt (with_asked place after)
   asked-changed (Asked c a) after at session live = absurd (none-some _ live)
   asked-changed (Live c s) after at session live = at session live
-  asked-changed (Ending c) after at session live = absurd (none-some _ live)
+  asked-changed (Ending c own_end) after at session live = absurd (none-some _ live)
   asked-changed (Over p c) after at session live = absurd (none-some _ live)
 
   told-changed : (place : Place A S) → HoldsAt place → HoldsAt (told_place place)
   told-changed (Asked c a) at session live = at session live
   told-changed (Live c s) at session live = at session live
-  told-changed (Ending c) at session live = at session live
+  told-changed (Ending c own_end) at session live = at session live
   told-changed (Over p c) at session live = absurd (none-some _ live)
 
   stands : (places : List (Place A S)) (i : ℕ) → HoldsIn places
@@ -109,7 +109,7 @@ module _ {A S : Type 0} (P : S → Type 0) where
   ended : (stood : Place A S) → HoldsAt (ended_place stood)
   ended (Asked c a) session live = absurd (none-some _ live)
   ended (Live c s) session live = absurd (none-some _ live)
-  ended (Ending c) session live = absurd (none-some _ live)
+  ended (Ending c own_end) session live = absurd (none-some _ live)
   ended (Over p c) session live = absurd (none-some _ live)
 
   -- what held of each goes on to hold, and the connection stands
@@ -177,12 +177,12 @@ module _ {A S : Type 0} (P : S → Type 0) where
         opening = ap (λ (c : channels.State). c.local_open) (s.0).1;
       })
 
-  pub ends : (old new : State A S) (number : ℕ) (channel : OutgoingChannel) (session : S)
-      → Step old (Ends number channel session) new → Keeps old new
-  ends old new number channel session s =
-      moved old new (slice_set old.places number (Ending channel)) (ap (λ (x : State A S). x.places) s.1)
+  pub ends : (old new : State A S) (number : ℕ) (channel : OutgoingChannel) (session : S) (own_end : Bool)
+      → Step old (Ends number channel session own_end) new → Keeps old new
+  ends old new number channel session own_end s =
+      moved old new (slice_set old.places number (Ending channel own_end)) (ap (λ (x : State A S). x.places) s.1)
       (ap (λ (x : State A S). x.connection) s.1)
-      (λ all. put old.places number (Ending channel) all (λ other live. absurd (none-some _ live)))
+      (λ all. put old.places number (Ending channel own_end) all (λ other live. absurd (none-some _ live)))
 
   pub changes_asked : (old new : State A S) (number : ℕ) (before after : A)
       → Step old (ChangesAsked number before after) new → Keeps old new
@@ -211,9 +211,9 @@ module _ {A S : Type 0} (P : S → Type 0) where
       placed old new (slice_set old.places number (ended_place (Live c l))) (ap (λ (x : State A S). x.places) (s.2).1)
       (λ all. put old.places number (ended_place (Live c l)) all (ended (Live c l)))
       (both-back old.connection new.connection channel end number c (s.2).0)
-  takes_end old new number channel end (Ending c) s =
-      placed old new (slice_set old.places number (ended_place (Ending c))) (ap (λ (x : State A S). x.places) (s.2).1)
-      (λ all. put old.places number (ended_place (Ending c)) all (ended (Ending c)))
+  takes_end old new number channel end (Ending c own_end) s =
+      placed old new (slice_set old.places number (ended_place (Ending c own_end))) (ap (λ (x : State A S). x.places) (s.2).1)
+      (λ all. put old.places number (ended_place (Ending c own_end)) all (ended (Ending c own_end)))
       (both-back old.connection new.connection channel end number c (s.2).0)
   takes_end old new number channel end (Over p c) s = absurd s.2
 

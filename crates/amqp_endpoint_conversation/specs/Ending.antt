@@ -1,5 +1,5 @@
 -- How sessions end: here, or by the peer's End (part 2, 2.5.2).
-use Rattle.std.specs.Prelude.{◌≡◌, ℕ, List, [], ◌∷◌, ◌++◌, Option, Some, None, Result, Ok, Err}
+use Rattle.std.specs.Prelude.{◌≡◌, ℕ, List, [], ◌∷◌, ◌++◌, Option, Some, None, Result, Ok, Err, true}
 use Rattle.std.specs.Global.{Box}
 use Rattle.amqp_session_types.specs.declared.channels.IncomingChannel.{IncomingChannel}
 use Rattle.amqp_session_types.specs.declared.channels.OutgoingChannel.{OutgoingChannel}
@@ -39,7 +39,7 @@ module _ {R : Type 0} where
   pub record EndsHere (old : Conversation R) (out : List SessionFrame) (number : ℕ) (error : Option Error)
       (session : Box (AskingSession R)) (new : Conversation R) (out_new : List SessionFrame) : Type 0 where
     pub channel : OutgoingChannel
-    pub stepped : Step old.sessions (Ends number channel session) new.sessions
+    pub stepped : Step old.sessions (Ends number channel session true) new.sessions
     pub rest : new ≡ record old { sessions = new.sessions }
     pub queued : out_new ≡ out ++ end_frame channel error ∷ []
 

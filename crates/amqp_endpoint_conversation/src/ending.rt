@@ -63,7 +63,7 @@ impl<R: LinkRelay> Conversation<R> {
         ensures kept { OnErr result ((self.new ≡ self.old) × (out.new.items ≡ out.old.items)) }
     {
         out.reserve(1)?;
-        match self.sessions.end(number) {
+        match self.sessions.end(number, true) {
             Some((channel, session)) => {
                 out.push_back_reserved(end_frame(channel, error));
                 Ok(session)

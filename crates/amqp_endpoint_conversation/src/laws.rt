@@ -120,7 +120,7 @@ pub fn what_waits_fits<R: LinkRelay>()
 /// 2.5.2).
 pub fn sessions_end_with_their_connection<R: LinkRelay>()
     ensures left { (old new : Sessions R) (number : ℕ) (left : Option (OutgoingChannel × Box (AskingSession R))) →
-        EndSent old number left new → Clears old number new }
+        EndSent false old number left new → Clears old number new }
     ensures finished { (old new : Sessions R) (number : ℕ)
         (stood : Option (Place (Box AskedSession) (Box (AskingSession R)))) →
         Finished old number stood new → Clears old number new }

@@ -79,19 +79,19 @@ module _ {A S : Type 0} where
   pub told_same : (stood : Place A S) → channel_of (told_place stood) ≡ channel_of stood
   told_same (Asked c a) = refl
   told_same (Live c s) = refl
-  told_same (Ending c) = refl
+  told_same (Ending c own_end) = refl
   told_same (Over p c) = refl
 
   pub live_same : (stood : Place A S) (after : S) → channel_of (with_live stood after) ≡ channel_of stood
   live_same (Asked c a) after = refl
   live_same (Live c s) after = refl
-  live_same (Ending c) after = refl
+  live_same (Ending c own_end) after = refl
   live_same (Over p c) after = refl
 
   pub asked_same : (stood : Place A S) (after : A) → channel_of (with_asked stood after) ≡ channel_of stood
   asked_same (Asked c a) after = refl
   asked_same (Live c s) after = refl
-  asked_same (Ending c) after = refl
+  asked_same (Ending c own_end) after = refl
   asked_same (Over p c) after = refl
 
   -- what a place is behind a step that is about another session, or changes no channel
@@ -145,7 +145,7 @@ module _ {A S : Type 0} where
           over : (stood : Place A S) → channel_of (ended_place stood) ≡ None
           over (Asked c a) = refl
           over (Live c l) = refl
-          over (Ending c) = refl
+          over (Ending c own_end) = refl
           over (Over p c) = refl
 
       by : (stood : Place A S) → Step old (TakesEnd number channel end stood) new → Each new
@@ -154,18 +154,18 @@ module _ {A S : Type 0} where
           let had = ap channel_in s.1 in let back = (s.2).0 in
           taken old new each number c had
           (freed old new each number c back.mid had (ap (λ (x : channels.State). x.live) (back.ended).1) back.back) (gone _ s)
-      by (Ending c) s =
+      by (Ending c own_end) s =
           let had = ap channel_in s.1 in let back = (s.2).0 in
           taken old new each number c had
           (freed old new each number c back.mid had (ap (λ (x : channels.State). x.live) (back.ended).1) back.back) (gone _ s)
       by (Over p c) s = absurd s.2
-  step_keeps old (Ends number channel session) new k s each =
+  step_keeps old (Ends number channel session own_end) new k s each =
       kept old new each (ap (λ (x : State A S). x.connection.live) s.1)
       (λ n c e.
-      let found = at n old (Ends number channel session) new s in
+      let found = at n old (Ends number channel session own_end) new s in
       split (n == number)
       (λ here. ap channel_in (found.about here).0 ∙ sym (ap channel_in (found.about here).1) ∙ e)
-      (λ apart. else_is n old (Ends number channel session) new c (found.other apart) e))
+      (λ apart. else_is n old (Ends number channel session own_end) new c (found.other apart) e))
   step_keeps old (Finishes number stood) new k s each = by stood s
     where
       gone : (stood : Place A S) (s : Step old (Finishes number stood) new) (n : ℕ) (c : OutgoingChannel)
@@ -179,7 +179,7 @@ module _ {A S : Type 0} where
           over : (stood : Place A S) → channel_of (finished_place stood) ≡ None
           over (Asked c a) = refl
           over (Live c l) = refl
-          over (Ending c) = refl
+          over (Ending c own_end) = refl
           over (Over p c) = refl
 
       by : (stood : Place A S) → Step old (Finishes number stood) new → Each new
@@ -187,7 +187,7 @@ module _ {A S : Type 0} where
       by (Live c l) s =
           let had = ap channel_in s.0 in
           taken old new each number c had (freed old new each number c old.connection had refl (s.1).0) (gone _ s)
-      by (Ending c) s =
+      by (Ending c own_end) s =
           let had = ap channel_in s.0 in
           taken old new each number c had (freed old new each number c old.connection had refl (s.1).0) (gone _ s)
       by (Over p c) s = kept old new each (ap (λ (x : channels.State). x.live) (s.1).0) (λ n c e. (gone _ s n c e).0)
@@ -225,7 +225,7 @@ module _ {A S : Type 0} where
   first_keeps (Accepts number incoming asked outgoing session) steps k = (tt, k)
   first_keeps (TakesBegin number channel begin) steps k = (tt, k)
   first_keeps (TakesEnd number channel end stood) steps k = (tt, k)
-  first_keeps (Ends number channel session) steps k = (tt, k)
+  first_keeps (Ends number channel session own_end) steps k = (tt, k)
   first_keeps (Finishes number stood) steps k = (tt, k)
   first_keeps (TellsEnd number) steps k = (tt, k)
   first_keeps (ChangesAsked number before after) steps k = (tt, k)

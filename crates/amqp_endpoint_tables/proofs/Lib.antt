@@ -7,3 +7,4 @@ pub mod OwningLinks
 pub mod Once
 pub mod NamesApart
 pub mod Lent
+pub mod Ended

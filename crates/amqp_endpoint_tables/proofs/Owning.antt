@@ -136,13 +136,13 @@ module _ {A S : Type 0} (n : ℕ) where
           → new.places ≡ slice_set old.places number (ended_place stood)
       ended (Asked c a) t = ap (λ (x : State A S). x.places) t.1
       ended (Live c l) t = ap (λ (x : State A S). x.places) t.1
-      ended (Ending c) t = ap (λ (x : State A S). x.places) t.1
+      ended (Ending c own_end) t = ap (λ (x : State A S). x.places) t.1
       ended (Over p c) t = absurd t
-  at old (Ends number channel session) new s =
+  at old (Ends number channel session own_end) new s =
       let is = ap (λ (x : State A S). x.places) s.1 in
       record {
-        about = λ e. put_about old new number (Ending channel) is (Live channel session) e s.0;
-        other = put_else old new number (Ending channel) is;
+        about = λ e. put_about old new number (Ending channel own_end) is (Live channel session) e s.0;
+        other = put_else old new number (Ending channel own_end) is;
       }
   at old (Finishes number stood) new s =
       let is = ap (λ (x : State A S). x.places) s.2 in

@@ -40,13 +40,13 @@ module _ {A S : Type 0} where
   abbrev pub standing_of : Place A S → Standing
   standing_of (Asked channel a) = standing.Asked
   standing_of (Live channel s) = standing.Live
-  standing_of (Ending channel) = standing.Ending
+  standing_of (Ending channel own_end) = standing.Ending
   standing_of (Over peer_end complete) = standing.Over
 
   -- the outgoing channel that a session has (part 2, 2.5.1)
   abbrev pub channel_of : Place A S → Option OutgoingChannel
   channel_of (Live channel s) = Some channel
-  channel_of (Ending channel) = Some channel
+  channel_of (Ending channel own_end) = Some channel
   channel_of place = None
 
   abbrev pub channel_in : Option (Place A S) → Option OutgoingChannel
@@ -99,7 +99,7 @@ module _ {A S : Type 0} where
   -- the number of a session that has an outgoing channel
   abbrev pub with_channel : ℕ → Option (Place A S) → Option ℕ
   with_channel number (Some (Live channel s)) = Some number
-  with_channel number (Some (Ending channel)) = Some number
+  with_channel number (Some (Ending channel own_end)) = Some number
   with_channel number place = None
 
   -- the number of a session that is asked for
@@ -127,11 +127,12 @@ module _ {A S : Type 0} where
   abbrev pub reached : State A S → ℕ → Option ℕ
   reached s channel = first_of (routed s channel) (asked_on s channel)
 
-  -- a place behind the peer's End: one that is asked for was not begun here, so that no own End passes (part 2, 2.5.2)
+  -- a place behind the peer's End: both End have passed where the own one has, or is the answer to it. One that is
+  -- asked for was not begun here, and of one that the own Close ended none is sent any more (part 2, 2.4.3, 2.5.2)
   abbrev pub ended_place : Place A S → Place A S
   ended_place (Asked channel a) = Over Received false
   ended_place (Live channel s) = Over Received true
-  ended_place (Ending channel) = Over Received true
+  ended_place (Ending channel own_end) = Over Received own_end
   ended_place (Over peer_end complete) = Over peer_end complete
 
   -- a place once the connection is over

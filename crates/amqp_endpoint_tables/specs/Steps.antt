@@ -37,8 +37,8 @@ pub data Act (A S : Type 0) : Type 0 where
   TakesBegin : (number : ℕ) (channel : IncomingChannel) (begin : Begin) → Act A S
   -- the peer's End on its channel; where the session stood
   TakesEnd : (number : ℕ) (channel : IncomingChannel) (end : End) (stood : Place A S) → Act A S
-  -- the own side of a session is over
-  Ends : (number : ℕ) (channel : OutgoingChannel) (session : S) → Act A S
+  -- the own side of a session is over: by an own End, or without one, as the own Close is sent
+  Ends : (number : ℕ) (channel : OutgoingChannel) (session : S) (own_end : Bool) → Act A S
   -- the connection of a session is over; where it stood
   Finishes : (number : ℕ) (stood : Place A S) → Act A S
   -- the caller is told of the peer's End
@@ -81,11 +81,11 @@ module _ {A S : Type 0} where
         connection = new.connection;
         places = slice_set old.places number (ended_place (Live outgoing s));
       })
-  EndTaken old number channel end (Ending outgoing) new =
+  EndTaken old number channel end (Ending outgoing own_end) new =
       TakesChannelBack old.connection channel end number outgoing new.connection
       × (new ≡ record old {
         connection = new.connection;
-        places = slice_set old.places number (ended_place (Ending outgoing));
+        places = slice_set old.places number (ended_place (Ending outgoing own_end));
       })
   EndTaken old number channel end (Over peer_end complete) new = ⊥
 
@@ -94,7 +94,7 @@ module _ {A S : Type 0} where
   GivesBack old (Asked channel a) c asked = (c ≡ old.connection) × (asked ≡ map.remove old.asked channel.0)
   GivesBack old (Live channel s) c asked =
       connection_steps.Step old.connection (connection_steps.DeallocatesSession channel) c × (asked ≡ old.asked)
-  GivesBack old (Ending channel) c asked =
+  GivesBack old (Ending channel own_end) c asked =
       connection_steps.Step old.connection (connection_steps.DeallocatesSession channel) c × (asked ≡ old.asked)
   GivesBack old (Over peer_end complete) c asked = (c ≡ old.connection) × (asked ≡ old.asked)
 
@@ -126,9 +126,9 @@ module _ {A S : Type 0} where
   Step old (TakesEnd number channel end stood) new =
       (reached old channel.0 ≡ Some number) × (place_at old number ≡ Some stood)
       × EndTaken old number channel end stood new
-  Step old (Ends number channel session) new =
+  Step old (Ends number channel session own_end) new =
       (place_at old number ≡ Some (Live channel session))
-      × (new ≡ record old { places = slice_set old.places number (Ending channel) })
+      × (new ≡ record old { places = slice_set old.places number (Ending channel own_end) })
   Step old (Finishes number stood) new =
       (place_at old number ≡ Some stood)
       × GivesBack old stood new.connection new.asked
@@ -167,10 +167,10 @@ module _ {A S : Type 0} where
   EndAnswered old channel end (Ok told) new = Step old (TakesEnd told.0 channel end told.1) new
   EndAnswered old channel end (Err e) new = (e ≡ NotFound) × (reached old channel.0 ≡ None) × (new ≡ old)
 
-  -- the own side of a session is over, where it has begun
-  abbrev pub EndSent : State A S → ℕ → Option (OutgoingChannel × S) → State A S → Type 0
-  EndSent old number (Some given) new = Step old (Ends number given.0 given.1) new
-  EndSent old number None new = (live_at old number ≡ None) × (new ≡ old)
+  -- the own side of a session is over, where it has begun, by an own End or without one
+  abbrev pub EndSent : Bool → State A S → ℕ → Option (OutgoingChannel × S) → State A S → Type 0
+  EndSent own_end old number (Some given) new = Step old (Ends number given.0 given.1 own_end) new
+  EndSent own_end old number None new = (live_at old number ≡ None) × (new ≡ old)
 
   -- the connection of a session is over, where there is one with this number
   abbrev pub Finished : State A S → ℕ → Option (Place A S) → State A S → Type 0

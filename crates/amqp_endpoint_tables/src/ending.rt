@@ -38,12 +38,13 @@ impl<A: Drop, S: Drop> Sessions<A, S> {
     }
 
     /// The own side of the session with this number is over, if it has begun: it is handed out with its channel, which
-    /// it keeps until the peer's End comes (part 2, 2.5.2). Else nothing changes. It takes no memory.
-    pub fn end(&mut self, number: u64) -> Option<(OutgoingChannel, S)>
-        ensures { EndSent self.old number result self.new }
+    /// it keeps until the peer's End comes (part 2, 2.5.2). Else nothing changes. An own End goes then where `own_end`
+    /// says so; none does where the own Close ends the session (part 2, 2.4.3). It takes no memory.
+    pub fn end(&mut self, number: u64, own_end: bool) -> Option<(OutgoingChannel, S)>
+        ensures { EndSent own_end self.old number result self.new }
     {
         let channel = self.live_channel(number)?;
-        match put(&mut self.places, number, Place::Ending(channel)) {
+        match put(&mut self.places, number, Place::Ending(channel, own_end)) {
             Some(Place::Live(channel, session)) => Some((channel, session)),
             _ => None,
         }
@@ -60,7 +61,7 @@ impl<A: Drop, S: Drop> Sessions<A, S> {
     }
 
     /// Whether both End of the session with this number have passed, or its connection is over. False where there is
-    /// none.
+    /// none, and where the own Close ended the session, so that no own End passed, until the connection is over.
     pub fn is_ended(&self, number: u64) -> bool
         ensures { result ≡ is_complete (place_at self.now number) }
     {
@@ -159,7 +160,7 @@ impl<A: Drop, S: Drop> Sessions<A, S> {
     {
         match self.places.get(number as usize) {
             Some(Place::Asked(channel, _)) => forget(&mut self.asked, *channel),
-            Some(Place::Live(channel, _) | Place::Ending(channel)) => {
+            Some(Place::Live(channel, _) | Place::Ending(channel, _)) => {
                 self.connection.deallocate_session(*channel);
             }
             _ => {}

@@ -39,8 +39,9 @@ pub enum Place<A, S> {
     Asked(IncomingChannel, A),
     /// It has begun on this outgoing channel.
     Live(OutgoingChannel, S),
-    /// Its own side is over. It keeps its outgoing channel until the peer's End comes (part 2, 2.5.2).
-    Ending(OutgoingChannel),
+    /// Its own side is over, by an own End or, which the flag says not, by the own Close (part 2, 2.4.3, 2.5.2). It
+    /// keeps its outgoing channel until the peer's End comes.
+    Ending(OutgoingChannel, bool),
     /// It is over.
     Over {
         /// What came of the peer's End.
@@ -82,7 +83,7 @@ impl<A: Drop, S: Drop> Place<A, S> {
         match self {
             Place::Asked(..) => Standing::Asked,
             Place::Live(..) => Standing::Live,
-            Place::Ending(_) => Standing::Ending,
+            Place::Ending(..) => Standing::Ending,
             Place::Over { .. } => Standing::Over,
         }
     }
@@ -92,12 +93,13 @@ impl<A: Drop, S: Drop> Place<A, S> {
         ensures { result ≡ channel_of self.now }
     {
         match self {
-            Place::Live(channel, _) | Place::Ending(channel) => Some(*channel),
+            Place::Live(channel, _) | Place::Ending(channel, _) => Some(*channel),
             Place::Asked(..) | Place::Over { .. } => None,
         }
     }
 
-    /// The place behind the peer's End: both End have passed where the session had begun here (part 2, 2.5.2).
+    /// The place behind the peer's End: both End have passed where the session had begun here, and its own side isn't
+    /// over without an End (part 2, 2.5.2).
     pub(crate) fn ended(&self) -> Place<A, S>
         ensures { result ≡ ended_place self.now }
     {
@@ -106,9 +108,13 @@ impl<A: Drop, S: Drop> Place<A, S> {
                 peer_end: PeerEnd::Received,
                 complete: false,
             },
-            Place::Live(..) | Place::Ending(_) => Place::Over {
+            Place::Live(..) => Place::Over {
                 peer_end: PeerEnd::Received,
                 complete: true,
+            },
+            Place::Ending(_, own_end) => Place::Over {
+                peer_end: PeerEnd::Received,
+                complete: *own_end,
             },
             Place::Over { peer_end, complete } => Place::Over {
                 peer_end: *peer_end,

@@ -56,6 +56,10 @@ counted s (Some count) =
 abbrev pub receiver_flowed : LinkFlowStateInner → LinkFlow → LinkFlowStateInner
 receiver_flowed s flow = record (counted s flow.delivery_count) { available = unwrap_or flow.available s.available }
 
+-- a state with this count of deliveries and this credit
+abbrev pub with_counts : LinkFlowStateInner → ℕ → ℕ → LinkFlowStateInner
+with_counts s count credit = record s { delivery_count = count; link_credit = credit }
+
 -- an end after deliveries that were sent or received
 abbrev pub consumed : LinkFlowStateInner → ℕ → LinkFlowStateInner
 consumed s n = record s { delivery_count = (s.delivery_count + n) % 2 ^ 32; link_credit = s.link_credit - n }

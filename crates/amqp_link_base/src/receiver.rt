@@ -2,7 +2,7 @@
 ghost use Rattle.std.specs.Prelude.{◌≡◌, ◌≤◌, ◌↔◌, IsOk, OnOk, IfErr};
 ghost use Rattle.amqp_link_types.specs.declared.refusals.ReceiverTransferError.TheVariants.{TransferLimitExceeded};
 ghost use Rattle.amqp_link_base.specs.Flows.{receiver_flowed, receiver_answer};
-ghost use Rattle.amqp_link_base.specs.Flows.{attached, consumed, granted, draining};
+ghost use Rattle.amqp_link_base.specs.Flows.{attached, consumed, granted, draining, with_counts};
 
 use crate::flow_state::LinkFlowState;
 use crate::inner::LinkFlowStateInner;
@@ -81,6 +81,14 @@ impl LinkFlowState<ReceiverMarker> {
     {
         self.inner.drain = false;
         mem::replace(&mut self.inner.link_credit, credit)
+    }
+
+    /// The count of deliveries and the credit are these from now on (part 2, 2.6.7).
+    pub fn set_counts(&mut self, delivery_count: u32, link_credit: u32)
+        ensures { self.new ≡ with_counts self.old delivery_count link_credit }
+    {
+        self.inner.delivery_count = delivery_count;
+        self.inner.link_credit = link_credit;
     }
 
     /// Wants the credit used up (part 2, 2.6.7).

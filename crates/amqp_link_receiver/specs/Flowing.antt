@@ -13,11 +13,16 @@ use Rattle.amqp_link_receiver.specs.declared.flowing.Granted.{Granted}
 use Rattle.amqp_link_receiver.specs.declared.flowing.GrantRefusal.{GrantRefusal}
 use Rattle.amqp_link_receiver.specs.declared.flowing.GrantRefusal.TheVariants.{IllegalState as GrantIllegal}
 use Rattle.amqp_link_receiver.specs.declared.flowing.GrantRefusal.TheVariants.{CreditOutOfRange}
+use Rattle.amqp_link_receiver.specs.Receiving.{recounted}
 use Rattle.amqp_link_receiver.specs.State.{ReceiverState}
 
 -- the link with this credit and these counts
 abbrev pub with_flow : ReceiverState → LinkFlowStateInner → ReceiverState
 with_flow s flow = record s { end = record s.end { flow = flow } }
+
+-- and with this count of deliveries and this credit
+abbrev pub link_recounted : ReceiverState → ℕ → ℕ → ReceiverState
+link_recounted s count credit = record s { end = recounted s.end count credit }
 
 -- the Flow that shows count, credit and drain of a link
 abbrev pub own_flow : ReceiverState → LinkFlow

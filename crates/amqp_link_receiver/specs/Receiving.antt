@@ -7,7 +7,7 @@ use Rattle.amqp_session_states.specs.declared.delivery_state.DeliveryState.{Deli
 use Rattle.amqp_session_performatives.specs.declared.transfer.Transfer.{Transfer}
 use Rattle.amqp_link_types.specs.declared.refusals.ReceiverTransferError.{ReceiverTransferError}
 use Rattle.amqp_link_types.specs.declared.refusals.ReceiverTransferError.TheVariants as refused
-use Rattle.amqp_link_base.specs.Flows.{consumed}
+use Rattle.amqp_link_base.specs.Flows.{consumed, with_counts}
 use Rattle.amqp_link_base.specs.declared.inner.LinkFlowStateInner.{LinkFlowStateInner}
 use Rattle.amqp_link_receiver.specs.declared.head.Head.{Head}
 use Rattle.amqp_link_receiver.specs.declared.head.Start.{Start}
@@ -67,6 +67,10 @@ Outcome = Answer × Receiving
 
 abbrev pub refusal : ReceiverTransferError → Receiving → Outcome
 refusal e s = (record { registering = Unchanged; told = told.Refused e }, s)
+
+-- a receiving end with this count of deliveries and this credit
+abbrev pub recounted : Receiving → ℕ → ℕ → Receiving
+recounted s count credit = record s { flow = with_counts s.flow count credit }
 
 -- more transfers of the delivery are to come
 abbrev pub kept_on : Attachment → Receiving → Result Delivery ReceiverTransferError → Outcome

@@ -3,6 +3,7 @@ ghost use Rattle.std.specs.Prelude.{◌≡◌};
 ghost use Rattle.amqp_link_base.specs.Own.{handle_of};
 ghost use Rattle.amqp_link_base.specs.Flows.{shown};
 ghost use Rattle.amqp_link_receiver.specs.Flowing.{Drains, Grants, Shows, drained, flow_answer, flowed, grant_refusal};
+ghost use Rattle.amqp_link_receiver.specs.Flowing.{link_recounted};
 ghost use Rattle.amqp_link_receiver.specs.Flowing.{own_flow, told_flow};
 
 use crate::link::ReceiverLink;
@@ -70,6 +71,14 @@ impl ReceiverLink {
             left,
             flow: self.own_flow(),
         })
+    }
+
+    /// The count of deliveries and the credit are these from now on, as they were before a transfer of which nothing is
+    /// to be left (part 2, 2.6.7). No Flow shows them. It takes no memory.
+    pub fn set_counts(&mut self, delivery_count: u32, link_credit: u32)
+        ensures { self.new ≡ link_recounted self.old delivery_count link_credit }
+    {
+        self.end.set_counts(delivery_count, link_credit);
     }
 
     /// Wants the credit used up (part 2, 2.6.7). The answer is the Flow that is to be sent. It takes no memory.

@@ -3,7 +3,7 @@ ghost use Rattle.std.specs.Prelude.{◌≡◌, ◌==◌, [], None, option_copied
 ghost use Rattle.amqp_link_types.specs.declared.refusals.ReceiverTransferError.TheVariants.{TransferLimitExceeded};
 ghost use Rattle.amqp_link_receiver.specs.Receiving.{Answers, Receives, aborted, completed, disposed, ended};
 ghost use Rattle.amqp_link_receiver.specs.Receiving.{half_kept, kept_on, number_of, parted, refusal as refused_as};
-ghost use Rattle.amqp_link_receiver.specs.Receiving.{spent};
+ghost use Rattle.amqp_link_receiver.specs.Receiving.{recounted, spent};
 ghost use Rattle.amqp_link_receiver.specs.Steps.{Completes, part_answer};
 ghost use Rattle.amqp_link_receiver.specs.declared.answer.Registering.TheVariants.{Unchanged, Settled};
 ghost use Rattle.amqp_link_receiver.specs.declared.answer.Told.TheVariants.{Dropped, Refused};
@@ -203,6 +203,13 @@ impl ReceivingEnd {
         ensures { self.new ≡ record self.old { flow = draining self.old.flow } }
     {
         self.flow.set_drain();
+    }
+
+    /// The count of deliveries and the credit are these from now on (part 2, 2.6.7).
+    pub fn set_counts(&mut self, delivery_count: u32, link_credit: u32)
+        ensures { self.new ≡ recounted self.old delivery_count link_credit }
+    {
+        self.flow.set_counts(delivery_count, link_credit);
     }
 
     /// Begins an attachment by the count that the sender's Attach tells (part 2, 2.6.3).
