@@ -14,20 +14,12 @@ use serde_amqp_types::Array;
 use std::alloc::{AllocError, Global};
 
 /// What the peer's Attach makes of an end of a link.
+#[derive(Drop)]
 pub enum PreparedAttach {
     /// Of one that sends.
     Sender(OfSender),
     /// Of one that receives.
     Receiver(OfReceiver),
-}
-
-impl Drop for PreparedAttach {
-    fn drop(self) {
-        match self {
-            PreparedAttach::Sender(_) => {}
-            PreparedAttach::Receiver(_) => {}
-        }
-    }
 }
 
 impl LinkEnd {

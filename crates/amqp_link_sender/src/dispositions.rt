@@ -1,6 +1,7 @@
 //! What a disposition makes of a sending link (part 2, 2.7.6).
-ghost use Rattle.std.specs.Prelude.{◌≡◌, ◌++◌, [], IfNone};
+ghost use Rattle.std.specs.Prelude.{◌≡◌, ◌++◌, [], IfNone, option_copied};
 ghost use Rattle.std.specs.Option.{option_to_list};
+ghost use Rattle.amqp_link_unsettled.specs.Messages.{first_ended};
 ghost use Rattle.amqp_link_sender.specs.Dispositions.{disposed, is_echoed, is_echo_due};
 
 use crate::link::SenderLink;
@@ -26,6 +27,13 @@ impl SenderLink {
         let wants_echo = is_echo_due(settled, &state, self.base.terms.rcv_settle_mode);
         let known = self.messages.on_disposition(tag, settled, state);
         known && wants_echo
+    }
+
+    /// The message that ended first of those that weren't taken out yet, with what became of it, if there is one.
+    pub fn first_resolved(&self) -> Option<&(DeliveryTag, Resolution)>
+        ensures { option_copied result ≡ first_ended self.now.messages.resolved }
+    {
+        self.messages.first_resolved()
     }
 
     /// Takes the message out that ended first of those that weren't taken out yet, with what became of it. It takes no

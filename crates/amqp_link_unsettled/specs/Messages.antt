@@ -29,6 +29,11 @@ abbrev pub first_of : List Waiting → Option Waiting
 first_of [] = None
 first_of (w ∷ ws) = Some w
 
+-- of those that came to an end, the first
+abbrev pub first_ended : List (List ℕ × Resolution) → Option (List ℕ × Resolution)
+first_ended [] = None
+first_ended (m ∷ ms) = Some m
+
 -- the open message with this tag
 abbrev pub open_at : MessageLists → List ℕ → Option Open
 open_at s tag = lookup (bytes_eq tag) s.unsettled

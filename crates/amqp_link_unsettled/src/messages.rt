@@ -9,7 +9,7 @@ ghost use Rattle.std.specs.VecDeque.{deque_len, deque_capacity};
 ghost use Rattle.std.specs.Map.Iter.{ShowsInOrder, deref_pair};
 ghost use Rattle.amqp_link_unsettled.specs.Listing.{entries_listed};
 ghost use Rattle.amqp_link_unsettled.specs.Exchanging.{ended_at};
-ghost use Rattle.amqp_link_unsettled.specs.Messages.{no_messages, first_of, open_at, opened, waiting_but};
+ghost use Rattle.amqp_link_unsettled.specs.Messages.{no_messages, first_ended, first_of, open_at, opened, waiting_but};
 ghost use Rattle.amqp_link_unsettled.specs.Messages.{resolved_as, told_at, disposed, failed, interrupted};
 ghost use Rattle.amqp_link_unsettled.specs.Tagged.{AreTagged};
 ghost use Rattle.amqp_link_unsettled.specs.declared.resolution.Resolution.TheVariants.{Failed};
@@ -189,6 +189,13 @@ impl Messages {
         ensures { self.new ≡ record self.old { waiting = drop 1 self.old.waiting } }
     {
         let _ = self.waiting.pop_front();
+    }
+
+    /// The message that ended first of those that weren't taken out yet, with what became of it, if there is one.
+    pub fn first_resolved(&self) -> Option<&(DeliveryTag, Resolution)>
+        ensures { option_copied result ≡ first_ended self.now.resolved }
+    {
+        self.resolved.front()
     }
 
     /// Takes the message out that ended first of those that weren't taken out yet, with what became of it. It takes no
