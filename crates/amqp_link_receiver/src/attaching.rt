@@ -1,5 +1,5 @@
 //! How an attachment of a receiving link begins (part 2, 2.6.3 and 2.6.13).
-ghost use Rattle.std.specs.Prelude.{◌≡◌, IfOk, IfErr};
+ghost use Rattle.std.specs.Prelude.{◌≡◌, IfOk, IfErr, Ok};
 ghost use Rattle.amqp_link_base.specs.Terms.{adopted_by_receiver};
 ghost use Rattle.amqp_link_unsettled.specs.Listing.{Lists, FitsNowhere};
 ghost use Rattle.amqp_link_unsettled.specs.declared.listing.ListError.TheVariants.{TooLarge};
@@ -103,7 +103,6 @@ impl ReceiverLink {
     /// moved then.
     ///
     /// Errors: want of memory alone. Nothing changes then.
-    #[tactic(auto, using(crate::proofs::Planning::rules))]
     pub fn on_incoming_attach(
         &mut self,
         alloc: Global,
@@ -111,13 +110,29 @@ impl ReceiverLink {
     ) -> Result<Attached, AllocError>
         ensures { AttachTaken self.old attach.now result self.new }
     {
-        match self.prepare_attach(alloc, attach)? {
-            Ok(prepared) => Ok(Attached::Attached {
+        match self.prepare_attach(alloc, attach) {
+            Ok(decided) => Ok(self.decide(attach, decided)),
+            Err(error) => Err(error),
+        }
+    }
+
+    /// The peer's Attach is accepted as it was made ready, or refused for this.
+    #[tactic(auto, using(crate::proofs::Planning::rules))]
+    fn decide(
+        &mut self,
+        attach: &Attach,
+        decided: Result<PreparedAttach, ReceiverAttachError>,
+    ) -> Attached
+        requires { decided ≡ attach_planned self.old attach.now }
+        ensures { AttachTaken self.old attach.now (Ok result) self.new }
+    {
+        match decided {
+            Ok(prepared) => Attached::Attached {
                 exchange: self.commit_attach(prepared),
-            }),
+            },
             Err(error) => {
                 let _ = self.base.on_incoming_attach(attach);
-                Ok(Attached::Refused(error))
+                Attached::Refused(error)
             }
         }
     }

@@ -1,5 +1,5 @@
 //! How an attachment of a sending link begins (part 2, 2.6.3 and 2.6.13).
-ghost use Rattle.std.specs.Prelude.{◌≡◌, IfErr, IfOk, IsOk};
+ghost use Rattle.std.specs.Prelude.{◌≡◌, IfErr, IfOk, IsOk, Ok};
 ghost use Rattle.amqp_link_base.specs.Attach.{sender_tests};
 ghost use Rattle.amqp_link_base.specs.Terms.{adopted_by_sender};
 ghost use Rattle.amqp_link_base.specs.Tests.{FirstOf};
@@ -118,7 +118,6 @@ impl SenderLink {
     /// on, or they end, or they are given up. What isn't listed is left open where the list is incomplete.
     ///
     /// Errors: want of memory alone. All is as before then.
-    #[tactic(auto, using(crate::proofs::Planning::rules))]
     pub fn on_incoming_attach(
         &mut self,
         alloc: Global,
@@ -126,11 +125,27 @@ impl SenderLink {
     ) -> Result<AttachAnswer, AllocError>
         ensures { TakesAttach self.old attach.now result self.new }
     {
-        match self.prepare_attach(alloc, attach)? {
-            Ok(prepared) => Ok(AttachAnswer::Attached(self.commit_attach(prepared))),
+        match self.prepare_attach(alloc, attach) {
+            Ok(decided) => Ok(self.decide(attach, decided)),
+            Err(error) => Err(error),
+        }
+    }
+
+    /// The receiver's Attach is taken as it was made ready, or refused for this.
+    #[tactic(auto, using(crate::proofs::Planning::rules))]
+    fn decide(
+        &mut self,
+        attach: &Attach,
+        decided: Result<PreparedAttach, SenderAttachError>,
+    ) -> AttachAnswer
+        requires { decided ≡ attach_planned self.old attach.now }
+        ensures { TakesAttach self.old attach.now (Ok result) self.new }
+    {
+        match decided {
+            Ok(prepared) => AttachAnswer::Attached(self.commit_attach(prepared)),
             Err(error) => {
                 let _ = self.base.on_incoming_attach(attach);
-                Ok(AttachAnswer::Refused(error))
+                AttachAnswer::Refused(error)
             }
         }
     }
