@@ -1,6 +1,6 @@
 //! Laws of a conversation's calls. A function here does nothing: its contract is the law.
 ghost use Rattle.std.specs.Prelude.{◌≡◌, ◌≢◌, ◌≤◌, ◌∷◌, ◌++◌, [], ℕ, suc, zero, length, List, All, None, Option};
-ghost use Rattle.std.specs.Prelude.{Result, Err, ⊤};
+ghost use Rattle.std.specs.Prelude.{Result, Err, false, ⊤};
 ghost use Rattle.std.specs.Global.{Box};
 ghost use Rattle.amqp_session_types.specs.declared.channels.OutgoingChannel.{OutgoingChannel};
 ghost use Rattle.amqp_session_types.specs.declared.refusals.TryEndError.{TryEndError};

@@ -47,7 +47,7 @@ abbrev pub AskedHere : List FrameBody → Option Stood → Type 0
 AskedHere came None = Unit {0}
 AskedHere came (Some (Asked channel a)) = AllCame came a.value.links
 AskedHere came (Some (Live channel s)) = AreAsked came s.value
-AskedHere came (Some (Ending channel)) = Unit {0}
+AskedHere came (Some (Ending channel own_end)) = Unit {0}
 AskedHere came (Some (Over peer_end complete)) = Unit {0}
 
 -- and is so behind what passes
@@ -74,7 +74,7 @@ asked-on first a b d ps qs x y =
     }
 
 gone-asked : (o : Option Stood) → IsGone o → (came : List FrameBody) → AskedHere came o
-gone-asked (Some (Ending channel)) gone came = tt
+gone-asked (Some (Ending channel own_end)) gone came = tt
 gone-asked (Some (Over peer_end complete)) gone came = tt
 gone-asked (Some (Asked channel a)) gone came = absurd gone
 gone-asked (Some (Live channel s)) gone came = absurd gone
@@ -115,7 +115,7 @@ asked-live first (Live channel s) accepted before after ps any is g asked =
           (routed-on gives did.steps before.value.session after.value.session did.history are.routed) are;
     }
 asked-live first (Asked channel a) accepted before after ps any is g asked = absurd (none-some before is)
-asked-live first (Ending channel) accepted before after ps any is g asked = absurd (none-some before is)
+asked-live first (Ending channel own_end) accepted before after ps any is g asked = absurd (none-some before is)
 asked-live first (Over peer_end complete) accepted before after ps any is g asked = absurd (none-some before is)
 
 -- one that is only asked for hears its peer
@@ -129,7 +129,7 @@ asked-told first (Asked channel a) before after it is h =
           (subst (λ (x : Box AskedSession). AllCame came x.value.links) (same_Some a before is) here);
     }
 asked-told first (Live channel s) before after it is h = absurd (none-some before is)
-asked-told first (Ending channel) before after it is h = absurd (none-some before is)
+asked-told first (Ending channel own_end) before after it is h = absurd (none-some before is)
 asked-told first (Over peer_end complete) before after it is h = absurd (none-some before is)
 
 -- in a session that is new no link is asked for
@@ -202,7 +202,7 @@ here-came : (o : Option Stood) (came : List FrameBody) → AskedHere came o → 
 here-came None came here = none-asked map.empty refl came
 here-came (Some (Asked channel a)) came here = here
 here-came (Some (Live channel s)) came here = here.last
-here-came (Some (Ending channel)) came here = none-asked map.empty refl came
+here-came (Some (Ending channel own_end)) came here = none-asked map.empty refl came
 here-came (Some (Over peer_end complete)) came here = none-asked map.empty refl came
 
 pub links-came : (sessions end : LinkedSessions) (settings : Settings) (deeds : List Deed) (number theirs : ℕ)

@@ -133,7 +133,7 @@ end-none : (stood : Stood) (ended : Option Session) (frames : List SessionFrame)
     → NoneAttach (goes frames)
 end-none (Live channel s) ended frames (is, sent) = same-none frames _ sent (refl, tt)
 end-none (Asked channel a) ended frames (is, none) = same-none frames [] none tt
-end-none (Ending channel) ended frames (is, none) = same-none frames [] none tt
+end-none (Ending channel own_end) ended frames (is, none) = same-none frames [] none tt
 end-none (Over peer_end complete) ended frames (is, none) = same-none frames [] none tt
 
 abbrev NoneIn : ℕ → List Wired → Talk → Talk → Type 0

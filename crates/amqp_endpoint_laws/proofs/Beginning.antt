@@ -57,7 +57,7 @@ module _ {A S : Type 0} where
   not-none : (stood : Place A S) → role_of (Some stood) ≡ Nowhere → ⊥
   not-none (Asked c a) e = let clash : AskedOn c.0 ≡ Nowhere = e in absurd cc
   not-none (Live c s) e = let clash : Has c.0 ≡ Nowhere = e in absurd cc
-  not-none (Ending c) e = let clash : Has c.0 ≡ Nowhere = e in absurd cc
+  not-none (Ending c own_end) e = let clash : Has c.0 ≡ Nowhere = e in absurd cc
   not-none (Over p c) e = let clash : Gone ≡ Nowhere = e in absurd cc
 
   is-there : (old new : State A S) (stood : Place A S) (m : ℕ) → place_at new m ≡ Some stood
@@ -82,7 +82,7 @@ module _ {A S : Type 0} where
       less old.asked new.asked channel.0 c m (ap (λ (s : State A S). s.asked) t.1) e
   ended-table old new n channel end (Live d s) t m c e =
       same-table old new m c (ap (λ (s : State A S). s.asked) t.1) e
-  ended-table old new n channel end (Ending d) t m c e =
+  ended-table old new n channel end (Ending d own_end) t m c e =
       same-table old new m c (ap (λ (s : State A S). s.asked) t.1) e
   ended-table old new n channel end (Over p d) t m c e = absurd t
 
@@ -90,7 +90,7 @@ module _ {A S : Type 0} where
       → (m c : ℕ) → map.get new.asked c ≡ Some m → map.get old.asked c ≡ Some m
   finished-table old new (Asked d a) g m c e = less old.asked new.asked d.0 c m g.1 e
   finished-table old new (Live d s) g m c e = same-table old new m c g.1 e
-  finished-table old new (Ending d) g m c e = same-table old new m c g.1 e
+  finished-table old new (Ending d own_end) g m c e = same-table old new m c g.1 e
   finished-table old new (Over p d) g m c e = same-table old new m c g.1 e
 
   step-known : (step : Act A S) (old new : State A S) → Step old step new → Known old → Known new
@@ -135,9 +135,10 @@ module _ {A S : Type 0} where
       let step : Act A S = TakesEnd n channel end stood in
       known-by old new n (λ m b none. is-there old new (ended_place stood) m ((at m old step new s).about b).1 none)
       (λ m b. (at m old step new s).other b) (λ m c e b. ended-table old new n channel end stood s.2 m c e) k
-  step-known (Ends n channel session) old new s k =
-      let step : Act A S = Ends n channel session in
-      known-by old new n (λ m b none. is-there old new (Ending channel) m ((at m old step new s).about b).1 none)
+  step-known (Ends n channel session own_end) old new s k =
+      let step : Act A S = Ends n channel session own_end in
+      known-by old new n
+      (λ m b none. is-there old new (Ending channel own_end) m ((at m old step new s).about b).1 none)
       (λ m b. (at m old step new s).other b)
       (λ m c e b. same-table old new m c (ap (λ (t : State A S). t.asked) s.1) e) k
   step-known (Finishes n stood) old new s k =
@@ -201,7 +202,7 @@ module _ {A S : Type 0} where
     off-asked n None is = refl
     off-asked n (Some (Asked channel a)) is = absurd is
     off-asked n (Some (Live channel x)) is = refl
-    off-asked n (Some (Ending channel)) is = refl
+    off-asked n (Some (Ending channel own_end)) is = refl
     off-asked n (Some (Over peer_end complete)) is = refl
 
     pub anew-agrees : Agrees (length s.places) nothing_read s

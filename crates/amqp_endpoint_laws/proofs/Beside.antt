@@ -80,14 +80,14 @@ module _ {A S : Type 0} where
   has-of n None = refl
   has-of n (Some (Asked channel a)) = refl
   has-of n (Some (Live channel s)) = refl
-  has-of n (Some (Ending channel)) = refl
+  has-of n (Some (Ending channel own_end)) = refl
   has-of n (Some (Over peer_end complete)) = refl
 
   asks-of : (n : ℕ) (o : Option (Place A S)) → when_asked n o ≡ when_asks n (role_of o)
   asks-of n None = refl
   asks-of n (Some (Asked channel a)) = refl
   asks-of n (Some (Live channel s)) = refl
-  asks-of n (Some (Ending channel)) = refl
+  asks-of n (Some (Ending channel own_end)) = refl
   asks-of n (Some (Over peer_end complete)) = refl
 
   routed-is : (s : State A S) (channel : ℕ) → routed s channel ≡ views.led_in (view s) channel
@@ -161,19 +161,19 @@ module _ {A S : Type 0} where
   told-role : (stood : Place A S) → role_of (Some (told_place stood)) ≡ role_of (Some stood)
   told-role (Asked c a) = refl
   told-role (Live c s) = refl
-  told-role (Ending c) = refl
+  told-role (Ending c own_end) = refl
   told-role (Over p c) = refl
 
   live-role : (stood : Place A S) (after : S) → role_of (Some (with_live stood after)) ≡ role_of (Some stood)
   live-role (Asked c a) after = refl
   live-role (Live c s) after = refl
-  live-role (Ending c) after = refl
+  live-role (Ending c own_end) after = refl
   live-role (Over p c) after = refl
 
   asked-role : (stood : Place A S) (after : A) → role_of (Some (with_asked stood after)) ≡ role_of (Some stood)
   asked-role (Asked c a) after = refl
   asked-role (Live c s) after = refl
-  asked-role (Ending c) after = refl
+  asked-role (Ending c own_end) after = refl
   asked-role (Over p c) after = refl
 
   -- what a step keeps
@@ -316,7 +316,7 @@ module _ {A S : Type 0} where
   over-role : (stood : Place A S) → role_of (Some (ended_place stood)) ≡ Gone
   over-role (Asked c a) = refl
   over-role (Live c l) = refl
-  over-role (Ending c) = refl
+  over-role (Ending c own_end) = refl
   over-role (Over p c) = refl
 
   ended : (old new : State A S) (n : ℕ) (channel : IncomingChannel) (end : End) (stood : Place A S)
@@ -446,7 +446,7 @@ module _ {A S : Type 0} where
           → Stand (view new) × Agree base (peer_ends (Some k) r) (view new)
       at_stood (Asked c a) s k is = while_asked c a s k is
       at_stood (Live c l) s k is = while_on (Live c l) c refl (s.2).0 (s.2).1 s k is
-      at_stood (Ending c) s k is = while_on (Ending c) c refl (s.2).0 (s.2).1 s k is
+      at_stood (Ending c own_end) s k is = while_on (Ending c own_end) c refl (s.2).0 (s.2).1 s k is
       at_stood (Over p c) s k is = absurd s.2
 
       by : (stood : Place A S) → Step old (TakesEnd n channel end stood) new → (o : Option ℕ)
@@ -471,13 +471,13 @@ module _ {A S : Type 0} where
       accepted old new n incoming wanted outgoing session s
   step-keeps (TakesBegin n channel begin) old new on s = taken old new n channel begin s
   step-keeps (TakesEnd n channel end stood) old new on s = ended old new n channel end stood s
-  step-keeps (Ends n channel session) old new on s =
-      replaced old new n (Ending channel) s.1
+  step-keeps (Ends n channel session own_end) old new on s =
+      replaced old new n (Ending channel own_end) s.1
       (role-same old new n
       (λ m e.
-      let p = (at m old (Ends n channel session) new s).about e in
+      let p = (at m old (Ends n channel session own_end) new s).about e in
       ap role_of p.1 ∙ sym (ap role_of p.0))
-      (λ m e. (at m old (Ends n channel session) new s).other e))
+      (λ m e. (at m old (Ends n channel session own_end) new s).other e))
   step-keeps (Finishes n stood) old new on s = absurd on
   step-keeps (TellsEnd n) old new on s =
       replaced old new n (told_place s.0) s.3
@@ -510,7 +510,7 @@ module _ {A S : Type 0} where
   first-on (Accepts number incoming asked outgoing session) steps on = (tt, on)
   first-on (TakesBegin number channel begin) steps on = (tt, on)
   first-on (TakesEnd number channel end stood) steps on = (tt, on)
-  first-on (Ends number channel session) steps on = (tt, on)
+  first-on (Ends number channel session own_end) steps on = (tt, on)
   first-on (Finishes number stood) steps on = absurd on
   first-on (TellsEnd number) steps on = (tt, on)
   first-on (ChangesAsked number before after) steps on = (tt, on)

@@ -132,7 +132,7 @@ replies-reach handle (Some flow) old new out frames input r =
 asked-live : (o : Option Stood) (session : Session) → live_of o ≡ Some session → asked_in o ≡ session.value.asked
 asked-live (Some (Live channel s)) session live = ap (λ (x : Session). x.value.asked) (same_Some s session live)
 asked-live (Some (Asked channel a)) session live = absurd (none-some session live)
-asked-live (Some (Ending channel)) session live = absurd (none-some session live)
+asked-live (Some (Ending channel own_end)) session live = absurd (none-some session live)
 asked-live (Some (Over peer_end complete)) session live = absurd (none-some session live)
 asked-live None session live = absurd (none-some session live)
 

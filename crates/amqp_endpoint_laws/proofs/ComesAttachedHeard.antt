@@ -120,7 +120,7 @@ module _ (old : Talk) (it : LinkPerformative) (new : Talk) where
   untaken-at number (Some (Live channel session)) there (heard_as.Asked n) untaken t = absurd t
   untaken-at number (Some (Live channel session)) there (heard_as.Live n told) untaken t = absurd untaken
   untaken-at number (Some (Live channel session)) there (heard_as.Dropped n) untaken t = absurd t
-  untaken-at number (Some (Ending channel)) there h untaken (is, same, none) = talk-same old new same
+  untaken-at number (Some (Ending channel own_end)) there h untaken (is, same, none) = talk-same old new same
   untaken-at number (Some (Over peer_end complete)) there h untaken (is, same, none) = talk-same old new same
   untaken-at number None there h untaken (is, same, none) = talk-same old new same
 

@@ -54,7 +54,8 @@ live-answers : (o : Option Stood) (session : Session) → live_of o ≡ Some ses
 live-answers (Some (Live channel s)) session live old n it result new frames t =
     subst (λ (x : Session). LiveAnswered gives old [] n x it result new frames) (same_Some s session live) t
 live-answers (Some (Asked channel a)) session live old n it result new frames t = absurd (none-some session live)
-live-answers (Some (Ending channel)) session live old n it result new frames t = absurd (none-some session live)
+live-answers (Some (Ending channel own_end)) session live old n it result new frames t =
+    absurd (none-some session live)
 live-answers (Some (Over peer_end complete)) session live old n it result new frames t =
     absurd (none-some session live)
 live-answers None session live old n it result new frames t = absurd (none-some session live)
@@ -93,7 +94,7 @@ fails-dead : (n k : ℕ) (session stood : Session) (it : LinkPerformative) (faul
     → live_at new.sessions n ≡ None
 fails-dead n k session stood it fault old new frames (same, f) =
     ap live_of
-    ((at n f.mid.sessions (Ends n f.ends.channel stood) new.sessions f.ends.stepped).about (eq-same n)).1
+    ((at n f.mid.sessions (Ends n f.ends.channel stood true) new.sessions f.ends.stepped).about (eq-same n)).1
 
 -- a handle that leads to a link is in use
 reached-some : (o : Option ℕ) (own : ℕ) → is_it o own ≡ true → is_some o ≡ true

@@ -116,7 +116,7 @@ module _ {A S : Type 0} where
   both-go (Accepts number incoming asked outgoing session ∷ steps) more on later = both-go steps more on later
   both-go (TakesBegin number channel begin ∷ steps) more on later = both-go steps more on later
   both-go (TakesEnd number channel end stood ∷ steps) more on later = both-go steps more on later
-  both-go (Ends number channel session ∷ steps) more on later = both-go steps more on later
+  both-go (Ends number channel session own_end ∷ steps) more on later = both-go steps more on later
   both-go (Finishes number stood ∷ steps) more on later = absurd on
   both-go (TellsEnd number ∷ steps) more on later = both-go steps more on later
   both-go (ChangesAsked number before after ∷ steps) more on later = both-go steps more on later
@@ -161,7 +161,7 @@ module _ {A S : Type 0} where
   when-it k n None e = absurd (none-some n e)
   when-it k n (Some (Asked channel a)) e = same_Some k n e
   when-it k n (Some (Live channel s)) e = absurd (none-some n e)
-  when-it k n (Some (Ending channel)) e = absurd (none-some n e)
+  when-it k n (Some (Ending channel own_end)) e = absurd (none-some n e)
   when-it k n (Some (Over peer_end complete)) e = absurd (none-some n e)
 
   asked-entry : (s : State A S) (n : ℕ) (o : Option ℕ) → asked_in s o ≡ Some n → o ≡ Some n
@@ -246,7 +246,7 @@ module _ {R : Type 0} where
       (frames : List SessionFrame) → EndsHere old [] number error session new frames
       → Follows (goes frames) old.sessions new.sessions
   ends-follow old new number error session frames e =
-      by-one old.sessions new.sessions (goes frames) (Ends number e.channel session) e.stepped tt
+      by-one old.sessions new.sessions (goes frames) (Ends number e.channel session true) e.stepped tt
       (λ r. ap (λ (fs : List SessionFrame). behind_all r (goes fs)) e.queued)
 
   -- the peer's End
@@ -254,7 +254,7 @@ module _ {R : Type 0} where
       (frames : List SessionFrame) → EndReply stood ended [] frames → NoBegins frames
   reply-plain (Live channel s) ended frames e = same-none frames (end_frame channel None ∷ []) e.1 (tt, tt)
   reply-plain (Asked channel a) ended frames e = same-none frames [] e.1 tt
-  reply-plain (Ending channel) ended frames e = same-none frames [] e.1 tt
+  reply-plain (Ending channel own_end) ended frames e = same-none frames [] e.1 tt
   reply-plain (Over peer_end complete) ended frames e = same-none frames [] e.1 tt
 
   pub end-follows : (old new : Conversation R) (channel : IncomingChannel) (end : End) (h : EndHeard R)
@@ -313,7 +313,7 @@ module _ {R X T D : Type 0} (gives : Relations R X T D) (channel : ℕ) (it : Fr
       let plain : NoBegins f.out_mid =
       plain-of _ f.out_mid (hears-of gives said_so (Err fault) before.value session.value f.out_mid h.heard) in
       record {
-        steps = ChangesLive number before session ∷ Ends number e.channel session ∷ [];
+        steps = ChangesLive number before session ∷ Ends number e.channel session true ∷ [];
         history = (f.mid.sessions, h.stepped, (new.sessions, e.stepped, refl));
         goes_on = tt;
         reads =

@@ -122,7 +122,7 @@ module _ (old : Talk) (channel : IncomingChannel) (it : Transfer) (payload : Lis
     ended-at (Some asked) live number reaches t = absurd t.0
     ended-at None (Some before) number reaches (same, f) =
         let (was, is) =
-        (at number f.mid.sessions (Ends number f.ends.channel session) new.sessions f.ends.stepped).about
+        (at number f.mid.sessions (Ends number f.ends.channel session true) new.sessions f.ends.stepped).about
         (eq-same number) in
         record { number = number; reaches = reaches; dead = ap live_of is }
     ended-at None None number reaches (is, same, none) = let clash = is in absurd cc

@@ -1,5 +1,5 @@
 -- Links stand where they are held behind each call.
-use Rattle.std.proofs.Common.{◌≡◌, ℕ, false, List, [], ◌∷◌, Option, Some, None, Ok, Err}
+use Rattle.std.proofs.Common.{◌≡◌, ℕ, false, List, [], ◌∷◌, Option, Some, None, Ok, Err, true}
 use Rattle.std.proofs.Common.{ap, refl, subst, sym, ◌∙◌}
 use Rattle.std.specs.Prelude.{Result, ⊤}
 use Rattle.std.proofs.lemmas.Bool.{eq-eqb}
@@ -208,7 +208,7 @@ called (call.AcceptBegin channel) (session_begun n) old new limit frames c a =
     stays-held old.talk new.talk old.links new.links (accepted old.talk new.talk channel n frames c.accepts) c.same a
 called (call.End n) done old new limit frames c a =
     session-back n c.session old.talk.sessions new.talk.sessions old.links new.links
-    (ends-gone n c.ends.channel c.session old.talk.sessions new.talk.sessions c.ends.stepped) c.back a
+    (ends-gone n c.ends.channel c.session true old.talk.sessions new.talk.sessions c.ends.stepped) c.back a
 called (call.IsEnded n) (truth b) old new limit frames c a = told-alone old new c.same a
 called (call.TryEnd n) (tried_end o) old new limit frames c a =
     stays-held old.talk new.talk old.links new.links

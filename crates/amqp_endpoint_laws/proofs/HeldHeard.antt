@@ -109,7 +109,7 @@ gone-behind session old mid new same (number, g) = (
 here-gone : (number : ℕ) (error : Option Error) (session : Session) (old new : Talk) (out out_new : List SessionFrame)
     → EndsHere old out number error session new out_new → IsGone session old new
 here-gone number error session old new out out_new e =
-    (number, ends-gone number e.channel session old.sessions new.sessions e.stepped)
+    (number, ends-gone number e.channel session true old.sessions new.sessions e.stepped)
 
 -- its links are given back
 gone-back : (session : Session) (old new : Talk) (links links_new : Links) → IsGone session old new
@@ -122,7 +122,7 @@ asked-live : (stood : Stood) (before after : Box AskedSession) (handle : ℕ) �
     → Stands (Some (with_asked stood after)) handle ≡ Stands (Some stood) handle
 asked-live (Asked channel asked) before after handle e = refl
 asked-live (Live channel session) before after handle e = refl
-asked-live (Ending channel) before after handle e = refl
+asked-live (Ending channel own_end) before after handle e = refl
 asked-live (Over peer_end complete) before after handle e = refl
 
 asked-changed : (number : ℕ) (before after : Box AskedSession) (old new : Talk)
@@ -452,8 +452,8 @@ end-taken (Live outgoing session) ended number channel end old new frames links 
 end-taken (Asked asked_on asked) ended number channel end old new frames links links_new stepped (is, none) back a =
     over-taken (Asked asked_on asked) number channel end old new links links_new stepped (λ handle. refl)
     (subst (λ (o : Option Session). SessionGivenBack links o links_new) is back) a
-end-taken (Ending outgoing) ended number channel end old new frames links links_new stepped (is, none) back a =
-    over-taken (Ending outgoing) number channel end old new links links_new stepped (λ handle. refl)
+end-taken (Ending outgoing own_end) ended number channel end old new frames links links_new stepped (is, none) back a =
+    over-taken (Ending outgoing own_end) number channel end old new links links_new stepped (λ handle. refl)
     (subst (λ (o : Option Session). SessionGivenBack links o links_new) is back) a
 end-taken (Over peer_end complete) ended number channel end old new frames links links_new stepped (is, none) back a =
     over-taken (Over peer_end complete) number channel end old new links links_new stepped (λ handle. refl)

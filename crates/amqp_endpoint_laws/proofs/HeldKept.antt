@@ -52,11 +52,12 @@ rests old new links links_new same is a =
 
 -- the own sides of sessions are over
 left-one : (number : ℕ) (left : Option (OutgoingChannel × Session)) (old new : Sessions) (links links_new : Links)
-    → EndSent old number left new → SessionGivenBack links (session_of left) links_new → Agrees (number_at old) links
+    → EndSent false old number left new → SessionGivenBack links (session_of left) links_new
+    → Agrees (number_at old) links
     → Agrees (number_at new) links_new
 left-one number None old new links links_new e back a = rests old new links links_new e.1 back a
 left-one number (Some given) old new links links_new e back a =
-    session-back number given.1 old new links links_new (ends-gone number given.0 given.1 old new e) back a
+    session-back number given.1 old new links links_new (ends-gone number given.0 given.1 false old new e) back a
 
 left-first : (count : ℕ) (old new : Sessions) (links links_new : Links) → LeavesFirst count old links new links_new
     → Agrees (number_at old) links → Agrees (number_at new) links_new
@@ -97,8 +98,8 @@ over-one number (Some (Live channel session)) old new links links_new f back a =
     back a
 over-one number (Some (Asked channel asked)) old new links links_new f back a =
     idle-over (Asked channel asked) number old new links links_new f (λ handle. refl) back a
-over-one number (Some (Ending channel)) old new links links_new f back a =
-    idle-over (Ending channel) number old new links links_new f (λ handle. refl) back a
+over-one number (Some (Ending channel own_end)) old new links links_new f back a =
+    idle-over (Ending channel own_end) number old new links links_new f (λ handle. refl) back a
 over-one number (Some (Over peer_end complete)) old new links links_new f back a =
     idle-over (Over peer_end complete) number old new links links_new f (λ handle. refl) back a
 

@@ -207,7 +207,7 @@ module _ {R : Type 0} where
       → live_of (Some (with_live stood after)) ≡ Some after
   stays-live (Live channel session) before after e = refl
   stays-live (Asked channel asked) before after e = absurd (none-some before e)
-  stays-live (Ending channel) before after e = absurd (none-some before e)
+  stays-live (Ending channel own_end) before after e = absurd (none-some before e)
   stays-live (Over peer_end complete) before after e = absurd (none-some before e)
 
   abbrev Stands : Option (StoodOf R) → ℕ → Option ℕ
@@ -278,24 +278,25 @@ module _ {R : Type 0} where
     pub is : (handle : ℕ) → number_at new number handle ≡ None
     pub other : (n handle : ℕ) → (n == number) ≡ false → number_at new n handle ≡ number_at old n handle
 
-  pub ends-gone : (number : ℕ) (channel : OutgoingChannel) (session : SessionOf R) (old new : Sessions (Numbered R))
-      → Step old (Ends number channel session) new → Gone number session old new
-  ends-gone number channel session old new stepped =
+  pub ends-gone : (number : ℕ) (channel : OutgoingChannel) (session : SessionOf R) (own_end : Bool)
+      (old new : Sessions (Numbered R)) → Step old (Ends number channel session own_end) new
+      → Gone number session old new
+  ends-gone number channel session own_end old new stepped =
       let (was, becomes) =
-      (at number old (Ends number channel session) new stepped).about (eq-eqb number number refl) in
+      (at number old (Ends number channel session own_end) new stepped).about (eq-eqb number number refl) in
       record {
         was = λ handle. ap (λ (o : Option (StoodOf R)). Stands o handle) was;
         is = λ handle. ap (λ (o : Option (StoodOf R)). Stands o handle) becomes;
         other = λ n handle e.
             ap (λ (o : Option (StoodOf R)). Stands o handle)
-            ((at n old (Ends number channel session) new stepped).other e);
+            ((at n old (Ends number channel session own_end) new stepped).other e);
       }
 
   pub told-same : (stood : StoodOf R) (handle : ℕ)
       → Stands (Some (told_place stood)) handle ≡ Stands (Some stood) handle
   told-same (Live channel session) handle = refl
   told-same (Asked channel asked) handle = refl
-  told-same (Ending channel) handle = refl
+  told-same (Ending channel own_end) handle = refl
   told-same (Over peer_end complete) handle = refl
 
   -- its links are held no longer

@@ -188,7 +188,7 @@ detach-comes None old mid new links links_new it frames events w = talk-same mid
 ended-dead : (stood : Stood) → live_of (Some (ended_place stood)) ≡ None
 ended-dead (Asked channel a) = refl
 ended-dead (Live channel s) = refl
-ended-dead (Ending channel) = refl
+ended-dead (Ending channel own_end) = refl
 ended-dead (Over peer_end complete) = refl
 
 end-goes : (old : Talk) (links : Links) (channel : IncomingChannel) (end : EndFrame) (frames : List SessionFrame)
@@ -377,7 +377,7 @@ told-live : (stood : Stood) → peer_end_of (Some stood) ≡ Received → live_o
 told-live (Over peer_end complete) is = refl
 told-live (Asked channel a) is = refl
 told-live (Live channel s) is = let clash : Missing ≡ Received = is in absurd cc
-told-live (Ending channel) is = refl
+told-live (Ending channel own_end) is = refl
 
 end-told : (old new : Sessions) (number : ℕ) (result : Result ⊤ TryEndError) → EndTold old number result new
     → AllRest old new
@@ -432,7 +432,7 @@ call-rests it none answer old new limit frames c = absurd c
 
 -- what the connection's own deeds do
 gone-dead : (o : Option Stood) → IsGone o → live_of o ≡ None
-gone-dead (Some (Ending channel)) gone = refl
+gone-dead (Some (Ending channel own_end)) gone = refl
 gone-dead (Some (Over peer_end complete)) gone = refl
 gone-dead (Some (Asked channel a)) gone = absurd gone
 gone-dead (Some (Live channel s)) gone = absurd gone

@@ -165,7 +165,7 @@ another-live : (stood : Stood) (before after : Session) → live_of (Some stood)
     → live_of (Some (with_live stood after)) ≡ Some after
 another-live (Live channel s) before after is = refl
 another-live (Asked channel a) before after is = absurd (none-some before is)
-another-live (Ending channel) before after is = absurd (none-some before is)
+another-live (Ending channel own_end) before after is = absurd (none-some before is)
 another-live (Over peer_end complete) before after is = absurd (none-some before is)
 
 -- it stands there then
@@ -179,7 +179,7 @@ still-asked : (stood : Stood) (before after : Box AskedSession) → asked_of (So
     → live_of (Some (with_asked stood after)) ≡ live_of (Some stood)
 still-asked (Asked channel a) before after is = refl
 still-asked (Live channel s) before after is = absurd (none-some before is)
-still-asked (Ending channel) before after is = absurd (none-some before is)
+still-asked (Ending channel own_end) before after is = absurd (none-some before is)
 still-asked (Over peer_end complete) before after is = absurd (none-some before is)
 
 -- a relation of where a session stands, by which it may stay
@@ -278,8 +278,8 @@ pub ends-stays : (number : ℕ) (error : Option Error) (session : Session) (old 
     → AllRest old.sessions new.sessions
 ends-stays number error session old new out out_new e =
     let (was, is) =
-    (at number old.sessions (Ends number e.channel session) new.sessions e.stepped).about (eq-same number) in
-    dead-stays number (Ends number e.channel session) old.sessions new.sessions (λ n other. other) e.stepped
+    (at number old.sessions (Ends number e.channel session true) new.sessions e.stepped).about (eq-same number) in
+    dead-stays number (Ends number e.channel session true) old.sessions new.sessions (λ n other. other) e.stepped
     (ap live_of is)
 
 -- what is done in a session that goes on
@@ -565,12 +565,12 @@ module _ (it : LinkPerformative) (old new : Talk) (n : ℕ) (fault : SessionErro
       by : (b : Bool) → (k == number) ≡ b → RestsAt (live_at old.sessions k) (live_at new.sessions k)
       by true e =
           let (was, is) =
-          (at k f.mid.sessions (Ends number f.ends.channel session) new.sessions f.ends.stepped).about e in
+          (at k f.mid.sessions (Ends number f.ends.channel session true) new.sessions f.ends.stepped).about e in
           rests-dead (live_at old.sessions k) (live_at new.sessions k) (ap live_of is)
       by false e =
           rests-same (live_at old.sessions k) (live_at new.sessions k)
           (ap live_of
-          ((at k f.mid.sessions (Ends number f.ends.channel session) new.sessions f.ends.stepped).other e
+          ((at k f.mid.sessions (Ends number f.ends.channel session true) new.sessions f.ends.stepped).other e
           ∙ (at k old.sessions (ChangesLive number before session) f.mid.sessions f.refuses.hears.stepped).other e))
 
   fails-at : (asked : Option (Box AskedSession)) (live : Option Session) (number : ℕ)

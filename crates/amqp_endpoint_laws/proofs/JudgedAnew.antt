@@ -42,7 +42,7 @@ abbrev IsOut : Option Stood → Type 0
 IsOut None = Unit {0}
 IsOut (Some (Asked channel a)) = ⊥
 IsOut (Some (Live channel s)) = ⊥
-IsOut (Some (Ending channel)) = Unit {0}
+IsOut (Some (Ending channel own_end)) = Unit {0}
 IsOut (Some (Over peer_end complete)) = Unit {0}
 
 -- where nothing passes none begins
@@ -50,7 +50,7 @@ abbrev StaysOut : ℕ → Option Stood → List Passing → Option Stood → Typ
 StaysOut first old ps new = ps ≡ [] → IsOut old → IsOut new
 
 gone-out : (o : Option Stood) → IsGone o → IsOut o
-gone-out (Some (Ending channel)) gone = tt
+gone-out (Some (Ending channel own_end)) gone = tt
 gone-out (Some (Over peer_end complete)) gone = tt
 gone-out (Some (Asked channel a)) gone = absurd gone
 gone-out (Some (Live channel s)) gone = absurd gone
@@ -63,13 +63,13 @@ over-out o (inr none) = subst IsOut (sym none) tt
 live-out : (stood : Stood) (after : Session) → IsOut (Some stood) → IsOut (Some (with_live stood after))
 live-out (Asked channel a) after out = absurd out
 live-out (Live channel s) after out = absurd out
-live-out (Ending channel) after out = tt
+live-out (Ending channel own_end) after out = tt
 live-out (Over peer_end complete) after out = tt
 
 asked-out : (stood : Stood) (after : Box AskedSession) → IsOut (Some stood) → IsOut (Some (with_asked stood after))
 asked-out (Asked channel a) after out = absurd out
 asked-out (Live channel s) after out = absurd out
-asked-out (Ending channel) after out = tt
+asked-out (Ending channel own_end) after out = tt
 asked-out (Over peer_end complete) after out = tt
 
 both-none : {A : Type 0} (xs ys : List A) → xs ++ ys ≡ [] → (xs ≡ []) × (ys ≡ [])
@@ -201,7 +201,7 @@ off-there : (o : Option Stood) → channel_in o ≡ None → IsOut o → IsOff (
 off-there None none out = tt
 off-there (Some (Asked channel a)) none out = absurd out
 off-there (Some (Live channel s)) none out = absurd out
-off-there (Some (Ending channel)) none out = absurd (none-some channel (sym none))
+off-there (Some (Ending channel own_end)) none out = absurd (none-some channel (sym none))
 off-there (Some (Over peer_end complete)) none out = tt
 
 -- a connection that begins anew is read from nothing: its sessions get the numbers behind those that there were

@@ -117,7 +117,7 @@ live-behind : (stood : Stood) (before after : Session) → live_of (Some stood) 
     → live_of (Some (with_live stood after)) ≡ Some after
 live-behind (Live channel s) before after is = refl
 live-behind (Asked channel a) before after is = absurd (none-some before is)
-live-behind (Ending channel) before after is = absurd (none-some before is)
+live-behind (Ending channel own_end) before after is = absurd (none-some before is)
 live-behind (Over peer_end complete) before after is = absurd (none-some before is)
 
 changed-live : (number : ℕ) (before after : Session) (old new : Sessions)

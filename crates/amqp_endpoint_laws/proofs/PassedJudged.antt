@@ -55,7 +55,7 @@ IsThere (Some stood) = Unit {0}
 channel-there : (k n : ℕ) (o : Option Stood) → with_channel k o ≡ Some n → (k ≡ n) × IsThere o
 channel-there k n None e = absurd (none-some n e)
 channel-there k n (Some (Live channel s)) e = (same_Some k n e, tt)
-channel-there k n (Some (Ending channel)) e = (same_Some k n e, tt)
+channel-there k n (Some (Ending channel own_end)) e = (same_Some k n e, tt)
 channel-there k n (Some (Asked channel a)) e = absurd (none-some n e)
 channel-there k n (Some (Over peer_end complete)) e = absurd (none-some n e)
 
@@ -63,7 +63,7 @@ asked-there : (k n : ℕ) (o : Option Stood) → when_asked k o ≡ Some n → (
 asked-there k n None e = absurd (none-some n e)
 asked-there k n (Some (Asked channel a)) e = (same_Some k n e, tt)
 asked-there k n (Some (Live channel s)) e = absurd (none-some n e)
-asked-there k n (Some (Ending channel)) e = absurd (none-some n e)
+asked-there k n (Some (Ending channel own_end)) e = absurd (none-some n e)
 asked-there k n (Some (Over peer_end complete)) e = absurd (none-some n e)
 
 module _ (s : Sessions) (n : ℕ) where
@@ -93,7 +93,7 @@ is-gone : (o : Option Stood) → asked_of o ≡ None → live_of o ≡ None → 
 is-gone None a l there = absurd there
 is-gone (Some (Asked channel asked)) a l there = absurd (none-some asked (sym a))
 is-gone (Some (Live channel s)) a l there = absurd (none-some s (sym l))
-is-gone (Some (Ending channel)) a l there = tt
+is-gone (Some (Ending channel own_end)) a l there = tt
 is-gone (Some (Over peer_end complete)) a l there = tt
 
 -- the answer to the peer's End is of no link
@@ -103,7 +103,7 @@ end-free (Live channel s) ended frames (is, sent) =
     ap (λ (fs : List SessionFrame). said_in (sent_in (went fs))) sent
 end-free (Asked channel a) ended frames (is, none) =
     ap (λ (fs : List SessionFrame). said_in (sent_in (went fs))) none
-end-free (Ending channel) ended frames (is, none) =
+end-free (Ending channel own_end) ended frames (is, none) =
     ap (λ (fs : List SessionFrame). said_in (sent_in (went fs))) none
 end-free (Over peer_end complete) ended frames (is, none) =
     ap (λ (fs : List SessionFrame). said_in (sent_in (went fs))) none
@@ -111,7 +111,7 @@ end-free (Over peer_end complete) ended frames (is, none) =
 end-gone : (stood : Stood) → IsGone (Some (ended_place stood))
 end-gone (Asked channel a) = tt
 end-gone (Live channel s) = tt
-end-gone (Ending channel) = tt
+end-gone (Ending channel own_end) = tt
 end-gone (Over peer_end complete) = tt
 
 -- the session of which the peer's End came is over
@@ -119,7 +119,7 @@ told-gone : (stood : Stood) → peer_end_of (Some stood) ≡ Received → IsGone
 told-gone (Over peer_end complete) is = tt
 told-gone (Asked channel a) is = let clash : Missing ≡ Received = is in absurd cc
 told-gone (Live channel s) is = let clash : Missing ≡ Received = is in absurd cc
-told-gone (Ending channel) is = tt
+told-gone (Ending channel own_end) is = tt
 
 -- behind the step that leads a channel all stand as before, and the session has the channel that the Begin names
 module _ (old : Talk) (channel : IncomingChannel) (begin : Begin) (number : ℕ) (mid : Sessions)
@@ -142,7 +142,7 @@ has-channel : (number : ℕ) (o : Option Stood) (s : Session) → live_of o ≡ 
 has-channel number None s is = absurd (none-some s is)
 has-channel number (Some (Live channel before)) s is = refl
 has-channel number (Some (Asked channel a)) s is = absurd (none-some s is)
-has-channel number (Some (Ending channel)) s is = absurd (none-some s is)
+has-channel number (Some (Ending channel own_end)) s is = absurd (none-some s is)
 has-channel number (Some (Over peer_end complete)) s is = absurd (none-some s is)
 
 -- so a session that goes on behind it is the one that takes it
@@ -217,9 +217,10 @@ module _ {Allows : Batches → Type 0} (J : ℕ → Option Stood → List Passin
       → EndsHere old out number error session new out_new → Passed J k number ps old new
   ends-passed number error session ps old new out out_new all e =
       let (was, is) =
-      (at number old.sessions (Ends number e.channel session) new.sessions e.stepped).about (eq-same number) in
-      by-step J k number (Ends number e.channel session) old new ps (λ n other. other) e.stepped e.rest
-      (judged-at J k old.first_transfer_number (Some (Live e.channel session)) (Some (Ending e.channel)) _ _ ps was is
+      (at number old.sessions (Ends number e.channel session true) new.sessions e.stepped).about (eq-same number) in
+      by-step J k number (Ends number e.channel session true) old new ps (λ n other. other) e.stepped e.rest
+      (judged-at J k old.first_transfer_number (Some (Live e.channel session)) (Some (Ending e.channel true)) _ _ ps was
+      is
       (k.gone _ _ _ ps tt all))
 
   module _ (channel : IncomingChannel) (begin : Begin) where
@@ -287,7 +288,7 @@ module _ {Allows : Batches → Type 0} (J : ℕ → Option Stood → List Passin
         by (Some (Asked c a)) e = none
         by (Some (Over peer_end complete)) e = none
         by (Some (Live c s)) e = absurd (none-some s (sym d.not_live ∙ ap live_of (same d.number ∙ e)))
-        by (Some (Ending c)) e =
+        by (Some (Ending c own_end)) e =
             all-passed J k d.number (Came beginning ∷ []) old new
             (record {
               here =
@@ -373,7 +374,7 @@ module _ {Allows : Batches → Type 0} (J : ℕ → Option Stood → List Passin
       let (stood, was, lives, becomes) =
       (at number old.sessions (ChangesLive number before session) f.mid.sessions h.stepped).about (eq-same number) in
       let (stands, is) =
-      (at number f.mid.sessions (Ends number e.channel session) new.sessions e.stepped).about (eq-same number) in
+      (at number f.mid.sessions (Ends number e.channel session true) new.sessions e.stepped).about (eq-same number) in
       let end : SessionFrame = end_frame e.channel (Some (fault_error fault)) in
       let ps : List Passing = Came (body_said it) ∷ went f.out_mid in
       let g : GoesBy [] before.value.session session.value.session ps =
@@ -383,13 +384,14 @@ module _ {Allows : Batches → Type 0} (J : ℕ → Option Stood → List Passin
       let p : Passed J k number (ps ++ went (end ∷ [])) old new =
       record {
         here =
-            judged-at J k old.first_transfer_number (Some stood) (Some (Ending e.channel)) _ _
+            judged-at J k old.first_transfer_number (Some stood) (Some (Ending e.channel true)) _ _
             (ps ++ went (end ∷ [])) was is
-            (k.fails old.first_transfer_number stood before session ps (went (end ∷ [])) (Some (Ending e.channel)) lives
+            (k.fails old.first_transfer_number stood before session ps (went (end ∷ []))
+            (Some (Ending e.channel true)) lives
             g refl tt);
         others = λ n other.
             k.still _ _ _
-            ((at n f.mid.sessions (Ends number e.channel session) new.sessions e.stepped).other other
+            ((at n f.mid.sessions (Ends number e.channel session true) new.sessions e.stepped).other other
             ∙ (at n old.sessions (ChangesLive number before session) f.mid.sessions h.stepped).other other);
         first =
             ap (λ (t : Talk). t.first_transfer_number) e.rest

@@ -64,7 +64,7 @@ use Rattle.amqp_endpoint_laws.proofs.SessionsHeard.{refused-goes}
 finished-gone : (stood : Stood) → IsGone (Some (finished_place stood))
 finished-gone (Asked channel a) = tt
 finished-gone (Live channel s) = tt
-finished-gone (Ending channel) = tt
+finished-gone (Ending channel own_end) = tt
 finished-gone (Over peer_end complete) = tt
 
 -- a session stays, or is ending or over then
@@ -85,12 +85,13 @@ by-about number old new n other gone = by (n == number) refl
     by true e = inr (subst (λ (k : ℕ). IsGone (place_at new k)) (sym (same_number n number e)) gone)
     by false e = inl (other e)
 
-end-sent : (old new : Sessions) (number : ℕ) (left : Option (OutgoingChannel × Session)) → EndSent old number left new
+end-sent : (old new : Sessions) (number : ℕ) (left : Option (OutgoingChannel × Session))
+    → EndSent false old number left new
     → (n : ℕ) → Wanes old new n
 end-sent old new number None e n = inl (ap (λ (s : Sessions). place_at s n) e.1)
 end-sent old new number (Some given) e n =
-    let (was, is) = (at number old (Ends number given.0 given.1) new e).about (eq-same number) in
-    by-about number old new n (λ other. (at n old (Ends number given.0 given.1) new e).other other)
+    let (was, is) = (at number old (Ends number given.0 given.1 false) new e).about (eq-same number) in
+    by-about number old new n (λ other. (at n old (Ends number given.0 given.1 false) new e).other other)
     (subst IsGone (sym is) tt)
 
 pub left-first : (count : ℕ) (old new : Sessions) (links links_new : Links) → LeavesFirst count old links new links_new
@@ -162,7 +163,7 @@ kept-there (Asks number channel asked) a mid s none = none-some _ (sym none ∙ 
 kept-there (Accepts number incoming asked outgoing session) a mid s none = none-some _ (sym none ∙ s.1)
 kept-there (TakesBegin number channel begin) a mid s none = s
 kept-there (TakesEnd number channel end stood) a mid s none = none-some _ (sym none ∙ s.1)
-kept-there (Ends number channel session) a mid s none = none-some _ (sym none ∙ s.1)
+kept-there (Ends number channel session own_end) a mid s none = none-some _ (sym none ∙ s.1)
 kept-there (FinishesStep number stood) a mid s none = none-some _ (sym none ∙ s.1)
 kept-there (TellsEnd number) a mid (stood, was, came, is) none = none-some _ (sym none ∙ is)
 kept-there (ChangesAsked number before after) a mid (stood, was, lives, is) none = none-some _ (sym none ∙ is)

@@ -45,7 +45,7 @@ use Rattle.amqp_endpoint_laws.specs.Taken.{NoneAttaches}
 
 -- a session that is ending, or over
 abbrev pub IsGone : Option Stood → Type 0
-IsGone (Some (Ending channel)) = Unit {0}
+IsGone (Some (Ending channel own_end)) = Unit {0}
 IsGone (Some (Over peer_end complete)) = Unit {0}
 IsGone o = ⊥
 

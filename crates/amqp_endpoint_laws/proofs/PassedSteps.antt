@@ -254,7 +254,7 @@ abbrev Come : ℕ → Option Stood → List Passing → Type 0
 Come first None qs = said_in (sent_in qs) ≡ []
 Come first (Some (Asked channel a)) qs = said_in (sent_in qs) ≡ []
 Come first (Some (Live channel s)) qs = HasCome first qs s.value.session
-Come first (Some (Ending channel)) qs = Unit {0}
+Come first (Some (Ending channel own_end)) qs = Unit {0}
 Come first (Some (Over peer_end complete)) qs = Unit {0}
 
 record Comes (first : ℕ) (old : Option Stood) (ps : List Passing) (new : Option Stood) : Type 0 where
@@ -277,7 +277,7 @@ comes-on first a b d ps rs x y =
     }
 
 gone-comes : (o : Option Stood) → IsGone o → (first : ℕ) (qs : List Passing) → Come first o qs
-gone-comes (Some (Ending channel)) gone first qs = tt
+gone-comes (Some (Ending channel own_end)) gone first qs = tt
 gone-comes (Some (Over peer_end complete)) gone first qs = tt
 gone-comes (Some (Asked channel a)) gone first qs = absurd gone
 gone-comes (Some (Live channel s)) gone first qs = absurd gone
@@ -305,7 +305,7 @@ come-free (Some (Live channel s)) first qs ps none c =
       history = c.history;
       says = no-more qs ps none ∙ c.says;
     }
-come-free (Some (Ending channel)) first qs ps none c = tt
+come-free (Some (Ending channel own_end)) first qs ps none c = tt
 come-free (Some (Over peer_end complete)) first qs ps none c = tt
 
 comes-free : (first : ℕ) (stood : Option Stood) (frames : List SessionFrame) → said_in frames ≡ []
@@ -341,7 +341,7 @@ comes-live first (Live channel s) accepted before after ps any is g =
           (subst (λ (x : Session). HasCome first qs x.value.session) (same_Some s before is) c);
     }
 comes-live first (Asked channel a) accepted before after ps any is g = absurd (none-some before is)
-comes-live first (Ending channel) accepted before after ps any is g = absurd (none-some before is)
+comes-live first (Ending channel own_end) accepted before after ps any is g = absurd (none-some before is)
 comes-live first (Over peer_end complete) accepted before after ps any is g = absurd (none-some before is)
 
 comes-told : (first : ℕ) (stood : Stood) (before after : Box AskedSession) (it : LinkPerformative)
@@ -350,7 +350,7 @@ comes-told : (first : ℕ) (stood : Stood) (before after : Box AskedSession) (it
 comes-told first (Asked channel a) before after it is h =
     record { by = λ qs c. no-more qs (Came (body_said it) ∷ []) refl ∙ c }
 comes-told first (Live channel s) before after it is h = absurd (none-some before is)
-comes-told first (Ending channel) before after it is h = absurd (none-some before is)
+comes-told first (Ending channel own_end) before after it is h = absurd (none-some before is)
 comes-told first (Over peer_end complete) before after it is h = absurd (none-some before is)
 
 comes-asks : (first : ℕ) (channel : IncomingChannel) (asked : Box AskedSession) (begin : Begin)
@@ -427,7 +427,7 @@ come-live None first qs session is c = absurd (none-some session is)
 come-live (Some (Live channel s)) first qs session is c =
     subst (λ (x : Session). HasCome first qs x.value.session) (same_Some s session is) c
 come-live (Some (Asked channel a)) first qs session is c = absurd (none-some session is)
-come-live (Some (Ending channel)) first qs session is c = absurd (none-some session is)
+come-live (Some (Ending channel own_end)) first qs session is c = absurd (none-some session is)
 come-live (Some (Over peer_end complete)) first qs session is c = absurd (none-some session is)
 
 pub session-come : (sessions end : LinkedSessions) (settings : Settings) (deeds : List Deed) (n : ℕ)

@@ -61,11 +61,11 @@ abbrev Counts : ℕ → Option Stood → Count → Type 0
 Counts first None c = c ≡ begins_with first
 Counts first (Some (Asked channel a)) c = c ≡ kept_count first a.value.begin a.value.flow
 Counts first (Some (Live channel s)) c = c ≡ counted s.value.session.outgoing
-Counts first (Some (Ending channel)) c = Unit {0}
+Counts first (Some (Ending channel own_end)) c = Unit {0}
 Counts first (Some (Over peer_end complete)) c = Unit {0}
 
 gone-counts : (o : Option Stood) → IsGone o → (first : ℕ) (c : Count) → Counts first o c
-gone-counts (Some (Ending channel)) gone first c = tt
+gone-counts (Some (Ending channel own_end)) gone first c = tt
 gone-counts (Some (Over peer_end complete)) gone first c = tt
 gone-counts (Some (Asked channel a)) gone first c = absurd gone
 gone-counts (Some (Live channel s)) gone first c = absurd gone
@@ -161,7 +161,7 @@ judges-live first (Live channel s) accepted before after ps any is g =
       behind = λ c here. ap (λ (d : Count). count_behind d ps) (here ∙ e) ∙ k.counts;
     }
 judges-live first (Asked channel a) accepted before after ps any is g = absurd (none-some before is)
-judges-live first (Ending channel) accepted before after ps any is g = absurd (none-some before is)
+judges-live first (Ending channel own_end) accepted before after ps any is g = absurd (none-some before is)
 judges-live first (Over peer_end complete) accepted before after ps any is g = absurd (none-some before is)
 
 told-flow : (first : ℕ) (begin : Begin) (kept : Option SessionFlow) (flow : Flow)
@@ -212,7 +212,7 @@ judges-told first (Asked channel a) before after it is h =
           ap (λ (x : Count). told_by (body_said it) x) (here ∙ e) ∙ asked-hears it first before.value after.value h;
     }
 judges-told first (Live channel s) before after it is h = absurd (none-some before is)
-judges-told first (Ending channel) before after it is h = absurd (none-some before is)
+judges-told first (Ending channel own_end) before after it is h = absurd (none-some before is)
 judges-told first (Over peer_end complete) before after it is h = absurd (none-some before is)
 
 judges-asks : (first : ℕ) (channel : IncomingChannel) (asked : Box AskedSession) (begin : Begin)

@@ -65,7 +65,7 @@ goes-queued : (h : ℕ) (it : Stood) (before after : Session) → live_of (Some 
     → Queued h [] after.value.session [] → QueuedAt h [] (Some (with_live it after)) []
 goes-queued h (Live channel s) before after is q = q
 goes-queued h (Asked channel a) before after is q = absurd (none-some before is)
-goes-queued h (Ending channel) before after is q = absurd (none-some before is)
+goes-queued h (Ending channel own_end) before after is q = absurd (none-some before is)
 goes-queued h (Over peer_end complete) before after is q = absurd (none-some before is)
 
 -- sessions that were new, and stand so behind some deeds

@@ -99,7 +99,7 @@ abbrev pub QueuedAt : ℕ → List Piece → Option Stood → List Passing → T
 QueuedAt h w None qs = ⊥
 QueuedAt h w (Some (Asked channel a)) qs = ⊥
 QueuedAt h w (Some (Live channel s)) qs = Queued h w s.value.session qs
-QueuedAt h w (Some (Ending channel)) qs = Unit {0}
+QueuedAt h w (Some (Ending channel own_end)) qs = Unit {0}
 QueuedAt h w (Some (Over peer_end complete)) qs = Unit {0}
 
 -- nothing more is accepted
@@ -125,7 +125,7 @@ module _ (h : ℕ) where
       }
 
   gone-queued : (o : Option Stood) → IsGone o → (w : List Piece) (qs : List Passing) → QueuedAt h w o qs
-  gone-queued (Some (Ending channel)) gone w qs = tt
+  gone-queued (Some (Ending channel own_end)) gone w qs = tt
   gone-queued (Some (Over peer_end complete)) gone w qs = tt
   gone-queued (Some (Asked channel a)) gone w qs = absurd gone
   gone-queued (Some (Live channel s)) gone w qs = absurd gone
@@ -150,7 +150,7 @@ module _ (h : ℕ) where
             ∙ append-nil (map bare (pieces_on h (sent_in qs))))
             ∙ q.order;
       }
-  free-queued (Some (Ending channel)) w qs ps none q = tt
+  free-queued (Some (Ending channel own_end)) w qs ps none q = tt
   free-queued (Some (Over peer_end complete)) w qs ps none q = tt
 
   queued-free : (first : ℕ) (stood : Option Stood) (frames : List SessionFrame) → said_in frames ≡ []
@@ -174,7 +174,7 @@ module _ (h : ℕ) where
             (subst (λ (x : Session). Queued h w x.value.session qs) (same_Some s before is) q));
       }
   queued-live first (Asked channel a) accepted before after ps none is g = absurd (none-some before is)
-  queued-live first (Ending channel) accepted before after ps none is g = absurd (none-some before is)
+  queued-live first (Ending channel own_end) accepted before after ps none is g = absurd (none-some before is)
   queued-live first (Over peer_end complete) accepted before after ps none is g = absurd (none-some before is)
 
   queued-told : (first : ℕ) (stood : Stood) (before after : Box AskedSession) (it : LinkPerformative)
@@ -182,7 +182,7 @@ module _ (h : ℕ) where
       → StaysQueued h first (Some stood) (Came (body_said it) ∷ []) (Some (with_asked stood after))
   queued-told first (Asked channel a) before after it is told = record { by = λ w qs q. absurd q }
   queued-told first (Live channel s) before after it is told = absurd (none-some before is)
-  queued-told first (Ending channel) before after it is told = absurd (none-some before is)
+  queued-told first (Ending channel own_end) before after it is told = absurd (none-some before is)
   queued-told first (Over peer_end complete) before after it is told = absurd (none-some before is)
 
   queued-asks : (first : ℕ) (channel : IncomingChannel) (asked : Box AskedSession) (begin : Begin)
@@ -228,5 +228,5 @@ queued-here h w None qs session is q = absurd (none-some session is)
 queued-here h w (Some (Live channel s)) qs session is q =
     subst (λ (x : Session). Queued h w x.value.session qs) (same_Some s session is) q
 queued-here h w (Some (Asked channel a)) qs session is q = absurd (none-some session is)
-queued-here h w (Some (Ending channel)) qs session is q = absurd (none-some session is)
+queued-here h w (Some (Ending channel own_end)) qs session is q = absurd (none-some session is)
 queued-here h w (Some (Over peer_end complete)) qs session is q = absurd (none-some session is)

@@ -180,7 +180,7 @@ module _ (Agree : LinkedSessions → Type 0)
           (sends-inside limit (tag_of old.sent) message settled k d.before.value d.after.value d.frames d.did) refl))
           (subst (λ (x : Session). Queued handle.0 w x.value.session qs) (same_Some s d.before is) q)
       sent-on (Asked channel a) is w qs q = absurd (none-some d.before is)
-      sent-on (Ending channel) is w qs q = absurd (none-some d.before is)
+      sent-on (Ending channel own_end) is w qs q = absurd (none-some d.before is)
       sent-on (Over peer_end complete) is w qs q = absurd (none-some d.before is)
 
       sent-here : (ms more : List Message) (qs : List Passing)

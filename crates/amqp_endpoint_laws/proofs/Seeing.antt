@@ -153,7 +153,7 @@ module _ {R : Type 0} where
       ∙ speaks-for base r s m channel.0 (stands.has m channel.0 (ap role_of e)) agrees speaks
   live-speaks None base m r s it e is stands on agrees speaks = absurd (none-some it is)
   live-speaks (Some (Asked channel a)) base m r s it e is stands on agrees speaks = absurd (none-some it is)
-  live-speaks (Some (Ending channel)) base m r s it e is stands on agrees speaks = absurd (none-some it is)
+  live-speaks (Some (Ending channel own_end)) base m r s it e is stands on agrees speaks = absurd (none-some it is)
   live-speaks (Some (Over peer_end complete)) base m r s it e is stands on agrees speaks = absurd (none-some it is)
 
   module _ (m : ℕ) (frames : List SessionFrame) (before : Box (AskingSession R))
@@ -250,7 +250,7 @@ module _ {R : Type 0} where
       )
   replied-for (Asked own a) ended frames base number r q s same e reply stands agrees speaks =
       none-for base number q frames reply.1
-  replied-for (Ending own) ended frames base number r q s same e reply stands agrees speaks =
+  replied-for (Ending own own_end) ended frames base number r q s same e reply stands agrees speaks =
       none-for base number q frames reply.1
   replied-for (Over peer_end complete) ended frames base number r q s same e reply stands agrees speaks =
       none-for base number q frames reply.1

@@ -1,6 +1,6 @@
 -- What linked sessions do by a deed is read off the frames that pass.
 use Rattle.std.proofs.Common.{◌≡◌, ◌⊎◌, inl, inr, ℕ, ◌+◌, zero, suc, List, [], ◌∷◌, Option, Some, None, ap, refl}
-use Rattle.std.proofs.Common.{subst, ◌∙◌}
+use Rattle.std.proofs.Common.{subst, ◌∙◌, false}
 use Rattle.std.specs.Prelude.{if◌then◌else◌}
 use Rattle.amqp_session_types.specs.declared.channels.OutgoingChannel.{OutgoingChannel}
 use Rattle.amqp_session_frames.specs.State as channels
@@ -91,10 +91,11 @@ sent-moves old new connection moves is = by moves
     by (inr (error, to, same)) = so same refl refl
 
 -- own sides of sessions end, without a frame
-left-seen : (old new : Sessions) (number : ℕ) (left : Option (OutgoingChannel × Session)) → EndSent old number left new
+left-seen : (old new : Sessions) (number : ℕ) (left : Option (OutgoingChannel × Session))
+    → EndSent false old number left new
     → Follows [] old new
 left-seen old new number None e = by-none old new [] e.1 (λ r. refl)
-left-seen old new number (Some given) e = by-one old new [] (Ends number given.0 given.1) e tt (λ r. refl)
+left-seen old new number (Some given) e = by-one old new [] (Ends number given.0 given.1 false) e tt (λ r. refl)
 
 leave-seen : (count : ℕ) (old new : Sessions) (links links_new : Links) → LeavesFirst count old links new links_new
     → Follows [] old new

@@ -59,7 +59,7 @@ abbrev pub IsOwn : Option Stood → Type 0
 IsOwn None = Unit {0}
 IsOwn (Some (Asked channel a)) = Unit {0}
 IsOwn (Some (Live channel s)) = s.value.session.fields.channel ≡ channel
-IsOwn (Some (Ending channel)) = Unit {0}
+IsOwn (Some (Ending channel own_end)) = Unit {0}
 IsOwn (Some (Over peer_end complete)) = Unit {0}
 
 -- and is so behind what passes in it
@@ -67,7 +67,7 @@ abbrev pub StaysOwn : ℕ → Option Stood → List Passing → Option Stood →
 StaysOwn first old ps new = IsOwn old → IsOwn new
 
 gone-own : (o : Option Stood) → IsGone o → IsOwn o
-gone-own (Some (Ending channel)) gone = tt
+gone-own (Some (Ending channel own_end)) gone = tt
 gone-own (Some (Over peer_end complete)) gone = tt
 gone-own (Some (Asked channel a)) gone = absurd gone
 gone-own (Some (Live channel s)) gone = absurd gone
@@ -81,7 +81,7 @@ live-own first (Live channel s) accepted before after ps any is g own =
     history-channel gives did.steps before.value.session after.value.session did.history
     ∙ ap (λ (x : Session). x.value.session.fields.channel) (sym (same_Some s before is)) ∙ own
 live-own first (Asked channel a) accepted before after ps any is g own = absurd (none-some before is)
-live-own first (Ending channel) accepted before after ps any is g own = absurd (none-some before is)
+live-own first (Ending channel own_end) accepted before after ps any is g own = absurd (none-some before is)
 live-own first (Over peer_end complete) accepted before after ps any is g own = absurd (none-some before is)
 
 told-own : (first : ℕ) (stood : Stood) (before after : Box AskedSession) (it : LinkPerformative)
@@ -89,7 +89,7 @@ told-own : (first : ℕ) (stood : Stood) (before after : Box AskedSession) (it :
     → IsOwn (Some stood) → IsOwn (Some (with_asked stood after))
 told-own first (Asked channel a) before after it is h own = tt
 told-own first (Live channel s) before after it is h own = own
-told-own first (Ending channel) before after it is h own = tt
+told-own first (Ending channel own_end) before after it is h own = tt
 told-own first (Over peer_end complete) before after it is h own = tt
 
 accepted-own : (channel : OutgoingChannel) (incoming : IncomingChannel) (begin : Begin) (flow : Option SessionFlow)
@@ -128,7 +128,7 @@ pub is-own : (o : Option Stood) → ((channel : OutgoingChannel) (s : Session) �
 is-own None own = tt
 is-own (Some (Asked channel a)) own = tt
 is-own (Some (Live channel s)) own = own channel s refl
-is-own (Some (Ending channel)) own = tt
+is-own (Some (Ending channel own_end)) own = tt
 is-own (Some (Over peer_end complete)) own = tt
 
 own-on : (m : ℕ) (ws : List Wired) (old new : Talk) → PassedBy StaysOwn own-channels m ws old new
@@ -256,7 +256,7 @@ seen-at m ws old new sees =
 -- the session that has the channel which the peer's Begin names
 has-it : (number channel : ℕ) (o : Option Stood) → role_of o ≡ Has channel → with_channel number o ≡ Some number
 has-it number channel (Some (Live own s)) is = refl
-has-it number channel (Some (Ending own)) is = refl
+has-it number channel (Some (Ending own own_end)) is = refl
 has-it number channel None is = let clash : Nowhere ≡ Has channel = is in absurd cc
 has-it number channel (Some (Asked own a)) is = let clash : AskedOn own.0 ≡ Has channel = is in absurd cc
 has-it number channel (Some (Over peer_end complete)) is = let clash : Gone ≡ Has channel = is in absurd cc

@@ -38,7 +38,7 @@ give-keep (Accepts number incoming asked outgoing session ∷ steps) g = absurd 
 give-keep (Asks number channel asked ∷ steps) g = give-keep steps g.1
 give-keep (TakesBegin number channel begin ∷ steps) g = give-keep steps g.1
 give-keep (TakesEnd number channel end stood ∷ steps) g = give-keep steps g.1
-give-keep (Ends number channel session ∷ steps) g = give-keep steps g.1
+give-keep (Ends number channel session own_end ∷ steps) g = give-keep steps g.1
 give-keep (Finishes number stood ∷ steps) g = give-keep steps g.1
 give-keep (TellsEnd number ∷ steps) g = give-keep steps g.1
 give-keep (ChangesAsked number before after ∷ steps) g = give-keep steps g.1
@@ -52,13 +52,13 @@ module _ {A S : Type 0} where
   ended-none : (stood : Place A S) → channel_of (ended_place stood) ≡ None
   ended-none (Asked c a) = refl
   ended-none (Live c l) = refl
-  ended-none (Ending c) = refl
+  ended-none (Ending c own_end) = refl
   ended-none (Over p c) = refl
 
   finished-none : (stood : Place A S) → channel_of (finished_place stood) ≡ None
   finished-none (Asked c a) = refl
   finished-none (Live c l) = refl
-  finished-none (Ending c) = refl
+  finished-none (Ending c own_end) = refl
   finished-none (Over p c) = refl
 
   none-about : (step : Act A S) (was now : Option (Place A S)) → GivesNone step → PlaceStep was step now
@@ -69,7 +69,7 @@ module _ {A S : Type 0} where
   none-about (Accepts number incoming asked outgoing session) was now g p none = absurd g
   none-about (TakesBegin number channel begin) was now g p none = absurd p
   none-about (TakesEnd number channel end stood) was now g p none = ap channel_in p.1 ∙ ended-none stood
-  none-about (Ends number channel session) was now g p none =
+  none-about (Ends number channel session own_end) was now g p none =
       absurd (none-some _ (sym none ∙ ap channel_in p.0))
   none-about (Finishes number stood) was now g p none = ap channel_in p.1 ∙ finished-none stood
   none-about (TellsEnd number) was now g (stood, had, came, is) none =

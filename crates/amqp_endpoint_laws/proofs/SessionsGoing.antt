@@ -1,5 +1,5 @@
 -- The sessions of an endpoint go on by steps of their own.
-use Rattle.std.proofs.Common.{◌≡◌, ℕ, zero, suc, List, [], ◌∷◌, ◌++◌}
+use Rattle.std.proofs.Common.{◌≡◌, ℕ, zero, suc, List, [], ◌∷◌, ◌++◌, false}
 use Rattle.std.proofs.Common.{Option, Some, None, Ok, Err}
 use Rattle.std.proofs.Common.{refl, subst}
 use Rattle.std.specs.Prelude.{Result, ⊤}
@@ -43,9 +43,9 @@ goes-on old mid new first later =
     }
 
 end-sent : (old : Sessions) (number : ℕ) (left : Option (OutgoingChannel × Session)) (new : Sessions)
-    → EndSent old number left new → Go old new
+    → EndSent false old number left new → Go old new
 end-sent old number None new e = stays old new e.1
-end-sent old number (Some given) new e = goes-by (Ends number given.0 given.1) old new tt e
+end-sent old number (Some given) new e = goes-by (Ends number given.0 given.1 false) old new tt e
 
 pub end-told : (old : Sessions) (number : ℕ) (told : Result ⊤ TryEndError) (new : Sessions)
     → EndTold old number told new → Go old new

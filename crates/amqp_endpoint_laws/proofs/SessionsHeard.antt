@@ -98,7 +98,7 @@ live-answered old out number before it (Err (refused.Session n fault session)) n
     let f = a.1 in
     goes-on old.sessions f.mid.sessions new.sessions
     (changed number before _ old f.mid f.refuses.hears.stepped)
-    (goes-by (Ends number f.ends.channel session) f.mid.sessions new.sessions tt f.ends.stepped)
+    (goes-by (Ends number f.ends.channel session true) f.mid.sessions new.sessions tt f.ends.stepped)
 live-answered old out number before it (Err other) new out_new a = absurd a
 
 answered-at : (asked : Option (Box AskedSession)) (live : Option Session) (old : Talk) (out : List SessionFrame)
@@ -158,7 +158,8 @@ begin-heard old links channel begin frames events new links_new (inl t) =
 begin-heard old links channel begin frames events new links_new (inr f) =
     goes-on old.sessions f.mid.sessions new.sessions
     (begin-answered old [] channel begin (Err (begin_refused.Session f.number f.fault)) f.mid [] f.refused)
-    (goes-by (Ends f.number f.fails.ends.channel f.fails.session) f.mid.sessions new.sessions tt f.fails.ends.stepped)
+    (goes-by (Ends f.number f.fails.ends.channel f.fails.session true) f.mid.sessions new.sessions tt
+    f.fails.ends.stepped)
 
 -- the peer's Attach
 attach-taken : (outcome : Result Attaching LinkError) (old new : Talk) (session : ℕ) (handle : OutputHandle)

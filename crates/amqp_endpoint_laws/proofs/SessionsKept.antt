@@ -1,5 +1,5 @@
 -- In each run the sessions of an endpoint go on by steps of their own, and no two have one channel.
-use Rattle.std.proofs.Common.{◌≡◌, ℕ, suc, zero, false, List, [], ◌∷◌, ◌++◌, Some, None}
+use Rattle.std.proofs.Common.{◌≡◌, ℕ, suc, zero, false, List, [], ◌∷◌, ◌++◌, Some, None, true}
 use Rattle.std.proofs.Common.{refl, sym, ap, ◌∙◌}
 use Rattle.std.specs.FinMap as map
 use Rattle.std.specs.Global.{Box}
@@ -93,7 +93,7 @@ called phase (call.AcceptBegin channel) (session_begun n) old new limit frames m
     accepted may n c.accepts.incoming c.accepts.wanted c.accepts.outgoing c.accepts.session _ c.accepts.mid
     c.accepts.stepped c.accepts.taken_over
 called phase (call.End n) done old new limit frames may c =
-    plainly (goes-by (Ends n c.ends.channel c.session) old.talk.sessions new.talk.sessions tt c.ends.stepped)
+    plainly (goes-by (Ends n c.ends.channel c.session true) old.talk.sessions new.talk.sessions tt c.ends.stepped)
 called phase (call.IsEnded n) (truth b) old new limit frames may c =
     plainly (stays old.talk.sessions new.talk.sessions (ap (λ (s : LinkedSessions). s.talk.sessions) c.same))
 called phase (call.TryEnd n) (tried_end o) old new limit frames may c =

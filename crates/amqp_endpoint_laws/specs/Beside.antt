@@ -37,7 +37,7 @@ module _ {A S : Type 0} where
   role_of None = Nowhere
   role_of (Some (Asked channel a)) = AskedOn channel.0
   role_of (Some (Live channel s)) = Has channel.0
-  role_of (Some (Ending channel)) = Has channel.0
+  role_of (Some (Ending channel own_end)) = Has channel.0
   role_of (Some (Over peer_end complete)) = Gone
 
   abbrev pub role_at : State A S → ℕ → Role

@@ -38,7 +38,7 @@ module _ {A S : Type 0} (s : State A S) (n : ℕ) (x : S) where
           (ap (λ (p : Place A S). slice_set s.places n (with_live p x)) here
           ∙ ap (λ (p : Place A S). slice_set s.places n p) same
           ∙ set-get_or s.places n (Over Missing false))
-      by (Some (Ending c)) e q = absurd (none-some _ q)
+      by (Some (Ending c own_end)) e q = absurd (none-some _ q)
       by (Some (Over p c)) e q = absurd (none-some _ q)
 
 module _ (old : LinkTalk) (session : ℕ) (lent : Box Linked) (live : live_at old.sessions session ≡ Some lent) where

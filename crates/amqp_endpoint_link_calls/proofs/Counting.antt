@@ -42,12 +42,12 @@ pub all-counted : (place : SessionPlace) → AllAreThereAt place → total (turn
 all-counted (Asked channel session) there = refl
 all-counted (Live channel session) there =
     all-held (session.value).session (((session.value).session).outgoing).queues there
-all-counted (Ending channel) there = refl
+all-counted (Ending channel own_end) there = refl
 all-counted (Over peer_end complete) there = refl
 
 pub most-counted : (place : SessionPlace) → total (turn_at place) ≤ held_at place
 most-counted (Asked channel session) = omega arith
 most-counted (Live channel session) =
     most-held (session.value).session (((session.value).session).outgoing).queues
-most-counted (Ending channel) = omega arith
+most-counted (Ending channel own_end) = omega arith
 most-counted (Over peer_end complete) = omega arith

@@ -24,7 +24,7 @@ module _ {A S : Type 0} (s : State A S) (n : ℕ) (x : S) where
           (ap (λ (p : Place A S). slice_set s.places n (with_live p x)) here
           ∙ ap (λ (p : Place A S). slice_set s.places n p) same
           ∙ set-get_or s.places n (Over Missing false))
-      by (Some (Ending c)) e q = absurd (none-some _ q)
+      by (Some (Ending c own_end)) e q = absurd (none-some _ q)
       by (Some (Over p c)) e q = absurd (none-some _ q)
 
 get-same : {X : Type 0} (xs : List X) (i : ℕ) (x v : X) → slice_get xs i ≡ Some x
@@ -47,5 +47,5 @@ module _ {A S : Type 0} (s : State A S) (n : ℕ) (x : S) where
           ap live_of
           (get-same s.places n (Live c z) (with_live (slice_index_or s.places n (Over Missing false)) x) e)
           ∙ ap (λ (p : Place A S). live_of (Some (with_live p x))) here
-      by (Some (Ending c)) e q = absurd (none-some _ q)
+      by (Some (Ending c own_end)) e q = absurd (none-some _ q)
       by (Some (Over p c)) e q = absurd (none-some _ q)

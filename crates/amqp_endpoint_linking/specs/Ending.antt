@@ -1,5 +1,5 @@
 -- How sessions end with their connection, and their links with them (part 2, 2.4.3, 2.5.2).
-use Rattle.std.specs.Prelude.{◌≡◌, ℕ, zero, suc, length, Option, Some, None}
+use Rattle.std.specs.Prelude.{◌≡◌, ℕ, zero, suc, length, Option, Some, None, false}
 use Rattle.amqp_session_types.specs.declared.channels.OutgoingChannel.{OutgoingChannel}
 use Rattle.amqp_endpoint_tables.specs.State.{live_of}
 use Rattle.amqp_endpoint_tables.specs.Steps.{EndSent, Finished}
@@ -14,7 +14,7 @@ session_of (Some left) = Some left.1
 pub record LeavesOne (old : Sessions) (links : Links) (number : ℕ) (new : Sessions) (links_new : Links)
     : Type 0 where
   pub left : Option (OutgoingChannel × Session)
-  pub sent : EndSent old number left new
+  pub sent : EndSent false old number left new
   pub back : SessionGivenBack links (session_of left) links_new
 
 -- the own sides of the sessions with the first so many numbers are

@@ -57,7 +57,7 @@ fn leave_one(
 )
     ensures { LeavesOne sessions.old links.old number sessions.new links.new }
 {
-    give_back_if(links, left_session(sessions.end(number)));
+    give_back_if(links, left_session(sessions.end(number, false)));
 }
 
 /// The session alone.
