@@ -1,5 +1,6 @@
 -- What is handed out as a link gets its handle.
-use Rattle.std.proofs.Common.{◌≡◌, ℕ, ◌≤◌, Bool, List, [], ◌∷◌, ◌++◌, Option, Some, None, if◌then◌else◌, refl, sym, ap, subst, ◌∙◌, eq-eqb}
+use Rattle.std.proofs.Common.{◌≡◌, ℕ, ◌≤◌, Bool, true, List, [], ◌∷◌, ◌++◌, Option, Some, None, if◌then◌else◌, refl, sym, ap, subst}
+use Rattle.std.proofs.Common.{◌∙◌, eq-eqb}
 use Rattle.std.specs.FinMap as map
 use Rattle.std.specs.Prelude.{IsSome, is_some}
 use Rattle.amqp_session_types.specs.declared.handles.InputHandle.{InputHandle}
@@ -17,14 +18,21 @@ use Rattle.amqp_session_core.specs.Frames.{frame_of}
 use Rattle.amqp_session_core.specs.Relay.{Relations}
 use Rattle.amqp_session_core.specs.State.{State, link_at}
 use Rattle.amqp_session_core.specs.Steps.{Step, Allocates}
+use Rattle.amqp_link.specs.Ends.{state_of, with_handle}
+use Rattle.amqp_link.specs.Preparing.{carried_out}
 use Rattle.amqp_link.specs.declared.end.End.{End}
+use Rattle.amqp_link.specs.declared.preparing.PreparedAttach.{PreparedAttach}
 use Rattle.amqp_link_sender.specs.declared.attaching.Attaching.{Attaching}
 use Rattle.amqp_endpoint_links.specs.declared.links.AskedLink.{AskedLink}
 use Rattle.amqp_endpoint_links.specs.declared.numbered.Numbered.{Numbered}
-use Rattle.amqp_endpoint_attached.specs.Answering.{Answers, Exchanges, Replies}
-use Rattle.amqp_endpoint_attached.specs.Attaching.{Attaches, Sends}
-use Rattle.amqp_endpoint_attached.specs.Linked.{Linked, gives}
-use Rattle.amqp_endpoint_attached.specs.Links.{attach_frame, offered, with_number}
+use Rattle.amqp_endpoint_attached.proofs.OwnAttach.{answers_plain, takes_plain}
+use Rattle.amqp_endpoint_attached.proofs.Owned.{given, given_by, owned, owned_by, some_is}
+use Rattle.amqp_endpoint_attached.proofs.Taking.{planned}
+use Rattle.amqp_endpoint_attached.specs.Answering.{Answers, Exchanges, IsReady, Replies, SaysAll, Takes, TakesAll}
+use Rattle.amqp_endpoint_attached.specs.Answering.{flowed_by, reply_to}
+use Rattle.amqp_endpoint_attached.specs.Attaching.{Attaches, SendsIn}
+use Rattle.amqp_endpoint_attached.specs.Linked.{Linked, LinksIn, gives}
+use Rattle.amqp_endpoint_attached.specs.Links.{Announces, attach_frame, attach_sent, is_at_rest, offered, with_number}
 use Rattle.amqp_endpoint_attached.specs.declared.answering.Answered.{Answered}
 
 abbrev Side : Type 0
@@ -55,57 +63,108 @@ abbrev frame_in : SessionFields → Attach → SessionFrame
 frame_in fields attach = frame_of fields (body.Attach attach)
 
 -- a link that the peer doesn't ask for
-pub attached : (old new : Linked) (out room out_new : List SessionFrame) (limit number : ℕ) (link becomes : End)
-    (handle : OutputHandle) (attach : Attach) → Sends limit link (offered old.session) attach becomes
-    → Step gives old.session (Allocates handle.0 (with_number number becomes) None) new.session
+pub attached : (old new : Linked) (given_to : LinksIn) (out room out_new : List SessionFrame) (limit number : ℕ)
+    (link : End) (handle : OutputHandle) (attach : Attach) → Announces limit link (offered old.session) attach
+    → Step gives old.session (Allocates handle.0 (with_number number link) None) given_to
+    → SendsIn given_to handle attach.incomplete_unsettled new.session
     → new ≡ record old { session = new.session } → room ≡ out
     → out_new ≡ room ++ attach_frame new.session attach ∷ []
     → Attaches old out limit number link handle new out_new
-attached old new out room out_new limit number link becomes handle attach sends step rest kept handed =
+attached old new given_to out room out_new limit number link handle attach announces step sends rest kept handed =
+    let there : Some (with_number number link) ≡ Some (with_number sends.number sends.before) =
+    sym (given gives old.session given_to handle.0 (with_number number link) step) ∙ sends.changed.0 in
+    let same = some_is (with_number number link) (with_number sends.number sends.before) there in
+    let step_new =
+    owned gives old.session given_to new.session handle.0 (with_number number link)
+    (with_number sends.number sends.before) (with_number sends.number sends.after) sends.changed step in
     record {
       attach = attach;
-      attaching = becomes;
+      attaching = sends.after;
       sends =
-          subst (λ (h : OutputHandle). Sends limit link h attach becomes)
-          (sym (numbered handle old.session.offered step.0)) sends;
-      allocates = step;
+          record {
+            announces =
+                subst (λ (h : OutputHandle). Announces limit link h attach)
+                (sym (numbered handle old.session.offered step.0)) announces;
+            sent =
+                ap (λ (n : Numbered End). attach_sent (with_handle n.link handle) attach.incomplete_unsettled) same
+                ∙ sends.sent;
+          };
+      allocates =
+          subst (λ (n : ℕ). Step gives old.session (Allocates handle.0 (with_number n sends.after) None) new.session)
+          (sym (ap (λ (n : Numbered End). n.number) same)) step_new;
       rest = rest;
       handed =
           handed ∙ ap (λ (fs : List SessionFrame). fs ++ attach_frame new.session attach ∷ []) kept
           ∙ ap (λ (f : SessionFields). out ++ frame_in f attach ∷ [])
-          (ap (λ (s : State (Numbered End)). s.fields) step.4);
+          (ap (λ (s : LinksIn). s.fields) step_new.4);
+    }
+
+-- what a link comes to that answers an asked one
+exchanged : (limit : ℕ) (old new : End) (asked : AskedLink) (handle : OutputHandle) (prepared : PreparedAttach)
+    (attach : Attach) (flow reply : Option LinkFlow) (attaching : Attaching) → is_at_rest (state_of old) ≡ true
+    → IsReady limit old asked handle prepared attach flow
+    → TakesAll old handle prepared attach.incomplete_unsettled flow attaching reply new
+    → Exchanges limit old asked handle attaching attach reply new
+exchanged limit old new asked handle prepared attach flow reply attaching rest ready takes =
+    record {
+      taken = carried_out old prepared;
+      attached = takes.attached;
+      takes =
+          subst (λ (a : Attaching). Takes old asked.attach a (carried_out old prepared)) (sym takes.left)
+          (planned old asked.attach prepared rest ready.planned).takes;
+      announces = ready.announces;
+      sent = takes.sent;
+      flows =
+          takes.flows ∙ ap (λ (f : Option LinkFlow). flowed_by takes.attached f) ready.kept
+          ∙ takes_plain takes.attached asked.flow;
+      replies =
+          takes.replies ∙ ap (λ (f : Option LinkFlow). reply_to takes.attached f) ready.kept
+          ∙ answers_plain takes.attached asked.flow;
     }
 
 -- a link that answers an asked one
-pub answered : (old new : Linked) (mid : State (Numbered End)) (out room out_new : List SessionFrame) (limit number : ℕ)
-    (link becomes : End) (input : InputHandle) (asked : AskedLink) (handle : OutputHandle) (attaching : Attaching)
-    (attach : Attach) (reply : Option LinkFlow) (told : Answered) → map.get old.asked input.0 ≡ Some asked
-    → Exchanges limit link asked (offered old.session) attaching attach reply becomes
-    → Step gives old.session (Allocates handle.0 (with_number number becomes) (Some input.0)) mid
+pub answered : (old new : Linked) (given_to : LinksIn) (out room out_new : List SessionFrame) (limit number : ℕ)
+    (link : End) (input : InputHandle) (asked : AskedLink) (handle : OutputHandle) (prepared : PreparedAttach)
+    (attach : Attach) (flow : Option LinkFlow) (told : Answered) → is_at_rest (state_of link) ≡ true
+    → map.get old.asked input.0 ≡ Some asked
+    → IsReady limit link asked (offered old.session) prepared attach flow
+    → Step gives old.session (Allocates handle.0 (with_number number link) (Some input.0)) given_to
     → new ≡ record old { session = new.session; asked = map.remove old.asked input.0 } → room ≡ out
-    → told ≡ record { handle = handle; exchange = attaching.exchange; aborts = attaching.aborts }
-    → Replies gives handle reply mid (room ++ attach_frame mid attach ∷ []) new.session out_new
+    → SaysAll given_to room handle prepared attach flow told new.session out_new
     → Answers old out limit number link input told new out_new
-answered old new mid out room out_new limit number link becomes input asked handle attaching attach reply told there
-    exchanges step rest kept is replies =
-    subst (λ (a : Answered). Answers old out limit number link input a new out_new) (sym is)
+answered old new given_to out room out_new limit number link input asked handle prepared attach flow told rest there
+    ready step others kept says =
+    let takes = says.takes in
+    let stands : Some (with_number number link) ≡ Some (with_number takes.number takes.before) =
+    sym (given_by gives old.session given_to handle.0 (with_number number link) input.0 step) ∙ takes.changed.0 in
+    let same = some_is (with_number number link) (with_number takes.number takes.before) stands in
+    let step_new =
+    owned_by gives old.session given_to says.mid handle.0 (with_number number link)
+    (with_number takes.number takes.before) (with_number takes.number takes.after) takes.changed input.0 step in
+    subst (λ (a : Answered). Answers old out limit number link input a new out_new) (sym says.told)
     (record {
       asked = asked;
       is_asked = there;
       attach = attach;
-      reply = reply;
-      becomes = becomes;
+      reply = says.reply;
+      becomes = takes.after;
       exchanges =
-          subst (λ (h : OutputHandle). Exchanges limit link asked h attaching attach reply becomes)
-          (sym (numbered handle old.session.offered step.1)) exchanges;
-      mid = mid;
-      allocates = step;
+          exchanged limit link takes.after asked handle prepared attach flow says.reply says.attaching rest
+          (subst (λ (h : OutputHandle). IsReady limit link asked h prepared attach flow)
+          (sym (numbered handle old.session.offered step.1)) ready)
+          (subst (λ (e : End). TakesAll e handle prepared attach.incomplete_unsettled flow says.attaching says.reply
+          takes.after) (sym (ap (λ (n : Numbered End). n.link) same)) takes.takes);
+      mid = says.mid;
+      allocates =
+          subst (λ (n : ℕ). Step gives old.session (Allocates handle.0 (with_number n takes.after) (Some input.0)) says.mid)
+          (sym (ap (λ (n : Numbered End). n.number) same)) step_new;
       replies =
-          subst (λ (fs : List SessionFrame). Replies gives handle reply mid fs new.session out_new)
-          (ap (λ (fs : List SessionFrame). fs ++ attach_frame mid attach ∷ []) kept
+          subst (λ (fs : List SessionFrame). Replies gives handle says.reply says.mid fs new.session out_new)
+          (ap (λ (fs : List SessionFrame). fs ++ attach_frame says.mid attach ∷ []) kept
           ∙ ap (λ (f : SessionFields). out ++ frame_in f attach ∷ [])
-          (same_fields gives old.session mid handle.0 (with_number number becomes) input.0 step)) replies;
-      rest = rest;
+          (same_fields gives old.session says.mid handle.0 (with_number takes.number takes.after) input.0 step_new))
+          says.replies;
+      rest = others;
     })
 
 pub ruleset rules = (is_there, has_place, attached, answered)

@@ -7,5 +7,6 @@ pub mod Taken
 pub mod Taking
 pub mod OwnAttach
 pub mod Refusing
+pub mod Owned
 pub mod Handing
 pub mod Fitting

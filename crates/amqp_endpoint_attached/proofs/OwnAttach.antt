@@ -20,7 +20,7 @@ use Rattle.amqp_link_receiver.specs.Attaching as receiver
 use Rattle.amqp_link_receiver.specs.State.{ReceiverState, MovesLink as MovesReceiver}
 use Rattle.amqp_link_sender.specs.Attaching as sender
 use Rattle.amqp_link_sender.specs.Sending.{Sending, MovesLink as MovesSender}
-use Rattle.amqp_endpoint_attached.specs.Answering.{flowed_by, reply_to}
+use Rattle.amqp_endpoint_attached.specs.Answering.{flowed_by, plain, reply_to}
 use Rattle.amqp_endpoint_attached.specs.Links.{attach_sent}
 
 -- a state that allows an Attach allows one with a part of the list, too
@@ -93,10 +93,6 @@ module _ (link : End) (handle : OutputHandle) (incomplete : Bool) (answer : Resu
       ∙ ap (λ (o : Option ReceiverState). option_map Receiver o)
       (receiver_moves (receiver.attach_sent s incomplete) s t answer some moves)
 
--- a Flow without its properties
-abbrev plain : LinkFlow → LinkFlow
-plain flow = record flow { properties = None }
-
 plain_flowed : (link : End) (flow : LinkFlow) → flowed link (plain flow) ≡ flowed link flow
 plain_flowed (Sender s) flow = refl
 plain_flowed (Receiver r) flow = refl
@@ -105,16 +101,13 @@ plain_answered : (link : End) (flow : LinkFlow) → flow_answer link (plain flow
 plain_answered (Sender s) flow = refl
 plain_answered (Receiver r) flow = refl
 
-pub takes_flow : (link new : End) (flow given : LinkFlow) (kept : Option LinkFlow) → kept ≡ Some flow
-    → given ≡ record flow { properties = None } → new ≡ flowed link given → new ≡ flowed_by link kept
-takes_flow link new flow given kept is plainly flows =
-    flows ∙ ap (λ (f : LinkFlow). flowed link f) plainly ∙ plain_flowed link flow
-    ∙ sym (ap (λ (k : Option LinkFlow). flowed_by link k) is)
+-- what was kept of a Flow is taken whatever its properties were
+pub takes_plain : (link : End) (kept : Option LinkFlow) → flowed_by link (option_map plain kept) ≡ flowed_by link kept
+takes_plain link None = refl
+takes_plain link (Some flow) = plain_flowed link flow
 
-pub answers_flow : (link : End) (flow given : LinkFlow) (kept reply : Option LinkFlow) → kept ≡ Some flow
-    → given ≡ record flow { properties = None } → reply ≡ flow_answer link given → reply ≡ reply_to link kept
-answers_flow link flow given kept reply is plainly replies =
-    replies ∙ ap (λ (f : LinkFlow). flow_answer link f) plainly ∙ plain_answered link flow
-    ∙ sym (ap (λ (k : Option LinkFlow). reply_to link k) is)
+pub answers_plain : (link : End) (kept : Option LinkFlow) → reply_to link (option_map plain kept) ≡ reply_to link kept
+answers_plain link None = refl
+answers_plain link (Some flow) = plain_answered link flow
 
-pub ruleset rules = (sender_sends, receiver_sends, takes_flow, answers_flow)
+pub ruleset rules = (sender_sends, receiver_sends)

@@ -10,7 +10,6 @@ use Rattle.amqp_session_performatives.specs.declared.attach.Attach.{Attach}
 use Rattle.amqp_session_core.specs.Refusals.{RefusesLink}
 use Rattle.amqp_session_core.specs.State.{State}
 use Rattle.amqp_link.specs.declared.end.End.{End}
-use Rattle.amqp_link_sender.specs.declared.attaching.Attaching.{Attaching}
 use Rattle.amqp_endpoint_links.specs.declared.links.AskedLink.{AskedLink}
 use Rattle.amqp_endpoint_attached.specs.Answering.{RefusesAnswer, RefusesExchange, asked_failed}
 use Rattle.amqp_endpoint_attached.specs.Attaching.{RefusesAttach}
@@ -102,7 +101,7 @@ module _ {R : Type 0} (limit : ℕ) (s : State R) (link : End) (asked : AskedLin
   no_room e given is = subst (λ (x : AttachRefusal). RefusesExchange limit s link asked x) (sym is) given
 
   -- by its tests, or else by its own Attach, or for want of room
-  pub exchange_refused : {P : Type 0} (handle : OutputHandle) (taken : Result Attaching AttachRefusal)
+  pub exchange_refused : {A P : Type 0} (handle : OutputHandle) (taken : Result A AttachRefusal)
       (own : Result Attach AttachRefusal) (room : Result P AttachRefusal) (both : Result (Attach × P) AttachRefusal)
       (e : AttachRefusal) → handle ≡ offered s → IsOffered s → IfErr taken (RefusesPeer link asked.attach)
       → OnOk taken (test_failed link asked.attach ≡ None) → IfErr own (RefusesOwn limit link handle)
@@ -110,7 +109,7 @@ module _ {R : Type 0} (limit : ℕ) (s : State R) (link : End) (asked : AskedLin
       → (taken ≡ Err e) ⊎ (IsOk taken × (both ≡ Err e)) → RefusesExchange limit s link asked e
   exchange_refused handle taken own room both e is given peer passes mine rooms of (inl fails) =
       peer_refused e given
-      (subst (λ (t : Result Attaching AttachRefusal). IfErr t (RefusesPeer link asked.attach)) fails peer)
+      (subst (λ (t : Result _ AttachRefusal). IfErr t (RefusesPeer link asked.attach)) fails peer)
   exchange_refused handle taken own room both e is given peer passes mine rooms of (inr (ok, fails)) =
       by (subst (λ (b : Result _ AttachRefusal). IfErr b (λ r. (own ≡ Err r) ⊎ (IsOk own × (room ≡ Err r)))) fails of)
     where

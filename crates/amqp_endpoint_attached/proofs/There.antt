@@ -9,7 +9,7 @@ use Rattle.amqp_endpoint_links.specs.declared.numbered.Numbered.{Numbered}
 use Rattle.amqp_endpoint_attached.specs.Linked.{LinksIn, end_in}
 
 -- where a link stands, the list reaches
-reaches_to : {R : Type 0} → (links : List (Option R)) (i : ℕ) (r : R) → slice_index_or links i None ≡ Some r
+pub reaches_to : {R : Type 0} → (links : List (Option R)) (i : ℕ) (r : R) → slice_index_or links i None ≡ Some r
     → i < length links
 reaches_to [] i r e = absurd cc
 reaches_to (l ∷ links) zero r e = omega arith

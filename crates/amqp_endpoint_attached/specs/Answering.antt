@@ -1,5 +1,6 @@
 -- A link attaches that answers one that the peer asks for (part 2, 2.6.3).
-use Rattle.std.specs.Prelude.{◌≡◌, ℕ, ◌<◌, List, [], ◌∷◌, ◌++◌, Option, Some, None, option_to_list, Ok, IsSome}
+use Rattle.std.specs.Prelude.{◌≡◌, ℕ, ◌<◌, Bool, List, [], ◌∷◌, ◌++◌, Option, Some, None, option_map, option_to_list, Ok}
+use Rattle.std.specs.Prelude.{IsSome}
 use Rattle.std.specs.FinMap as map
 use Rattle.amqp_session_types.specs.declared.handles.InputHandle.{InputHandle}
 use Rattle.amqp_session_types.specs.declared.handles.OutputHandle.{OutputHandle}
@@ -9,17 +10,19 @@ use Rattle.amqp_session_performatives.specs.declared.session_frame.SessionFrame.
 use Rattle.amqp_session_core.specs.declared.batch.BehindFrame.TheVariants as behind
 use Rattle.amqp_session_core.specs.Relay.{Relations}
 use Rattle.amqp_session_core.specs.State.{State}
-use Rattle.amqp_session_core.specs.Steps.{Step, Allocates}
+use Rattle.amqp_session_core.specs.Steps.{Step, Allocates, Changes}
 use Rattle.amqp_session_core.specs.Told.{BehindSent}
 use Rattle.amqp_link_types.specs.declared.link_error.LinkError.{LinkError}
 use Rattle.amqp_link.specs.Ends.{flow_answer, flowed, with_handle}
 use Rattle.amqp_link.specs.Gives.{attaches}
+use Rattle.amqp_link.specs.Preparing.{attach_planned, carried_out, left_by}
 use Rattle.amqp_link.specs.declared.end.End.{End}
+use Rattle.amqp_link.specs.declared.preparing.PreparedAttach.{PreparedAttach}
 use Rattle.amqp_link.specs.declared.relay.AttachTold.{AttachTold}
 use Rattle.amqp_link_sender.specs.declared.attaching.Attaching.{Attaching}
 use Rattle.amqp_endpoint_links.specs.declared.links.AskedLink.{AskedLink}
 use Rattle.amqp_endpoint_links.specs.declared.numbered.Numbered.{Numbered}
-use Rattle.amqp_endpoint_attached.specs.Linked.{Linked, gives}
+use Rattle.amqp_endpoint_attached.specs.Linked.{Linked, LinksIn, gives}
 use Rattle.amqp_endpoint_attached.specs.Links.{Announces, FitsNoFrame, attach_frame, attach_sent, offered, with_number}
 use Rattle.amqp_endpoint_attached.specs.Refusals.{IsOffered, outcome, test_failed}
 use Rattle.amqp_endpoint_attached.specs.declared.answering.Answered.{Answered}
@@ -83,6 +86,36 @@ pub record Exchanges (limit : ℕ) (old : End) (asked : AskedLink) (handle : Out
   pub flows : new ≡ flowed_by attached asked.flow
   pub replies : reply ≡ reply_to attached asked.flow
 
+-- no link takes the properties of a Flow
+abbrev pub plain : LinkFlow → LinkFlow
+plain flow = record flow { properties = None }
+
+-- this was made ready for a link that answers the asked one: what the peer's Attach makes of it, its own Attach under
+-- this handle, written of the link as it was before, and what was kept of a Flow
+pub record IsReady (limit : ℕ) (link : End) (asked : AskedLink) (handle : OutputHandle) (prepared : PreparedAttach)
+    (attach : Attach) (flow : Option LinkFlow) : Type 0 where
+  pub planned : attach_planned link asked.attach ≡ Ok prepared
+  pub announces : Announces limit link handle attach
+  pub kept : flow ≡ option_map plain asked.flow
+
+-- a link comes to what was made ready, sends its own Attach under this handle, and takes what was kept of a Flow
+pub record TakesAll (old : End) (handle : OutputHandle) (prepared : PreparedAttach) (incomplete : Bool)
+    (flow : Option LinkFlow) (attaching : Attaching) (reply : Option LinkFlow) (new : End) : Type 0 where
+  pub attached : End
+  pub sent : attach_sent (with_handle (carried_out old prepared) handle) incomplete ≡ Some attached
+  pub flows : new ≡ flowed_by attached flow
+  pub replies : reply ≡ reply_to attached flow
+  pub left : attaching ≡ left_by prepared
+
+-- one of a session does
+pub record TakesIn (old : LinksIn) (handle : OutputHandle) (prepared : PreparedAttach) (incomplete : Bool)
+    (flow : Option LinkFlow) (attaching : Attaching) (reply : Option LinkFlow) (new : LinksIn) : Type 0 where
+  pub number : ℕ
+  pub before : End
+  pub after : End
+  pub takes : TakesAll before handle prepared incomplete flow attaching reply after
+  pub changed : Step gives old (Changes handle.0 (with_number number before) (with_number number after)) new
+
 module _ {R A T D : Type 0} (given : Relations R A T D) where
   -- a link sends a Flow, which leaves at once where nothing of the link waits
   pub record SendsFlow (handle : OutputHandle) (flow : LinkFlow) (old : State R) (out : List SessionFrame)
@@ -96,6 +129,17 @@ module _ {R A T D : Type 0} (given : Relations R A T D) where
       → Type 0
   Replies handle None old out new out_new = (new ≡ old) × (out_new ≡ out)
   Replies handle (Some flow) old out new out_new = SendsFlow handle flow old out new out_new
+
+-- and what it says is handed out: its Attach, and behind that the Flow with which it replies
+pub record SaysAll (old : LinksIn) (out : List SessionFrame) (handle : OutputHandle) (prepared : PreparedAttach)
+    (attach : Attach) (flow : Option LinkFlow) (answered : Answered) (new : LinksIn) (out_new : List SessionFrame)
+    : Type 0 where
+  pub attaching : Attaching
+  pub reply : Option LinkFlow
+  pub mid : LinksIn
+  pub takes : TakesIn old handle prepared attach.incomplete_unsettled flow attaching reply mid
+  pub told : answered ≡ record { handle = handle; exchange = attaching.exchange; aborts = attaching.aborts }
+  pub replies : Replies gives handle reply mid (out ++ attach_frame mid attach ∷ []) new out_new
 
 -- what is told of the answer: the handle that the link got, and what is left to be done
 abbrev pub left_to_do : Answered → Attaching

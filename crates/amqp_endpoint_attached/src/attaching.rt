@@ -1,18 +1,21 @@
 //! A link attaches that the peer doesn't ask for (part 2, 2.6.3).
-ghost use Rattle.std.specs.Prelude.{◌≡◌, ◌<◌, ◌⊎◌, false, None, IsSome, Err, IsOk, IfOk, IfErr, Ok, OnOk, OnErr};
+ghost use Rattle.std.specs.Prelude.{◌≡◌, ◌<◌, ◌⊎◌, false, None, Some, IsSome, IfSome, Err, IsOk, IfOk, IfErr, Ok, OnOk};
+ghost use Rattle.std.specs.Prelude.{OnErr};
 ghost use Rattle.std.specs.VecDeque.{deque_len, deque_capacity};
 ghost use Rattle.amqp_link_base.specs.State.{after_send_attach};
 ghost use Rattle.amqp_link.specs.Ends.{state_of};
+ghost use Rattle.amqp_session_core.specs.State.{link_at};
 ghost use Rattle.amqp_session_core.specs.Steps.{Step, Allocates};
-ghost use Rattle.amqp_endpoint_attached.specs.Attaching.{Attaches, RefusesAttach, Sends};
-ghost use Rattle.amqp_endpoint_attached.specs.Links.{offered};
+ghost use Rattle.amqp_endpoint_attached.specs.Attaching.{Attaches, RefusesAttach, SendsIn};
+ghost use Rattle.amqp_endpoint_attached.specs.Linked.{gives};
+ghost use Rattle.amqp_endpoint_attached.specs.Links.{Announces, offered, with_number};
 ghost use Rattle.amqp_endpoint_attached.specs.Refusals.{IsOffered, RefusesHandle};
 
 use crate::announcing::{announce, attach_frame, make_room, offered, send_attach};
-use crate::refusal::{AttachRefusal, refusal_of};
+use crate::refusal::{AttachRefusal, Unattached, handed_back};
 use amqp_endpoint_links::{AskingSession, Numbered};
 use amqp_link::LinkEnd;
-use amqp_session_core::{LinkRelay, Session};
+use amqp_session_core::Session;
 use amqp_session_performatives::{Attach, SessionFrame};
 use amqp_session_types::{Boxed, OutputHandle};
 use std::alloc::Global;
@@ -25,7 +28,7 @@ use std::collections::VecDeque;
 /// It is refused, tested in this order, with `HandleMaxReached` exactly where the handle that is offered is above the
 /// peer's handle-max (part 2, 2.7.2); with `FrameTooLarge` exactly where its Attach fits no frame of `limit` bytes,
 /// even without its unsettled deliveries; and with `Memory`. The session and what is handed out stay then, and the
-/// link is dropped.
+/// link comes back as it was.
 #[tactic(auto, using(crate::proofs::Refusing::attach_refused))]
 pub fn attach(
     session: &mut AskingSession<Numbered<LinkEnd>>,
@@ -34,60 +37,74 @@ pub fn attach(
     number: u64,
     link: LinkEnd,
     out: &mut VecDeque<SessionFrame>,
-) -> Result<OutputHandle, AttachRefusal>
+) -> Result<OutputHandle, Unattached>
     requires { IsSome (after_send_attach (state_of link) false) }
     ensures ok { IfOk result
         (λ handle. Attaches session.old out.old.items limit number link handle session.new out.new.items) }
-    ensures err { IfErr result (RefusesAttach limit session.old.session link) }
+    ensures err { IfErr result (λ refused.
+        RefusesAttach limit session.old.session link refused.refusal × (refused.link ≡ link)) }
     ensures kept { OnErr result ((session.new ≡ session.old) × (out.new.items ≡ out.old.items)) }
 {
-    let mut link = link;
-    let made = prepare(&session.session, alloc, limit, &mut link, out);
-    let (handle, attach) = allocate(&mut session.session, Numbered { number, link }, made)?;
+    let made = prepare(&session.session, alloc, limit, &link, out);
+    let (handle, attach) = allocate(&mut session.session, number, link, made)?;
+    send_in(&mut session.session, handle, attach.incomplete_unsettled);
     out.push_back_reserved(attach_frame(&session.session, attach));
     Ok(handle)
 }
 
-/// The own Attach of a link under the handle that is offered, and room for it. The link sent it where it isn't refused.
+/// The own Attach of a link under the handle that is offered, and room for it. Nothing else changes.
 #[tactic(auto, using(crate::proofs::Refusing::own_refused))]
 fn prepare<R: Drop>(
     session: &Session<R>,
     alloc: Global,
     limit: u32,
-    link: &mut LinkEnd,
+    link: &LinkEnd,
     out: &mut VecDeque<SessionFrame>,
 ) -> Result<Boxed<Attach>, AttachRefusal>
-    requires { IsSome (after_send_attach (state_of link.old) false) }
-    ensures ok { IfOk result (λ attach. Sends limit link.old (offered session.now) attach
-        link.new) }
-    ensures err { IfErr result (RefusesAttach limit session.now link.old) }
+    ensures ok { IfOk result (λ attach. Announces limit link.now (offered session.now) attach) }
+    ensures err { IfErr result (RefusesAttach limit session.now link.now) }
     ensures room { OnOk result (deque_len out.new < deque_capacity out.new) }
     ensures kept { out.new.items ≡ out.old.items }
 {
     let handle = offered(session)?;
     make_room(out, 1)?;
-    let attach = announce(link, alloc, handle, limit)?;
-    send_attach(link, handle, attach.incomplete_unsettled);
-    Ok(attach)
+    announce(link, alloc, handle, limit)
 }
 
-/// A link for which something was made gets the handle that is offered. It is refused with what refuses it already, or
-/// where it gets no handle. The session stays then.
+/// A link for which something was made gets the handle that is offered. It comes back, as it was, with what refuses it
+/// already, or where it gets no handle. The session stays then.
 #[tactic(auto, using(crate::proofs::Refusing::handle_refused))]
-fn allocate<R: LinkRelay, M: Drop>(
-    session: &mut Session<R>,
-    link: R,
+fn allocate<M: Drop>(
+    session: &mut Session<Numbered<LinkEnd>>,
+    number: u64,
+    link: LinkEnd,
     made: Result<M, AttachRefusal>,
-) -> Result<(OutputHandle, M), AttachRefusal>
+) -> Result<(OutputHandle, M), Unattached>
     ensures ok { IfOk result (λ r. (made ≡ Ok r.1)
-        × Step R.gives session.old (Allocates (r.0).0 link None) session.new) }
-    ensures err { IfErr result (λ e. (made ≡ Err e)
-        ⊎ (IsOk made × RefusesHandle session.old None e)) }
+        × Step gives session.old (Allocates (r.0).0 (with_number number link) None) session.new) }
+    ensures err { IfErr result (λ refused. ((made ≡ Err refused.refusal)
+        ⊎ (IsOk made × RefusesHandle session.old None refused.refusal)) × (refused.link ≡ link)) }
     ensures kept { OnErr result (session.new ≡ session.old) }
 {
-    let made = made?;
-    match session.allocate_link(link) {
+    let made = match made {
+        Ok(made) => made,
+        Err(refusal) => return Err(Unattached { refusal, link }),
+    };
+    match session.allocate_link(Numbered { number, link }) {
         Ok(handle) => Ok((handle, made)),
-        Err(refused) => Err(refusal_of(refused.error)),
+        Err(refused) => Err(handed_back(refused)),
     }
+}
+
+/// The link with this own handle sends its Attach, which lists only a part of its unsettled deliveries or all.
+fn send_in(session: &mut Session<Numbered<LinkEnd>>, handle: OutputHandle, incomplete: bool)
+    requires there { IsSome (link_at session.old handle.0) }
+    requires allows { IfSome (link_at session.old handle.0) (λ link.
+        IsSome (after_send_attach (state_of link.link) false)) }
+    ensures { SendsIn session.old handle incomplete session.new }
+{
+    let Some(link) = session.link_mut(handle) else {
+        unreachable!()
+    };
+    send_attach(&mut link.link, handle, incomplete);
 }

@@ -1,61 +1,60 @@
 //! How a link answers one that the peer asks for: what both Attach make of it (part 2, 2.6.3).
-ghost use Rattle.std.specs.Prelude.{◌≡◌, ◌≤◌, ◌+◌, ◌⊎◌, Ok, Err, true, false, None, IsOk, IsSome, IfOk, IfErr, OnOk};
-ghost use Rattle.std.specs.Prelude.{OnErr};
-ghost use Rattle.std.specs.FinMap as map;
+ghost use Rattle.std.specs.Prelude.{◌≡◌, ◌≤◌, ◌+◌, ◌⊎◌, Ok, Err, true, false, None, Some, IsOk, IsSome, IfOk, IfErr};
+ghost use Rattle.std.specs.Prelude.{IfSome, OnOk, option_map};
 ghost use Rattle.std.specs.VecDeque.{deque_len, deque_capacity};
+ghost use Rattle.amqp_session_core.specs.State.{link_at};
 ghost use Rattle.amqp_session_outgoing.specs.Queues.{room_behind};
 ghost use Rattle.amqp_link_base.specs.State.{after_send_attach};
 ghost use Rattle.amqp_link.specs.Ends.{flow_answer, flowed, state_of};
-ghost use Rattle.amqp_endpoint_attached.specs.Answering.{Exchanges, RefusesExchange, Takes, flowed_by, reply_to};
+ghost use Rattle.amqp_link.specs.Preparing.{IsFor, attach_planned, carried_out};
+ghost use Rattle.amqp_endpoint_attached.specs.Answering.{IsReady, RefusesExchange, TakesAll, TakesIn, flowed_by, plain};
+ghost use Rattle.amqp_endpoint_attached.specs.Answering.{reply_to};
 ghost use Rattle.amqp_endpoint_attached.specs.Links.{is_at_rest, offered};
-ghost use Rattle.amqp_endpoint_attached.specs.Refusals.{IsOffered, RefusesPeer, outcome, receiver_outcome};
-ghost use Rattle.amqp_endpoint_attached.specs.Refusals.{sender_outcome, test_failed};
+ghost use Rattle.amqp_endpoint_attached.specs.Refusals.{IsOffered, RefusesPeer, test_failed};
 ghost use Rattle.amqp_endpoint_attached.specs.declared.refusal.AttachRefusal.TheVariants.{Memory};
 
 use crate::announcing::{announce, make_room, offered, send_attach};
 use crate::refusal::AttachRefusal;
-use amqp_endpoint_links::AskedLink;
-use amqp_link::{AttachTold, End, LinkEnd};
-use amqp_link_receiver::Attached;
-use amqp_link_sender::{AttachAnswer, Attaching};
-use amqp_link_types::LinkError;
+use amqp_endpoint_links::{AskedLink, Numbered};
+use amqp_link::{End, LinkEnd, PreparedAttach};
+use amqp_link_sender::Attaching;
 use amqp_session_core::{BehindFrame, LinkRelay, Session};
 use amqp_session_outgoing::Place;
 use amqp_session_performatives::{Attach, LinkFlow, SessionFrame};
-use amqp_session_types::{Boxed, OutputHandle, SessionError};
-use serde_amqp_types::Array;
+use amqp_session_types::{Boxed, OutputHandle};
 use std::alloc::Global;
 use std::collections::VecDeque;
 
-/// What a link says that answers an asked one.
+/// What a link says that answers an asked one, made ready before it changes.
 #[derive(Drop)]
-pub(crate) struct Exchanged {
-    /// What is left to be done.
-    pub(crate) attaching: Attaching,
+pub(crate) struct Ready {
+    /// What the peer's Attach makes of it.
+    pub(crate) prepared: PreparedAttach,
     /// Its own Attach.
     pub(crate) attach: Boxed<Attach>,
-    /// The Flow with which it replies to what was kept of one.
-    pub(crate) reply: Option<LinkFlow>,
-    /// Room for that.
+    /// What was kept of a Flow.
+    pub(crate) flow: Option<LinkFlow>,
+    /// Room for the Flow with which it replies to that.
     pub(crate) place: Place<BehindFrame>,
 }
 
-/// A link answers the asked one under the handle that is offered. Room is made for what it says.
+/// What a link at rest says that answers the asked one under the handle that is offered, and room for it. Nothing else
+/// changes.
 #[tactic(auto, using(crate::proofs::Refusing::exchange_refused))]
-pub(crate) fn exchange<R: LinkRelay>(
+pub(crate) fn make_ready<R: LinkRelay>(
     session: &Session<R>,
     alloc: Global,
     limit: u32,
-    link: &mut LinkEnd,
+    link: &LinkEnd,
     asked: &AskedLink,
     out: &mut VecDeque<SessionFrame>,
-) -> Result<Exchanged, AttachRefusal>
-    requires { is_at_rest (state_of link.old) ≡ true }
-    ensures ok { IfOk result (λ made. Exchanges limit link.old asked.now (offered session.now) made.attaching
-        made.attach made.reply link.new) }
+) -> Result<Ready, AttachRefusal>
+    requires { is_at_rest (state_of link.now) ≡ true }
+    ensures ok { IfOk result (λ made. IsReady limit link.now asked.now (offered session.now) made.prepared
+        made.attach made.flow) }
     ensures passes { OnOk result (IsOffered session.now
-        × (test_failed link.old asked.now.attach ≡ None)) }
-    ensures err { IfErr result (RefusesExchange limit session.now link.old asked.now) }
+        × (test_failed link.now asked.now.attach ≡ None)) }
+    ensures err { IfErr result (RefusesExchange limit session.now link.now asked.now) }
     ensures place { IfOk result (λ made.
         room_behind session.now.offered 1 session.now.outgoing.queues ≤ made.place) }
     ensures room { OnOk result (deque_len out.new + 2 ≤ deque_capacity out.new) }
@@ -63,15 +62,13 @@ pub(crate) fn exchange<R: LinkRelay>(
 {
     let handle = offered(session)?;
     let attach = announce(link, alloc, handle, limit);
-    let taken = take(link, alloc, &asked.attach);
+    let prepared = prepare(link, alloc, &asked.attach);
     let room = rooms(session, alloc, handle, out);
-    let (attaching, (attach, place)) = both(taken, both(attach, room))?;
-    send_attach(link, handle, attach.incomplete_unsettled);
-    let reply = take_flow(link, &asked.flow);
-    Ok(Exchanged {
-        attaching,
+    let (prepared, (attach, place)) = both(prepared, both(attach, room))?;
+    Ok(Ready {
+        prepared,
         attach,
-        reply,
+        flow: kept_flow(&asked.flow),
         place,
     })
 }
@@ -104,62 +101,82 @@ fn both<A: Drop, B: Drop, E: Drop>(first: Result<A, E>, second: Result<B, E>) ->
     Ok((first, second?))
 }
 
-/// A link at rest takes the peer's Attach. It is refused with the link's own refusal, or with `Memory`.
+/// What the peer's Attach makes of a link at rest. It is refused with the link's own refusal, or with `Memory`.
 #[tactic(auto, using(crate::proofs::Taking::rules))]
-fn take(link: &mut LinkEnd, alloc: Global, attach: &Attach) -> Result<Attaching, AttachRefusal>
-    requires { is_at_rest (state_of link.old) ≡ true }
-    ensures ok { IfOk result (λ attaching. Takes link.old attach.now attaching link.new) }
-    ensures passes { OnOk result (test_failed link.old attach.now ≡ None) }
-    ensures allows { OnOk result (IsSome (after_send_attach (state_of link.new) false)) }
-    ensures err { IfErr result (RefusesPeer link.old attach.now) }
+fn prepare(link: &LinkEnd, alloc: Global, attach: &Attach) -> Result<PreparedAttach, AttachRefusal>
+    requires { is_at_rest (state_of link.now) ≡ true }
+    ensures ok { IfOk result (λ prepared. attach_planned link.now attach.now ≡ Ok prepared) }
+    ensures passes { OnOk result (test_failed link.now attach.now ≡ None) }
+    ensures err { IfErr result (RefusesPeer link.now attach.now) }
 {
-    match link.on_incoming_attach(alloc, attach) {
-        Ok(told) => outcome(alloc, told),
+    match link.prepare_attach(alloc, attach) {
+        Ok(decided) => match decided {
+            Ok(prepared) => Ok(prepared),
+            Err(error) => Err(AttachRefusal::Link(error)),
+        },
         Err(_) => Err(AttachRefusal::Memory),
     }
 }
 
-/// What is left to be done by what a link tells of an Attach, or its refusal.
-fn outcome(alloc: Global, told: AttachTold) -> Result<Attaching, AttachRefusal>
-    ensures { result ≡ outcome told }
+/// What was kept of a Flow, without its properties.
+fn kept_flow(kept: &Option<LinkFlow>) -> Option<LinkFlow>
+    ensures { result ≡ option_map plain kept.now }
 {
-    match told {
-        AttachTold::Sender(answer) => sender_outcome(answer),
-        AttachTold::Receiver(answer) => receiver_outcome(alloc, answer),
+    match kept {
+        Some(flow) => Some(without_properties(flow)),
+        None => None,
     }
 }
 
-/// What is left to be done by what a sending link tells.
-fn sender_outcome(answer: AttachAnswer) -> Result<Attaching, AttachRefusal>
-    ensures { result ≡ sender_outcome answer }
+/// The link of a session with this own handle takes the peer's Attach that was made ready, sends its own, which lists
+/// only a part of its unsettled deliveries or all, and takes what was kept of a Flow. It answers what is left to be done,
+/// and the Flow with which it replies.
+pub(crate) fn take_in(
+    session: &mut Session<Numbered<LinkEnd>>,
+    alloc: Global,
+    handle: OutputHandle,
+    prepared: PreparedAttach,
+    incomplete: bool,
+    flow: Option<LinkFlow>,
+) -> (Attaching, Option<LinkFlow>)
+    requires there { IsSome (link_at session.old handle.0) }
+    requires made { IfSome (link_at session.old handle.0) (λ link. IsFor link.link prepared) }
+    requires allows { IfSome (link_at session.old handle.0) (λ link.
+        IsSome (after_send_attach (state_of (carried_out link.link prepared)) false)) }
+    ensures { TakesIn session.old handle prepared incomplete flow result.0 result.1 session.new }
 {
-    match answer {
-        AttachAnswer::Refused(error) => Err(AttachRefusal::Link(LinkError::SenderAttach(error))),
-        AttachAnswer::Attached(attaching) => Ok(attaching),
-    }
+    let Some(link) = session.link_mut(handle) else {
+        unreachable!()
+    };
+    take_all(&mut link.link, alloc, handle, prepared, incomplete, flow)
 }
 
-/// What is left to be done by what a receiving link tells.
-fn receiver_outcome(alloc: Global, answer: Attached) -> Result<Attaching, AttachRefusal>
-    ensures { result ≡ receiver_outcome answer }
+/// The link itself does so.
+fn take_all(
+    link: &mut LinkEnd,
+    alloc: Global,
+    handle: OutputHandle,
+    prepared: PreparedAttach,
+    incomplete: bool,
+    flow: Option<LinkFlow>,
+) -> (Attaching, Option<LinkFlow>)
+    requires made { IsFor link.old prepared }
+    requires allows { IsSome (after_send_attach (state_of (carried_out link.old prepared)) false) }
+    ensures { TakesAll link.old handle prepared incomplete flow result.0 result.1 link.new }
 {
-    match answer {
-        Attached::Refused(error) => Err(AttachRefusal::Link(LinkError::ReceiverAttach(error))),
-        Attached::Attached { exchange } => Ok(Attaching {
-            exchange,
-            aborts: Array::new(alloc),
-        }),
-    }
+    let attaching = link.commit_attach(alloc, prepared);
+    send_attach(link, handle, incomplete);
+    let reply = take_flow(link, flow);
+    (attaching, reply)
 }
 
 /// The link takes what was kept of a Flow, if one came, and answers the Flow with which it replies.
-#[tactic(auto, using(crate::proofs::OwnAttach::rules))]
-fn take_flow(link: &mut LinkEnd, kept: &Option<LinkFlow>) -> Option<LinkFlow>
-    ensures state { link.new ≡ flowed_by link.old kept.now }
-    ensures reply { result ≡ reply_to link.old kept.now }
+fn take_flow(link: &mut LinkEnd, kept: Option<LinkFlow>) -> Option<LinkFlow>
+    ensures state { link.new ≡ flowed_by link.old kept }
+    ensures reply { result ≡ reply_to link.old kept }
 {
     match kept {
-        Some(flow) => on_incoming_flow(link, without_properties(flow)),
+        Some(flow) => on_incoming_flow(link, flow),
         None => None,
     }
 }
@@ -177,7 +194,7 @@ fn on_incoming_flow(link: &mut LinkEnd, flow: LinkFlow) -> Option<LinkFlow>
 
 /// A Flow without its properties, which no link takes.
 fn without_properties(flow: &LinkFlow) -> LinkFlow
-    ensures { result ≡ record flow.now { properties = None } }
+    ensures { result ≡ plain flow.now }
 {
     LinkFlow {
         handle: flow.handle,

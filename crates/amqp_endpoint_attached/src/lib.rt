@@ -25,5 +25,5 @@ pub use ends::{break_off, credit, is_closed, role, stands};
 pub use leaving::take_out;
 pub use making::{receiver, sender};
 pub use receiving::{drain, grant};
-pub use refusal::AttachRefusal;
+pub use refusal::{AttachRefusal, Unattached};
 pub use sending::LinkSession;

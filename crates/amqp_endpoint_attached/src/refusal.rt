@@ -3,12 +3,15 @@ ghost use Rattle.std.specs.Prelude.{◌≡◌};
 ghost use Rattle.amqp_endpoint_attached.specs.Refusals.{refusal_of};
 ghost use Rattle.amqp_endpoint_attached.specs.declared.refusal.AttachRefusal.TheVariants.{Memory};
 
+use amqp_endpoint_links::Numbered;
+use amqp_link::LinkEnd;
 use amqp_link_types::LinkError;
+use amqp_session_core::Unallocated;
 use amqp_session_types::SessionError;
 use std::alloc::AllocError;
 use thiserror::Error;
 
-/// Why a link doesn't attach in a session. The session is as before, and the link is given up.
+/// Why a link doesn't attach in a session. The session is as before.
 #[derive(Debug, Drop, Error)]
 pub enum AttachRefusal {
     /// No handle is offered that the peer allows (part 2, 2.7.2).
@@ -45,5 +48,26 @@ pub(crate) fn refusal_of(error: SessionError) -> AttachRefusal
         SessionError::HandleMaxReached => AttachRefusal::HandleMaxReached,
         SessionError::HandleInUse => AttachRefusal::HandleInUse,
         _ => AttachRefusal::Memory,
+    }
+}
+
+/// A link that doesn't attach, and why.
+#[derive(Drop)]
+pub struct Unattached {
+    /// Why it doesn't.
+    pub refusal: AttachRefusal,
+    /// The link, as it was.
+    pub link: LinkEnd,
+}
+
+/// A link that got no handle, and why.
+pub(crate) fn handed_back(refused: Unallocated<Numbered<LinkEnd>>) -> Unattached
+    ensures { result ≡ record { refusal = refusal_of refused.error; link = refused.link.link } }
+{
+    let Unallocated { error, link } = refused;
+    let Numbered { number: _, link } = link;
+    Unattached {
+        refusal: refusal_of(error),
+        link,
     }
 }

@@ -13,7 +13,7 @@ ghost use Rattle.amqp_endpoint_link_calls.specs.Refusals.{BarsIn, RefusesOne, of
 use crate::LinkTalk;
 use crate::meeting::met;
 use crate::placed::Placed;
-use amqp_endpoint_attached::{Answered, AttachRefusal, LinkSession, answer, attach};
+use amqp_endpoint_attached::{Answered, AttachRefusal, LinkSession, Unattached, answer, attach};
 use amqp_endpoint_fitting::frames_are_read;
 use amqp_endpoint_model::EndpointError;
 use amqp_link::LinkEnd;
@@ -120,8 +120,18 @@ fn answer_asked(
     ensures err { IfErr result (RefusesAnswer limit live.old link input) }
     ensures kept { OnErr result ((live.new ≡ live.old) × (out.new.items ≡ out.old.items)) }
 {
-    let answered = answer(live, alloc, limit, number, link, input, out)?;
-    Ok(placed_by(answered, session, number))
+    match answer(live, alloc, limit, number, link, input, out) {
+        Ok(answered) => Ok(placed_by(answered, session, number)),
+        Err(refused) => Err(refusal_in(refused)),
+    }
+}
+
+/// Why a link doesn't attach, which is given up.
+fn refusal_in(refused: Unattached) -> AttachRefusal
+    ensures { result ≡ refused.refusal }
+{
+    let Unattached { refusal, link: _ } = refused;
+    refusal
 }
 
 /// What is told of it.
@@ -165,14 +175,16 @@ fn attach_own(
     ensures err { IfErr result (RefusesAttach limit live.old.session link) }
     ensures kept { OnErr result ((live.new ≡ live.old) × (out.new.items ≡ out.old.items)) }
 {
-    let handle = attach(live, alloc, limit, number, link, out)?;
-    Ok(Placed {
-        link: number,
-        session,
-        handle,
-        exchange: None,
-        aborts: Array::new(alloc),
-    })
+    match attach(live, alloc, limit, number, link, out) {
+        Ok(handle) => Ok(Placed {
+            link: number,
+            session,
+            handle,
+            exchange: None,
+            aborts: Array::new(alloc),
+        }),
+        Err(refused) => Err(refusal_in(refused)),
+    }
 }
 
 /// The endpoint's name for what a session refuses.

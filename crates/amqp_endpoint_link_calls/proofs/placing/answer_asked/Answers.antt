@@ -6,4 +6,4 @@ use Rattle.amqp_endpoint_link_calls.proofs.placing.answer_asked.Goals as goal
 pub returns-clause-ok : goal.returns-clause-ok
 returns-clause-ok c =
     subst (λ (p : Placed). AttachedBy (Some c.args.input) p.exchange c.args.live.now c.args.out.now.items c.args.limit
-    c.args.link p c.answer.new.session c.answer.new.out.items) (sym c.placed_by.ensures) c.in_ok-answered.ensures.ok
+    c.args.link p c.answer.new.session c.answer.new.out.items) (sym c.placed_by.ensures) c.in-Ok.ensures.ok
