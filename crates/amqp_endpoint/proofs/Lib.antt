@@ -2,3 +2,4 @@ mod Related
 mod Heard
 mod AttachedLinks
 pub mod Messages
+pub mod Writing

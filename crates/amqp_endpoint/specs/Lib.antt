@@ -5,6 +5,8 @@ pub mod Sending
 pub mod Calling
 pub mod Does
 pub mod Performed
+pub mod Running
+pub mod Streams
 pub use Rattle.amqp_endpoint_core.specs.Messages
 pub use Rattle.amqp_endpoint_model.specs.History
 pub use Rattle.amqp_endpoint_model.specs.Numbers

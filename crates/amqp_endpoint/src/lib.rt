@@ -11,6 +11,7 @@ mod hearing;
 mod linked;
 pub mod scenario;
 mod sending;
+mod streams;
 pub mod world;
 
 /// One end of an AMQP connection, with its sessions, their links and the messages of these (part 2, 2.6.12). `send`

@@ -1,8 +1,10 @@
 //! Scripts: the calls of one endpoint, or of two, as lines of text, and their answers printed.
-ghost use Rattle.std.specs.Prelude.{◌≡◌, ◌≢◌, ◌≤◌, ◌++◌, ℕ, List, IfOk, IfErr, OnOk, codes, decimal, string_bytes};
-ghost use Rattle.std.specs.Io.KnownBytes.{Appends, Consumes, IsAtEnd};
-ghost use Rattle.amqp_endpoint.specs.declared.scenario.ScenarioError.TheVariants.{Memory, Write as WriteRefused};
+ghost use Rattle.std.specs.Prelude.{◌≡◌, ◌≢◌, ◌≤◌, ◌++◌, IfOk, codes, decimal, string_bytes};
+ghost use Rattle.std.specs.IoError.{error_kind};
+ghost use Rattle.std.specs.declared.io.ErrorKind.TheVariants.{OutOfMemory};
+ghost use Rattle.amqp_endpoint.specs.declared.scenario.ScenarioError.TheVariants.{Memory, Read as ReadRefused};
 ghost use Rattle.amqp_endpoint.specs.Performed.{comes_to, one_comes_to, two_comes_to};
+ghost use Rattle.amqp_endpoint.specs.Running.{Runs};
 ghost use Rattle.amqp_endpoint_scripts.specs.Parsed.{one_of, two_of};
 ghost use Rattle.amqp_endpoint_scripts.specs.Printed.{line_end};
 ghost use Rattle.amqp_endpoint_model.specs.Numbers.{number};
@@ -10,6 +12,7 @@ ghost use Rattle.amqp_endpoint_model.specs.Step.{refusal_of_settings};
 ghost use Rattle.amqp_endpoint_model.specs.declared.error.EndpointError.TheVariants.{Memory as NoMemory};
 
 use crate::LinkedSessions;
+pub use crate::streams::{ReadText, WriteText};
 use amqp_endpoint_core::{play, world};
 use amqp_endpoint_model::{EndpointError, Settings};
 pub use amqp_endpoint_scripts::follows_grammar;
@@ -18,13 +21,13 @@ use amqp_endpoint_scripts::{
 };
 use std::alloc::{AllocError, Global};
 use std::io;
-use std::io::{ErrorKind, Read, Write};
+use std::io::ErrorKind;
 use thiserror::Error;
 
 /// Why a script can't be run to its end.
 #[derive(Debug, Clone, Copy, PartialEq, Eq, Drop, Error)]
 pub enum ScenarioError {
-    /// The reader refused before its end.
+    /// The reader refused before its end, and not for want of memory. Nothing is written.
     #[error("the script could not be read")]
     Read,
     /// The writer refused: some of what is printed may be written.
@@ -81,23 +84,27 @@ impl From<AllocError> for ScenarioError {
 /// as `refused` and the number of the error: on their own line, or the first one where they have none. Nothing is run
 /// then. A script of no lines prints nothing.
 ///
-/// `Read` where the reader refuses, `Memory` where there is no memory for the script or its answers: nothing was
-/// written. `Write` where the writer refuses: some of what is printed may be written.
-pub fn run<R: Read, W: Write>(
+/// Any reader and any writer of std will do. Errors: `Read` exactly where the reader refuses before its end and not for
+/// want of memory; `Memory` where it refuses for that, or where there is no memory for the script or its answers; and
+/// `Write` exactly where the writer refuses. With `Read` and `Memory` nothing is written, with `Write` the first of
+/// what is printed, maybe all of it.
+pub fn run<R: ReadText, W: WriteText>(
     alloc: Global,
     reader: &mut R,
     writer: &mut W,
 ) -> Result<u8, ScenarioError>
-    ensures printed { IfOk result (λ status. (text : List ℕ) × (output : List ℕ)
-        × Consumes (R.remaining reader.old) (R.remaining reader.new) text × IsAtEnd (R.remaining reader.new)
-        × comes_to text output status × Appends (W.contents writer.old) (W.contents writer.new) output) }
+    ensures runs { Runs R.gives R.refuses W.takes W.stops reader.old writer.old result reader.new writer.new }
     ensures status { IfOk result (λ status. status ≤ 1) }
-    ensures nothing_written { IfErr result (λ e. e ≢ WriteRefused → writer.new ≡ writer.old) }
 {
-    let text = read_all(alloc, reader)?;
+    let text = match reader.read_text(alloc) {
+        Ok(text) => text,
+        Err(error) => return Err(read_error(&error)),
+    };
     let outcome = outcome_of(alloc, text.as_slice())?;
-    write_out(writer, outcome.output.as_str())?;
-    Ok(outcome.status)
+    match writer.write_text(outcome.output.as_bytes()) {
+        Ok(()) => Ok(outcome.status),
+        Err(_) => Err(ScenarioError::Write),
+    }
 }
 
 /// What a script prints, and its status.
@@ -107,37 +114,15 @@ struct Outcome {
     status: u8,
 }
 
-fn read_all<R: Read>(alloc: Global, reader: &mut R) -> Result<Vec<u8>, ScenarioError>
-    ensures { IfOk result (λ text. Consumes (R.remaining reader.old) (R.remaining reader.new) text.items
-        × IsAtEnd (R.remaining reader.new)) }
-{
-    let mut text = Vec::new(alloc);
-    match reader.read_to_end(&mut text) {
-        Ok(_) => Ok(text),
-        Err(error) => Err(read_error(&error)),
-    }
-}
-
+/// Why a script isn't read, by its reader's error.
 fn read_error(error: &io::Error) -> ScenarioError
-    ensures { result ≢ WriteRefused }
+    ensures memory { error_kind error.now ≡ OutOfMemory → result ≡ Memory }
+    ensures read { error_kind error.now ≢ OutOfMemory → result ≡ ReadRefused }
 {
-    match error.kind() {
-        ErrorKind::OutOfMemory => ScenarioError::Memory,
-        _ => ScenarioError::Read,
+    if error.kind() == ErrorKind::OutOfMemory {
+        return ScenarioError::Memory;
     }
-}
-
-fn write_out<W: Write>(writer: &mut W, output: &str) -> Result<(), ScenarioError>
-    ensures ok { OnOk result (Appends (W.contents writer.old) (W.contents writer.new) output.now) }
-    ensures err { IfErr result (λ e. e ≡ WriteRefused) }
-{
-    if writer.write_all(output.as_bytes()).is_err() {
-        return Err(ScenarioError::Write);
-    }
-    if writer.flush().is_err() {
-        return Err(ScenarioError::Write);
-    }
-    Ok(())
+    ScenarioError::Read
 }
 
 fn outcome_of(alloc: Global, text: &[u8]) -> Result<Outcome, AllocError>
