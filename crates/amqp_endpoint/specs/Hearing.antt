@@ -39,7 +39,7 @@ Hears old links given limit channel (body.Transfer transfer payload) frames even
 Hears old links given limit channel (body.Disposition disposition) frames events new links_new given_new =
     HearsDisposition old links limit channel disposition frames events new links_new × (given_new ≡ given)
 Hears old links given limit channel (body.Detach detach) frames events new links_new given_new =
-    HearsDetach old links channel detach frames events new links_new × (given_new ≡ given)
+    HearsDetach old links limit channel detach frames events new links_new × (given_new ≡ given)
 Hears old links given limit channel (body.End end) frames events new links_new given_new =
     TakesEnd old links channel end frames events new links_new × (given_new ≡ given)
 Hears old links given limit channel other frames events new links_new given_new = ⊥

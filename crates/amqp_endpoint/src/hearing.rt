@@ -70,7 +70,9 @@ pub(crate) fn hear(
         FrameBody::Disposition(disposition) => {
             hear_disposition(talk, links, alloc, limit, channel, disposition, out, events)
         }
-        FrameBody::Detach(detach) => hear_detach(talk, links, alloc, channel, detach, out, events),
+        FrameBody::Detach(detach) => {
+            hear_detach(talk, links, alloc, limit, channel, detach, out, events)
+        }
         FrameBody::End(end) => hear_end(talk, links, channel, end, out, events),
         FrameBody::Empty | FrameBody::Open(_) | FrameBody::Close(_) => unreachable!(),
     }

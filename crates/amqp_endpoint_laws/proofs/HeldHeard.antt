@@ -392,13 +392,13 @@ link-number : (o : Option Session) (handle : OutputHandle) (link : Link) → lin
 link-number None handle link e = absurd (none-some link e)
 link-number (Some session) handle link e = ap number_of e
 
-detach-becomes : (took_it : Option (ℕ × Detached)) (old mid new : Talk) (links links_new : Links) (it : Detach)
-    (frames : List SessionFrame) (events : List Event)
-    → detaching.Becomes took_it old links it mid frames events new links_new → Agrees (number_at mid.sessions) links
-    → Agrees (number_at new.sessions) links_new
-detach-becomes None old mid new links links_new it frames events w a =
+detach-becomes : (took_it : Option (ℕ × Detached)) (limit : ℕ) (old mid new : Talk) (links links_new : Links)
+    (it : Detach) (frames : List SessionFrame) (events : List Event)
+    → detaching.Becomes took_it limit old links it mid frames events new links_new
+    → Agrees (number_at mid.sessions) links → Agrees (number_at new.sessions) links_new
+detach-becomes None limit old mid new links links_new it frames events w a =
     stays-held mid new links links_new (talk-same mid new w.stays) w.same a
-detach-becomes (Some (session, detached)) old mid new links links_new it frames events b a =
+detach-becomes (Some (session, detached)) limit old mid new links links_new it frames events b a =
     let g = b.parts in
     let t = g.done in
     let p = t.parts in
@@ -504,7 +504,7 @@ frame-held (body.Disposition disposition) old new links links_new given given_ne
     (inr f, g) a =
     fails old links channel _ frames events new links_new f a
 frame-held (body.Detach detach) old new links links_new given given_new limit channel frames events (inl t, g) a =
-    detach-becomes _ old t.mid new links links_new detach frames events t.becomes
+    detach-becomes _ limit old t.mid new links links_new detach frames events t.becomes
     (stays-held old t.mid links links (answered old [] channel _ (Ok t.heard) t.mid [] tt t.answered) refl a)
 frame-held (body.Detach detach) old new links links_new given given_new limit channel frames events (inr f, g) a =
     fails old links channel _ frames events new links_new f a

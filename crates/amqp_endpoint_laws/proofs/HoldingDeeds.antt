@@ -176,13 +176,13 @@ disposition-comes (Some (session, runs)) limit old mid new it frames events d =
     goes-on-stays _ mid session new (λ a b t. echoes-stay d.deliveries _ runs.items frames events a b t) d.done
 disposition-comes None limit old mid new it frames events r = talk-same mid new r.stays
 
-detach-comes : (o : Option (ℕ × Detached)) (old mid new : Talk) (links links_new : Links) (it : Detach)
+detach-comes : (o : Option (ℕ × Detached)) (limit : ℕ) (old mid new : Talk) (links links_new : Links) (it : Detach)
     (frames : List SessionFrame) (events : List Event)
-    → detaching.Becomes o old links it mid frames events new links_new → AllRest mid.sessions new.sessions
-detach-comes (Some (session, told)) old mid new links links_new it frames events b =
+    → detaching.Becomes o limit old links it mid frames events new links_new → AllRest mid.sessions new.sessions
+detach-comes (Some (session, told)) limit old mid new links links_new it frames events b =
     goes-on-stays _ mid session new
     (λ a c t. parts-stay _ b.handle told.answer it.closed _ b.left frames a c t) b.parts
-detach-comes None old mid new links links_new it frames events w = talk-same mid new w.stays
+detach-comes None limit old mid new links links_new it frames events w = talk-same mid new w.stays
 
 -- the peer's End
 ended-dead : (stood : Stood) → live_of (Some (ended_place stood)) ≡ None
@@ -236,7 +236,8 @@ frame-rests (body.Disposition disposition) other old new limit channel frames ev
 frame-rests (body.Detach detach) other old new limit channel frames events (inl t, g) =
     all-on old.talk.sessions t.mid.sessions new.talk.sessions
     (heard-rests (said.Detach detach) tt old.talk channel t.heard [] t.mid t.answered)
-    (detach-comes (detach_of t.heard) old.talk t.mid new.talk old.links new.links detach frames events t.becomes)
+    (detach-comes (detach_of t.heard) limit old.talk t.mid new.talk old.links new.links detach frames events
+    t.becomes)
 frame-rests (body.Detach detach) other old new limit channel frames events (inr f, g) =
     fails-stay (said.Detach detach) old.talk new.talk f.number f.fault f.session frames channel f.answered
 frame-rests (body.End end) other old new limit channel frames events (t, g) =

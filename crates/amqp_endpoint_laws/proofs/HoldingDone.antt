@@ -135,9 +135,9 @@ tells-stays count handle (Some link) old new s =
     changed-stays old new handle.0 link (record link { link = behind_told count link.link }) s
     (inl (told-holds link.number count link.link))
 
-behind-holds : (k : ℕ) (end : End) → held_end k (end_behind end) ≡ held_end k end
-behind-holds k (Sender s) = refl
-behind-holds k (Receiver r) = refl
+behind-holds : (k : ℕ) (tag : List ℕ) (end : End) → held_end k (end_behind tag end) ≡ held_end k end
+behind-holds k tag (Sender s) = refl
+behind-holds k tag (Receiver r) = refl
 
 -- it leaves its session, or not
 out-stays : (handle : OutputHandle) (left : Option Link) (old new : Linked) → TakenOut old handle left new
@@ -192,18 +192,19 @@ each-sent old (d ∷ rest) new (mid, one, others) =
     rests-on old mid new (sent-stays old mid d one.settled one.stepped) (each-sent mid rest new others)
 
 -- links tell what became of messages
-reached-one : (s : LinksIn) (handle : ℕ) (o : Option Link) → link_at s handle ≡ o
-    → Rests s (link_behind s handle o)
-reached-one s handle None there = all-same s s refl
-reached-one s handle (Some link) there =
-    changed-stays s (link_behind s handle (Some link)) handle link (record link { link = end_behind link.link })
-    (there, refl) (inl (behind-holds link.number link.link))
+reached-one : (s : LinksIn) (handle : ℕ) (tag : List ℕ) (o : Option Link) → link_at s handle ≡ o
+    → Rests s (link_behind s handle tag o)
+reached-one s handle tag None there = all-same s s refl
+reached-one s handle tag (Some link) there =
+    changed-stays s (link_behind s handle tag (Some link)) handle link
+    (record link { link = end_behind tag link.link }) (there, refl) (inl (behind-holds link.number tag link.link))
 
 reached-stays : (s : LinksIn) (deliveries : List Touched) → Rests s (behind_reached s deliveries)
 reached-stays s [] = all-same s s refl
 reached-stays s (delivery ∷ rest) =
     rests-on s (behind_one s delivery) (behind_reached (behind_one s delivery) rest)
-    (reached-one s delivery.handle.0 (link_at s delivery.handle.0) refl) (reached-stays (behind_one s delivery) rest)
+    (reached-one s delivery.handle.0 delivery.tag (link_at s delivery.handle.0) refl)
+    (reached-stays (behind_one s delivery) rest)
 
 pub echoes-stay : (deliveries : List Touched) (state : Option DeliveryState) (runs : List (ℕ × ℕ))
     (frames : List SessionFrame) (events : List Event) (old new : Linked)

@@ -139,12 +139,12 @@ module _ (P : Links → Type 0)
         by (Closes number (AtRest end) ∷ []) (tt, tt) (new, (is, c.forgets.forgotten), refl)
     closed-at (Some (Held session handle)) number events old_talk new_talk frames is c = same c.kept
 
-  heard-detach : (took : Option (ℕ × Detached)) (old mid new : Talk) (links links_new : Links)
+  heard-detach : (took : Option (ℕ × Detached)) (limit : ℕ) (old mid new : Talk) (links links_new : Links)
       (frames : List SessionFrame) (events : List Event) (it : _)
-      → Becomes took old links it mid frames events new links_new → P links → P links_new
-  heard-detach (Some (session, told)) old mid new links links_new frames events it b came =
+      → Becomes took limit old links it mid frames events new links_new → P links → P links_new
+  heard-detach (Some (session, told)) limit old mid new links links_new frames events it b came =
       left-so links links_new came told.closed b.link.number b.left b.is_left
-  heard-detach None old mid new links links_new frames events it b came = same links links_new came b.same
+  heard-detach None limit old mid new links links_new frames events it b came = same links links_new came b.same
 
   -- a link that leaves by a Flow comes to rest, or is closed
   once : (it : Option (ℕ × Bool)) (handle : OutputHandle) (old new : Linked)
@@ -201,7 +201,7 @@ module _ (P : Links → Type 0)
       (inr f, g) came =
       back links links_new came _ f.back
   heard (body.Detach detach) old new links links_new given given_new limit channel frames events (inl t, g) came =
-      heard-detach _ old t.mid new links links_new frames events detach t.becomes came
+      heard-detach _ limit old t.mid new links links_new frames events detach t.becomes came
   heard (body.Detach detach) old new links links_new given given_new limit channel frames events (inr f, g) came =
       back links links_new came _ f.back
   heard (body.End end) old new links links_new given given_new limit channel frames events (t, g) came =

@@ -105,15 +105,15 @@ disposition-follows (Some (session, runs)) limit old mid new it frames events d 
     told-unnumbered events _ d.done.done.told (reached-unnumbered d.done.before.value.session d.deliveries)
 disposition-follows None limit old mid new it frames events r = told-unnumbered events [] r.untold refl
 
-detach-becomes : (took_it : Option (ℕ × Detached)) (old mid new : Talk) (links links_new : Links) (it : Detach)
-    (frames : List SessionFrame) (events : List Event)
-    → detaching.Becomes took_it old links it mid frames events new links_new → Unnumbered events
-detach-becomes (Some (session, detached)) old mid new links links_new it frames events b =
+detach-becomes : (took_it : Option (ℕ × Detached)) (limit : ℕ) (old mid new : Talk) (links links_new : Links)
+    (it : Detach) (frames : List SessionFrame) (events : List Event)
+    → detaching.Becomes took_it limit old links it mid frames events new links_new → Unnumbered events
+detach-becomes (Some (session, detached)) limit old mid new links links_new it frames events b =
     told-unnumbered events _ b.tells
     (both-unnumbered (detached_told b.link.number detached.closed it.error)
     (told_by b.link.number it.error (ending it.closed (end_at b.stood.value b.handle)) b.link.link) refl
     (by-unnumbered b.link.number it.error (ending it.closed (end_at b.stood.value b.handle)) b.link.link))
-detach-becomes None old mid new links links_new it frames events w = told-unnumbered events [] w.untold refl
+detach-becomes None limit old mid new links links_new it frames events w = told-unnumbered events [] w.untold refl
 
 pub gives-next : (said : FrameBody) (old new : Talk) (links links_new : Links) (given given_new limit : ℕ)
     (channel : IncomingChannel) (frames : List SessionFrame) (events : List Event)
@@ -145,7 +145,7 @@ gives-next (body.Disposition disposition) old new links links_new given given_ne
     (inr f, g) =
     inl (told-unnumbered events _ f.told refl, g)
 gives-next (body.Detach detach) old new links links_new given given_new limit channel frames events (inl t, g) =
-    inl (detach-becomes _ old t.mid new links links_new detach frames events t.becomes, g)
+    inl (detach-becomes _ limit old t.mid new links links_new detach frames events t.becomes, g)
 gives-next (body.Detach detach) old new links links_new given given_new limit channel frames events (inr f, g) =
     inl (told-unnumbered events _ f.told refl, g)
 gives-next (body.End end) old new links links_new given given_new limit channel frames events (t, g) =

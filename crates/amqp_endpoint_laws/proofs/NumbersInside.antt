@@ -179,11 +179,11 @@ reached-kept s (delivery ∷ rest) =
     (reached-kept (behind_one s delivery) rest)
   where
     at : (o : Option (Numbered End)) → link_at s delivery.handle.0 ≡ o
-        → KeepNumbers s (link_behind s delivery.handle.0 o)
+        → KeepNumbers s (link_behind s delivery.handle.0 delivery.tag o)
     at None there = same-kept s s refl
     at (Some link) there =
-        changed-kept delivery.handle.0 link (record link { link = end_behind link.link }) s
-        (link_behind s delivery.handle.0 (Some link)) (there, refl) refl
+        changed-kept delivery.handle.0 link (record link { link = end_behind delivery.tag link.link }) s
+        (link_behind s delivery.handle.0 delivery.tag (Some link)) (there, refl) refl
 
 pub echoes-kept : (deliveries : List Touched) (state : _) (runs : List (ℕ × ℕ))
     (frames : List SessionFrame) (events : List Event) (old new : Linked)

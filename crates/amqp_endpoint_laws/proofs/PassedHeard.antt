@@ -428,27 +428,28 @@ module _ {Allows : Batches → Type 0} (P : ℕ → List Wired → Talk → Talk
       nothing-passed n frames mid new r.silent r.stays
 
   -- a Detach
-  detach-comes : (h : LinkHeard) (old mid new : Talk) (links links_new : Links) (it : Detach)
+  detach-comes : (h : LinkHeard) (limit : ℕ) (old mid new : Talk) (links links_new : Links) (it : Detach)
       (frames : List SessionFrame) (events : List Event)
-      → detaching.Becomes (detach_of h) old links it mid frames events new links_new
+      → detaching.Becomes (detach_of h) limit old links it mid frames events new links_new
       → P (number_of h) (goes frames) mid new
-  detach-comes (heard.Live n (taken.Detach (detach_answer.ByLink told_so))) old mid new links links_new it frames
+  detach-comes (heard.Live n (taken.Detach (detach_answer.ByLink told_so))) limit old mid new links links_new it frames
       events b =
       goes-passed _ mid n new frames (λ a c t. tells-parts-inside _ b.handle _ _ _ b.left frames a c t)
       (λ a c t. parts-keep _ b.handle _ _ _ b.left frames a c t) b.parts
-  detach-comes (heard.Live n (taken.Detach detach_answer.Withdrawn)) old mid new links links_new it frames events w =
+  detach-comes (heard.Live n (taken.Detach detach_answer.Withdrawn)) limit old mid new links links_new it frames
+      events w =
       nothing-passed n frames mid new w.silent w.stays
-  detach-comes (heard.Asked n) old mid new links links_new it frames events w =
+  detach-comes (heard.Asked n) limit old mid new links links_new it frames events w =
       nothing-passed n frames mid new w.silent w.stays
-  detach-comes (heard.Dropped n) old mid new links links_new it frames events w =
+  detach-comes (heard.Dropped n) limit old mid new links links_new it frames events w =
       nothing-passed n frames mid new w.silent w.stays
-  detach-comes (heard.Live n (taken.Attach t)) old mid new links links_new it frames events w =
+  detach-comes (heard.Live n (taken.Attach t)) limit old mid new links links_new it frames events w =
       nothing-passed n frames mid new w.silent w.stays
-  detach-comes (heard.Live n taken.Flow) old mid new links links_new it frames events w =
+  detach-comes (heard.Live n taken.Flow) limit old mid new links links_new it frames events w =
       nothing-passed n frames mid new w.silent w.stays
-  detach-comes (heard.Live n (taken.Transfer t)) old mid new links links_new it frames events w =
+  detach-comes (heard.Live n (taken.Transfer t)) limit old mid new links links_new it frames events w =
       nothing-passed n frames mid new w.silent w.stays
-  detach-comes (heard.Live n (taken.Disposition back runs)) old mid new links links_new it frames events w =
+  detach-comes (heard.Live n (taken.Disposition back runs)) limit old mid new links links_new it frames events w =
       nothing-passed n frames mid new w.silent w.stays
 
   -- first it is heard, and then something comes of it
@@ -574,7 +575,7 @@ module _ {Allows : Batches → Type 0} (P : ℕ → List Wired → Talk → Talk
       taken-there old.talk channel.0 (body.Detach detach) (number_of t.heard) frames new.talk
       (there-on old.talk channel.0 (body.Detach detach) (number_of t.heard) [] frames t.mid new.talk
       (heard-ok old.talk channel (said.Detach detach) t.heard [] t.mid t.answered)
-      (detach-comes t.heard old.talk t.mid new.talk old.links new.links detach frames events t.becomes))
+      (detach-comes t.heard limit old.talk t.mid new.talk old.links new.links detach frames events t.becomes))
   frame-heard (body.Detach detach) old new limit channel frames events (inr f, g) =
       taken-there old.talk channel.0 (body.Detach detach) f.number frames new.talk
       (heard-fails old.talk channel (said.Detach detach) f.number f.fault f.session frames new.talk f.answered)

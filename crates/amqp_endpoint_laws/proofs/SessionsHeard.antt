@@ -214,12 +214,12 @@ disposition-follows : (runs : Option (ℕ × SmallVec (ℕ × ℕ))) (limit : �
 disposition-follows (Some (session, runs)) limit old mid new it frames events d = in-session _ mid session new d.done
 disposition-follows None limit old mid new it frames events r = talk-stays mid new r.stays
 
-detach-becomes : (took_it : Option (ℕ × Detached)) (old mid new : Talk) (links links_new : Links) (it : Detach)
-    (frames : List SessionFrame) (events : List Event)
-    → detaching.Becomes took_it old links it mid frames events new links_new → TalkGoes mid new
-detach-becomes (Some (session, detached)) old mid new links links_new it frames events b =
+detach-becomes : (took_it : Option (ℕ × Detached)) (limit : ℕ) (old mid new : Talk) (links links_new : Links)
+    (it : Detach) (frames : List SessionFrame) (events : List Event)
+    → detaching.Becomes took_it limit old links it mid frames events new links_new → TalkGoes mid new
+detach-becomes (Some (session, detached)) limit old mid new links links_new it frames events b =
     in-session _ mid session new b.parts
-detach-becomes None old mid new links links_new it frames events w = talk-stays mid new w.stays
+detach-becomes None limit old mid new links links_new it frames events w = talk-stays mid new w.stays
 
 -- the peer's End
 end-answered : (old : Talk) (out : List SessionFrame) (channel : IncomingChannel) (end : EndFrame)
@@ -264,7 +264,7 @@ heard-goes (body.Disposition disposition) old new links links_new given given_ne
     answered old [] channel _ _ new frames f.answered
 heard-goes (body.Detach detach) old new links links_new given given_new limit channel frames events (inl t, g) =
     goes-on old.sessions t.mid.sessions new.sessions (answered old [] channel _ (Ok t.heard) t.mid [] t.answered)
-    (detach-becomes _ old t.mid new links links_new detach frames events t.becomes)
+    (detach-becomes _ limit old t.mid new links links_new detach frames events t.becomes)
 heard-goes (body.Detach detach) old new links links_new given given_new limit channel frames events (inr f, g) =
     answered old [] channel _ _ new frames f.answered
 heard-goes (body.End end) old new links links_new given given_new limit channel frames events (t, g) =

@@ -1,7 +1,12 @@
 -- What is told without handing a message out.
-use Rattle.std.proofs.Common.{◌≡◌, ℕ, List, [], ◌∷◌, ◌++◌, Option, Some, None}
+use Rattle.std.proofs.Common.{◌≡◌, ℕ, List, [], ◌∷◌, ◌++◌, Bool, true, false, if◌then◌else◌, Option, Some, None}
 use Rattle.std.proofs.Common.{refl, ap, ◌∙◌}
-use Rattle.std.specs.Prelude.{take}
+use Rattle.std.specs.Prelude.{Result, take}
+use Rattle.std.specs.Str.{bytes_eq}
+use Rattle.amqp_session_states.specs.declared.outcome.Outcome.{Outcome}
+use Rattle.amqp_link_types.specs.declared.refusals.SendError.{SendError}
+use Rattle.amqp_link_sender.specs.Results.{send_result}
+use Rattle.amqp_endpoint_messages.specs.Told.{outcome_told}
 use Rattle.amqp_session_types.specs.declared.error.Error.{Error}
 use Rattle.amqp_session_core.specs.declared.dispositions.Touched.{Touched}
 use Rattle.amqp_session_core.specs.State.{link_at}
@@ -41,20 +46,27 @@ pub first-unnumbered : (count : ℕ) (error : Option Error) (link : Option (Numb
 first-unnumbered count error None = refl
 first-unnumbered count error (Some link) = by-unnumbered link.number error count link.link
 
-ended-unnumbered : (number : ℕ) (ended : List (List ℕ × Resolution)) → Unnumbered (reached.first_told number ended)
-ended-unnumbered number [] = refl
-ended-unnumbered number (one ∷ others) = refl
+if-unnumbered : (number : ℕ) (tag : List ℕ) (result : Result Outcome SendError) (is : Bool)
+    → Unnumbered (if is then outcome_told number tag result else [])
+if-unnumbered number tag result true = refl
+if-unnumbered number tag result false = refl
 
-end-unnumbered : (number : ℕ) (end : End) → Unnumbered (end_told number end)
-end-unnumbered number (Sender s) = ended-unnumbered number s.messages.resolved
-end-unnumbered number (Receiver r) = refl
+ended-unnumbered : (number : ℕ) (tag : List ℕ) (ended : List (List ℕ × Resolution))
+    → Unnumbered (reached.first_told number tag ended)
+ended-unnumbered number tag [] = refl
+ended-unnumbered number tag (one ∷ others) =
+    if-unnumbered number one.0 (send_result None one.1) (bytes_eq tag one.0)
 
-link-unnumbered : (link : Option (Numbered End)) → Unnumbered (link_told link)
-link-unnumbered None = refl
-link-unnumbered (Some link) = end-unnumbered link.number link.link
+end-unnumbered : (number : ℕ) (tag : List ℕ) (end : End) → Unnumbered (end_told number tag end)
+end-unnumbered number tag (Sender s) = ended-unnumbered number tag s.messages.resolved
+end-unnumbered number tag (Receiver r) = refl
+
+link-unnumbered : (tag : List ℕ) (link : Option (Numbered End)) → Unnumbered (link_told tag link)
+link-unnumbered tag None = refl
+link-unnumbered tag (Some link) = end-unnumbered link.number tag link.link
 
 pub reached-unnumbered : (s : LinksIn) (deliveries : List Touched) → Unnumbered (reached_told s deliveries)
 reached-unnumbered s [] = refl
 reached-unnumbered s (one ∷ others) =
-    both-unnumbered (link_told (link_at s one.handle.0)) (reached_told (behind_one s one) others)
-    (link-unnumbered (link_at s one.handle.0)) (reached-unnumbered (behind_one s one) others)
+    both-unnumbered (link_told one.tag (link_at s one.handle.0)) (reached_told (behind_one s one) others)
+    (link-unnumbered one.tag (link_at s one.handle.0)) (reached-unnumbered (behind_one s one) others)

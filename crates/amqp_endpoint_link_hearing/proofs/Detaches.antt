@@ -37,7 +37,7 @@ use Rattle.amqp_endpoint_link_hearing.specs.Detaching.{detached_told}
 use Rattle.amqp_endpoint_link_hearing.specs.Heard.{detach_of}
 use Rattle.amqp_endpoint_link_hearing.specs.InSession.{GoesOn}
 use Rattle.amqp_endpoint_link_hearing.specs.Leaves.{IsReady, LeavesBy, LinkLeaves, Prepares, StandsFor}
-use Rattle.amqp_endpoint_link_hearing.specs.Leaving.{HasPlace, detach_frame, repeated}
+use Rattle.amqp_endpoint_link_hearing.specs.Leaving.{HasAnswer, detach_frame, repeated}
 use Rattle.amqp_endpoint_link_hearing.specs.Naming.{link_of}
 use Rattle.amqp_endpoint_link_hearing.specs.Saying.{FailsBySaid, LinkHeard, RefusesSaid}
 use Rattle.amqp_endpoint_link_hearing.specs.declared.detaching.Ready.{Ready}
@@ -47,18 +47,18 @@ unsent : (out out_new : List SessionFrame) → out_new ≡ out → out_new ≡ o
 unsent out out_new same = same ∙ sym (append-nil out)
 
 -- room that was made before serves behind the Detach
-place-serves : (old new : Linked) (handle : OutputHandle) (closed : Bool) (error : Option Error) (place : ℕ)
+place-serves : (limit : ℕ) (old new : Linked) (handle : OutputHandle) (closed : Bool) (error : Option Error) (place : ℕ)
     → new.session.fields ≡ old.session.fields → new.session.outgoing ≡ old.session.outgoing
-    → HasPlace old handle closed error place → HasPlace new handle closed error place
-place-serves old new handle closed error place fields outgoing p =
+    → HasAnswer limit old handle closed error place → HasAnswer limit new handle closed error place
+place-serves limit old new handle closed error place fields outgoing p =
     record {
       room =
           subst (λ (o : sending.State TransferFrame BehindFrame). room_behind handle.0 1 o.queues ≤ place)
           (sym outgoing) p.room;
-      fit =
+      fit = λ least.
           subst (λ (f : SessionFields).
-          fits 512 (frame_of (detach_frame f.channel (own_detach handle closed error))) ≡ true)
-          (sym fields) p.fit;
+          fits limit (frame_of (detach_frame f.channel (own_detach handle closed error))) ≡ true)
+          (sym fields) (p.fit least);
     }
 
 -- a handle is told by its number
@@ -77,13 +77,13 @@ module _ (old : Talk) (channel : IncomingChannel) (out : List SessionFrame) (it 
   link-there = detach-there old channel out it session told mid out_mid taken-there
 
   -- something was made ready for it
-  ready-one : Prepares old channel it None → ⊥
-  ready-one p =
+  ready-one : (limit : ℕ) → Prepares limit old channel it None → ⊥
+  ready-one limit p =
       none-some link-there.handle
       (sym (p session taken-there.before taken-there.reaches taken-there.live) ∙ link-there.reaches)
 
-  module _ (ready : Ready) (p : Prepares old channel it (Some ready)) where
-    is-ready : IsReady (taken-there.before).value it ready
+  module _ (limit : ℕ) (ready : Ready) (p : Prepares limit old channel it (Some ready)) where
+    is-ready : IsReady limit (taken-there.before).value it ready
     is-ready = p session taken-there.before taken-there.reaches taken-there.live
 
     handle-is : link-there.handle ≡ (ready.handle).0
@@ -91,28 +91,28 @@ module _ (old : Talk) (channel : IncomingChannel) (out : List SessionFrame) (it 
 
     stands : IsSome (link_of mid session ready.handle)
         × ((s : Session) → live_at mid.sessions session ≡ Some s
-        → HasPlace s.value ready.handle (ready.answer).closed (ready.answer).error (ready.answer).place)
+        → HasAnswer limit s.value ready.handle (ready.answer).closed (ready.answer).error (ready.answer).place)
         × AreCopies ready.error ready.count ready.copies.items
     stands =
         let after = (taken-there.takes).after in
         let there : link_at (after.value).session (ready.handle).0 ≡ Some link-there.link =
         subst (λ (h : ℕ). link_at (after.value).session h ≡ Some link-there.link) handle-is link-there.there in
         let serves =
-        place-serves (taken-there.before).value after.value ready.handle (ready.answer).closed (ready.answer).error
-        (ready.answer).place link-there.fields link-there.outgoing is-ready.place in (
+        place-serves limit (taken-there.before).value after.value ready.handle (ready.answer).closed
+        (ready.answer).error (ready.answer).place link-there.fields link-there.outgoing is-ready.place in (
           ap is_some
               (is-there mid session ready.handle after link-there.link taken-there.stands there),
           λ s live.
               subst
               (λ (a : Session).
-              HasPlace a.value ready.handle (ready.answer).closed (ready.answer).error (ready.answer).place)
+              HasAnswer limit a.value ready.handle (ready.answer).closed (ready.answer).error (ready.answer).place)
               (same_Some _ _ (sym taken-there.stands ∙ live)) serves,
           is-ready.copied,
         )
 
     left-by : (links links_new : Links) (frames : List SessionFrame) (events : List Event) (new : Talk)
         → LinkLeaves session told ready mid links frames events new links_new
-        → ByLink old links it session told mid frames events new links_new
+        → ByLink limit old links it session told mid frames events new links_new
     left-by links links_new frames events new l =
         let channel_of = ((taken-there.before).value).session.fields.channel in
         record {
@@ -128,7 +128,7 @@ module _ (old : Talk) (channel : IncomingChannel) (out : List SessionFrame) (it 
               (λ (n : ℕ).
               GoesOn
               (TellsAndParts n ready.handle told.answer it.closed
-              (repeated channel_of ready.handle it.closed it.error) l.left frames) mid session new)
+              (repeated limit channel_of ready.handle it.closed it.error) l.left frames) mid session new)
               is-ready.counts
               (subst
               (λ (error : Option Error).
@@ -151,40 +151,41 @@ module _ (old : Talk) (channel : IncomingChannel) (out : List SessionFrame) (it 
               ++ told_by (l.link).number it.error n (l.link).link) is-ready.counts;
         }
 
-module _ (old : Talk) (channel : IncomingChannel) (out : List SessionFrame) (it : Detach) where
+module _ (limit : ℕ) (old : Talk) (channel : IncomingChannel) (out : List SessionFrame) (it : Detach) where
   stands-so : (heard : LinkHeard) (ready : Option Ready) (mid : Talk) (out_mid : List SessionFrame)
-      → Prepares old channel it ready → Answered gives old out channel (said.Detach it) (Ok heard) mid out_mid
-      → StandsFor mid (detach_of heard) ready
+      → Prepares limit old channel it ready → Answered gives old out channel (said.Detach it) (Ok heard) mid out_mid
+      → StandsFor limit mid (detach_of heard) ready
   stands-so (Live session (taken.Detach (detach.ByLink told))) (Some ready) mid out_mid p t =
-      stands old channel out it session told mid out_mid t ready p
+      stands old channel out it session told mid out_mid t limit ready p
   stands-so heard ready mid out_mid p t = tt
 
   pub stands-for : (heard : LinkHeard) (took : Option (ℕ × Detached)) → took ≡ detach_of heard → (ready : Option Ready)
-      (mid : Talk) (out_mid : List SessionFrame) → Prepares old channel it ready
-      → Answered gives old out channel (said.Detach it) (Ok heard) mid out_mid → StandsFor mid took ready
+      (mid : Talk) (out_mid : List SessionFrame) → Prepares limit old channel it ready
+      → Answered gives old out channel (said.Detach it) (Ok heard) mid out_mid → StandsFor limit mid took ready
   stands-for heard took is ready mid out_mid p t =
-      subst (λ (o : Option (ℕ × Detached)). StandsFor mid o ready) (sym is) (stands-so heard ready mid out_mid p t)
+      subst (λ (o : Option (ℕ × Detached)). StandsFor limit mid o ready) (sym is)
+      (stands-so heard ready mid out_mid p t)
 
   becomes : (heard : LinkHeard) (ready : Option Ready) (mid : Talk) (out_mid : List SessionFrame)
       (links links_new : Links) (frames : List SessionFrame) (events : List Event) (new : Talk)
-      → Prepares old channel it ready → Answered gives old out channel (said.Detach it) (Ok heard) mid out_mid
+      → Prepares limit old channel it ready → Answered gives old out channel (said.Detach it) (Ok heard) mid out_mid
       → LeavesBy (detach_of heard) ready mid links frames events new links_new
-      → Becomes (detach_of heard) old links it mid frames events new links_new
+      → Becomes (detach_of heard) limit old links it mid frames events new links_new
   becomes (Live session (taken.Detach (detach.ByLink told))) (Some ready) mid out_mid links links_new frames events new
       p t l =
-      left-by old channel out it session told mid out_mid t ready p links links_new frames events new l
+      left-by old channel out it session told mid out_mid t limit ready p links links_new frames events new l
   becomes (Live session (taken.Detach (detach.ByLink told))) None mid out_mid links links_new frames events new p t l =
-      absurd (ready-one old channel out it session told mid out_mid t p)
+      absurd (ready-one old channel out it session told mid out_mid t limit p)
   becomes heard ready mid out_mid links links_new frames events new p t l = l
 
   pub detach-taken : (heard : LinkHeard) (took : Option (ℕ × Detached)) → took ≡ detach_of heard
       → (ready : Option Ready) (mid : Talk) (out_mid : List SessionFrame) (links links_new : Links) (new : Talk)
-      (told told_new : List Event) (out_new : List SessionFrame) → out_mid ≡ out → Prepares old channel it ready
+      (told told_new : List Event) (out_new : List SessionFrame) → out_mid ≡ out → Prepares limit old channel it ready
       → Answered gives old out channel (said.Detach it) (Ok heard) mid out_mid
       → Tells (λ (frames : List SessionFrame) (events : List Event).
       LeavesBy took ready mid links frames events new links_new) out_mid told out_new told_new
       → Tells (λ (frames : List SessionFrame) (events : List Event).
-      HearsDetach old links channel it frames events new links_new) out told out_new told_new
+      HearsDetach old links limit channel it frames events new links_new) out told out_new told_new
   detach-taken heard took is ready mid out_mid links links_new new told told_new out_new same p t l =
       record {
         frames = l.frames;
@@ -209,7 +210,7 @@ module _ (old : Talk) (channel : IncomingChannel) (out : List SessionFrame) (it 
       → Tells (λ (frames : List SessionFrame) (events : List Event).
       FailsBySaid old links channel (said.Detach it) frames events new links_new) out told out_new told_new
       → Tells (λ (frames : List SessionFrame) (events : List Event).
-      HearsDetach old links channel it frames events new links_new) out told out_new told_new
+      HearsDetach old links limit channel it frames events new links_new) out told out_new told_new
   detach-fails links links_new new told told_new out_new t =
       record {
         frames = t.frames;

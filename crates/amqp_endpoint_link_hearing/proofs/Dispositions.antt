@@ -1,6 +1,6 @@
 -- The peer's Disposition.
 use Rattle.std.proofs.Common.{◌≡◌, ◌≤◌, ◌<◌, inl, inr, ℕ, List, [], ◌∷◌, ◌++◌, Option, Some, None, Ok, IsSome, All}
-use Rattle.std.proofs.Common.{length, drop, arith, refl, sym, ap, subst, ◌∙◌, append-nil}
+use Rattle.std.proofs.Common.{map, length, drop, arith, refl, sym, ap, subst, ◌∙◌, append-nil}
 use Rattle.std.specs.Prelude.{◌^◌, is_some, slice_set}
 use Rattle.std.specs.Box.{with_value}
 use Rattle.smallvec.specs.SmallVec.{SmallVec}
@@ -9,6 +9,7 @@ use Rattle.amqp_session_types.specs.declared.channels.IncomingChannel.{IncomingC
 use Rattle.amqp_session_states.specs.declared.delivery_state.DeliveryState.{DeliveryState}
 use Rattle.amqp_session_performatives.specs.declared.disposition.Disposition.{Disposition}
 use Rattle.amqp_session_performatives.specs.declared.session_frame.SessionFrame.{SessionFrame}
+use Rattle.amqp_session_core.specs.Echoes.{echo_of}
 use Rattle.amqp_session_core.specs.State.{link_at}
 use Rattle.amqp_session_core.specs.Steps.{Changes, SendsDisposition}
 use Rattle.amqp_session_core.specs.declared.dispositions.Touched.{Touched}
@@ -28,8 +29,10 @@ use Rattle.amqp_endpoint_conversation.proofs.Calls.{changed-goes, changed-rests}
 use Rattle.amqp_endpoint_conversation.proofs.Goings.{read-behind}
 use Rattle.amqp_endpoint_messages.specs.Dispositions.{SendsEach, frames_of}
 use Rattle.amqp_endpoint_attached.specs.Linked.{Linked, LinksIn, gives}
-use Rattle.amqp_endpoint_messages.specs.Echoing.{EchoFits, SendsEchoes, echoes_of}
+use Rattle.amqp_endpoint_messages.specs.Echoing.{EchoFits, SendsEchoes, echoes_of, told_back}
+use Rattle.amqp_endpoint_messages.specs.Outcomes.{NoneUntold, outcomes_told}
 use Rattle.amqp_endpoint_messages.specs.Reached.{behind_one, behind_reached, end_behind, link_behind, reached_told}
+use Rattle.amqp_endpoint_messages.proofs.EndedTold.{each-sent, told-all, told-ends}
 use Rattle.amqp_endpoint_messages.proofs.Lengths.{all-fit}
 use Rattle.amqp_endpoint_messages.proofs.Numbers.{no-more-runs}
 use Rattle.amqp_endpoint_linking.specs.Linking.{Link, Links, Session, Talk}
@@ -79,10 +82,10 @@ quiet-told s (delivery ∷ rest) new q =
     (quiet-told (record s { session = behind_one s.session delivery }) rest new q)
   where
     at : (o : Option Link) → link_at s.session delivery.handle.0 ≡ o
-        → Quiet (record s { session = link_behind s.session delivery.handle.0 o }) new → Quiet s new
+        → Quiet (record s { session = link_behind s.session delivery.handle.0 delivery.tag o }) new → Quiet s new
     at None there q = q
     at (Some link) there q =
-        quiet-change s delivery.handle.0 link (record link { link = end_behind link.link }) new there q
+        quiet-change s delivery.handle.0 link (record link { link = end_behind delivery.tag link.link }) new there q
 
 -- Dispositions are sent
 quiet-sent : (s : Linked) (told : List Disposition) (new : LinksIn) → SendsEach gives s.session told new
@@ -217,22 +220,62 @@ module _ (limit : ℕ) (old : Talk) (channel : IncomingChannel) (out : List Sess
           fits = is-ready.fits;
         }
 
-    done-in : (frames : List SessionFrame) (events : List Event) (new : Talk)
-        → GoesOn
-        (TellsAndEchoes (ready.reached).items (ready.echoes).state runs.items frames events) mid session new
+    -- what it tells are the outcomes of what the Disposition ends
+    module _ (state : Option DeliveryState) (frames : List SessionFrame) (events : List Event) (new : Talk)
+        (g : GoesOn (TellsAndEchoes (ready.reached).items state runs.items frames events) mid session new) where
+      same-session : (a b : Session) → Some a ≡ Some b → a.value.session ≡ b.value.session
+      same-session a b same =
+          let is : a ≡ b = cc in ap (λ (x : Session). x.value.session) is
+
+      behind-hearing : (g.before).value.session ≡ ((taken-there.takes).after).value.session
+      behind-hearing =
+          same-session g.before (taken-there.takes).after (sym (g.stepped).0 ∙ taken-there.stands)
+
+      outcomes-so : NoneUntold (taken-there.before).value.session
+          → events ≡ outcomes_told it (taken-there.before).value.session (ready.reached).items
+      outcomes-so none =
+          (g.done).told
+          ∙ ap (λ (s : LinksIn). reached_told s (ready.reached).items) behind-hearing
+          ∙ told-ends it (taken-there.before).value.session ((taken-there.takes).after).value.session
+          (map (echo_of it) runs.items) (ready.reached).items none ((((taken-there.takes).hears).heard).0).1
+          is-ready.deliveries
+
+      none-so : NoneUntold (taken-there.before).value.session → NoneUntold (g.after).value.session
+      none-so none =
+          each-sent (behind_reached (g.before).value.session (ready.reached).items) (echoes_of state runs.items)
+          (g.after).value.session ((g.done).echoes).sends
+          (subst (λ (s : LinksIn). NoneUntold (behind_reached s (ready.reached).items)) (sym behind-hearing)
+          (told-all it (taken-there.before).value.session ((taken-there.takes).after).value.session
+          (map (echo_of it) runs.items) (ready.reached).items none ((((taken-there.takes).hears).heard).0).1
+          is-ready.deliveries))
+
+    done-by : (state : Option DeliveryState) (frames : List SessionFrame) (events : List Event) (new : Talk)
+        → state ≡ told_back limit (taken-there.before).value.session.fields.channel.0 it.state
+        → GoesOn (TellsAndEchoes (ready.reached).items state runs.items frames events) mid session new
         → DoneIn limit old it session runs.items mid frames events new
-    done-in frames events new g =
+    done-by state frames events new is g =
+        let back : Option DeliveryState =
+        told_back limit (taken-there.before).value.session.fields.channel.0 it.state in
+        let goes : GoesOn (TellsAndEchoes (ready.reached).items back runs.items frames events) mid session new =
+        subst
+        (λ (state : Option DeliveryState).
+        GoesOn (TellsAndEchoes (ready.reached).items state runs.items frames events) mid session new)
+        is g in
         record {
           stood = taken-there.before;
           live = taken-there.live;
           deliveries = (ready.reached).items;
           are_reached = is-ready.deliveries;
-          done =
-              subst
-              (λ (state : Option DeliveryState).
-              GoesOn (TellsAndEchoes (ready.reached).items state runs.items frames events) mid session new)
-              is-ready.state g;
+          done = goes;
+          outcomes = outcomes-so back frames events new goes;
+          all_told = none-so back frames events new goes;
         }
+
+    done-in : (frames : List SessionFrame) (events : List Event) (new : Talk)
+        → GoesOn
+        (TellsAndEchoes (ready.reached).items (ready.echoes).state runs.items frames events) mid session new
+        → DoneIn limit old it session runs.items mid frames events new
+    done-in frames events new g = done-by (ready.echoes).state frames events new is-ready.state g
 
 module _ (limit : ℕ) (old : Talk) (channel : IncomingChannel) (out : List SessionFrame) (it : Disposition) where
   stands-so : (heard : LinkHeard) (ready : Option Ready) (mid : Talk) (out_mid : List SessionFrame)

@@ -107,11 +107,11 @@ reached-inside s (delivery ∷ rest) frames new d =
     at (link_at s delivery.handle.0) refl (reached-inside (behind_one s delivery) rest frames new d)
   where
     at : (o : Option Link) → link_at s delivery.handle.0 ≡ o
-        → DoneInside gives (link_behind s delivery.handle.0 o) frames new → DoneInside gives s frames new
+        → DoneInside gives (link_behind s delivery.handle.0 delivery.tag o) frames new → DoneInside gives s frames new
     at None there d = d
     at (Some link) there d =
-        changed-inside gives s (link_behind s delivery.handle.0 (Some link)) new delivery.handle.0 link
-        (record link { link = end_behind link.link }) frames (there, refl) d
+        changed-inside gives s (link_behind s delivery.handle.0 delivery.tag (Some link)) new delivery.handle.0 link
+        (record link { link = end_behind delivery.tag link.link }) frames (there, refl) d
 
 -- Dispositions are sent
 each-inside : (old : LinksIn) (told : List Disposition) (new : LinksIn) → SendsEach gives old told new

@@ -12,7 +12,6 @@ use Rattle.amqp_session_core.specs.Steps.{Changes}
 use Rattle.amqp_session_core.specs.declared.fields.SessionFields.{SessionFields}
 use Rattle.amqp_link_base.specs.declared.detached.Detached.{Detached}
 use Rattle.amqp_endpoint_links.specs.History.{InSession}
-use Rattle.amqp_endpoint_fitting.proofs.Frames.{larger_fits}
 use Rattle.amqp_endpoint_tables.specs.State.{live_at}
 use Rattle.amqp_endpoint_fitting.specs.Handed.{AllAskingSendFit}
 use Rattle.amqp_endpoint_fitting.specs.Read.{IsRead}
@@ -27,7 +26,7 @@ use Rattle.amqp_endpoint_linking.specs.Handed.{Hands, Tells}
 use Rattle.amqp_endpoint_link_hearing.specs.Detaching.{TellsAndParts, detached_told}
 use Rattle.amqp_endpoint_link_hearing.specs.InSession.{GoesOn, Parts}
 use Rattle.amqp_endpoint_link_hearing.specs.Leaves.{LinkLeaves, told_most}
-use Rattle.amqp_endpoint_link_hearing.specs.Leaving.{HasPlace, IsLeft, detach_frame}
+use Rattle.amqp_endpoint_link_hearing.specs.Leaving.{HasAnswer, IsLeft, detach_frame}
 use Rattle.amqp_endpoint_link_hearing.specs.Naming.{link_in, link_of}
 use Rattle.amqp_endpoint_link_hearing.specs.declared.detaching.Ready.{Ready}
 use Rattle.amqp_endpoint_link_hearing.proofs.Doing.{Done, Fits, done-goes, done-rests, parts-done}
@@ -67,16 +66,13 @@ module _ (old : Talk) (session : ℕ) (handle : OutputHandle) (count : ℕ) (ans
       GoesOn (TellsAndParts count handle answers closed error left frames) old session new) out out_new
 
   pub parted-goes : (limit from place : ℕ) → (h : PartedSo) → from ≡ length out → All IsRead (drop from out_new)
-      → ((s : Session) → live_at old.sessions session ≡ Some s → HasPlace s.value handle closed error place)
+      → ((s : Session) → live_at old.sessions session ≡ Some s → HasAnswer limit s.value handle closed error place)
       → 512 ≤ limit → Goes limit old new out out_new
   parted-goes limit from place h is reads places least =
       let g = h.is_so in
       let before = (g.before).value in
       let t = g.done in
-      let short = (places g.before (g.stepped).0).fit in
-      let fit : Fits limit before handle closed error =
-      larger_fits limit (frame_of (detach_frame before.session.fields.channel (own_detach handle closed error))) least
-      short in
+      let fit : Fits limit before handle closed error = (places g.before (g.stepped).0).fit least in
       let fit_mid : Fits limit t.mid handle closed error =
       subst
       (λ (f : SessionFields). fits limit (frame_of (detach_frame f.channel (own_detach handle closed error))) ≡ true)

@@ -24,19 +24,19 @@ use Rattle.amqp_endpoint_link_hearing.specs.declared.detaching.Ready.{Ready}
 use Rattle.amqp_endpoint_link_hearing.proofs.Sizes.{AnswerFits}
 
 -- the answer repeats the peer's error where it fits, and there is room for it
-pub made-ready : (s : Linked) (it : Detach) (ready : Ready) (channel : OutgoingChannel)
+pub made-ready : (limit : ℕ) (s : Linked) (it : Detach) (ready : Ready) (channel : OutgoingChannel)
     → Some ready.handle.0 ≡ session_state.reached s.session it.handle.0 → channel ≡ s.session.fields.channel
     → ready.answer.closed ≡ it.closed
-    → (ready.answer.error ≡ repeated channel ready.handle it.closed it.error)
-    × (AnswerFits channel ready.handle it.closed ready.answer.error ≡ true)
+    → (ready.answer.error ≡ repeated limit channel ready.handle it.closed it.error)
+    × (512 ≤ limit → AnswerFits limit channel ready.handle it.closed ready.answer.error ≡ true)
     → ready.error ≡ it.error → room_behind ready.handle.0 1 s.session.outgoing.queues ≤ ready.answer.place
     → ready.count ≡ ending it.closed (end_at s ready.handle) → AreCopies it.error ready.count ready.copies.items
-    → IsReady s it ready
-made-ready s it ready channel reaches is closes (repeats, fit) tells room counts copied =
+    → IsReady limit s it ready
+made-ready limit s it ready channel reaches is closes (repeats, fit) tells room counts copied =
     record {
       reaches = sym reaches;
       closes = closes;
-      answers = repeats ∙ ap (λ (k : OutgoingChannel). repeated k ready.handle it.closed it.error) is;
+      answers = repeats ∙ ap (λ (k : OutgoingChannel). repeated limit k ready.handle it.closed it.error) is;
       tells = tells;
       counts = counts;
       copied =
@@ -44,24 +44,25 @@ made-ready s it ready channel reaches is closes (repeats, fit) tells room counts
       place =
           record {
             room = room;
-            fit =
-                ap (λ (closed : Bool). AnswerFits s.session.fields.channel ready.handle closed ready.answer.error)
+            fit = λ least.
+                ap
+                (λ (closed : Bool). AnswerFits limit s.session.fields.channel ready.handle closed ready.answer.error)
                 closes
-                ∙ ap (λ (k : OutgoingChannel). AnswerFits k ready.handle it.closed ready.answer.error) (sym is)
-                ∙ fit;
+                ∙ ap (λ (k : OutgoingChannel). AnswerFits limit k ready.handle it.closed ready.answer.error) (sym is)
+                ∙ fit least;
           };
     }
 
-module _ (talk : Talk) (channel : IncomingChannel) (it : Detach) where
+module _ (limit : ℕ) (talk : Talk) (channel : IncomingChannel) (it : Detach) where
   -- the session that the channel reaches has begun
   pub prepared : {E : Type 0} (number : ℕ) (session : Session) (before : Linked)
       → Some number ≡ reached talk.sessions channel.0
       → Some session ≡ live_at talk.sessions number → before ≡ session.value → (r : Result (Option Ready) E)
-      → IfOk r (ReadyFor before it) → IfOk r (Prepares talk channel it)
+      → IfOk r (ReadyFor limit before it) → IfOk r (Prepares limit talk channel it)
   prepared number session before at is same (Ok ready) so = λ other s reaches live.
       let here : number ≡ other = same_Some number other (at ∙ reaches) in
       let stands : session ≡ s = same_Some session s (is ∙ ap (live_at talk.sessions) here ∙ live) in
-      subst (λ (l : Linked). ReadyFor l it ready) (same ∙ ap (λ (x : Session). x.value) stands) so
+      subst (λ (l : Linked). ReadyFor limit l it ready) (same ∙ ap (λ (x : Session). x.value) stands) so
   prepared number session before at is same (Err e) so = so
 
 -- nothing comes of it

@@ -42,7 +42,7 @@ pub record TellsAndParts (count : ℕ) (handle : OutputHandle) (answers closed :
 -- the link that the peer's handle reached took it: it is answered, where the own Detach hadn't gone, by one that closes
 -- the link as the peer's does, with its error where that fits; the link leaves its session. It is told that it is
 -- detached, and behind that the outcomes of the messages that end by it, by the peer's error
-pub record ByLink (old : Talk) (links : Links) (it : Detach) (session : ℕ) (told : Detached) (mid : Talk)
+pub record ByLink (limit : ℕ) (old : Talk) (links : Links) (it : Detach) (session : ℕ) (told : Detached) (mid : Talk)
     (frames : List SessionFrame) (events : List Event) (new : Talk) (links_new : Links) : Type 0 where
   pub stood : Session
   pub live : live_at old.sessions session ≡ Some stood
@@ -54,7 +54,7 @@ pub record ByLink (old : Talk) (links : Links) (it : Detach) (session : ℕ) (to
   pub parts :
       GoesOn
       (TellsAndParts (ending it.closed (end_at stood.value handle)) handle told.answer it.closed
-      (repeated stood.value.session.fields.channel handle it.closed it.error) left frames)
+      (repeated limit stood.value.session.fields.channel handle it.closed it.error) left frames)
       mid session new
   pub is_left : IsLeft told.closed links link.number left links_new
   pub tells : events ≡ detached_told link.number told.closed it.error
@@ -70,23 +70,23 @@ pub record Withdraws (links : Links) (mid : Talk) (frames : List SessionFrame) (
 
 -- what comes of it once it is heard: a link that the peer asks for is asked for no longer, and nothing is told; in a
 -- session that is ending nothing comes of it
-abbrev pub Becomes : Option (ℕ × Detached) → Talk → Links → Detach → Talk → List SessionFrame → List Event → Talk
+abbrev pub Becomes : Option (ℕ × Detached) → ℕ → Talk → Links → Detach → Talk → List SessionFrame → List Event → Talk
     → Links → Type 0
-Becomes (Some (session, told)) old links it mid frames events new links_new =
-    ByLink old links it session told mid frames events new links_new
-Becomes None old links it mid frames events new links_new = Withdraws links mid frames events new links_new
+Becomes (Some (session, told)) limit old links it mid frames events new links_new =
+    ByLink limit old links it session told mid frames events new links_new
+Becomes None limit old links it mid frames events new links_new = Withdraws links mid frames events new links_new
 
 -- the session takes it
-pub record TakesDetach (old : Talk) (links : Links) (channel : IncomingChannel) (it : Detach)
+pub record TakesDetach (old : Talk) (links : Links) (limit : ℕ) (channel : IncomingChannel) (it : Detach)
     (frames : List SessionFrame) (events : List Event) (new : Talk) (links_new : Links) : Type 0 where
   pub heard : LinkHeard
   pub mid : Talk
   pub answered : Answers old channel (said.Detach it) (Ok heard) [] mid
-  pub becomes : Becomes (detach_of heard) old links it mid frames events new links_new
+  pub becomes : Becomes (detach_of heard) limit old links it mid frames events new links_new
 
 -- or it ends by its fault
-abbrev pub HearsDetach : Talk → Links → IncomingChannel → Detach → List SessionFrame → List Event → Talk → Links
+abbrev pub HearsDetach : Talk → Links → ℕ → IncomingChannel → Detach → List SessionFrame → List Event → Talk → Links
     → Type 0
-HearsDetach old links channel it frames events new links_new =
-    TakesDetach old links channel it frames events new links_new
+HearsDetach old links limit channel it frames events new links_new =
+    TakesDetach old links limit channel it frames events new links_new
     ⊎ FailsBySaid old links channel (said.Detach it) frames events new links_new

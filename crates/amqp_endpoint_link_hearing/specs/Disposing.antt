@@ -15,6 +15,7 @@ use Rattle.amqp_endpoint_tables.specs.State.{live_at, reached}
 use Rattle.amqp_endpoint_model.specs.declared.event.Event.{Event}
 use Rattle.amqp_endpoint_attached.specs.Linked.{Linked}
 use Rattle.amqp_endpoint_messages.specs.Echoing.{EchoFits, SendsEchoes, ServesFor, told_back}
+use Rattle.amqp_endpoint_messages.specs.Outcomes.{NoneUntold, outcomes_told}
 use Rattle.amqp_endpoint_messages.specs.Reached.{behind_reached, reached_told}
 use Rattle.amqp_endpoint_linking.specs.Linking.{Links, Session, Talk}
 use Rattle.amqp_endpoint_link_hearing.specs.InSession.{GoesOn}
@@ -35,7 +36,9 @@ pub record TellsAndEchoes (deliveries : List Touched) (state : Option DeliverySt
       SendsEchoes state runs (record old { session = behind_reached old.session deliveries }) frames new
 
 -- The session of the Disposition does so: the deliveries are those that the Disposition reached, and the state that is
--- told back is the Disposition's, where the peer takes a frame that tells it.
+-- told back is the Disposition's, where the peer takes a frame that tells it. Where none of its links had a message
+-- that ended and wasn't told, those that are told are the outcomes of what the Disposition ends, in the order of its
+-- deliveries, and none is left untold.
 pub record DoneIn (limit : ℕ) (old : Talk) (it : Disposition) (session : ℕ) (runs : List (ℕ × ℕ)) (mid : Talk)
     (frames : List SessionFrame) (events : List Event) (new : Talk) : Type 0 where
   pub stood : Session
@@ -46,6 +49,8 @@ pub record DoneIn (limit : ℕ) (old : Talk) (it : Disposition) (session : ℕ) 
       GoesOn
       (TellsAndEchoes deliveries (told_back limit stood.value.session.fields.channel.0 it.state) runs frames events)
       mid session new
+  pub outcomes : NoneUntold stood.value.session → events ≡ outcomes_told it stood.value.session deliveries
+  pub all_told : NoneUntold stood.value.session → NoneUntold done.after.value.session
 
 -- Nothing more comes of it.
 pub record Rested (mid : Talk) (frames : List SessionFrame) (events : List Event) (new : Talk) : Type 0 where

@@ -11,39 +11,39 @@ use Rattle.amqp_endpoint_attached.specs.Linked.{Linked, end_at}
 use Rattle.amqp_endpoint_linking.specs.Linking.{Link, Links, Session, Talk}
 use Rattle.amqp_endpoint_messages.specs.All.{AreCopies, told_by}
 use Rattle.amqp_endpoint_link_hearing.specs.InSession.{GoesOn}
-use Rattle.amqp_endpoint_link_hearing.specs.Leaving.{HasPlace, IsLeft, repeated}
+use Rattle.amqp_endpoint_link_hearing.specs.Leaving.{HasAnswer, IsLeft, repeated}
 use Rattle.amqp_endpoint_link_hearing.specs.Naming.{link_of}
 use Rattle.amqp_endpoint_link_hearing.specs.Detaching.{TellsAndParts, Withdraws, detached_told, ending}
 use Rattle.amqp_endpoint_link_hearing.specs.declared.detaching.Ready.{Ready}
 
 -- the answer is made for the link that the peer's handle reaches
-pub record IsReady (s : Linked) (it : Detach) (ready : Ready) : Type 0 where
+pub record IsReady (limit : ℕ) (s : Linked) (it : Detach) (ready : Ready) : Type 0 where
   pub reaches : session_state.reached s.session it.handle.0 ≡ Some ready.handle.0
   pub closes : ready.answer.closed ≡ it.closed
-  pub answers : ready.answer.error ≡ repeated s.session.fields.channel ready.handle it.closed it.error
+  pub answers : ready.answer.error ≡ repeated limit s.session.fields.channel ready.handle it.closed it.error
   pub tells : ready.error ≡ it.error
   pub counts : ready.count ≡ ending it.closed (end_at s ready.handle)
   pub copied : AreCopies ready.error ready.count ready.copies.items
-  pub place : HasPlace s ready.handle ready.answer.closed ready.answer.error ready.answer.place
+  pub place : HasAnswer limit s ready.handle ready.answer.closed ready.answer.error ready.answer.place
 
-abbrev pub ReadyFor : Linked → Detach → Option Ready → Type 0
-ReadyFor s it None = session_state.reached s.session it.handle.0 ≡ None
-ReadyFor s it (Some ready) = IsReady s it ready
+abbrev pub ReadyFor : ℕ → Linked → Detach → Option Ready → Type 0
+ReadyFor limit s it None = session_state.reached s.session it.handle.0 ≡ None
+ReadyFor limit s it (Some ready) = IsReady limit s it ready
 
 -- in the session that the channel reaches, if that has begun
-abbrev pub Prepares : Talk → IncomingChannel → Detach → Option Ready → Type 0
-Prepares talk channel it ready =
+abbrev pub Prepares : ℕ → Talk → IncomingChannel → Detach → Option Ready → Type 0
+Prepares limit talk channel it ready =
     (number : ℕ) (s : Session) → reached talk.sessions channel.0 ≡ Some number
-    → live_at talk.sessions number ≡ Some s → ReadyFor s.value it ready
+    → live_at talk.sessions number ≡ Some s → ReadyFor limit s.value it ready
 
 -- the link took the Detach, and what was made ready serves
-abbrev pub StandsFor : Talk → Option (ℕ × Detached) → Option Ready → Type 0
-StandsFor mid (Some (session, told)) (Some ready) =
+abbrev pub StandsFor : ℕ → Talk → Option (ℕ × Detached) → Option Ready → Type 0
+StandsFor limit mid (Some (session, told)) (Some ready) =
     IsSome (link_of mid session ready.handle)
     × ((s : Session) → live_at mid.sessions session ≡ Some s
-    → HasPlace s.value ready.handle ready.answer.closed ready.answer.error ready.answer.place)
+    → HasAnswer limit s.value ready.handle ready.answer.closed ready.answer.error ready.answer.place)
     × AreCopies ready.error ready.count ready.copies.items
-StandsFor mid took ready = Unit {0}
+StandsFor limit mid took ready = Unit {0}
 
 -- how many events are told at most
 abbrev pub told_most : Option Ready → ℕ

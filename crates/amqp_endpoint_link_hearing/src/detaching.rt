@@ -1,5 +1,5 @@
 //! The peer's Detach (part 2, 2.6.4 to 2.6.6, 2.7.7).
-ghost use Rattle.std.specs.Prelude.{◌≡◌, ◌+◌, ◌<◌, ◌≤◌, ◌++◌, ℕ, IfErr, IfOk, IsSome, OnErr, OnOk, Some};
+ghost use Rattle.std.specs.Prelude.{◌≡◌, ◌+◌, ◌<◌, ◌≤◌, ◌++◌, IfErr, IfOk, IsSome, OnErr, OnOk, Some};
 ghost use Rattle.std.specs.Vec.{vec_capacity, vec_len};
 ghost use Rattle.std.specs.VecDeque.{deque_capacity, deque_len};
 ghost use Rattle.amqp_endpoint_links.specs.declared.hearing.LinkPerformative.TheVariants as said;
@@ -13,7 +13,7 @@ ghost use Rattle.amqp_endpoint_linking.specs.Linking.{Session};
 ghost use Rattle.amqp_endpoint_link_hearing.specs.Detaching.{HearsDetach, detached_told, ending};
 ghost use Rattle.amqp_endpoint_link_hearing.specs.Leaves.{LeavesBy, LinkLeaves, Prepares, ReadyFor, StandsFor};
 ghost use Rattle.amqp_endpoint_link_hearing.specs.Leaves.{told_most};
-ghost use Rattle.amqp_endpoint_link_hearing.specs.Leaving.{HasPlace};
+ghost use Rattle.amqp_endpoint_link_hearing.specs.Leaving.{HasAnswer};
 ghost use Rattle.amqp_endpoint_link_hearing.specs.Naming.{link_of};
 ghost use Rattle.amqp_endpoint_link_hearing.specs.Saying.{RefusesSaid};
 
@@ -51,7 +51,7 @@ struct Ready {
 
 /// Takes the peer's Detach in the session that its channel reaches (part 2, 2.6.4 to 2.6.6, 2.7.7). The link that the
 /// peer's handle reaches is answered, where its own Detach hadn't gone, by one that closes it as the peer's does: it
-/// is handed out, or waits behind what the link has waiting, and repeats the peer's error where a frame of 512 bytes
+/// is handed out, or waits behind what the link has waiting, and repeats the peer's error where a frame of `limit` bytes
 /// holds it. The link leaves its session, where nothing of it waits there, and is at rest; where either end closed
 /// it, it is unknown from then on. `Detached` is told, and behind it, where the peer closes a sending link, the
 /// `Outcome` of each of its open messages, in the order in which they were sent: that the peer closed the link, with a
@@ -66,26 +66,28 @@ pub fn hear_detach(
     talk: &mut Conversation<Numbered<LinkEnd>>,
     links: &mut Links<LinkEnd>,
     alloc: Global,
+    limit: u32,
     channel: IncomingChannel,
     detach: Detach,
     out: &mut VecDeque<SessionFrame>,
     events: &mut Vec<Event>,
 ) -> Result<(), EndpointError>
     ensures ok { OnOk result
-        (Tells (λ frames told. HearsDetach talk.old links.old channel detach frames told talk.new links.new)
+        (Tells (λ frames told. HearsDetach talk.old links.old limit channel detach frames told talk.new links.new)
         out.old.items events.old.items out.new.items events.new.items) }
     ensures err { IfErr result (λ e.
         IsSessionFault e × RefusesSaid talk.old channel (said.Detach detach) e talk.new) }
     ensures kept { OnErr result ((links.new ≡ links.old) × (out.new.items ≡ out.old.items)
         × (events.new.items ≡ events.old.items)) }
-    ensures goes { (limit : ℕ) → 512 ≤ limit →
-        Goes limit talk.old talk.new out.old.items out.new.items }
+    ensures goes { 512 ≤ limit → Goes limit talk.old talk.new out.old.items out.new.items }
     ensures rests { Rests talk.old talk.new out.old.items out.new.items }
 {
-    let ready = make_ready(talk, alloc, channel, &detach)?;
+    let ready = make_ready(talk, alloc, limit, channel, &detach)?;
     make_room(&ready, events)?;
     out.reserve(1)?;
-    take_detach(talk, links, alloc, channel, detach, ready, out, events)?;
+    take_detach(
+        talk, links, alloc, limit, channel, detach, ready, out, events,
+    )?;
     Ok(())
 }
 
@@ -121,31 +123,31 @@ fn take_detach(
     talk: &mut Conversation<Numbered<LinkEnd>>,
     links: &mut Links<LinkEnd>,
     alloc: Global,
+    limit: u32,
     channel: IncomingChannel,
     detach: Detach,
     ready: Option<Ready>,
     out: &mut VecDeque<SessionFrame>,
     events: &mut Vec<Event>,
 ) -> Result<(), EndpointError>
-    requires ready { Prepares talk.old channel detach ready }
+    requires ready { Prepares limit talk.old channel detach ready }
     requires spare { deque_len out.old < deque_capacity out.old }
     requires room { vec_len events.old + told_most ready ≤ vec_capacity events.old }
     ensures ok { OnOk result
-        (Tells (λ frames told. HearsDetach talk.old links.old channel detach frames told talk.new links.new)
+        (Tells (λ frames told. HearsDetach talk.old links.old limit channel detach frames told talk.new links.new)
         out.old.items events.old.items out.new.items events.new.items) }
     ensures err { IfErr result (λ e.
         IsSessionFault e × RefusesSaid talk.old channel (said.Detach detach) e talk.new) }
     ensures kept { OnErr result ((links.new ≡ links.old) × (out.new.items ≡ out.old.items)
         × (events.new.items ≡ events.old.items)) }
-    ensures goes { (limit : ℕ) → 512 ≤ limit →
-        Goes limit talk.old talk.new out.old.items out.new.items }
+    ensures goes { 512 ≤ limit → Goes limit talk.old talk.new out.old.items out.new.items }
     ensures rests { Rests talk.old talk.new out.old.items out.new.items }
 {
     let said = LinkPerformative::Detach(detach);
     match amqp_endpoint_conversation::hear(talk, alloc, out, channel, said) {
         Ok(heard) => {
             let took = detach_of(heard);
-            detach_heard(talk, links, took, ready, out, events);
+            detach_heard(talk, links, limit, took, ready, out, events);
             Ok(())
         }
         Err(refusal) => match refuse(links, refusal, events) {
@@ -159,18 +161,18 @@ fn take_detach(
 fn detach_heard(
     talk: &mut Conversation<Numbered<LinkEnd>>,
     links: &mut Links<LinkEnd>,
+    limit: u32,
     took: Option<(u64, Detached)>,
     ready: Option<Ready>,
     out: &mut VecDeque<SessionFrame>,
     events: &mut Vec<Event>,
 )
-    requires stands { StandsFor talk.old took ready }
+    requires stands { StandsFor limit talk.old took ready }
     requires spare { deque_len out.old < deque_capacity out.old }
     requires room { vec_len events.old + told_most ready ≤ vec_capacity events.old }
     ensures leaves { Tells (λ frames told. LeavesBy took ready talk.old links.old frames told talk.new links.new)
         out.old.items events.old.items out.new.items events.new.items }
-    ensures goes { (limit : ℕ) → 512 ≤ limit →
-        Goes limit talk.old talk.new out.old.items out.new.items }
+    ensures goes { 512 ≤ limit → Goes limit talk.old talk.new out.old.items out.new.items }
     ensures rests { Rests talk.old talk.new out.old.items out.new.items }
 {
     let Some((session, told)) = took else {
@@ -179,13 +181,14 @@ fn detach_heard(
     let Some(ready) = ready else {
         return;
     };
-    leave_by_link(talk, links, session, told, ready, out, events);
+    leave_by_link(talk, links, limit, session, told, ready, out, events);
 }
 
 /// The link for which this is ready took the Detach. There is room for what is told.
 fn leave_by_link(
     talk: &mut Conversation<Numbered<LinkEnd>>,
     links: &mut Links<LinkEnd>,
+    limit: u32,
     session: u64,
     told: Detached,
     ready: Ready,
@@ -194,14 +197,13 @@ fn leave_by_link(
 )
     requires there { IsSome (link_of talk.old session ready.handle) }
     requires place { (s : Session) → live_at talk.old.sessions session ≡ Some s →
-        HasPlace s.value ready.handle ready.answer.closed ready.answer.error ready.answer.place }
+        HasAnswer limit s.value ready.handle ready.answer.closed ready.answer.error ready.answer.place }
     requires copied { AreCopies ready.error ready.count ready.copies.items }
     requires spare { deque_len out.old < deque_capacity out.old }
     requires room { vec_len events.old + (ready.count + 1) ≤ vec_capacity events.old }
     ensures leaves { Tells (λ frames events. LinkLeaves session told ready talk.old links.old frames events
         talk.new links.new) out.old.items events.old.items out.new.items events.new.items }
-    ensures goes { (limit : ℕ) → 512 ≤ limit →
-        Goes limit talk.old talk.new out.old.items out.new.items }
+    ensures goes { 512 ≤ limit → Goes limit talk.old talk.new out.old.items out.new.items }
     ensures rests { Rests talk.old talk.new out.old.items out.new.items }
 {
     let Ready {
@@ -215,6 +217,7 @@ fn leave_by_link(
     tell_detached(link, told.closed, error, events);
     let left = part(
         talk,
+        limit,
         session,
         handle,
         told.answer,
@@ -251,10 +254,11 @@ fn tell_detached(
 fn make_ready(
     talk: &Conversation<Numbered<LinkEnd>>,
     alloc: Global,
+    limit: u32,
     channel: IncomingChannel,
     detach: &Detach,
 ) -> Result<Option<Ready>, AllocError>
-    ensures { IfOk result (Prepares talk.now channel detach.now) }
+    ensures { IfOk result (Prepares limit talk.now channel detach.now) }
 {
     let Some(number) = talk.sessions.reached(channel) else {
         return Ok(None);
@@ -262,16 +266,17 @@ fn make_ready(
     let Some(session) = talk.sessions.live(number) else {
         return Ok(None);
     };
-    make_ready_in(session, alloc, detach)
+    make_ready_in(session, alloc, limit, detach)
 }
 
 /// The same in its session.
 fn make_ready_in(
     session: &LinkSession,
     alloc: Global,
+    limit: u32,
     detach: &Detach,
 ) -> Result<Option<Ready>, AllocError>
-    ensures { IfOk result (ReadyFor session.now detach.now) }
+    ensures { IfOk result (ReadyFor limit session.now detach.now) }
 {
     let input = InputHandle(detach.handle.0);
     let Some(handle) = session.session.link_by_input_handle(input) else {
@@ -281,7 +286,7 @@ fn make_ready_in(
         return Err(AllocError);
     };
     let channel = session.session.outgoing_channel();
-    let error = repeated(channel, handle, detach.closed, &detach.error)?;
+    let error = repeated(limit, channel, handle, detach.closed, &detach.error)?;
     let count = ending(session, handle, detach.closed);
     let copies = copies_of(alloc, &detach.error, count)?;
     let answer = Answer {

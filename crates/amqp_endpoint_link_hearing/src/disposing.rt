@@ -39,7 +39,8 @@ struct Ready {
 
 /// Takes the peer's Disposition in the session that its channel reaches (part 2, 2.6.12, 2.7.6): the links hear of
 /// their deliveries that it names. For each delivery that it reaches, in order, the sending link tells what became of
-/// the message that ended first of those that it hasn't told yet, if there is one: `Outcome` is told (part 3, 3.4).
+/// the message that ended first of those that it hasn't told yet, where that has the delivery's tag: `Outcome` is told
+/// (part 3, 3.4).
 /// Where the receiver settles once the sender did (part 2, 2.8.3), the Disposition is echoed: for each run of such
 /// deliveries one is handed out, settled, with the same state. For the time being that goes without the state where
 /// frames of `limit` bytes don't hold it. Nothing comes of it in a session that is ending. A session that refuses it

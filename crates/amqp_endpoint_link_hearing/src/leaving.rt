@@ -16,7 +16,7 @@ ghost use Rattle.amqp_endpoint_linking.specs.Handed.{Hands};
 ghost use Rattle.amqp_endpoint_linking.specs.Linking.{Session};
 ghost use Rattle.amqp_endpoint_link_hearing.specs.Detaching.{TellsAndParts};
 ghost use Rattle.amqp_endpoint_link_hearing.specs.InSession.{GoesOn, Parts};
-ghost use Rattle.amqp_endpoint_link_hearing.specs.Leaving.{HasPlace, IsLeft, detach_frame, repeated};
+ghost use Rattle.amqp_endpoint_link_hearing.specs.Leaving.{HasAnswer, IsLeft, detach_frame, repeated};
 ghost use Rattle.amqp_endpoint_link_hearing.specs.Naming.{link_of};
 
 use amqp_endpoint_attached::{LinkSession, answer_detach, take_out};
@@ -35,9 +35,6 @@ use amqp_session_types::{Handle, OutgoingChannel, OutputHandle, definitions};
 use std::alloc::AllocError;
 use std::collections::VecDeque;
 
-/// How many bytes every peer takes in a frame (part 2, 2.4.1).
-const LEAST_LIMIT: u32 = 512;
-
 /// The answer to a peer's Detach, for which there is room.
 #[derive(Drop)]
 pub(crate) struct Answer {
@@ -50,9 +47,11 @@ pub(crate) struct Answer {
 }
 
 /// The link with this own handle tells of so many messages that ended, and leaves its session, where nothing of it
-/// waits: the peer's Detach is answered before, where that is to be. It takes no memory.
+/// waits: the peer's Detach is answered before, where that is to be, and the answer fits the limit. It takes no
+/// memory.
 pub(crate) fn part(
     talk: &mut Conversation<Numbered<LinkEnd>>,
+    _limit: u32,
     session: u64,
     handle: OutputHandle,
     answers: bool,
@@ -64,7 +63,7 @@ pub(crate) fn part(
 ) -> Option<Numbered<LinkEnd>>
     requires there { IsSome (link_of talk.old session handle) }
     requires place { (s : Session) → live_at talk.old.sessions session ≡ Some s →
-        HasPlace s.value handle answer.closed answer.error answer.place }
+        HasAnswer _limit s.value handle answer.closed answer.error answer.place }
     requires spare { deque_len out.old < deque_capacity out.old }
     requires room { vec_len events.old + count ≤ vec_capacity events.old }
     ensures parted { Hands (λ frames. GoesOn
@@ -72,8 +71,7 @@ pub(crate) fn part(
         out.old.items out.new.items }
     ensures told { (error : Option Error) → AreCopies error count copies.items →
         events.new.items ≡ events.old.items ++ first_told count error (link_of talk.old session handle) }
-    ensures goes { (limit : ℕ) → 512 ≤ limit →
-        Goes limit talk.old talk.new out.old.items out.new.items }
+    ensures goes { 512 ≤ _limit → Goes _limit talk.old talk.new out.old.items out.new.items }
     ensures rests { Rests talk.old talk.new out.old.items out.new.items }
 {
     let from = out.len();
@@ -170,16 +168,17 @@ fn rest(links: &mut Links<LinkEnd>, number: u64, link: LinkEnd)
     let _ = links.rest(number, link);
 }
 
-/// The error of the peer's Detach that the own one repeats, where a frame holds it that every peer takes (part 2,
-/// 2.4.1). It is refused where there is no memory.
+/// The error of the peer's Detach that the own one repeats, where a frame of this many bytes holds it (part 2, 2.4.1).
+/// It is refused where there is no memory.
 pub(crate) fn repeated(
+    limit: u32,
     channel: OutgoingChannel,
     handle: OutputHandle,
     closed: bool,
     error: &Option<definitions::Error>,
 ) -> Result<Option<definitions::Error>, AllocError>
-    ensures { IfOk result (λ e. (e ≡ repeated channel handle closed error.now)
-        × (fits 512 (frame_of (detach_frame channel (own_detach handle closed e))) ≡ true)) }
+    ensures { IfOk result (λ e. (e ≡ repeated limit channel handle closed error.now)
+        × (512 ≤ limit → fits limit (frame_of (detach_frame channel (own_detach handle closed e))) ≡ true)) }
 {
     handle_is_read(handle);
     let mut answer = Detach {
@@ -187,7 +186,7 @@ pub(crate) fn repeated(
         closed,
         error: error.clone()?,
     };
-    if fits(channel, &answer) {
+    if fits(limit, channel, &answer) {
         return Ok(answer.error.take());
     }
     Ok(None)
@@ -200,9 +199,9 @@ pub(crate) fn handle_is_read(handle: OutputHandle)
     let _number = handle.0;
 }
 
-/// Whether a Detach is no longer than every peer takes, whatever its channel (part 2, 2.4.1).
-fn fits(_channel: OutgoingChannel, detach: &Detach) -> bool
-    ensures { result ≡ fits 512 (frame_of (detach_frame _channel detach.now)) }
+/// Whether a Detach fits the limit, whatever its channel (part 2, 2.4.1).
+fn fits(limit: u32, _channel: OutgoingChannel, detach: &Detach) -> bool
+    ensures { result ≡ fits limit (frame_of (detach_frame _channel detach.now)) }
 {
-    fits_text(detach, LEAST_LIMIT)
+    fits_text(detach, limit)
 }

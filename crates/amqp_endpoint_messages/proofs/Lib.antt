@@ -7,7 +7,9 @@ pub mod Ends
 pub mod Disposed
 pub mod Nothing
 pub mod Telling
+pub mod Firsts
 pub mod Numbers
+pub mod EndedTold
 pub mod Lengths
 pub mod Goings
 pub mod Lists

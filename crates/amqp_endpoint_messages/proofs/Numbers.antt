@@ -1,6 +1,6 @@
 -- A disposition wants no more runs echoed than it reaches deliveries.
 use Rattle.std.proofs.Common.{◌≡◌, ◌⊎◌, inl, inr, ℕ, zero, suc, ◌+◌, ◌%◌, ◌≤◌, ◌<◌, Bool, true, false, List, [], ◌∷◌}
-use Rattle.std.proofs.Common.{map, length, arith, refl, ap, subst}
+use Rattle.std.proofs.Common.{map, length, arith, refl, sym, ap, subst, ◌∙◌}
 use Rattle.std.specs.Prelude.{◌^◌, ◌==◌, Contains, if◌then◌else◌}
 use Rattle.std.specs.List.Sorted.{IsStrictlySortedBy}
 use Rattle.std.specs.Ordering.{nat_cmp}
@@ -63,6 +63,51 @@ no-longer (x ∷ xs) (y ∷ ys) rising others in_them =
         by : (y ≡ d) ⊎ Contains ys d → Contains ys d
         by (inl is) = absurd (omega (arith, is, least, above-first x xs d rising there))
         by (inr found) = found
+
+-- a rising list begins as another that has the same numbers
+same-first : (x y : ℕ) (xs ys : List ℕ) → IsStrictlySortedBy nat_cmp (x ∷ xs) → IsStrictlySortedBy nat_cmp (y ∷ ys)
+    → Contains (y ∷ ys) x → Contains (x ∷ xs) y → x ≡ y
+same-first x y xs ys rising others there back = by (first-or-rest y ys x there) (first-or-rest x xs y back)
+  where
+    by : (y ≡ x) ⊎ Contains ys x → (x ≡ y) ⊎ Contains xs y → x ≡ y
+    by (inl is) other = sym is
+    by (inr found) (inl is) = is
+    by (inr found) (inr later) =
+        absurd (omega (arith, above-first y ys x others found, above-first x xs y rising later))
+
+-- and behind the first they have the same numbers
+same-later : (x y : ℕ) (xs ys : List ℕ) → IsStrictlySortedBy nat_cmp (x ∷ xs) → x ≡ y
+    → ((d : ℕ) → Contains (x ∷ xs) d → Contains (y ∷ ys) d) → (d : ℕ) → Contains xs d → Contains ys d
+same-later x y xs ys rising is in_them d there = by (first-or-rest y ys d (in_them d (find-more x xs d there)))
+  where
+    by : (y ≡ d) ⊎ Contains ys d → Contains ys d
+    by (inl first) = absurd (omega (arith, is, first, above-first x xs d rising there))
+    by (inr found) = found
+
+-- so they are one
+same-rising : (xs ys : List ℕ) → IsStrictlySortedBy nat_cmp xs → IsStrictlySortedBy nat_cmp ys
+    → ((d : ℕ) → Contains xs d → Contains ys d) → ((d : ℕ) → Contains ys d → Contains xs d) → xs ≡ ys
+same-rising [] [] rising others there back = refl
+same-rising [] (y ∷ ys) rising others there back = absurd (none-in y (back y (find-first y ys)))
+same-rising (x ∷ xs) [] rising others there back = absurd (none-in x (there x (find-first x xs)))
+same-rising (x ∷ xs) (y ∷ ys) rising others there back =
+    let first : x ≡ y =
+    same-first x y xs ys rising others (there x (find-first x xs)) (back y (find-first y ys)) in
+    ap (λ (n : ℕ). n ∷ xs) first
+    ∙ ap (λ (ns : List ℕ). y ∷ ns)
+    (same-rising xs ys (sorted_tail nat_cmp x xs rising) (sorted_tail nat_cmp y ys others)
+    (same-later x y xs ys rising first there) (same-later y x ys xs others (sym first) back))
+
+-- what a range touches is one list however it is gathered
+pub touched-same : (it : Disposition) (table : Table) (numbers others : List ℕ)
+    → Touches (range_of it.first it.last) table numbers → Touches (range_of it.first it.last) table others
+    → numbers ≡ others
+touched-same it table numbers others a b =
+    a.are
+    ∙ ap (λ (ds : List ℕ). map (number_at (range_of it.first it.last).first) ds)
+    (same-rising a.distances b.distances a.rising b.rising (λ d there. (b.each d).1 ((a.each d).0 there))
+    (λ d there. (a.each d).1 ((b.each d).0 there)))
+    ∙ sym b.are
 
 -- what a range touches is as long however it is gathered
 touched-few : (range : DeliveryRange) (table : Table) (numbers others : List ℕ) → Touches range table numbers

@@ -4,6 +4,7 @@ pub mod Disposing
 pub mod Refusals
 pub mod Told
 pub mod Reached
+pub mod Outcomes
 pub mod All
 pub mod Echoing
 pub mod Sending

@@ -1,4 +1,4 @@
-//! Laws of what goes back. A function here does nothing: its contract is the law.
+//! Laws of what is told of a disposition of the peer, and of what goes back. A function here does nothing: its contract is the law.
 ghost use Rattle.std.specs.Prelude.{◌≡◌, ◌≤◌, ◌<◌, ◌^◌, ℕ, List, All, Option, length, map};
 ghost use Rattle.amqp_session_performatives.specs.declared.disposition.Disposition.{Disposition};
 ghost use Rattle.amqp_session_states.specs.declared.delivery_state.DeliveryState.{DeliveryState};
@@ -10,10 +10,13 @@ ghost use Rattle.amqp_session_core.specs.Steps.{table_of};
 ghost use Rattle.amqp_session_core.specs.Told.{DispositionTaken};
 ghost use Rattle.amqp_session_core.specs.declared.dispositions.Touched.{Touched};
 ghost use Rattle.amqp_session_core.specs.declared.fields.SessionFields.{SessionFields};
+ghost use Rattle.amqp_endpoint_attached.specs.Linked.{LinksIn, gives};
 ghost use Rattle.amqp_endpoint_messages.specs.Dispositions.{frames_of};
 ghost use Rattle.amqp_endpoint_fitting.specs.Fits.{FrameFits};
 ghost use Rattle.amqp_endpoint_fitting.specs.Read.{IsRead};
 ghost use Rattle.amqp_endpoint_messages.specs.Echoing.{EchoFits, echo, echoes_of};
+ghost use Rattle.amqp_endpoint_messages.specs.Outcomes.{NoneUntold, outcomes_told};
+ghost use Rattle.amqp_endpoint_messages.specs.Reached.{behind_reached, reached_told};
 
 use amqp_session_core::LinkRelay;
 
@@ -37,4 +40,20 @@ pub fn what_goes_back_fits()
 pub fn what_goes_back_is_the_echo()
     ensures { (it : Disposition) (run : ℕ × ℕ) → it.role ≡ Receiver →
         echo it.state run ≡ echo_of it run }
+{}
+
+/// Where no link of a session has a message that ended and wasn't told, what its links tell behind a disposition of the
+/// peer are the outcomes of the messages that it ends, in the order of the deliveries that it reaches (part 2, 2.6.12,
+/// 2.7.6; part 3, 3.4).
+pub fn outcomes_are_of_what_ends()
+    ensures { (old new : LinksIn) (it : Disposition) (echoes : List Disposition) (reached : List Touched) →
+        NoneUntold old → DispositionTaken gives old it echoes new → AreTouched it (table_of it.role old) reached →
+        reached_told new reached ≡ outcomes_told it old reached }
+{}
+
+/// And no link has such a message behind that.
+pub fn a_disposition_leaves_none_untold()
+    ensures { (old new : LinksIn) (it : Disposition) (echoes : List Disposition) (reached : List Touched) →
+        NoneUntold old → DispositionTaken gives old it echoes new → AreTouched it (table_of it.role old) reached →
+        NoneUntold (behind_reached new reached) }
 {}

@@ -162,8 +162,8 @@ returns-in-Detach-clause-ok c =
     hears-if c.args.talk.now call.new.talk c.args.links.now call.new.links c.args.given.now c.args.given.now
     c.args.limit c.args.channel c.args.body (body.Detach c.in-Detach.detach) c.args.out.now.items call.new.out.items
     c.args.events.now.items call.new.events.items
-    (λ frames events. HearsDetach c.args.talk.now c.args.links.now c.args.channel c.in-Detach.detach frames events
-    call.new.talk call.new.links) (λ frames events h. (h, refl)) c.in-Detach.is call.result call.ensures.ok
+    (λ frames events. HearsDetach c.args.talk.now c.args.links.now c.args.limit c.args.channel c.in-Detach.detach frames
+    events call.new.talk call.new.links) (λ frames events h. (h, refl)) c.in-Detach.is call.result call.ensures.ok
 
 pub returns-in-Detach-clause-err : goal.returns-in-Detach-clause-err
 returns-in-Detach-clause-err c =
@@ -185,7 +185,7 @@ returns-in-Detach-clause-kept c =
     (λ kept. (kept.0, refl, kept.1, kept.2)) call.result call.ensures.kept
 
 pub returns-in-Detach-clause-goes : goal.returns-in-Detach-clause-goes
-returns-in-Detach-clause-goes c = c.hear_detach.ensures.goes c.args.limit
+returns-in-Detach-clause-goes c = c.hear_detach.ensures.goes
 
 pub returns-in-End-clause-ok : goal.returns-in-End-clause-ok
 returns-in-End-clause-ok c =

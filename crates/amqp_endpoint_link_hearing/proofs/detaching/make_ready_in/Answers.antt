@@ -6,7 +6,7 @@ use Rattle.amqp_endpoint_link_hearing.proofs.detaching.make_ready_in.Goals as go
 
 pub returns : goal.returns
 returns c =
-    made-ready c.args.session.now c.args.detach.now
+    made-ready c.args.limit c.args.session.now c.args.detach.now
     (record {
       handle = c.in-Some.handle;
       answer =

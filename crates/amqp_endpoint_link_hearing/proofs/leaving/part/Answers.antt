@@ -34,11 +34,11 @@ returns-clause-parted c =
     c.tell_and_part-left.ensures.parted
 
 pub returns-clause-goes : goal.returns-clause-goes
-returns-clause-goes c limit least =
+returns-clause-goes c least =
     parted-goes c.args.talk.now c.args.session c.args.handle c.args.count c.args.answers c.args.answer.closed
     c.args.answer.error c.tell_and_part-left.result
     (behind-talk c.args.talk.now c.args.session c.in-Some.session.now c.tell_and_part-left.new.session)
-    c.args.out.now.items c.tell_and_part-left.new.out.items limit c.len-from.result c.args.answer.place
+    c.args.out.now.items c.tell_and_part-left.new.out.items c.args._limit c.len-from.result c.args.answer.place
     (hands-on
     (TellsAndParts c.args.count c.args.handle c.args.answers c.args.answer.closed c.args.answer.error
     c.tell_and_part-left.result)
