@@ -1,8 +1,10 @@
 -- What the calls of the sessions do is what they are related by, and what they hand out fits the limit.
-use Rattle.std.proofs.Common.{◌≡◌, ◌≤◌, ℕ, List, [], Result, Ok, Err, Some, None, refl, sym, subst, ◌∙◌, append-nil}
+use Rattle.std.proofs.Common.{◌≡◌, ◌≤◌, ℕ, Bool, true, false, List, [], Result, Ok, Err, Some, None, refl, sym}
+use Rattle.std.proofs.Common.{subst, ◌∙◌, append-nil}
 use Rattle.std.specs.Global.{Vec}
 use Rattle.std.specs.Prelude.{⊤, IfOk, OnOk}
 use Rattle.std.proofs.lemmas.List.{append_cancel_left}
+use Rattle.amqp_session_types.specs.declared.handles.OutputHandle.{OutputHandle}
 use Rattle.amqp_session_types.specs.declared.refusals.TryEndError.{TryEndError}
 use Rattle.amqp_session_performatives.specs.declared.session_frame.SessionFrame.{SessionFrame}
 use Rattle.amqp_endpoint_tables.specs.declared.link_place.LinkPlace.TheVariants.{AtRest, Held}
@@ -16,7 +18,7 @@ use Rattle.amqp_endpoint_conversation.specs.Going.{AllFit, Goes, Within}
 use Rattle.amqp_endpoint_linking.specs.Handed.{Hands}
 use Rattle.amqp_endpoint_linking.specs.Linking.{Links, Sessions, Talk}
 use Rattle.amqp_endpoint_link_calls.specs.Calling.{Does, DoneAt}
-use Rattle.amqp_endpoint_link_calls.specs.Closing.{ClosedAt}
+use Rattle.amqp_endpoint_link_calls.specs.Closing.{ClosedAt, ClosedHeld, parted_at}
 use Rattle.amqp_endpoint_link_calls.specs.Places.{Where}
 use Rattle.amqp_endpoint.specs.declared.linked.LinkedSessions.{LinkedSessions}
 use Rattle.amqp_endpoint.specs.Calling.{Calls, EndIsTold, answer_of}
@@ -91,17 +93,30 @@ left-hands does old new out out_new place (Err e) d = tt
 
 -- a link that is closed, with its own frames
 module _ (old new : Talk) (links links_new : Links) (link : ℕ) (out out_new : List SessionFrame) where
-  pub closed-hands : (place : Where) (events : List Event)
-      → ClosedAt place old links link out events new links_new out_new
-      → Hands (λ (frames : List SessionFrame). ClosedAt place old links link [] events new links_new frames) out out_new
-  closed-hands None events c = absurd c
-  closed-hands (Some (AtRest end)) events c =
+  held-hands : (parted : Bool) (session : ℕ) (handle : OutputHandle) (events : List Event)
+      → ClosedHeld parted session handle old links link out events new links_new out_new
+      → Hands (λ (frames : List SessionFrame).
+      ClosedHeld parted session handle old links link [] events new links_new frames) out out_new
+  held-hands true session handle events c =
       record {
-        frames = [];
-        is_so = record { forgets = c.forgets; same = c.same; silent = refl };
-        queued = c.silent ∙ sym (append-nil out);
+        frames = c.done.frames;
+        is_so =
+            record {
+              done =
+                  record {
+                    before = c.done.before;
+                    after = c.done.after;
+                    frames = c.done.frames;
+                    did = c.done.did;
+                    stepped = c.done.stepped;
+                    rest = c.done.rest;
+                    queued = refl;
+                  };
+              forgotten = c.forgotten;
+            };
+        queued = c.done.queued;
       }
-  closed-hands (Some (Held session handle)) events c =
+  held-hands false session handle events c =
       record {
         frames = c.done.frames;
         is_so =
@@ -120,6 +135,19 @@ module _ (old new : Talk) (links links_new : Links) (link : ℕ) (out out_new : 
             };
         queued = c.done.queued;
       }
+
+  pub closed-hands : (place : Where) (events : List Event)
+      → ClosedAt place old links link out events new links_new out_new
+      → Hands (λ (frames : List SessionFrame). ClosedAt place old links link [] events new links_new frames) out out_new
+  closed-hands None events c = absurd c
+  closed-hands (Some (AtRest end)) events c =
+      record {
+        frames = [];
+        is_so = record { forgets = c.forgets; same = c.same; silent = refl };
+        queued = c.silent ∙ sym (append-nil out);
+      }
+  closed-hands (Some (Held session handle)) events c =
+      held-hands (parted_at old session handle) session handle events c
 
   pub closed-hands-if : (place : Where) (r : Result (Vec Event) EndpointError)
       → IfOk r (λ events. ClosedAt place old links link out events.items new links_new out_new)

@@ -32,7 +32,7 @@ use Rattle.amqp_endpoint_attached.specs.TakenOut.{TakenOut}
 use Rattle.amqp_endpoint_link_calls.specs.Attaching.{AttachedBy}
 use Rattle.amqp_endpoint_link_calls.specs.declared.placed.Placed.{Placed}
 use Rattle.amqp_endpoint_link_calls.specs.Calling.{Does, detaches, gives_credit, wants_drain}
-use Rattle.amqp_endpoint_link_calls.specs.Closing.{closes}
+use Rattle.amqp_endpoint_link_calls.specs.Closing.{closed_end, closes, fails}
 use Rattle.amqp_endpoint_link_hearing.specs.Detaching.{TellsAndParts}
 use Rattle.amqp_endpoint_link_hearing.specs.Disposing.{TellsAndEchoes}
 use Rattle.amqp_endpoint_link_hearing.specs.Flowing.{LeaveWith, LeavesOnce, LeavesWith, ended_link}
@@ -46,7 +46,7 @@ use Rattle.amqp_endpoint_links.proofs.Routing.{none-stays}
 use Rattle.amqp_endpoint_model.specs.declared.call.Disposal.{Disposal}
 use Rattle.amqp_endpoint_model.specs.declared.call.Sending.{Sending}
 use Rattle.amqp_endpoint_model.specs.declared.event.Event.{Event}
-use Rattle.amqp_endpoint_laws.proofs.HoldingDone.{closes-stays, closing-stays, detaches-stay, disposes-all}
+use Rattle.amqp_endpoint_laws.proofs.HoldingDone.{closes-stays, closing-stays, detaches-stay, disposes-all, failing-stays}
 use Rattle.amqp_endpoint_laws.proofs.HoldingDone.{disposes-one, drains-stays, echoes-stay, gives-stays, leave-stay}
 use Rattle.amqp_endpoint_laws.proofs.HoldingDone.{parts-stay, remembers-stays, sends-stays}
 use Rattle.amqp_endpoint_laws.proofs.HoldingInside.{LeadsLess, behind-stays, less}
@@ -194,6 +194,11 @@ closing-keeps events handle before after frames c =
     less-keeps before after
     (ap (λ (x : Linked). x.asked) c.tells.rest ∙ ap (λ (x : Linked). x.asked) c.detached.sent.rest)
     (closing-stays events handle before after frames c).leads
+
+pub failing-keeps : (link : ℕ) (events : List Event) → KeepsBy (fails link events)
+failing-keeps link events handle before after frames t =
+    less-keeps before after (ap (λ (x : Linked). x.asked) t.rest)
+    (failing-stays link events handle before after frames t).leads
 
 pub sends-keep : (limit : ℕ) (tag : List ℕ) (message : Sending) (settled : Bool)
     → KeepsBy (sends limit tag message settled)

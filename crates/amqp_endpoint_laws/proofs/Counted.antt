@@ -1,9 +1,10 @@
 -- An endpoint counts the messages that it accepts to be sent and those that it hands out.
-use Rattle.std.proofs.Common.{◌≡◌, ◌<◌, inl, inr, ℕ, List, [], ◌∷◌, ◌++◌, Option, Some, None, map, arith, refl, sym, ap}
-use Rattle.std.proofs.Common.{subst, ◌∙◌}
+use Rattle.std.proofs.Common.{◌≡◌, ◌<◌, inl, inr, ℕ, Bool, true, false, List, [], ◌∷◌, ◌++◌, Option, Some, None, map, arith}
+use Rattle.std.proofs.Common.{refl, sym, ap, subst, ◌∙◌}
 use Rattle.std.specs.Prelude.{◌^◌, option_map, slice_get}
 use Rattle.std.proofs.lemmas.Option.{none-some, same_Some, slice_get-map}
 use Rattle.std.proofs.lemmas.List.{append-nil, map-append}
+use Rattle.amqp_session_types.specs.declared.handles.OutputHandle.{OutputHandle}
 use Rattle.amqp_session_performatives.specs.declared.session_frame.SessionFrame.{SessionFrame}
 use Rattle.amqp_session_core.specs.State.{link_at}
 use Rattle.amqp_link_base.specs.declared.exchange.AttachExchange.{AttachExchange}
@@ -20,7 +21,7 @@ use Rattle.amqp_endpoint_model.specs.Said.{message_sent, tried_end, truth, waiti
 use Rattle.amqp_endpoint_model.specs.State.{State, fresh}
 use Rattle.amqp_endpoint_attached.specs.Linked.{end_at}
 use Rattle.amqp_endpoint_linking.specs.Linking.{Links, Talk}
-use Rattle.amqp_endpoint_link_calls.specs.Closing.{ClosedAt, closed_end}
+use Rattle.amqp_endpoint_link_calls.specs.Closing.{ClosedAt, ClosedHeld, closed_end, parted_at}
 use Rattle.amqp_endpoint_link_calls.specs.Places.{Where}
 use Rattle.amqp_endpoint_messages.specs.All.{open_count}
 use Rattle.amqp_endpoint.specs.Attaching.{exchange_told}
@@ -92,6 +93,18 @@ exchange-unnumbered : (link : ℕ) (exchange : Option AttachExchange) → Unnumb
 exchange-unnumbered link None = refl
 exchange-unnumbered link (Some exchange) = refl
 
+held-unnumbered : (parted : Bool) (session : ℕ) (handle : OutputHandle) (number : ℕ) (events : List Event)
+    (old new : Talk) (links links_new : Links) (frames : List SessionFrame)
+    → ClosedHeld parted session handle old links number [] events new links_new frames → Unnumbered events
+held-unnumbered true session handle number events old new links links_new frames c =
+    let end : End = c.done.did.it.link in
+    ap (λ (es : List Event). numbers_told es) c.done.did.told
+    ∙ by-unnumbered number None (open_count (Some end)) (closed_end end)
+held-unnumbered false session handle number events old new links links_new frames c =
+    ap (λ (es : List Event). numbers_told es) c.done.did.told
+    ∙ first-unnumbered (open_count (end_at c.done.before.value handle)) None
+    (link_at c.done.did.mid.session handle.0)
+
 closed-unnumbered : (place : Where) (number : ℕ) (events : List Event) (old new : Talk) (links links_new : Links)
     (frames : List SessionFrame) → ClosedAt place old links number [] events new links_new frames → Unnumbered events
 closed-unnumbered None number events old new links links_new frames c = absurd c
@@ -99,9 +112,8 @@ closed-unnumbered (Some (AtRest end)) number events old new links links_new fram
     ap (λ (es : List Event). numbers_told es) c.forgets.told
     ∙ by-unnumbered number None (open_count (Some end)) (closed_end end)
 closed-unnumbered (Some (Held session handle)) number events old new links links_new frames c =
-    ap (λ (es : List Event). numbers_told es) c.done.did.told
-    ∙ first-unnumbered (open_count (end_at c.done.before.value handle)) None
-    (link_at c.done.did.mid.session handle.0)
+    held-unnumbered (parted_at old session handle) session handle number events old new
+    links links_new frames c
 
 -- what a call is answered tells of no message
 pub answer-unnumbered : (by_call : Call) (answer : Said) (old new : LinkedSessions) (limit : ℕ)

@@ -1,5 +1,5 @@
 -- Links stand where they are held behind each call.
-use Rattle.std.proofs.Common.{◌≡◌, ℕ, false, List, [], ◌∷◌, Option, Some, None, Ok, Err, true}
+use Rattle.std.proofs.Common.{Bool, Err, List, None, Ok, Option, Some, [], false, true, ℕ, ◌∷◌, ◌≡◌}
 use Rattle.std.proofs.Common.{ap, refl, subst, sym, ◌∙◌}
 use Rattle.std.specs.Prelude.{Result, ⊤}
 use Rattle.std.proofs.lemmas.Bool.{eq-eqb}
@@ -34,7 +34,7 @@ use Rattle.amqp_endpoint_linking.specs.Linking.{Link, Links, Session, Sessions, 
 use Rattle.amqp_endpoint_link_calls.specs.Attaching.{with_room}
 use Rattle.amqp_endpoint_link_calls.specs.Naming.{name_of}
 use Rattle.amqp_endpoint_link_calls.specs.Calling.{Does, DoneAt, DoneIn, detaches, gives_credit, wants_drain}
-use Rattle.amqp_endpoint_link_calls.specs.Closing.{ClosedAt, closes}
+use Rattle.amqp_endpoint_link_calls.specs.Closing.{ClosedAt, ClosedHeld, closes, fails, parted_at}
 use Rattle.amqp_endpoint_link_calls.specs.Places.{Where}
 use Rattle.amqp_endpoint_link_calls.specs.Disposing.{DisposedAt, disposes_of_all, disposes_of_one}
 use Rattle.amqp_endpoint_link_calls.specs.Sending.{sends}
@@ -52,7 +52,7 @@ use Rattle.amqp_endpoint_laws.proofs.HeldSessions.{told-same}
 use Rattle.amqp_endpoint_laws.proofs.Numbers.{AllKeepNumbers, KeepNumbers, history-kept, same-kept}
 use Rattle.amqp_endpoint_laws.proofs.NumbersInside.{KeepsAll, attached-placed, closes-kept, detaches-kept}
 use Rattle.amqp_endpoint_laws.proofs.NumbersInside.{disposes-kept, disposes-one-kept, drains-kept, gives-kept}
-use Rattle.amqp_endpoint_laws.proofs.NumbersInside.{sends-kept}
+use Rattle.amqp_endpoint_laws.proofs.NumbersInside.{fails-kept, sends-kept}
 use Rattle.amqp_endpoint_laws.proofs.Parted.{closes-shut, entered}
 
 -- the same numbers stand in the sessions of both
@@ -98,6 +98,18 @@ pub stays-held : (old new : Talk) (links links_new : Links) → TalkSame old new
 stays-held old new links links_new same is a =
     stay (number_at old.sessions) (number_at new.sessions) links links_new same is a
 
+closed-held : (parted : Bool) (session : ℕ) (handle : _) (number : ℕ) (events : List Event) (old new : Talk)
+    (links links_new : Links) (frames : List SessionFrame) → link_place links number ≡ Some (Held session handle)
+    → ClosedHeld parted session handle old links number [] events new links_new frames
+    → Agrees (number_at old.sessions) links → Agrees (number_at new.sessions) links_new
+closed-held true session handle number events old new links links_new frames is c a =
+    shut (number_at old.sessions) (number_at new.sessions) links links_new number
+    (done-in (fails number events) session handle old new frames (fails-kept number events) c.done)
+    (closes-shut number (Held session handle) links links_new (is, c.forgotten)) a
+closed-held false session handle number events old new links links_new frames is c a =
+    stays-held old new links links_new
+    (done-in (closes events) session handle old new frames (closes-kept events) c.done) c.kept a
+
 closed-at : (place : Where) (number : ℕ) (events : List Event) (old new : Talk) (links links_new : Links)
     (frames : List SessionFrame) → link_place links number ≡ place
     → ClosedAt place old links number [] events new links_new frames → Agrees (number_at old.sessions) links
@@ -107,8 +119,8 @@ closed-at (Some (AtRest end)) number events old new links links_new frames is c 
     shut (number_at old.sessions) (number_at new.sessions) links links_new number (talk-same old new c.same)
     (closes-shut number (AtRest end) links links_new (is, (c.forgets).forgotten)) a
 closed-at (Some (Held session handle)) number events old new links links_new frames is c a =
-    stays-held old new links links_new
-    (done-in (closes events) session handle old new frames (closes-kept events) c.done) c.kept a
+    closed-held (parted_at old session handle) session handle number events old new links
+    links_new frames is c a
 
 attached : (old new : Talk) (links links_new : Links) (limit session : ℕ) (link : End) (number : ℕ)
     (events : List Event) (frames : List SessionFrame)

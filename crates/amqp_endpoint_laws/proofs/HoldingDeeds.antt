@@ -1,5 +1,5 @@
 -- What links hold of their messages, whatever an endpoint does but that it takes a Transfer.
-use Rattle.std.proofs.Common.{◌≡◌, ◌≢◌, ◌⊎◌, inl, inr, ℕ, Bool, false, List, [], ◌∷◌, Option, Some, None}
+use Rattle.std.proofs.Common.{◌≡◌, ◌≢◌, ◌⊎◌, inl, inr, ℕ, Bool, true, false, List, [], ◌∷◌, Option, Some, None}
 use Rattle.std.proofs.Common.{Ok, Err, ap, refl, slice_get, sym, ◌∙◌}
 use Rattle.std.proofs.lemmas.Option.{none-some}
 use Rattle.std.specs.FinMap as map
@@ -39,7 +39,7 @@ use Rattle.amqp_endpoint_laws.specs.Deeds.{Closes, Deed, Does, EndsBy, Finishes,
 use Rattle.amqp_endpoint_laws.specs.Deeds.{Refuses, Renews, Takes}
 use Rattle.amqp_endpoint_link_calls.specs.Attaching.{with_room}
 use Rattle.amqp_endpoint_link_calls.specs.Calling.{Does as DoesTo, DoneAt, DoneIn, detaches, gives_credit, wants_drain}
-use Rattle.amqp_endpoint_link_calls.specs.Closing.{ClosedAt, closes}
+use Rattle.amqp_endpoint_link_calls.specs.Closing.{ClosedAt, ClosedHeld, closes, fails, parted_at}
 use Rattle.amqp_endpoint_link_calls.specs.Places.{LinksBy, Where}
 use Rattle.amqp_endpoint_link_hearing.specs.Attaching as link_attaching
 use Rattle.amqp_endpoint_link_hearing.specs.Attaching.{HearsAttach, LinkTakes}
@@ -85,6 +85,7 @@ use Rattle.amqp_endpoint_tables.proofs.Owning.{at}
 use Rattle.amqp_endpoint_laws.specs.Held.{number_of}
 use Rattle.amqp_endpoint_laws.proofs.HeldCalled.{accepted-none, begun-none}
 use Rattle.amqp_endpoint_laws.proofs.HoldingDone.{StaysBy, attached-comes, attached-first, closes-stays, closing-stays}
+use Rattle.amqp_endpoint_laws.proofs.HoldingDone.{failing-stays}
 use Rattle.amqp_endpoint_laws.proofs.HoldingDone.{detaches-stay}
 use Rattle.amqp_endpoint_laws.proofs.HoldingDone.{disposes-all, disposes-one, drains-stays, echoes-stay, gives-stays}
 use Rattle.amqp_endpoint_laws.proofs.HoldingDone.{leave-stay, parts-stay, sends-stays}
@@ -290,6 +291,15 @@ disposed-at limit place (message ∷ messages) disposal old new frames d =
     done-at (disposes_of_all limit (message ∷ messages) disposal) place old new frames
     (disposes-all limit (message ∷ messages) disposal) d
 
+closed-held : (parted : Bool) (session : ℕ) (handle : OutputHandle) (number : ℕ) (events : List Event)
+    (old new : Talk) (links links_new : LinksBy) (frames : List SessionFrame)
+    → ClosedHeld parted session handle old links number [] events new links_new frames
+    → AllRest old.sessions new.sessions
+closed-held true session handle number events old new links links_new frames c =
+    done-in (fails number events) session handle old new frames (failing-stays number events) c.done
+closed-held false session handle number events old new links links_new frames c =
+    done-in (closes events) session handle old new frames (closing-stays events) c.done
+
 closed-at : (place : Where) (number : ℕ) (events : List Event) (old new : Talk) (links links_new : LinksBy)
     (frames : List SessionFrame) → ClosedAt place old links number [] events new links_new frames
     → AllRest old.sessions new.sessions
@@ -297,7 +307,8 @@ closed-at None number events old new links links_new frames c = absurd c
 closed-at (Some (AtRest end)) number events old new links links_new frames c =
     talk-same old new c.same
 closed-at (Some (Held session handle)) number events old new links links_new frames c =
-    done-in (closes events) session handle old new frames (closing-stays events) c.done
+    closed-held (parted_at old session handle) session handle number events old new links
+    links_new frames c
 
 -- a link attaches
 attached : (old new : Talk) (links links_new : LinksBy) (limit session : ℕ) (link : End) (number : ℕ)

@@ -37,7 +37,7 @@ use Rattle.amqp_endpoint_messages.specs.Dispositions.{SendsEach}
 use Rattle.amqp_endpoint_link_calls.specs.Attaching.{AttachedBy}
 use Rattle.amqp_endpoint_link_calls.specs.declared.placed.Placed.{Placed}
 use Rattle.amqp_endpoint_link_calls.specs.Calling.{Does, detaches, gives_credit, wants_drain}
-use Rattle.amqp_endpoint_link_calls.specs.Closing.{closes}
+use Rattle.amqp_endpoint_link_calls.specs.Closing.{closed_end, closes, fails}
 use Rattle.amqp_endpoint_link_hearing.specs.Detaching.{TellsAndParts}
 use Rattle.amqp_endpoint_link_hearing.specs.Disposing.{TellsAndEchoes}
 use Rattle.amqp_endpoint_link_hearing.specs.Flowing.{LeaveWith, LeavesOnce, LeavesWith, ended_link}
@@ -245,6 +245,17 @@ pub drains-stays : StaysBy wants_drain
 drains-stays handle before after frames d =
     changed-sends handle before after (receiving d.number d.receiver) (receiving d.number (drained d.receiver))
     (behind.Flow (shown_flow handle (drained d.receiver))) d.frames d.sent (inl refl)
+
+failed-holds : (k : ℕ) (end : End) → held_end k (closed_end end) ≡ held_end k end
+failed-holds k (Sender s) = refl
+failed-holds k (Receiver r) = refl
+
+pub failing-stays : (link : ℕ) (events : List Event) → StaysBy (fails link events)
+failing-stays link events handle before after frames t =
+    let count : ℕ = open_count (Some t.it.link) in
+    changed-stays before.session after.session handle.0 t.it
+    (record t.it { link = behind_told count (closed_end t.it.link) }) t.ends
+    (inl (told-holds t.it.number count (closed_end t.it.link) ∙ failed-holds t.it.number t.it.link))
 
 pub closing-stays : (events : List Event) → StaysBy (closes events)
 closing-stays events handle before after frames c =

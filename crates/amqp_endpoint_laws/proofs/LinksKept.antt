@@ -33,7 +33,7 @@ use Rattle.amqp_endpoint_linking.specs.Linking.{Link, Links, Session, Talk}
 use Rattle.amqp_endpoint_linking.specs.GivingBack.{AllGivenBack, GoOn, IsGivenBack, SessionGivenBack}
 use Rattle.amqp_endpoint_linking.specs.Ending.{Finishes, Leaves}
 use Rattle.amqp_endpoint_link_calls.specs.Attaching.{with_room}
-use Rattle.amqp_endpoint_link_calls.specs.Closing.{ClosedAt}
+use Rattle.amqp_endpoint_link_calls.specs.Closing.{ClosedAt, ClosedHeld, parted_at}
 use Rattle.amqp_endpoint_link_calls.specs.Places.{Where}
 use Rattle.amqp_endpoint_link_hearing.specs.Detaching.{Becomes}
 use Rattle.amqp_endpoint_link_hearing.specs.Flowing.{LeaveWith, LeavesOnce, LeavesWith, LetsGo, ended_link}
@@ -131,13 +131,22 @@ module _ (P : Links → Type 0)
         by (MakesRoom _ ∷ Enters _ _ _ _ ∷ []) (tt, (tt, tt))
         (with_room old, (a.attaches.entered.0, refl), (new, a.attaches.entered, refl))
 
+    closed-held : (parted : Bool) (session : ℕ) (handle : OutputHandle) (number : ℕ) (events : List Event)
+        (old_talk new_talk : Talk) (frames : List SessionFrame) → place_at old number ≡ Some (Held session handle)
+        → ClosedHeld parted session handle old_talk old number [] events new_talk new frames → P new
+    closed-held true session handle number events old_talk new_talk frames is c =
+        by (Closes number (Held session handle) ∷ []) (tt, tt) (new, (is, c.forgotten), refl)
+    closed-held false session handle number events old_talk new_talk frames is c = same c.kept
+
     closed-at : (place : Where) (number : ℕ) (events : List Event) (old_talk new_talk : Talk)
         (frames : List SessionFrame) → place_at old number ≡ place
         → ClosedAt place old_talk old number [] events new_talk new frames → P new
     closed-at None number events old_talk new_talk frames is c = absurd c
     closed-at (Some (AtRest end)) number events old_talk new_talk frames is c =
         by (Closes number (AtRest end) ∷ []) (tt, tt) (new, (is, c.forgets.forgotten), refl)
-    closed-at (Some (Held session handle)) number events old_talk new_talk frames is c = same c.kept
+    closed-at (Some (Held session handle)) number events old_talk new_talk frames is c =
+        closed-held (parted_at old_talk session handle) session handle number events
+        old_talk new_talk frames is c
 
   heard-detach : (took : Option (ℕ × Detached)) (limit : ℕ) (old mid new : Talk) (links links_new : Links)
       (frames : List SessionFrame) (events : List Event) (it : _)

@@ -31,7 +31,7 @@ use Rattle.amqp_endpoint_messages.specs.Reached.{behind_one, behind_reached, end
 use Rattle.amqp_endpoint_link_calls.specs.Attaching.{AttachedBy}
 use Rattle.amqp_endpoint_link_calls.specs.declared.placed.Placed.{Placed as PlacedLink}
 use Rattle.amqp_endpoint_link_calls.specs.Calling.{Does, detaches, gives_credit, wants_drain}
-use Rattle.amqp_endpoint_link_calls.specs.Closing.{closes}
+use Rattle.amqp_endpoint_link_calls.specs.Closing.{closed_end, closes, fails}
 use Rattle.amqp_endpoint_link_calls.specs.Disposing.{disposes_of_all, disposes_of_one}
 use Rattle.amqp_endpoint_link_calls.specs.Keeping.{kept_tags}
 use Rattle.amqp_endpoint_link_calls.specs.Sending.{sends}
@@ -150,6 +150,12 @@ pub disposes-one-kept : (limit message : ℕ) (disposal : Disposal) → KeepsAll
 disposes-one-kept limit message disposal handle before after frames d =
     disposed-kept (DisposesOfOne handle d.tag disposal.state disposal.settled)
     (one-disposed handle d.tag disposal.state disposal.settled) limit before after frames d.disposed
+
+pub fails-kept : (link : ℕ) (events : List Event) → KeepsAll (fails link events)
+fails-kept link events handle before after frames t =
+    changed-kept handle.0 t.it
+    (record t.it { link = behind_told (open_count (Some (t.it).link)) (closed_end (t.it).link) }) before.session
+    after.session t.ends refl
 
 -- a link that the peer refused, or that refused its peer, is closed
 closed-kept : (there : Bool) (why : Option Error) (handle : OutputHandle) (frames : List SessionFrame)

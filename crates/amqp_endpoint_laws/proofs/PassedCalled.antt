@@ -1,5 +1,5 @@
 -- What passes in a session by a call.
-use Rattle.std.proofs.Common.{◌≡◌, ℕ, Bool, false, List, [], ◌∷◌, Option, Some, None}
+use Rattle.std.proofs.Common.{◌≡◌, ℕ, Bool, true, false, List, [], ◌∷◌, Option, Some, None}
 use Rattle.std.proofs.Common.{ap, sym, subst, ◌∙◌}
 use Rattle.amqp_session_performatives.specs.declared.session_frame.SessionFrame.{SessionFrame}
 use Rattle.amqp_link.specs.declared.end.End.{End}
@@ -16,9 +16,10 @@ use Rattle.amqp_endpoint_linking.specs.Linking.{Talk}
 use Rattle.amqp_endpoint_attached.specs.Links.{attach_frame}
 use Rattle.amqp_endpoint_link_calls.proofs.AttachInside.{attaches-inside}
 use Rattle.amqp_endpoint_link_calls.specs.Calling.{Does, DoneAt, DoneIn, detaches, gives_credit, wants_drain}
-use Rattle.amqp_endpoint_link_calls.specs.Closing.{ClosedAt, closes}
+use Rattle.amqp_endpoint_link_calls.specs.Closing.{ClosedAt, ClosedHeld, closes, fails, parted_at}
 use Rattle.amqp_endpoint_link_calls.specs.Places.{LinksBy, Where}
 use Rattle.amqp_endpoint_link_calls.proofs.Inside.{StaysInside, closes-inside, detaches-inside, drains-inside}
+use Rattle.amqp_endpoint_link_calls.proofs.Inside.{fails-inside}
 use Rattle.amqp_endpoint_link_calls.proofs.Inside.{gives-inside}
 use Rattle.amqp_endpoint_link_calls.specs.Disposing.{DisposedAt, disposes_of_all, disposes_of_one}
 use Rattle.amqp_endpoint_link_calls.specs.Sending.{sends}
@@ -33,7 +34,7 @@ use Rattle.amqp_endpoint_conversation.specs.Inside.{Batches}
 use Rattle.amqp_endpoint_laws.specs.Passed.{called_in, holder}
 use Rattle.amqp_endpoint_laws.proofs.AskedCameInside.{KeepsBy, attached-keeps, closing-keeps, detaches-keep}
 use Rattle.amqp_endpoint_laws.proofs.AskedCameInside.{disposes-keep, disposes-one-keeps, drains-keep, gives-keeps}
-use Rattle.amqp_endpoint_laws.proofs.AskedCameInside.{sends-keep}
+use Rattle.amqp_endpoint_laws.proofs.AskedCameInside.{failing-keeps, sends-keep}
 use Rattle.amqp_endpoint_laws.proofs.PassedWalk.{AttachGoes, Walk}
 
 -- a call that sends a message
@@ -94,6 +95,16 @@ module _ {Allows : Batches → Type 0} (P : ℕ → List Wired → Talk → Talk
       done-at (disposes_of_all limit (message ∷ messages) disposal) place old new frames
       (disposes-inside limit (message ∷ messages) disposal) (disposes-keep limit (message ∷ messages) disposal) d
 
+  closed-held : (parted : Bool) (session : ℕ) (handle : _) (number : ℕ) (events : List Event) (old new : Talk)
+      (links links_new : LinksBy) (frames : List SessionFrame)
+      → ClosedHeld parted session handle old links number [] events new links_new frames
+      → P session (goes frames) old new
+  closed-held true session handle number events old new links links_new frames c =
+      done-in (fails number events) session handle old new frames (fails-inside number events)
+      (failing-keeps number events) c.done
+  closed-held false session handle number events old new links links_new frames c =
+      done-in (closes events) session handle old new frames (closes-inside events) (closing-keeps events) c.done
+
   closed-at : (place : Where) (number : ℕ) (events : List Event) (old new : Talk) (links links_new : LinksBy)
       (frames : List SessionFrame) → ClosedAt place old links number [] events new links_new frames
       → Q (holder place) (goes frames) old new
@@ -102,7 +113,8 @@ module _ {Allows : Batches → Type 0} (P : ℕ → List Wired → Talk → Talk
       stays None frames old new c.silent c.same
   closed-at (Some (Held session handle)) number events old new links links_new frames c =
       w.at session (goes frames) old new
-      (done-in (closes events) session handle old new frames (closes-inside events) (closing-keeps events) c.done)
+      (closed-held (parted_at old session handle) session handle number events old new
+      links links_new frames c)
 
   attached : (old new : Talk) (links links_new : LinksBy) (limit session : ℕ) (link : End) (number : ℕ)
       (events : List Event) (frames : List SessionFrame) → AttachGoes P

@@ -1,11 +1,12 @@
 -- In each run the sessions of an endpoint go on by steps of their own, and no two have one channel.
-use Rattle.std.proofs.Common.{◌≡◌, ℕ, suc, zero, false, List, [], ◌∷◌, ◌++◌, Some, None, true}
+use Rattle.std.proofs.Common.{Bool, List, None, Some, [], false, suc, true, zero, ℕ, ◌++◌, ◌∷◌, ◌≡◌}
 use Rattle.std.proofs.Common.{refl, sym, ap, ◌∙◌}
 use Rattle.std.specs.FinMap as map
 use Rattle.std.specs.Global.{Box}
 use Rattle.std.proofs.lemmas.Option.{none-some}
 use Rattle.amqp_session_types.specs.declared.channels.IncomingChannel.{IncomingChannel}
 use Rattle.amqp_session_types.specs.declared.channels.OutgoingChannel.{OutgoingChannel}
+use Rattle.amqp_session_types.specs.declared.handles.OutputHandle.{OutputHandle}
 use Rattle.amqp_session_frames.specs.State as channels
 use Rattle.amqp_session_performatives.specs.declared.session_frame.SessionFrame.{SessionFrame}
 use Rattle.amqp_link.specs.declared.end.End.{End}
@@ -28,7 +29,7 @@ use Rattle.amqp_endpoint_model.specs.State.{State, fresh}
 use Rattle.amqp_endpoint_linking.specs.Linking.{Links, Session, Sessions, Talk}
 use Rattle.amqp_endpoint_linking.specs.Ending.{FinishesFirst}
 use Rattle.amqp_endpoint_link_calls.specs.Calling.{Does, DoneAt, detaches, gives_credit, wants_drain}
-use Rattle.amqp_endpoint_link_calls.specs.Closing.{ClosedAt}
+use Rattle.amqp_endpoint_link_calls.specs.Closing.{ClosedAt, ClosedHeld, parted_at}
 use Rattle.amqp_endpoint_link_calls.specs.Places.{Where}
 use Rattle.amqp_endpoint_link_calls.specs.Disposing.{DisposedAt, disposes_of_all, disposes_of_one}
 use Rattle.amqp_endpoint_link_calls.specs.Sending.{sends}
@@ -61,12 +62,21 @@ disposed-at limit place [] disposal old new frames d = talk-stays old new d.0
 disposed-at limit place (message ∷ messages) disposal old new frames d =
     done-at (disposes_of_all limit (message ∷ messages) disposal) place old new frames d
 
+closed-held : (parted : Bool) (session : ℕ) (handle : OutputHandle) (number : ℕ) (events : List Event)
+    (old new : Talk) (links links_new : Links) (frames : List SessionFrame)
+    → ClosedHeld parted session handle old links number [] events new links_new frames → TalkGoes old new
+closed-held true session handle number events old new links links_new frames c =
+    changed session c.done.before c.done.after old new c.done.stepped
+closed-held false session handle number events old new links links_new frames c =
+    changed session c.done.before c.done.after old new c.done.stepped
+
 closed-at : (place : Where) (number : ℕ) (events : List Event) (old new : Talk) (links links_new : Links)
     (frames : List SessionFrame) → ClosedAt place old links number [] events new links_new frames → TalkGoes old new
 closed-at None number events old new links links_new frames c = absurd c
 closed-at (Some (AtRest end)) number events old new links links_new frames c = talk-stays old new c.same
 closed-at (Some (Held session handle)) number events old new links links_new frames c =
-    changed session c.done.before c.done.after old new c.done.stepped
+    closed-held (parted_at old session handle) session handle number events old new links
+    links_new frames c
 
 attached : (old new : Talk) (links links_new : Links) (limit session : ℕ) (link : End) (number : ℕ)
     (events : List Event) (frames : List SessionFrame)

@@ -1,9 +1,9 @@
 -- How a link is closed where it is, and what is told then.
-use Rattle.std.proofs.Common.{◌≡◌, ℕ, ◌≤◌, ◌<◌, Bool, true, List, [], ◌∷◌, ◌++◌, Option, Some, None, Result, Ok, Err}
+use Rattle.std.proofs.Common.{◌≡◌, ℕ, ◌≤◌, ◌<◌, Bool, true, false, List, [], ◌∷◌, ◌++◌, Option, Some, None, Result, Ok, Err}
 use Rattle.std.proofs.Common.{refl}
 use Rattle.std.proofs.Common.{ap, length, sym, subst, ◌∙◌, append-nil}
-use Rattle.std.specs.Prelude.{◌^◌, All, IfOk, OnErr, drop, option_map, option_to_list}
-use Rattle.std.specs.Global.{Box}
+use Rattle.std.specs.Prelude.{◌^◌, All, IfOk, IsSome, OnErr, drop, option_map, option_to_list, slice_set}
+use Rattle.std.specs.Global.{Box, Vec}
 use Rattle.std.proofs.lemmas.List.Elements.{All-nil}
 use Rattle.std.proofs.lemmas.Option.{none-some, same_Some}
 use Rattle.amqp_session_types.specs.declared.error.Error.{Error}
@@ -11,7 +11,7 @@ use Rattle.amqp_session_types.specs.declared.handles.OutputHandle.{OutputHandle}
 use Rattle.amqp_session_performatives.specs.declared.session_frame.SessionFrame.{SessionFrame}
 use Rattle.amqp_session_performatives.specs.declared.session_frame.SessionFrameBody.TheVariants as body
 use Rattle.amqp_session_core.specs.State.{link_at}
-use Rattle.amqp_session_core.specs.Steps.{Changes, SendsBehind}
+use Rattle.amqp_session_core.specs.Steps.{Changes, SendsBehind, Step}
 use Rattle.amqp_session_core.specs.declared.batch.BehindFrame.TheVariants as behind
 use Rattle.amqp_link_base.specs.declared.detached.Detached.{Detached}
 use Rattle.amqp_link_receiver.specs.declared.answer.Told.{Told}
@@ -33,17 +33,18 @@ use Rattle.amqp_endpoint_model.specs.State.{frame_of}
 use Rattle.amqp_endpoint_fitting.specs.Fits.{BehindFits}
 use Rattle.amqp_endpoint_fitting.specs.Handed.{AllAskingEndFit, AllAskingHand, AllAskingSendFit}
 use Rattle.amqp_endpoint_fitting.specs.Read.{IsRead}
-use Rattle.amqp_endpoint_conversation.specs.Going.{Goes}
-use Rattle.amqp_endpoint_conversation.proofs.Calls.{changed-goes}
+use Rattle.amqp_endpoint_conversation.specs.Going.{Goes, NoneLive, Rests}
+use Rattle.amqp_endpoint_conversation.proofs.Calls.{changed-goes, changed-rests}
 use Rattle.amqp_endpoint_conversation.proofs.Goings.{read-behind}
 use Rattle.amqp_endpoint_attached.specs.Detaching.{DetachGiven, own_detach}
-use Rattle.amqp_endpoint_attached.specs.Linked.{Linked, LinksIn, end_at, gives}
+use Rattle.amqp_endpoint_attached.specs.Linked.{Linked, LinksIn, end_at, end_in, gives}
 use Rattle.amqp_endpoint_messages.specs.All.{AreCopies, TellsFirst, TellsIn, behind_told, first_told, open_count}
 use Rattle.amqp_endpoint_messages.specs.All.{told_by}
 use Rattle.amqp_endpoint_link_calls.specs.Calling.{DoneIn}
-use Rattle.amqp_endpoint_link_calls.specs.Closing.{ClosedAt, ClosedBy, ClosesTelling, ForgetsRest, closed_end, closes}
-use Rattle.amqp_endpoint_link_calls.specs.Places.{LinksBy, LinkTalk, Where}
-use Rattle.amqp_endpoint_link_calls.proofs.Done.{changed, done-in}
+use Rattle.amqp_endpoint_link_calls.specs.Closing.{ClosedAt, ClosedBy, ClosesTelling, EndsBy, ForgetsHeld, ForgetsRest}
+use Rattle.amqp_endpoint_link_calls.specs.Closing.{TellsFailed, closed_end, closes, fails, is_parted, parted_at}
+use Rattle.amqp_endpoint_link_calls.specs.Places.{LinksBy, LinkTalk, Where, end_live}
+use Rattle.amqp_endpoint_link_calls.proofs.Done.{changed, done-in, stays}
 use Rattle.amqp_endpoint_link_calls.proofs.Going.{answers-plain, same-goes}
 
 -- no copies are wanted where there is no error
@@ -176,6 +177,147 @@ pub either : {T X S : Type 0} (P : T → Type 0) (result : Result T EndpointErro
     → IfOk result P → OnErr result S → X
 either P (Ok t) f g ok err = f t ok
 either P (Err e) f g ok err = g err
+
+on-err : {T : Type 0} (result : Result T EndpointError) (A B : Type 0) → (A → B) → OnErr result A → OnErr result B
+on-err (Ok t) A B f a = tt
+on-err (Err e) A B f a = f a
+
+-- nothing changes
+same-rests : (old new : LinkTalk) (out : List SessionFrame) → new ≡ old → Rests old new out out
+same-rests old new out same =
+    record { silent = λ none. refl; idle = λ none. subst (λ (t : LinkTalk). NoneLive t) (sym same) none }
+
+-- a link that both ends detached tells of its messages, and nothing leaves
+pub end-changes : (s : LinksIn) (handle : OutputHandle) (n : Numbered End) (after : End) (link count : ℕ)
+    (events events_new : List Event) → Some n ≡ link_at s handle.0 → after ≡ behind_told count (closed_end n.link)
+    → events_new ≡ events ++ told_by link None count (closed_end n.link)
+    → EndsBy link count handle s events
+    (record s { links = slice_set s.links handle.0 (Some (record n { link = after })) }) events_new
+end-changes s handle n after link count events events_new there is told =
+    record {
+      it = n;
+      ends = (
+        sym there,
+        ap (λ (e : End). record s { links = slice_set s.links handle.0 (Some (record n { link = e })) }) is,
+      );
+      told = told;
+    }
+
+no-end : (o : Option (Numbered End)) → None ≡ o → IsSome (option_map (λ (n : Numbered End). n.link) o) → ⊥
+no-end None is some = absurd cc
+no-end (Some n) is some = absurd cc
+
+pub none-there : (s : LinksIn) (handle : OutputHandle) → None ≡ link_at s handle.0 → IsSome (end_in s handle) → ⊥
+none-there s handle is some = no-end (link_at s handle.0) is some
+
+pub ends-by : (s : Linked) (new : LinksIn) (handle : OutputHandle) (link count : ℕ) (told events : List Event)
+    → count ≡ open_count (end_at s handle) → told ≡ [] → EndsBy link count handle s.session told new events
+    → TellsFailed link events handle s [] (record s { session = new })
+ends-by s new handle link count told events counts none e =
+    let so : count ≡ open_count (Some (e.it).link) =
+    counts
+    ∙ ap (λ (o : Option (Numbered End)). open_count (option_map (λ (n : Numbered End). n.link) o)) e.ends.0 in
+    record {
+      it = e.it;
+      ends =
+          subst (λ (n : ℕ). Step gives s.session
+          (Changes handle.0 e.it (record e.it { link = behind_told n (closed_end (e.it).link) })) new) so e.ends;
+      rest = refl;
+      told =
+          e.told
+          ∙ ap (λ (es : List Event). es ++ told_by link None count (closed_end (e.it).link)) none
+          ∙ ap (λ (n : ℕ). told_by link None n (closed_end (e.it).link)) so;
+      silent = refl;
+    }
+
+-- it is there
+pub parted-none : (talk : LinkTalk) (session : ℕ) (handle : OutputHandle) → None ≡ live_at talk.sessions session
+    → parted_at talk session handle ≡ true → ⊥
+parted-none talk session handle none is =
+    let clash : false ≡ true = ap (λ (o : Option (Box Linked)). is_parted (end_live o handle)) none ∙ is in absurd cc
+
+some-parted : (o : Option End) → is_parted o ≡ true → IsSome o
+some-parted None is = absurd cc
+some-parted (Some end) is = refl
+
+pub parted-there : (talk : LinkTalk) (session : ℕ) (handle : OutputHandle) (lent : Box Linked)
+    → live_at talk.sessions session ≡ Some lent → (before : Linked) → before ≡ lent.value
+    → parted_at talk session handle ≡ true → IsSome (end_at before handle)
+parted-there talk session handle lent live before same is =
+    subst (λ (s : Linked). IsSome (end_at s handle)) (sym same)
+    (some-parted (end_at lent.value handle)
+    (ap (λ (o : Option (Box Linked)). is_parted (end_live o handle)) (sym live) ∙ is))
+
+-- what waits in the session goes on to fit
+module _ (old new : LinkTalk) (number link : ℕ) (handle : OutputHandle) where
+  failed-goes : (limit : ℕ) (out : List SessionFrame) (events : List Event)
+      → DoneIn (fails link events) number handle old out new out → Goes limit old new out out
+  failed-goes limit out events d =
+      let t = d.did in
+      let stands : Numbered End =
+      record t.it { link = behind_told (open_count (Some (t.it).link)) (closed_end (t.it).link) } in
+      let steps : List LinkAct = InSession (Changes handle.0 t.it stands) ∷ [] in
+      let history : AskingHistory gives (d.before).value steps (d.after).value =
+      ((d.after).value, (t.ends, t.rest), refl) in
+      let hands : AllAskingHand steps [] = ([], [], refl, refl, refl) in
+      subst (λ (o : List SessionFrame). Goes limit old new out o) (append-nil out)
+      (changed-goes gives limit number old new d.before d.after steps [] out d.stepped history answers-plain
+      (tt, tt) (tt, tt) hands (All-nil IsRead))
+
+-- in the session that is lent
+module _ (old : LinkTalk) (number : ℕ) (handle : OutputHandle) (lent : Box Linked)
+    (live : live_at old.sessions number ≡ Some lent) (before after : Linked) (link : ℕ) (same : before ≡ lent.value)
+    where
+  failed-in : (events : List Event) → TellsFailed link events handle before [] after → (out : List SessionFrame)
+      → DoneIn (fails link events) number handle old out (changed old number lent live after) out
+  failed-in events t out =
+      done-in old number lent live (fails link events) handle after [] out out
+      (subst (λ (s : Linked). TellsFailed link events handle s [] after) same t) (sym (append-nil out))
+
+  module _ (result : Result (Vec Event) EndpointError)
+      (ok : IfOk result (λ events. TellsFailed link events.items handle before [] after)) where
+    pub fail-done : (out : List SessionFrame) → IfOk result (λ events.
+        DoneIn (fails link events.items) number handle old out (changed old number lent live after) out)
+    fail-done out =
+        if-ok (λ (events : Vec Event). TellsFailed link events.items handle before [] after)
+        (λ (events : Vec Event).
+        DoneIn (fails link events.items) number handle old out (changed old number lent live after) out) result
+        (λ events t. failed-in events.items t out) ok
+
+    module _ (err : OnErr result (after ≡ before)) where
+      stays-so : after ≡ before → changed old number lent live after ≡ old
+      stays-so is = stays old number lent live after (is ∙ same)
+
+      pub fail-kept : OnErr result (changed old number lent live after ≡ old)
+      fail-kept = on-err result (after ≡ before) (changed old number lent live after ≡ old) stays-so err
+
+      pub fail-goes : (limit : ℕ) (out : List SessionFrame)
+          → Goes limit old (changed old number lent live after) out out
+      fail-goes limit out =
+          either (λ (events : Vec Event). TellsFailed link events.items handle before [] after) result
+          (λ events t.
+          failed-goes old (changed old number lent live after) number link handle limit out events.items
+          (failed-in events.items t out))
+          (λ is. same-goes old (changed old number lent live after) out out (stays-so is) refl limit) ok err
+
+      pub fail-rests : (out : List SessionFrame) → Rests old (changed old number lent live after) out out
+      fail-rests out =
+          either (λ (events : Vec Event). TellsFailed link events.items handle before [] after) result
+          (λ events t.
+          let d = failed-in events.items t out in
+          changed-rests number old (changed old number lent live after) d.before d.after out out d.stepped)
+          (λ is. same-rests old (changed old number lent live after) out (stays-so is)) ok err
+
+-- it is known no more
+pub forgets-held : (old new : LinkTalk) (links links_new : LinksBy) (link session : ℕ) (handle : OutputHandle)
+    (out : List SessionFrame) (place : Option (LinkPlace End)) (events : List Event)
+    → place_at links link ≡ Some (Held session handle) → Closed links link place links_new
+    → DoneIn (fails link events) session handle old out new out
+    → ForgetsHeld session handle old links link out events new links_new out
+forgets-held old new links links_new link session handle out None events at c d =
+    absurd (none-some (Held session handle) (sym c.0 ∙ at))
+forgets-held old new links links_new link session handle out (Some place) events at c d =
+    record { done = d; forgotten = c.1 }
 
 -- a link that is at rest
 pub rest-closed : (old : LinkTalk) (links links_new : LinksBy) (link count : ℕ) (out : List SessionFrame)

@@ -1,5 +1,5 @@
 -- What the calls of a link do inside of the session that holds it.
-use Rattle.std.proofs.Common.{◌≡◌, ℕ, Bool, true, List, [], Option, Some, None, ◌∙◌}
+use Rattle.std.proofs.Common.{◌≡◌, ℕ, Bool, true, List, [], Option, Some, None, subst, sym, ◌∙◌}
 use Rattle.amqp_session_types.specs.declared.handles.OutputHandle.{OutputHandle}
 use Rattle.amqp_session_performatives.specs.declared.session_frame.SessionFrame.{SessionFrame}
 use Rattle.amqp_session_core.specs.State.{link_at}
@@ -19,7 +19,7 @@ use Rattle.amqp_endpoint_attached.specs.Receiving.{drained, receiving, shown_flo
 use Rattle.amqp_endpoint_attached.specs.Sent.{Sends}
 use Rattle.amqp_endpoint_messages.specs.All.{TellsIn, behind_told, open_count}
 use Rattle.amqp_endpoint_link_calls.specs.Calling.{Does, detaches, gives_credit, wants_drain}
-use Rattle.amqp_endpoint_link_calls.specs.Closing.{closes}
+use Rattle.amqp_endpoint_link_calls.specs.Closing.{closed_end, closes, fails}
 
 -- what is done to a link is done inside of its session
 abbrev pub StaysInside : Does → Type 0
@@ -62,6 +62,15 @@ pub drains-inside : StaysInside wants_drain
 drains-inside handle before after frames d =
     sent-inside handle before after (receiving d.number d.receiver) (receiving d.number (drained d.receiver))
     (Flow (shown_flow handle (drained d.receiver))) d.frames frames d.sent d.added
+
+-- it tells of them all where both ends detached it
+pub fails-inside : (link : ℕ) (events : List Event) → StaysInside (fails link events)
+fails-inside link events handle before after frames t =
+    subst (λ (fs : List SessionFrame). DoneInside gives before.session fs after.session) (sym t.silent)
+    (one-inside gives before.session after.session
+    (Changes handle.0 t.it
+    (record t.it { link = behind_told (open_count (Some (t.it).link)) (closed_end (t.it).link) }))
+    t.ends tt tt)
 
 -- behind its Detach it tells
 pub closes-inside : (events : List Event) → StaysInside (closes events)
