@@ -97,9 +97,8 @@ held-unnumbered : (parted : Bool) (session : ℕ) (handle : OutputHandle) (numbe
     (old new : Talk) (links links_new : Links) (frames : List SessionFrame)
     → ClosedHeld parted session handle old links number [] events new links_new frames → Unnumbered events
 held-unnumbered true session handle number events old new links links_new frames c =
-    let end : End = c.done.did.it.link in
     ap (λ (es : List Event). numbers_told es) c.done.did.told
-    ∙ by-unnumbered number None (open_count (Some end)) (closed_end end)
+    ∙ by-unnumbered number None (open_count (Some c.done.did.it.link)) (closed_end c.done.did.it.link)
 held-unnumbered false session handle number events old new links links_new frames c =
     ap (λ (es : List Event). numbers_told es) c.done.did.told
     ∙ first-unnumbered (open_count (end_at c.done.before.value handle)) None

@@ -267,46 +267,46 @@ module _ (old new : LinkTalk) (number link : ℕ) (handle : OutputHandle) where
 -- in the session that is lent
 module _ (old : LinkTalk) (number : ℕ) (handle : OutputHandle) (lent : Box Linked)
     (live : live_at old.sessions number ≡ Some lent) (before after : Linked) (link : ℕ) (same : before ≡ lent.value)
-    where
-  failed-in : (events : List Event) → TellsFailed link events handle before [] after → (out : List SessionFrame)
-      → DoneIn (fails link events) number handle old out (changed old number lent live after) out
-  failed-in events t out =
-      done-in old number lent live (fails link events) handle after [] out out
-      (subst (λ (s : Linked). TellsFailed link events handle s [] after) same t) (sym (append-nil out))
+  where
+    failed-in : (events : List Event) → TellsFailed link events handle before [] after → (out : List SessionFrame)
+        → DoneIn (fails link events) number handle old out (changed old number lent live after) out
+    failed-in events t out =
+        done-in old number lent live (fails link events) handle after [] out out
+        (subst (λ (s : Linked). TellsFailed link events handle s [] after) same t) (sym (append-nil out))
 
-  module _ (result : Result (Vec Event) EndpointError)
-      (ok : IfOk result (λ events. TellsFailed link events.items handle before [] after)) where
-    pub fail-done : (out : List SessionFrame) → IfOk result (λ events.
-        DoneIn (fails link events.items) number handle old out (changed old number lent live after) out)
-    fail-done out =
-        if-ok (λ (events : Vec Event). TellsFailed link events.items handle before [] after)
-        (λ (events : Vec Event).
-        DoneIn (fails link events.items) number handle old out (changed old number lent live after) out) result
-        (λ events t. failed-in events.items t out) ok
+    module _ (result : Result (Vec Event) EndpointError)
+        (ok : IfOk result (λ events. TellsFailed link events.items handle before [] after)) where
+      pub fail-done : (out : List SessionFrame) → IfOk result (λ events.
+          DoneIn (fails link events.items) number handle old out (changed old number lent live after) out)
+      fail-done out =
+          if-ok (λ (events : Vec Event). TellsFailed link events.items handle before [] after)
+          (λ (events : Vec Event).
+          DoneIn (fails link events.items) number handle old out (changed old number lent live after) out) result
+          (λ events t. failed-in events.items t out) ok
 
-    module _ (err : OnErr result (after ≡ before)) where
-      stays-so : after ≡ before → changed old number lent live after ≡ old
-      stays-so is = stays old number lent live after (is ∙ same)
+      module _ (err : OnErr result (after ≡ before)) where
+        stays-so : after ≡ before → changed old number lent live after ≡ old
+        stays-so is = stays old number lent live after (is ∙ same)
 
-      pub fail-kept : OnErr result (changed old number lent live after ≡ old)
-      fail-kept = on-err result (after ≡ before) (changed old number lent live after ≡ old) stays-so err
+        pub fail-kept : OnErr result (changed old number lent live after ≡ old)
+        fail-kept = on-err result (after ≡ before) (changed old number lent live after ≡ old) stays-so err
 
-      pub fail-goes : (limit : ℕ) (out : List SessionFrame)
-          → Goes limit old (changed old number lent live after) out out
-      fail-goes limit out =
-          either (λ (events : Vec Event). TellsFailed link events.items handle before [] after) result
-          (λ events t.
-          failed-goes old (changed old number lent live after) number link handle limit out events.items
-          (failed-in events.items t out))
-          (λ is. same-goes old (changed old number lent live after) out out (stays-so is) refl limit) ok err
+        pub fail-goes : (limit : ℕ) (out : List SessionFrame)
+            → Goes limit old (changed old number lent live after) out out
+        fail-goes limit out =
+            either (λ (events : Vec Event). TellsFailed link events.items handle before [] after) result
+            (λ events t.
+            failed-goes old (changed old number lent live after) number link handle limit out events.items
+            (failed-in events.items t out))
+            (λ is. same-goes old (changed old number lent live after) out out (stays-so is) refl limit) ok err
 
-      pub fail-rests : (out : List SessionFrame) → Rests old (changed old number lent live after) out out
-      fail-rests out =
-          either (λ (events : Vec Event). TellsFailed link events.items handle before [] after) result
-          (λ events t.
-          let d = failed-in events.items t out in
-          changed-rests number old (changed old number lent live after) d.before d.after out out d.stepped)
-          (λ is. same-rests old (changed old number lent live after) out (stays-so is)) ok err
+        pub fail-rests : (out : List SessionFrame) → Rests old (changed old number lent live after) out out
+        fail-rests out =
+            either (λ (events : Vec Event). TellsFailed link events.items handle before [] after) result
+            (λ events t.
+            let d = failed-in events.items t out in
+            changed-rests number old (changed old number lent live after) d.before d.after out out d.stepped)
+            (λ is. same-rests old (changed old number lent live after) out (stays-so is)) ok err
 
 -- it is known no more
 pub forgets-held : (old new : LinkTalk) (links links_new : LinksBy) (link session : ℕ) (handle : OutputHandle)

@@ -23,10 +23,10 @@ use crate::holding::{LinkTalk, holder};
 use amqp_endpoint_attached as attached;
 use amqp_endpoint_attached::LinkSession;
 use amqp_endpoint_fitting::frames_are_read;
+use amqp_endpoint_links::Numbered;
 use amqp_endpoint_messages::{open_count, tell_by, tell_first};
 use amqp_endpoint_model::{EndpointError, Event};
 use amqp_endpoint_tables::{LinkPlace, Links};
-use amqp_endpoint_links::Numbered;
 use amqp_link::{End, LinkEnd};
 use amqp_link_base::LinkState;
 use amqp_session_core::Session;
@@ -179,7 +179,14 @@ fn fail_in(
 {
     let count = count_in(session, handle);
     let mut events = Vec::with_capacity(alloc, count)?;
-    fail_by(&mut session.session, alloc, handle, link, count, &mut events);
+    fail_by(
+        &mut session.session,
+        alloc,
+        handle,
+        link,
+        count,
+        &mut events,
+    );
     Ok(events)
 }
 
@@ -213,13 +220,7 @@ fn fail_by(
 }
 
 /// A link that is closed without a frame tells of so many messages. There is room for it.
-fn fail_end(
-    alloc: Global,
-    end: &mut LinkEnd,
-    link: u64,
-    count: usize,
-    events: &mut Vec<Event>,
-)
+fn fail_end(alloc: Global, end: &mut LinkEnd, link: u64, count: usize, events: &mut Vec<Event>)
     requires { vec_len events.old + count ≤ vec_capacity events.old }
     ensures ends { end.new ≡ behind_told count (closed_end end.old) }
     ensures told { events.new.items ≡ events.old.items ++ told_by link None count (closed_end end.old) }
