@@ -85,8 +85,8 @@ impl LinkFlowState<SenderMarker> {
         let Some(credit) = flow.link_credit else {
             return 0;
         };
-        let count = self.inner.delivery_count;
-        credit_after(count, flow.delivery_count.unwrap_or(count), credit)
+        let own = self.inner.delivery_count;
+        credit_after(own, flow.delivery_count.unwrap_or(own), credit)
     }
 
     /// The count of deliveries, the credit, and whether the receiver wants it used up are these from now on (part 2,
