@@ -13,8 +13,9 @@ use std::alloc::{AllocError, Global};
 use std::collections::vec_deque;
 
 impl SenderLink {
-    /// What is sent on once this Flow of the receiver is taken: as many of the messages that wait as it leaves credit for,
-    /// in the order in which they go, and none unless the link is attached (part 2, 2.6.7 and 2.6.13). Nothing changes yet.
+    /// What is sent on once this Flow of the receiver is taken: as many of the messages that wait as it leaves credit
+    /// for, in the order in which they go, and none unless the link is attached (part 2, 2.6.7 and 2.6.13). Nothing
+    /// changes yet.
     ///
     /// Errors: want of memory alone. It takes time by the messages that go on, and not by the credit.
     #[tactic(auto, using(crate::proofs::GoingOn::rules))]
@@ -33,8 +34,8 @@ impl SenderLink {
     }
 
     /// What is sent on once the peer's Attach is taken as it was made ready, the own one is sent, and this Flow of the
-    /// receiver, which was kept, is taken then: as many of the messages that are to wait as the Flow gives credit for, in the
-    /// order in which they go (part 2, 2.6.7 and 2.6.13). Nothing changes yet.
+    /// receiver, which was kept, is taken then: as many of the messages that are to wait as the Flow gives credit for,
+    /// in the order in which they go (part 2, 2.6.7 and 2.6.13). Nothing changes yet.
     ///
     /// Errors: want of memory alone. It takes time by the messages that go on, and not by the credit.
     pub fn prepare_sends_on_behind(
