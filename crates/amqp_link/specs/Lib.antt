@@ -6,3 +6,4 @@ pub mod Times
 pub mod History
 pub mod Owner
 pub mod Preparing
+pub mod GoingOn

@@ -5,6 +5,7 @@
 #![tactic(auto)]
 
 mod end;
+mod going_on;
 pub mod laws;
 mod owner;
 mod preparing;
@@ -81,6 +82,7 @@ pub use amqp_link_sections::Properties;
 pub use amqp_link_sections::Section;
 pub use amqp_link_sender::AttachAnswer;
 pub use amqp_link_sender::Attaching;
+pub use amqp_link_sender::Counts;
 pub use amqp_link_sender::DetachRefusal;
 pub use amqp_link_sender::PreparedBatch;
 pub use amqp_link_sender::PreparedSend;
