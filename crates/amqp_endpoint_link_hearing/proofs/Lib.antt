@@ -4,6 +4,7 @@ mod Lending
 mod Flows
 mod Releases
 mod Doing
+mod AttachDone
 pub mod Heard
 mod Attaches
 mod Detaches
@@ -15,6 +16,8 @@ mod Leavings
 mod Partings
 mod Readies
 mod Becoming
+mod AttachReadied
+mod AttachServes
 mod Dispositions
 mod Transfers
 mod Transferred

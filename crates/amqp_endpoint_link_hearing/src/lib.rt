@@ -17,7 +17,7 @@ mod naming;
 mod refusing;
 mod transferring;
 
-pub use attaching::{LinkAttached, hear_attach};
+pub use attaching::hear_attach;
 pub use detaching::hear_detach;
 pub use disposing::hear_disposition;
 pub use flowing::hear_flow;
