@@ -4,7 +4,8 @@ ghost use Rattle.std.specs.Option.{option_copied_mut};
 ghost use types.Logic.{sem};
 ghost use Rattle.amqp_session_core.specs.Lends.{lends_link};
 ghost use Rattle.std.specs.FinMap as map;
-ghost use Rattle.amqp_session_outgoing.specs.Queues.{held_in, frames_in, turn_of, units_of};
+ghost use Rattle.amqp_session_outgoing.specs.Queues.{held_in, firsts_in, frames_in, turn_of, units_of};
+ghost use Rattle.amqp_session_outgoing.specs.History.{IsFree};
 ghost use Rattle.amqp_session_core.specs.State.{link_at, offered_handle, reached};
 
 use crate::links::reach;
@@ -63,6 +64,21 @@ impl<R: Drop> Session<R> {
         ensures { result ≡ frames_in self.now.outgoing.queues }
     {
         self.outgoing.frames()
+    }
+
+    /// How many transfers more are sure to find room, as `reserve_transfers` made it.
+    pub fn transfers_room(&self) -> usize
+        ensures { result ≡ self.now.outgoing.room }
+    {
+        self.outgoing.room()
+    }
+
+    /// Whether the number that the next delivery to begin would get is free (part 2, 2.8.6): it is no unsettled
+    /// delivery's, and none of those of the deliveries that wait.
+    pub fn has_free_number(&self) -> bool
+        ensures { IsTrue result ↔ IsFree self.now.outgoing (firsts_in self.now.outgoing.queues) }
+    {
+        self.outgoing.has_free_number()
     }
 
     /// Whether a frame of the link waits.

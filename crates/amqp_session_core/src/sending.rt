@@ -1,6 +1,6 @@
 //! What a session's links send: Attach, Flow, transfers and Detach.
 ghost use Rattle.std.specs.Prelude.{◌≡◌, ◌≢◌, ◌+◌, ◌-◌, ◌*◌, ◌≤◌, ◌<◌, [], Err, IfOk, IfErr, IfSome, IfNone, OnOk};
-ghost use Rattle.std.specs.Prelude.{OnErr, length};
+ghost use Rattle.std.specs.Prelude.{OnErr, length, min};
 ghost use Rattle.std.specs.VecDeque.{deque_len, deque_capacity};
 ghost use Rattle.amqp_session_performatives.specs.declared.session_frame.SessionFrameBody.TheVariants as body;
 ghost use Rattle.amqp_session_outgoing.specs.Queues.{frames_in, room_behind};
@@ -203,6 +203,16 @@ impl<R: LinkRelay> Session<R> {
         make_room(&self.outgoing, &mut self.sent, out, room)?;
         self.outgoing.reserve_transfers(&mut self.sent, count)?;
         Ok(())
+    }
+
+    /// Gives up room that `reserve_transfers` made: at most so many transfers more are sure to find room then. With the
+    /// room of before, where something else is refused, all is as before. Nothing else changes, and it takes no memory.
+    pub fn lower_transfers(&mut self, room: usize)
+        ensures { self.new ≡ record self.old {
+          outgoing = record self.old.outgoing { room = min self.old.outgoing.room room };
+        } }
+    {
+        self.outgoing.lower_room(room);
     }
 
     /// A Flow of the session that is due: where half of the own window or more is used up since a Flow left (part 2,

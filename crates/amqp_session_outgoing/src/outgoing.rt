@@ -1,7 +1,7 @@
 //! The sending side of a session.
 ghost use Rattle.std.specs.Prelude.{◌≡◌, ◌≢◌, ℕ, ◌+◌, ◌-◌, ◌<◌, ◌≤◌, ◌%◌, ◌^◌, ◌⊎◌, ◌↔◌, [], ◌++◌, length};
 ghost use Rattle.std.specs.Prelude.{if◌then◌else◌, IsTrue, IsOk, IfOk, IfErr, OnOk, OnErr, Err, option_copied, vec_len};
-ghost use Rattle.std.specs.Prelude.{vec_capacity};
+ghost use Rattle.std.specs.Prelude.{vec_capacity, min};
 ghost use Rattle.amqp_session_outgoing.specs.Frames.{is_first, firsts_of, frames_count, sent_count, HaveTags};
 ghost use Rattle.amqp_session_outgoing.specs.Queues.{held_in, firsts_in, frames_in, units_of, room_behind, turn_of};
 ghost use Rattle.amqp_session_outgoing.specs.Touched.{Touches};
@@ -151,6 +151,14 @@ impl<T: Drop, F: Drop> Outgoing<T, F> {
         ensures { IfOk result (λ numbers. Touches range self.now.unsettled numbers.items) }
     {
         self.unsettled.touched(alloc, range)
+    }
+
+    /// Whether the number that the next delivery to begin would get is free (part 2, 2.8.6): it is no unsettled
+    /// delivery's, and none of those of the deliveries that wait.
+    pub fn has_free_number(&self) -> bool
+        ensures { IsTrue result ↔ IsFree self.now (firsts_in self.now.queues) }
+    {
+        self.is_free(self.firsts)
     }
 
     /// Takes the window of the peer's Begin (part 2, 2.7.2): it begins with the next number. What waits and lies in it
@@ -424,6 +432,14 @@ impl<T: Drop, F: Drop> Outgoing<T, F> {
         let room = self.room().max(count);
         make_room(&mut self.unsettled, out, self.turns.held(), room)?;
         self.turns.reserve(room)
+    }
+
+    /// Gives up room that `reserve_transfers` made: at most so many transfers more are sure to find room then. Nothing
+    /// else changes, and it takes no memory.
+    pub fn lower_room(&mut self, room: usize)
+        ensures { self.new ≡ record self.old { room = min self.old.room room } }
+    {
+        self.turns.lower_room(room);
     }
 
     /// Settles a delivery that left, if one of this number is unsettled (part 2, 2.6.12).

@@ -1,6 +1,6 @@
 //! The links that wait, in turn.
 ghost use Rattle.std.specs.Prelude.{◌≡◌, ℕ, ◌+◌, ◌-◌, ◌^◌, ◌<◌, ◌≤◌, ◌↔◌, ◌==◌, [], ◌∷◌, ◌++◌, length, IsTrue, IsOk};
-ghost use Rattle.std.specs.Prelude.{◌⊎◌, OnOk, OnErr, IfOk, Some, cond, nat_eq, max, All};
+ghost use Rattle.std.specs.Prelude.{◌⊎◌, OnOk, OnErr, IfOk, Some, cond, nat_eq, max, min, All};
 ghost use Rattle.std.specs.VecDeque.{deque_len, deque_capacity};
 ghost use Rattle.slab.specs.Slab.{get, slab_len, ContainsKey, HasRoomFor, Updates};
 ghost use Rattle.amqp_session_outgoing.specs.Frames.{first_count, frames_count, last_room};
@@ -215,6 +215,14 @@ impl<T: Drop, F: Drop> Turns<T, F> {
         ensures { self.new ≡ record self.old { room = self.old.room - count } }
     {
         self.room = self.room.saturating_sub(count);
+    }
+
+    /// Gives up room that was made: at most so many transfers more are sure to find room then.
+    #[inline(always)]
+    pub(crate) fn lower_room(&mut self, room: usize)
+        ensures { self.new ≡ record self.old { room = min self.old.room room } }
+    {
+        self.room = self.room.min(room);
     }
 
     /// Gets room for so many more frames of a link behind the transfers that the link has waiting.
