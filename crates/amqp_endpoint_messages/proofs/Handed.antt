@@ -1,7 +1,7 @@
 -- A session takes transfers that give deliveries up, one after the other.
 use Rattle.std.proofs.Common.{◌≡◌, inl, inr, ℕ, ◌+◌, ◌≤◌, Bool, true, false, List, [], ◌∷◌, ◌++◌, length, refl, sym, ap, subst}
 use Rattle.std.proofs.Common.{◌∙◌, append-nil, append_assoc}
-use Rattle.std.specs.Prelude.{◌≢◌, Option, Some, None, IsSome}
+use Rattle.std.specs.Prelude.{◌≢◌, Option, Some, None, IsSome, is_some}
 use Rattle.std.proofs.Math.Nat.{le-max_right}
 use Rattle.amqp_session_types.specs.declared.handles.OutputHandle.{OutputHandle}
 use Rattle.amqp_session_types.specs.declared.refusals.SessionError.{SessionError}
@@ -47,7 +47,7 @@ bare-length batch bare = ap (λ (us : Transfers). length us) bare.alone
 pub not-refused : (s : LinksIn) (handle : ℕ) (batch : Transfers) (e : SessionError) → IsBare batch
     → IsSome (link_at s handle) → RefusesTransfers s handle batch e → e ≢ Memory → e ≢ NumberInUse → ⊥
 not-refused s handle batch UnattachedHandle bare there why memory number =
-    let clash : IsSome None = subst (λ (o : Option (Numbered End)). IsSome o) why there in absurd cc
+    let clash : false ≡ true = subst (λ (o : Option (Numbered End)). is_some o ≡ true) why there in absurd cc
 not-refused s handle batch IllegalState bare there why memory number = why.1 (bare-tags batch bare)
 not-refused s handle batch NumberInUse bare there why memory number = number refl
 not-refused s handle batch Memory bare there why memory number = memory refl

@@ -1,20 +1,22 @@
 //! What a link does once it is attached at both ends: it tells the outcomes that the peer's list decides, and gives
 //! deliveries up (part 2, 2.6.13, 2.7.5).
-ghost use Rattle.std.specs.Prelude.{◌≡◌, ◌≢◌, ◌+◌, ◌≤◌, ◌<◌, ◌++◌, ◌↔◌, ℕ, [], ◌∷◌, All, IfOk, IsOk, IsSome, IsTrue, None};
-ghost use Rattle.std.specs.Prelude.{OnErr, OnOk, Some, length, true};
+ghost use Rattle.std.specs.Prelude.{◌≡◌, ◌+◌, ◌≤◌, ◌<◌, ℕ, List, [], ◌∷◌, All, IfOk, IsSome, None, OnErr, OnOk, length};
 ghost use Rattle.std.specs.Vec.{vec_capacity, vec_len};
 ghost use Rattle.std.specs.VecDeque.{deque_capacity, deque_len};
-ghost use Rattle.amqp_session_types.specs.declared.error.Error.{Error};
+ghost use Rattle.amqp_session_types.specs.declared.handles.OutputHandle.{OutputHandle};
 ghost use Rattle.amqp_session_outgoing.specs.Queues.{frames_in, room_behind};
 ghost use Rattle.amqp_session_core.specs.Batch.{first_of};
 ghost use Rattle.amqp_session_core.specs.State.{link_at};
+ghost use Rattle.amqp_link_unsettled.specs.declared.exchanging.Abort.{Abort};
+ghost use Rattle.amqp_link.specs.Preparing.{left_by};
 ghost use Rattle.amqp_endpoint_model.specs.State.{error_of};
 ghost use Rattle.amqp_endpoint_model.specs.Step.{not_allowed as condition};
 ghost use Rattle.amqp_endpoint_attached.specs.Detaching.{is_there};
 ghost use Rattle.amqp_endpoint_attached.specs.Linked.{end_at, end_in};
 ghost use Rattle.amqp_endpoint_messages.specs.All.{open_count};
 ghost use Rattle.amqp_endpoint_messages.specs.GivingUp.{DoesAttached, DoesClosedFor, HandsEach, HandsOne, IsBare};
-ghost use Rattle.amqp_endpoint_messages.specs.GivingUp.{abort_on, planned_at, stuck_by, transfer_fits};
+ghost use Rattle.amqp_endpoint_messages.specs.GivingUp.{abort_on, given_up_by, planned_at, stuck_by};
+ghost use Rattle.amqp_endpoint_messages.specs.GivingUp.{transfer_fits};
 ghost use Rattle.amqp_endpoint_messages.specs.MadeReady.{ClosesOut, HasRoomToSend, HasRoomToTell, IsMadeReady, IsPlanned};
 ghost use Rattle.amqp_endpoint_messages.specs.MadeReady.{IsReadyFor, MadeRoom, MadeRoomIn};
 
@@ -23,8 +25,9 @@ use crate::ending::{open_count, tell_first};
 use amqp_endpoint_attached::{LinkSession, detach_placed};
 use amqp_endpoint_links::Numbered;
 use amqp_endpoint_model::{EndpointError, Event, Refused};
-use amqp_link::LinkEnd;
+use amqp_link::{LinkEnd, PreparedAttach};
 use amqp_link_sender::SenderLink;
+use amqp_link_types::LinkError;
 use amqp_link_unsettled::{Abort, fits_text};
 use amqp_session_core::{Batch, BehindFrame, Session};
 use amqp_session_outgoing::Place;
@@ -113,9 +116,38 @@ fn giving_up_in(
     let Some(link) = session.link(handle) else {
         return Ok(none(alloc));
     };
-    match link.link.prepare_attach(alloc, attach)? {
-        Ok(_) => Ok(none(alloc)),
+    let decided = link.link.prepare_attach(alloc, attach)?;
+    giving_up_by(alloc, limit, handle, &decided)
+}
+
+/// The deliveries that are given up as the link takes the Attach that was made ready for it, or none where it refuses
+/// it. It is refused where there is no memory.
+fn giving_up_by(
+    alloc: Global,
+    limit: u32,
+    handle: OutputHandle,
+    decided: &Result<PreparedAttach, LinkError>,
+) -> Result<GivingUp, AllocError>
+    ensures { IfOk result (IsMadeReady limit handle (given_up_by decided.now)) }
+{
+    match decided {
+        Ok(prepared) => giving_up_of(alloc, limit, handle, prepared),
         Err(_) => Ok(none(alloc)),
+    }
+}
+
+/// The same of an end that takes it: a receiving one gives no delivery up.
+fn giving_up_of(
+    alloc: Global,
+    limit: u32,
+    handle: OutputHandle,
+    prepared: &PreparedAttach,
+) -> Result<GivingUp, AllocError>
+    ensures { IfOk result (IsMadeReady limit handle (left_by prepared.now).aborts) }
+{
+    match prepared {
+        PreparedAttach::Sender(prepared) => make_giving_up(alloc, limit, handle, prepared.aborts()),
+        PreparedAttach::Receiver(_) => Ok(none(alloc)),
     }
 }
 
@@ -139,7 +171,6 @@ fn make_giving_up(
     ensures { IfOk result (IsMadeReady limit handle aborts.now) }
 {
     let mut batches = VecDeque::new(alloc);
-    batches.reserve(aborts.len())?;
     let mut rest = aborts;
     while let Some((abort, others)) = rest.split_first() {
         let planned = batch_for(alloc, limit, handle, abort)?;
@@ -149,7 +180,7 @@ fn make_giving_up(
                 all_fit: false,
             });
         };
-        batches.push_back_reserved(batch);
+        batches.push_back(batch)?;
         rest = others;
     }
     Ok(GivingUp {
@@ -182,7 +213,13 @@ fn first_transfer(handle: OutputHandle, abort: &Abort) -> Result<Transfer, Alloc
 {
     let tag = abort.tag.clone()?;
     let message_format = abort.message_format;
-    Ok(on_handle(handle, SenderLink::abort_transfer(Abort { tag, message_format })))
+    Ok(on_handle(
+        handle,
+        SenderLink::abort_transfer(Abort {
+            tag,
+            message_format,
+        }),
+    ))
 }
 
 /// A transfer without a payload that begins a delivery, as a batch. It is refused where there is no memory.
@@ -290,7 +327,17 @@ pub fn go_on_attached(
     let Some(error) = stuck_by(stopped, all_fit) else {
         return;
     };
-    close_for(session, alloc, number, handle, (place, why), error, count, out, events);
+    close_for(
+        session,
+        alloc,
+        number,
+        handle,
+        (place, why),
+        error,
+        count,
+        out,
+        events,
+    );
 }
 
 /// The link with this own handle in the session with this number refuses the peer's Attach for this: it is closed, and
@@ -318,7 +365,17 @@ pub fn refuse_attach(
         why,
         place,
     } = ready;
-    close_for(session, alloc, number, handle, (place, why), error, count, out, events);
+    close_for(
+        session,
+        alloc,
+        number,
+        handle,
+        (place, why),
+        error,
+        count,
+        out,
+        events,
+    );
 }
 
 /// A session takes the transfers of the link with this own handle that give deliveries up, in their order. It stops at

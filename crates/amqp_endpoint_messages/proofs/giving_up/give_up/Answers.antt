@@ -64,3 +64,6 @@ returns-then-not-hand_over-clause-hands c =
     HandsOne c.args.handle c.in-Some.batch c.loop-batch.session c.loop-batch.out.items b c.hand_over.new.session
     c.hand_over.new.out.items)
     c.if-not-hand_over.true c.hand_over.ensures.handed))
+
+pub returns-clause-hands : goal.returns-clause-hands
+returns-clause-hands c = ?

@@ -30,3 +30,9 @@ pub returns-in-Ok-clause-fields : goal.returns-in-Ok-clause-fields
 returns-in-Ok-clause-fields c =
     (links-stay c.args.session.now c.on_outgoing_transfer.new.self c.args.handle c.args.batch.now c.args.out.now.items
     c.on_outgoing_transfer.new.out.items c.in-Ok.ensures.ok).1
+
+pub returns-in-Err-NumberInUse-clause-handed : goal.returns-in-Err-NumberInUse-clause-handed
+returns-in-Err-NumberInUse-clause-handed c = let h = c.in-Err-NumberInUse in ?
+
+pub unreachable-requires : goal.unreachable-requires
+unreachable-requires c = let h = c.in-Err in ?
