@@ -22,6 +22,7 @@ pub mod outcome_laws;
 mod preparing;
 mod reached;
 mod sending;
+pub mod trying;
 
 pub use disposing_all::dispose_all;
 pub use echoing::{Echoes, make_echoes, send_echoes};
