@@ -161,10 +161,10 @@ gives-next (body.Begin begin) old new links links_new given given_new limit chan
 gives-next (body.Attach attach) old new links links_new given given_new limit channel frames events (a, g) =
     elim a.hears [
       | inl t ↦ inl (
-          attach-becomes limit (attaching.opened_in a.ready (attach_of t.heard) a.named) t.heard a.named t.mid attach
-              frames events new t.becomes,
-          g,
-        )
+        attach-becomes limit (attaching.opened_in a.ready (attach_of t.heard) a.named) t.heard a.named t.mid attach
+            frames events new t.becomes,
+        g,
+      )
       | inr f ↦ inl (told-unnumbered events _ f.told refl, g)
     ]
 gives-next (body.Flow flow) old new links links_new given given_new limit channel frames events (inl t, g) =
