@@ -147,11 +147,7 @@ held-leads None theirs handle own x e held leads = absurd (none-some x held)
 held-leads (Some s) theirs handle own x e held leads =
     let (link, there) = link-there (link_at s.value.session handle.0) x held in
     ap (λ (o : Option ℕ). is_it o own.0) (reaches-link s.value.session theirs handle.0 link leads there)
-    ∙ same-other handle.0 own.0 e
-  where
-    same-other : (a b : ℕ) → (b == a) ≡ true → (a == b) ≡ true
-    same-other a b same =
-        ap (λ (k : ℕ). a == k) (same_number b a same) ∙ eq-same a
+    ∙ ap (λ (k : ℕ). handle.0 == k) (same_number own.0 handle.0 e) ∙ eq-same handle.0
 
 module _ (old : Talk) (channel : IncomingChannel) (attach : Attach) (mid : Talk) (frames : List SessionFrame)
     (new : Talk) where
