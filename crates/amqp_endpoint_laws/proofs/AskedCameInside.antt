@@ -46,6 +46,7 @@ use Rattle.amqp_endpoint_links.proofs.Routing.{none-stays}
 use Rattle.amqp_endpoint_model.specs.declared.call.Disposal.{Disposal}
 use Rattle.amqp_endpoint_model.specs.declared.call.Sending.{Sending}
 use Rattle.amqp_endpoint_model.specs.declared.event.Event.{Event}
+use Rattle.amqp_endpoint_laws.proofs.BehindAttach.{Behind, behind-rests}
 use Rattle.amqp_endpoint_laws.proofs.HoldingDone.{closes-stays, closing-stays, detaches-stay, disposes-all, failing-stays}
 use Rattle.amqp_endpoint_laws.proofs.HoldingDone.{disposes-one, drains-stays, echoes-stay, gives-stays, leave-stay}
 use Rattle.amqp_endpoint_laws.proofs.HoldingDone.{parts-stay, remembers-stays, sends-stays}
@@ -107,6 +108,11 @@ pub closes-keeps : (why : Option Error) (handle : OutputHandle) (frames : List S
 closes-keeps why handle frames old new c =
     less-keeps old new (closed-same (is_there (end_at old handle)) why handle frames old new c)
     (closes-stays why handle frames old new c).leads
+
+-- as it goes on behind an Attach
+pub behind-keeps : (frames : List SessionFrame) (old new : Linked) → Behind frames old new → KeepsAsked old new
+behind-keeps frames old new b =
+    less-keeps old new (ap (λ (x : Linked). x.asked) b.rest) (behind-rests frames old new b).leads
 
 -- as one parts from its session
 out-same : (handle : OutputHandle) (left : Option Link) (old new : Linked) → TakenOut old handle left new
