@@ -1,6 +1,6 @@
 //! The flow state of a link's sending end (part 2, 2.6.7).
 ghost use Rattle.std.specs.Prelude.{◌≡◌, ◌≤◌, ◌↔◌, IsOk, OnOk, OnErr};
-ghost use Rattle.amqp_link_base.specs.Flows.{credit_after, sender_flowed, sender_answer, attached, consumed};
+ghost use Rattle.amqp_link_base.specs.Flows.{credit_after, sender_flowed, sender_answer, attached, consumed, with_counts};
 
 use crate::flow_state::LinkFlowState;
 use crate::inner::LinkFlowStateInner;
@@ -56,6 +56,47 @@ impl LinkFlowState<SenderMarker> {
         } else {
             None
         }
+    }
+
+    /// The credit that there is once this Flow of the receiver is taken: none where it wants the credit used up (part 2,
+    /// 2.6.7). Nothing changes.
+    pub fn credit_by(&self, flow: &LinkFlow) -> u32
+        ensures { result ≡ (sender_flowed self.now flow.now).link_credit }
+    {
+        if flow.drain {
+            return 0;
+        }
+        let Some(credit) = flow.link_credit else {
+            return self.inner.link_credit;
+        };
+        let initial = self.inner.initial_delivery_count;
+        let theirs = flow.delivery_count.unwrap_or(initial);
+        credit_after(self.inner.delivery_count, theirs, credit)
+    }
+
+    /// The credit that there is once an attachment began and this Flow of the receiver is taken in it: what was given in
+    /// the one before is gone, and the count is that of now (part 2, 2.6.3 and 2.6.7). Nothing changes.
+    pub fn credit_by_anew(&self, flow: &LinkFlow) -> u32
+        ensures { result ≡ (sender_flowed (attached self.now self.now.delivery_count) flow.now).link_credit }
+    {
+        if flow.drain {
+            return 0;
+        }
+        let Some(credit) = flow.link_credit else {
+            return 0;
+        };
+        let own = self.inner.delivery_count;
+        credit_after(own, flow.delivery_count.unwrap_or(own), credit)
+    }
+
+    /// The count of deliveries, the credit, and whether the receiver wants it used up are these from now on (part 2,
+    /// 2.6.7).
+    pub fn set_counts(&mut self, delivery_count: u32, link_credit: u32, drain: bool)
+        ensures { self.new ≡ record (with_counts self.old delivery_count link_credit) { drain = drain } }
+    {
+        self.inner.delivery_count = delivery_count;
+        self.inner.link_credit = link_credit;
+        self.inner.drain = drain;
     }
 
     /// Uses credit: as many deliveries are counted as sent (part 2, 2.6.7).

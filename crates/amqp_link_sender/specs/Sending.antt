@@ -9,6 +9,7 @@ use Rattle.amqp_link_base.specs.declared.base.LinkBase.{LinkBase}
 use Rattle.amqp_link_base.specs.declared.inner.LinkFlowStateInner.{LinkFlowStateInner}
 use Rattle.amqp_link_base.specs.Flows.{sender_flowed, sender_answer}
 use Rattle.amqp_link_unsettled.specs.Messages.{MessageLists}
+use Rattle.amqp_link_sender.specs.declared.link.Counts.{Counts}
 
 -- a link as it stands, the state of its credit, its messages, and the error with which the peer closed it
 pub record Sending : Type 0 where
@@ -26,6 +27,26 @@ abbrev pub flow_answer : Sending → LinkFlow → Option LinkFlow
 flow_answer s flow =
     if is_attached s.base.local_state then sender_answer flow (handle_of s.base.output_handle)
     (sender_flowed s.flow flow) else None
+
+-- what a Flow of the receiver changes of a link
+abbrev pub counts_of : Sending → Counts
+counts_of s =
+    record {
+      delivery_count = s.flow.delivery_count;
+      link_credit = s.flow.link_credit;
+      drain = s.flow.drain;
+    }
+
+-- the link with these counts
+abbrev pub recounted : Sending → Counts → Sending
+recounted s counts =
+    record s {
+      flow = record s.flow {
+        delivery_count = counts.delivery_count;
+        link_credit = counts.link_credit;
+        drain = counts.drain;
+      };
+    }
 
 -- a frame is allowed and moves the link, or it isn't and the link stays
 abbrev pub MovesLink : Option Sending → Sending → Result (Unit {0}) IllegalState → Sending → Type 0

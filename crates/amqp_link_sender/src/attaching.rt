@@ -1,5 +1,6 @@
 //! How an attachment of a sending link begins (part 2, 2.6.3 and 2.6.13).
-ghost use Rattle.std.specs.Prelude.{◌≡◌, IfErr, IfOk, IsOk, Ok};
+ghost use Rattle.std.specs.Prelude.{◌≡◌, length, IfErr, IfOk, IsOk, Ok};
+ghost use Rattle.std.specs.VecDeque.Iter.{deque_iter_rest};
 ghost use Rattle.amqp_link_base.specs.Attach.{sender_tests};
 ghost use Rattle.amqp_link_base.specs.Terms.{adopted_by_sender};
 ghost use Rattle.amqp_link_base.specs.Tests.{FirstOf};
@@ -13,11 +14,12 @@ use amqp_link_base::{
     put, verify_attach_as_sender,
 };
 use amqp_link_types::SenderAttachError;
-use amqp_link_unsettled::{Abort, Failure, ListError, PreparedExchange, with_entries};
+use amqp_link_unsettled::{Abort, Failure, ListError, PreparedExchange, Waiting, with_entries};
 use amqp_session_performatives::{Attach, Transfer};
 use amqp_session_types::{Boxed, Fields, Handle, InputHandle, OutputHandle, Role};
 use serde_amqp_types::Array;
 use std::alloc::{AllocError, Global};
+use std::collections::vec_deque;
 use std::marker::Model;
 
 /// What is told of the receiver's Attach.
@@ -62,6 +64,30 @@ impl Model for PreparedAttach {
       messages = p.messages;
       exchange = p.exchange;
     } };
+}
+
+impl PreparedAttach {
+    /// The deliveries that are given up as the Attach is taken, in the order in which their transfers go: own ones, then
+    /// those that only the receiver knows (part 2, 2.6.13).
+    pub fn aborts(&self) -> &[Abort]
+        ensures { result.now ≡ (self.now).messages.aborts }
+    {
+        self.messages.aborts()
+    }
+
+    /// How many messages end as the Attach is taken (part 2, 2.6.13).
+    pub fn ended_len(&self) -> usize
+        ensures { result ≡ length (self.now).messages.ended }
+    {
+        self.messages.ended_len()
+    }
+
+    /// The messages that wait to be sent on once the Attach is taken, in the order in which they go.
+    pub(crate) fn waiting(&self) -> vec_deque::Iter<'_, Waiting>
+        ensures { deque_iter_rest result ≡ (self.now).messages.waiting }
+    {
+        self.messages.waiting()
+    }
 }
 
 impl SenderLink {

@@ -9,6 +9,7 @@
 mod attaching;
 mod dispositions;
 mod ending;
+mod going_on;
 pub mod laws;
 mod link;
 mod payloads;
@@ -19,7 +20,7 @@ mod splitting;
 
 pub use attaching::{AttachAnswer, Attaching, PreparedAttach};
 pub use ending::DetachRefusal;
-pub use link::SenderLink;
+pub use link::{Counts, SenderLink};
 pub use payloads::PreparedBatch;
 pub use results::SendResult;
 pub use sending::{PreparedSend, SendRefusal};

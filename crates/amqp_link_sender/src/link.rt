@@ -3,7 +3,7 @@ ghost use Rattle.std.specs.Prelude.{◌≡◌, length, option_copied, false, Non
 ghost use Rattle.std.specs.Borrow.{sem};
 ghost use Rattle.amqp_link_base.specs.Own.{bound};
 ghost use Rattle.amqp_link_sender.specs.Lends.{lends_handle, lends_properties};
-ghost use Rattle.amqp_link_sender.specs.Sending.{flowed, flow_answer};
+ghost use Rattle.amqp_link_sender.specs.Sending.{counts_of, flowed, flow_answer, recounted};
 ghost use Rattle.amqp_link_unsettled.specs.Messages.{no_messages, open_at, first_of};
 
 use amqp_link_base::{LinkBase, LinkFlowState, LinkFlowStateInner, LinkState, SenderMarker};
@@ -15,6 +15,17 @@ use amqp_session_types::{
 use serde_amqp_types::Text;
 use std::alloc::Global;
 use std::marker::Model;
+
+/// What a Flow of the receiver changes of a sending link (part 2, 2.6.7).
+#[derive(Debug, Clone, Copy, PartialEq, Eq)]
+pub struct Counts {
+    /// How many deliveries were sent. It wraps at 2^32.
+    pub delivery_count: u32,
+    /// How many more may be sent.
+    pub link_credit: u32,
+    /// Whether the receiver wants the credit used up.
+    pub drain: bool,
+}
 
 /// The sending end of a link (part 2, 2.6).
 pub struct SenderLink {
@@ -192,5 +203,24 @@ impl SenderLink {
         }
         let handle = self.base.own_handle();
         self.flow.on_incoming_flow(flow, handle)
+    }
+    /// What a Flow of the receiver changes of the link, as it stands.
+    pub fn counts(&self) -> Counts
+        ensures { result ≡ counts_of self.now }
+    {
+        Counts {
+            delivery_count: self.flow.delivery_count(),
+            link_credit: self.flow.link_credit(),
+            drain: self.flow.drain(),
+        }
+    }
+
+    /// The link's counts are these from now on, as they were before a Flow or a message of which nothing is to be left
+    /// (part 2, 2.6.7). No Flow shows them, and what waits to be sent on stays as it is. It takes no memory.
+    pub fn set_counts(&mut self, counts: Counts)
+        ensures { self.new ≡ recounted self.old counts }
+    {
+        self.flow
+            .set_counts(counts.delivery_count, counts.link_credit, counts.drain);
     }
 }

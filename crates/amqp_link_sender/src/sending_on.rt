@@ -1,12 +1,12 @@
 //! How messages are sent on once their link is attached again (part 2, 2.6.13).
 ghost use Rattle.std.specs.Prelude.{◌≡◌, ◌<◌, drop, true, false, Some, None, IsOk, IfOk};
 ghost use Rattle.amqp_link_sender.specs.Sends.{first_transfer};
-ghost use Rattle.amqp_link_sender.specs.SendsOn.{can_send_on, next_on, prepared_on, resumed_behind, resuming_transfer};
-ghost use Rattle.amqp_link_sender.specs.SendsOn.{sent_on};
+ghost use Rattle.amqp_link_sender.specs.SendsOn.{can_send_on, next_on, prepared_on, prepared_waiting};
+ghost use Rattle.amqp_link_sender.specs.SendsOn.{resumed_behind, resuming_transfer, sent_on};
 
 use crate::link::SenderLink;
 use crate::sending::first_transfer;
-use amqp_link_unsettled::{Open, Resumption};
+use amqp_link_unsettled::{Messages, Open, Resumption, Waiting};
 use amqp_session_performatives::Transfer;
 use amqp_session_states::{DeliveryState, Received};
 use amqp_session_types::{DeliveryTag, Handle};
@@ -44,10 +44,7 @@ impl SenderLink {
         let Some(waiting) = self.messages.first_waiting() else {
             return Ok(None);
         };
-        let Some(message) = self.messages.get(&waiting.tag) else {
-            return Ok(None);
-        };
-        Ok(Some(prepared_on(message, waiting.resumption)?))
+        prepared_waiting(&self.messages, waiting)
     }
 
     /// The message that was ready is sent on: it takes one credit, and waits no more (part 2, 2.6.7 and 2.6.13). It takes no
@@ -69,6 +66,20 @@ impl SenderLink {
         }
         self.flow.link_credit() != 0
     }
+}
+
+/// A message that waits as it is sent on; None where it isn't open.
+pub(crate) fn prepared_waiting(
+    messages: &Messages,
+    waiting: &Waiting,
+) -> Result<Option<PreparedSendOn>, AllocError>
+    ensures next { IfOk result (λ p. p ≡ prepared_waiting messages.now waiting.now) }
+    ensures nothing { prepared_waiting messages.now waiting.now ≡ None → IsOk result }
+{
+    let Some(message) = messages.get(&waiting.tag) else {
+        return Ok(None);
+    };
+    Ok(Some(prepared_on(message, waiting.resumption)?))
 }
 
 /// A message as it is sent on.

@@ -1,5 +1,6 @@
 //! What the peer's Attach makes of the open messages of a sending link (part 2, 2.6.13 and 2.7.3).
-ghost use Rattle.std.specs.Prelude.{◌≡◌, ◌++◌, [], ◌∷◌, IfOk, OnOk};
+ghost use Rattle.std.specs.Prelude.{◌≡◌, ◌++◌, [], ◌∷◌, length, IfOk, OnOk};
+ghost use Rattle.std.specs.VecDeque.Iter.{deque_iter_rest};
 ghost use Rattle.amqp_link_unsettled.specs.Exchanging.{all_ended, carried_out, ends_too, given_up_too, nothing};
 ghost use Rattle.amqp_link_unsettled.specs.Exchanging.{planned, unknown, unknown_of, waits_too, with_message};
 ghost use Rattle.amqp_link_unsettled.specs.Exchanging.{with_messages};
@@ -13,7 +14,7 @@ use amqp_session_states::DeliveryState;
 use amqp_session_types::DeliveryTag;
 use indexmap::map;
 use std::alloc::{AllocError, Global};
-use std::collections::VecDeque;
+use std::collections::{VecDeque, vec_deque};
 use std::marker::Model;
 
 /// A delivery that is given up (part 2, 2.6.13).
@@ -131,6 +132,29 @@ impl Model for PreparedExchange {
       waiting = p.waiting.items;
       aborts = p.aborts.items;
     } };
+}
+
+impl PreparedExchange {
+    /// The deliveries that are given up.
+    pub fn aborts(&self) -> &[Abort]
+        ensures { result.now ≡ self.now.aborts }
+    {
+        self.aborts.as_slice()
+    }
+
+    /// How many messages end.
+    pub fn ended_len(&self) -> usize
+        ensures { result ≡ length self.now.ended }
+    {
+        self.ended.len()
+    }
+
+    /// The messages that wait to be sent on then, in the order in which they go.
+    pub fn waiting(&self) -> vec_deque::Iter<'_, Waiting>
+        ensures { deque_iter_rest result ≡ self.now.waiting }
+    {
+        self.waiting.iter()
+    }
 }
 
 impl Messages {

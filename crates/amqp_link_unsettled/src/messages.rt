@@ -6,6 +6,7 @@ ghost use Rattle.std.specs.Map.{keys_of, lookup, remove_entry, set_value};
 ghost use Rattle.std.specs.Option.{option_to_list};
 ghost use Rattle.std.specs.Str.{bytes_eq};
 ghost use Rattle.std.specs.VecDeque.{deque_len, deque_capacity};
+ghost use Rattle.std.specs.VecDeque.Iter.{deque_iter_rest};
 ghost use Rattle.std.specs.Map.Iter.{ShowsInOrder, deref_pair};
 ghost use Rattle.amqp_link_unsettled.specs.Listing.{entries_listed};
 ghost use Rattle.amqp_link_unsettled.specs.Exchanging.{ended_at};
@@ -21,7 +22,7 @@ use crate::{Iter, UnsettledList, UnsettledMap};
 use amqp_session_states::DeliveryState;
 use amqp_session_types::DeliveryTag;
 use std::alloc::{AllocError, Global};
-use std::collections::VecDeque;
+use std::collections::{VecDeque, vec_deque};
 use std::marker::Model;
 
 /// The messages of a sending link: those that are open, those that came to an end until their owner takes them, and
@@ -102,6 +103,13 @@ impl Messages {
         ensures { option_copied result ≡ first_of self.now.waiting }
     {
         self.waiting.front()
+    }
+
+    /// The messages that wait to be sent on, in the order in which they go.
+    pub fn waiting(&self) -> vec_deque::Iter<'_, Waiting>
+        ensures { deque_iter_rest result ≡ self.now.waiting }
+    {
+        self.waiting.iter()
     }
 
     /// The open messages as an Attach lists them: in order, with the states that the peer told of them (part 2, 2.7.3). It
