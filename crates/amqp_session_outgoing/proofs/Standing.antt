@@ -138,6 +138,14 @@ module _ (h now n m : ℕ → Option ℕ) (turn : List ℕ) (spot key : ℕ) (a 
   pub noted-joined : AreNoted now (turn ++ spot ∷ []) m
   noted-joined = record { once = joined-once; each = joined-each; only = joined-only }
 
+-- spots that stand in a turn once stand in its rest once at most
+once-rest : (first : ℕ) (turn : List ℕ) → ((s : ℕ) → times s (first ∷ turn) ≤ 1) → (s : ℕ) → times s turn ≤ 1
+once-rest first turn once s = by (same_or_other first s)
+  where
+    by : (first ≡ s) ⊎ (first ≢ s) → times s turn ≤ 1
+    by (inl e) = omega (arith, once s, times-here s first turn e)
+    by (inr n) = omega (arith, once s, times-other s first turn n)
+
 module _ {T F : Type 0} where
   pub queue-is : (a b : Queue T F) → Some a ≡ Some b → a ≡ b
   queue-is a b e = ap (λ (o : Option (Queue T F)). unwrap_or o a) e
@@ -352,13 +360,6 @@ module _ {T F : Type 0} where
       more : (s : ℕ) → 0 < times s turn → (first ≡ s) ⊎ (first ≢ s) → 0 < times s (first ∷ turn)
       more s some (inl e) = omega (arith, some, times-here s first turn e)
       more s some (inr n) = omega (arith, some, times-other s first turn n)
-
-  once-rest : (first : ℕ) (turn : List ℕ) → ((s : ℕ) → times s (first ∷ turn) ≤ 1) → (s : ℕ) → times s turn ≤ 1
-  once-rest first turn once s = by (same_or_other first s)
-    where
-      by : (first ≡ s) ⊎ (first ≢ s) → times s turn ≤ 1
-      by (inl e) = omega (arith, once s, times-here s first turn e)
-      by (inr n) = omega (arith, once s, times-other s first turn n)
 
   -- a link stands at no spot but its own
   absent-behind : (slab : Slab (Queue T F)) (turn : List ℕ) (n : ℕ → Option ℕ) (spot handle : ℕ)
