@@ -1,5 +1,5 @@
 //! What a session's links send: Attach, Flow, transfers and Detach.
-ghost use Rattle.std.specs.Prelude.{◌≡◌, ◌≢◌, ◌+◌, ◌-◌, ◌*◌, ◌≤◌, ◌<◌, [], Err, IfOk, IfErr, IfSome, IfNone, OnOk};
+ghost use Rattle.std.specs.Prelude.{◌≡◌, ◌≢◌, ℕ, ◌+◌, ◌-◌, ◌*◌, ◌≤◌, ◌<◌, [], Err, IfOk, IfErr, IfSome, IfNone, OnOk};
 ghost use Rattle.std.specs.Prelude.{OnErr, length, min};
 ghost use Rattle.std.specs.VecDeque.{deque_len, deque_capacity};
 ghost use Rattle.amqp_session_performatives.specs.declared.session_frame.SessionFrameBody.TheVariants as body;
@@ -96,6 +96,26 @@ impl<R: LinkRelay> Session<R> {
         }
     }
 
+    /// Room for so many Flows and Detaches of a link, as `place_behind` answers it, which serves also behind transfers that
+    /// come to wait later: it has room for so many by themselves, also where the link has nothing waiting now. It is
+    /// refused with `Memory` alone.
+    pub fn place_behind_more(
+        &self,
+        alloc: Global,
+        handle: OutputHandle,
+        count: usize,
+    ) -> Result<Place<BehindFrame>, SessionError>
+        ensures room { IfOk result (λ place.
+            room_behind handle.0 count self.now.outgoing.queues ≤ place) }
+        ensures more { IfOk result (λ place. count ≤ place) }
+        ensures err { IfErr result (λ e. e ≡ SessionError.Memory) }
+    {
+        match self.outgoing.place_behind_more(alloc, handle, count) {
+            Ok(place) => Ok(place),
+            Err(_) => Err(SessionError::Memory),
+        }
+    }
+
     /// Sends a Detach of a link for which there is room (part 2, 2.7.7), as `on_outgoing_detach` does. It takes no
     /// memory. It is refused with `UnattachedHandle` alone, exactly where no link has the handle, and nothing changes then.
     pub fn on_outgoing_detach_in(
@@ -140,6 +160,9 @@ impl<R: LinkRelay> Session<R> {
     /// waiting, and what the peer's window allows is handed out, links in turn; the batch is empty then. A delivery gets
     /// its number as its first transfer leaves.
     ///
+    /// A place that served behind what the link had waiting, and that has room for so many frames by themselves, serves
+    /// behind what the link has waiting then.
+    ///
     /// It is refused with `UnattachedHandle` exactly where no link has the handle, else
     /// with `IllegalState` where a delivery begins without a tag, with `NumberInUse` where the number that
     /// a delivery would get is that of an unsettled one or of one that waits (part 2, 2.8.6), and with `Memory` where
@@ -162,6 +185,9 @@ impl<R: LinkRelay> Session<R> {
         ensures capacity { deque_capacity out.old ≤ deque_capacity out.new }
         ensures used_room { OnOk result (self.new.outgoing.room ≡
             self.old.outgoing.room - length batch.old) }
+        ensures behind { OnOk result ((count most : ℕ) →
+            room_behind handle.0 count self.old.outgoing.queues ≤ most → count ≤ most →
+            room_behind handle.0 count self.new.outgoing.queues ≤ most) }
         ensures room { length batch.old ≤ (self.old.outgoing).room →
             deque_len out.old + (frames_in (self.old.outgoing).queues + length batch.old)
             ≤ deque_capacity out.old → result ≢ Err SessionError.Memory }
@@ -184,23 +210,28 @@ impl<R: LinkRelay> Session<R> {
     }
 
     /// Makes room for so many transfers: batches of so many in all, of one link or of several, aren't refused for want of
-    /// memory, where `out` is the same and has no frames of others. Each accepted batch takes of the room as many as it
-    /// has. It is refused with `Memory` alone, and nothing changes then.
+    /// memory, where `out` is the same and at most so many frames of others are put into it. Behind all transfers and all
+    /// frames that wait, `out` has room for these others. Each accepted batch takes of the room as many as it has. It is
+    /// refused with `Memory` alone, and nothing changes then.
     pub fn reserve_transfers(
         &mut self,
         out: &mut VecDeque<SessionFrame>,
         count: usize,
+        others: usize,
     ) -> Result<(), SessionError>
         ensures ok { OnOk result (Step R.gives self.old (Reserves count) self.new) }
         ensures room { OnOk result (deque_len out.new +
-            (frames_in (self.new.outgoing).queues + (self.new.outgoing).room) ≤ deque_capacity out.new) }
+            (frames_in self.new.outgoing.queues + self.new.outgoing.room) + others ≤ deque_capacity out.new) }
         ensures err { IfErr result (λ e. e ≡ SessionError.Memory) }
         ensures kept { OnErr result (self.new ≡ self.old) }
         ensures out { out.new.items ≡ out.old.items }
         ensures capacity { deque_capacity out.old ≤ deque_capacity out.new }
     {
         let room = self.outgoing.room().max(count);
-        make_room(&self.outgoing, &mut self.sent, out, room)?;
+        let Some(all) = room.checked_add(others) else {
+            return Err(SessionError::Memory);
+        };
+        make_room(&self.outgoing, &mut self.sent, out, all)?;
         self.outgoing.reserve_transfers(&mut self.sent, count)?;
         Ok(())
     }

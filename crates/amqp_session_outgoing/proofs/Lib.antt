@@ -7,6 +7,7 @@ pub mod Changing
 pub mod Numbering
 pub mod Order
 pub mod Counting
+pub mod Serving
 pub mod Numbers
 pub mod Outside
 pub mod Taking

@@ -5,6 +5,7 @@ use Rattle.std.proofs.lemmas.List.{append-nil}
 use Rattle.std.proofs.lemmas.Bool.Decides.{eqb_tells}
 use Rattle.std.proofs.lemmas.Grind.{common_steps}
 use Rattle.amqp_session_outgoing.specs.Frames.{LinkFrame, Transferred, Other, others, frames_of, frames_sent, is_first}
+pub use Rattle.amqp_session_outgoing.specs.Queues.{Absent, Distinct}
 use Rattle.amqp_session_outgoing.specs.Queues.{Queues, TakesTurn, TakesTurnOf, rejoined, joined, followed, trailed, units_of, waiting_of}
 use Rattle.amqp_session_outgoing.specs.State.{State, Leaves, Sends, with_window, with_batch}
 use Rattle.amqp_session_outgoing.specs.History.{Act, Step, History, TakesWindow, SetsWindow, Accepts, Refuses}
@@ -27,14 +28,6 @@ some_if true n = refl
 some_if false n = refl
 
 module _ {T F : Type 0} where
-  abbrev pub Absent : ℕ → Queues T F → Type 0
-  Absent h [] = Unit {0}
-  Absent h (q ∷ qs) = (q.0 ≢ h) × Absent h qs
-
-  abbrev pub Distinct : Queues T F → Type 0
-  Distinct [] = Unit {0}
-  Distinct (q ∷ qs) = Absent q.0 qs × Distinct qs
-
   frames-append : (us vs : List (Outbound T F)) → frames_of (us ++ vs) ≡ frames_of us ++ frames_of vs
   frames-append [] vs = refl
   frames-append (u ∷ us) vs =

@@ -5,7 +5,7 @@ use Rattle.std.proofs.Common.{ap, subst, ◌∙◌}
 use Rattle.std.specs.Prelude.{option_map, slice_index_or, slice_set, unwrap_or, IsSome, if◌then◌else◌, ◌==◌, All}
 use Rattle.std.proofs.lemmas.Bool.Decides.{eqb_tells}
 use Rattle.slab.specs.Slab.{Slab, get}
-use Rattle.amqp_session_outgoing.specs.Queues.{Queues}
+use Rattle.amqp_session_outgoing.specs.Queues.{Queues, Absent, Distinct}
 use Rattle.amqp_session_outgoing.specs.Fields.{queues_at, queues_of, waiting_at, put_before, handle_at}
 use Rattle.amqp_session_outgoing.specs.Fields.{AllWait}
 use Rattle.amqp_session_outgoing.specs.Spots.{times, AreNoted}
@@ -137,6 +137,14 @@ module _ (h now n m : ℕ → Option ℕ) (turn : List ℕ) (spot key : ℕ) (a 
 
   pub noted-joined : AreNoted now (turn ++ spot ∷ []) m
   noted-joined = record { once = joined-once; each = joined-each; only = joined-only }
+
+-- spots that stand in a turn once stand in its rest once at most
+once-rest : (first : ℕ) (turn : List ℕ) → ((s : ℕ) → times s (first ∷ turn) ≤ 1) → (s : ℕ) → times s turn ≤ 1
+once-rest first turn once s = by (same_or_other first s)
+  where
+    by : (first ≡ s) ⊎ (first ≢ s) → times s turn ≤ 1
+    by (inl e) = omega (arith, once s, times-here s first turn e)
+    by (inr n) = omega (arith, once s, times-other s first turn n)
 
 module _ {T F : Type 0} where
   pub queue-is : (a b : Queue T F) → Some a ≡ Some b → a ≡ b
@@ -339,6 +347,50 @@ module _ {T F : Type 0} where
       (λ s some.
       let x = in-turn slab turn n s a some in
       (x.0, x.1, λ same. none-is s (none ∙ ap (λ (y : ℕ). n y) (sym same) ∙ x.2)))
+
+  -- at each spot of the turn stands a queue whose link has it noted
+  abbrev EachNoted : Slab (Queue T F) → List ℕ → (ℕ → Option ℕ) → Type 0
+  EachNoted slab turn n =
+      (s : ℕ) → 0 < times s turn → (x : Queue T F) × (get slab s ≡ Some x) × (n (x.handle).0 ≡ Some s)
+
+  noted-rest : (slab : Slab (Queue T F)) (first : ℕ) (turn : List ℕ) (n : ℕ → Option ℕ)
+      → EachNoted slab (first ∷ turn) n → EachNoted slab turn n
+  noted-rest slab first turn n each = λ s some. each s (more s some (same_or_other first s))
+    where
+      more : (s : ℕ) → 0 < times s turn → (first ≡ s) ⊎ (first ≢ s) → 0 < times s (first ∷ turn)
+      more s some (inl e) = omega (arith, some, times-here s first turn e)
+      more s some (inr n) = omega (arith, some, times-other s first turn n)
+
+  -- a link stands at no spot but its own
+  absent-behind : (slab : Slab (Queue T F)) (turn : List ℕ) (n : ℕ → Option ℕ) (spot handle : ℕ)
+      → EachNoted slab turn n → n handle ≡ Some spot → times spot turn ≡ 0 → Absent handle (waiting_at slab turn)
+  absent-behind slab [] n spot handle each told none = tt
+  absent-behind slab (s ∷ turn) n spot handle each told none =
+      let x = each s (omega (arith, times-here s s turn refl)) in
+      let other : s ≢ spot = λ e. absurd (omega (arith, none, times-here spot s turn e)) in
+      subst (λ (qs : List (Queue T F)). Absent handle (queues_of qs)) (sym (queues-first slab s turn x.0 x.1)) (
+        λ same. other (some-is s spot (sym x.2 ∙ ap (λ (y : ℕ). n y) same ∙ told)),
+        absent-behind slab turn n spot handle (noted-rest slab s turn n each) told
+            (omega (arith, none, times-other spot s turn other)),
+      )
+
+  each-apart : (slab : Slab (Queue T F)) (turn : List ℕ) (n : ℕ → Option ℕ) → EachNoted slab turn n
+      → ((s : ℕ) → times s turn ≤ 1) → Distinct (waiting_at slab turn)
+  each-apart slab [] n each once = tt
+  each-apart slab (first ∷ turn) n each once =
+      let x = each first (omega (arith, times-here first first turn refl)) in
+      let none : times first turn ≡ 0 = omega (arith, once first, times-here first first turn refl) in
+      subst (λ (qs : List (Queue T F)). Distinct (queues_of qs)) (sym (queues-first slab first turn x.0 x.1)) (
+        absent-behind slab turn n first (x.0.handle).0 (noted-rest slab first turn n each) x.2 none,
+        each-apart slab turn n (noted-rest slab first turn n each) (once-rest first turn once),
+      )
+
+  -- each link that waits stands in the turn once
+  pub noted-apart : (slab : Slab (Queue T F)) (turn : List ℕ) (n : ℕ → Option ℕ) → AreNoted (handle_at slab) turn n
+      → Distinct (waiting_at slab turn)
+  noted-apart slab turn n a =
+      each-apart slab turn n (λ s some. in-turn slab turn n s a some)
+      (λ s. omega (arith, a.once s, one-at-most (is_some (handle_at slab s))))
 
   -- each spot of the turn has a queue
   pub all-stand : (slab : Slab (Queue T F)) (turn : List ℕ) (n : ℕ → Option ℕ) → AreNoted (handle_at slab) turn n

@@ -1,5 +1,5 @@
 -- What waits in a session: the links that wait, in turn, each with its waiting transfers.
-use Rattle.std.specs.Prelude.{◌≡◌, ℕ, ◌+◌, ◌<◌, ◌==◌, List, [], ◌∷◌, ◌++◌, length, map, Option, Some, None}
+use Rattle.std.specs.Prelude.{◌≡◌, ◌≢◌, ℕ, ◌+◌, ◌<◌, ◌==◌, List, [], ◌∷◌, ◌++◌, length, map, Option, Some, None}
 use Rattle.std.specs.Prelude.{if◌then◌else◌}
 use Rattle.amqp_session_types.specs.declared.handles.OutputHandle.{OutputHandle}
 use Rattle.amqp_session_outgoing.specs.Frames.{LinkFrame, frames_of, firsts_of, frames_count, last_room}
@@ -14,6 +14,16 @@ pub record Lists (T F : Type 0) : Type 0 where
   pub room : ℕ
 
 module _ {T F : Type 0} where
+  -- no link with this handle waits
+  abbrev pub Absent : ℕ → Queues T F → Type 0
+  Absent handle [] = Unit {0}
+  Absent handle (q ∷ qs) = (q.0 ≢ handle) × Absent handle qs
+
+  -- each link that waits stands in the turn once
+  abbrev pub Distinct : Queues T F → Type 0
+  Distinct [] = Unit {0}
+  Distinct (q ∷ qs) = Absent q.0 qs × Distinct qs
+
   -- how many transfers wait
   abbrev pub held_in : Queues T F → ℕ
   held_in [] = 0

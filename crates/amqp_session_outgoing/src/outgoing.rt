@@ -1,9 +1,10 @@
 //! The sending side of a session.
 ghost use Rattle.std.specs.Prelude.{◌≡◌, ◌≢◌, ℕ, ◌+◌, ◌-◌, ◌<◌, ◌≤◌, ◌%◌, ◌^◌, ◌⊎◌, ◌↔◌, [], ◌++◌, length};
 ghost use Rattle.std.specs.Prelude.{if◌then◌else◌, IsTrue, IsOk, IfOk, IfErr, OnOk, OnErr, Err, option_copied, vec_len};
-ghost use Rattle.std.specs.Prelude.{vec_capacity, min};
+ghost use Rattle.std.specs.Prelude.{vec_capacity, min, All};
 ghost use Rattle.amqp_session_outgoing.specs.Frames.{is_first, firsts_of, frames_count, sent_count, HaveTags};
 ghost use Rattle.amqp_session_outgoing.specs.Queues.{held_in, firsts_in, frames_in, units_of, room_behind, turn_of};
+ghost use Rattle.amqp_session_outgoing.specs.Queues.{Distinct};
 ghost use Rattle.amqp_session_outgoing.specs.Touched.{Touches};
 ghost use Rattle.std.specs.FinMap as map;
 ghost use Rattle.amqp_session_outgoing.specs.State.{State, InWindow, Sends, Leaving, IsHeld, base_of, registered};
@@ -257,6 +258,9 @@ impl<T: Drop, F: Drop> Outgoing<T, F> {
     /// behind what the link has waiting, and what the window allows leaves, links in turn; the batch is empty then.
     /// Where nothing waits and the window takes the whole batch, it leaves without waiting.
     ///
+    /// Where nothing stands behind the transfers of the batch, a place that served behind what the link had waiting, and
+    /// that has room for so many frames by themselves, serves behind what the link has waiting now.
+    ///
     /// It is refused where there is no memory and no room was made for it, and nothing changes then.
     pub fn accept(
         &mut self,
@@ -277,6 +281,9 @@ impl<T: Drop, F: Drop> Outgoing<T, F> {
             + held_in self.old.queues + length batch.old.items) }
         ensures capacity { vec_capacity out.old ≤ vec_capacity out.new }
         ensures used_room { OnOk result (self.new.room ≡ self.old.room - length batch.old.items) }
+        ensures behind { OnOk result ((count most : ℕ) → All (λ u. u.behind ≡ []) batch.old.items →
+            room_behind handle.0 count self.old.queues ≤ most → count ≤ most →
+            room_behind handle.0 count self.new.queues ≤ most) }
         ensures err { OnErr result (Step self.old Fails self.new) }
         ensures out { OnErr result (out.new.items ≡ out.old.items) }
         ensures emptied { OnOk result (batch.new.items ≡ []) }
@@ -299,6 +306,7 @@ impl<T: Drop, F: Drop> Outgoing<T, F> {
 
     /// Accepts a batch of transfers of one link, whole or not at all: `admits` and `accept`, one after the other. They
     /// wait behind what the link has waiting, and what the window allows leaves, links in turn; the batch is empty then.
+    /// A place behind them serves as `accept` says.
     ///
     /// It is refused with `IllegalState` where a delivery begins without a tag, with `NumberInUse` where the number of
     /// a delivery that begins would be that of an unsettled one or of one that waits, and with `Memory` where there is
@@ -318,6 +326,9 @@ impl<T: Drop, F: Drop> Outgoing<T, F> {
             + held_in self.old.queues + length batch.old.items) }
         ensures capacity { vec_capacity out.old ≤ vec_capacity out.new }
         ensures used_room { OnOk result (self.new.room ≡ self.old.room - length batch.old.items) }
+        ensures behind { OnOk result ((count most : ℕ) → All (λ u. u.behind ≡ []) batch.old.items →
+            room_behind handle.0 count self.old.queues ≤ most → count ≤ most →
+            room_behind handle.0 count self.new.queues ≤ most) }
         ensures err { IfErr result (λ error.
             Step self.old (Refuses batch.old.items error) self.new) }
         ensures out { OnErr result (out.new.items ≡ out.old.items) }
@@ -362,6 +373,25 @@ impl<T: Drop, F: Drop> Outgoing<T, F> {
     {
         let mut place = Place::none();
         self.turns.widen_place(alloc, handle, count, &mut place)?;
+        Ok(place)
+    }
+
+    /// A place for so many Flows and Detaches of a link behind the transfers that it has waiting, as `place_behind`
+    /// answers it, with room for so many by themselves also where the link has nothing waiting: so it serves behind
+    /// transfers that come to wait later, where nothing stands behind the last of them. It is refused where there is no
+    /// memory.
+    pub fn place_behind_more(
+        &self,
+        alloc: Global,
+        handle: OutputHandle,
+        count: usize,
+    ) -> Result<Place<F>, AllocError>
+        ensures room { IfOk result (λ place. room_behind handle.0 count self.now.queues ≤ place) }
+        ensures more { IfOk result (λ place. count ≤ place) }
+    {
+        let mut place = Place::none();
+        self.turns.widen_place(alloc, handle, count, &mut place)?;
+        place.widen(alloc, 0, count)?;
         Ok(place)
     }
 
@@ -499,7 +529,7 @@ impl<T: Drop, F: Drop> Outgoing<T, F> {
     }
 
     /// A batch waits behind what its link has waiting, and this many first transfers wait with it. Room is made for all
-    /// to leave.
+    /// to leave. Each link that waits then stands in the turn once.
     #[tactic(auto, using(crate::proofs::Joining::rules, crate::proofs::Numbering::rules))]
     fn line_up(
         &mut self,
@@ -512,6 +542,7 @@ impl<T: Drop, F: Drop> Outgoing<T, F> {
         requires some { 0 < length batch.old.items }
         requires firsts { firsts ≡ firsts_in self.old.queues + firsts_of batch.old.items }
         ensures ok { OnOk result (self.new ≡ with_batch self.old handle.0 batch.old.items) }
+        ensures apart { OnOk result (Distinct self.new.queues) }
         ensures room { OnOk result (vec_len out.new + held_in self.new.queues
             ≤ vec_capacity out.new) }
         ensures err { OnErr result (self.new ≡ self.old) }

@@ -5,7 +5,7 @@ ghost use Rattle.std.specs.VecDeque.{deque_len, deque_capacity};
 ghost use Rattle.slab.specs.Slab.{get, slab_len, ContainsKey, HasRoomFor, Updates};
 ghost use Rattle.amqp_session_outgoing.specs.Frames.{first_count, frames_count, last_room};
 ghost use Rattle.amqp_session_outgoing.specs.Queues.{held_in, firsts_in, frames_in, units_of, room_behind, TakesTurn};
-ghost use Rattle.amqp_session_outgoing.specs.Queues.{joined, trailed, turn_of, FollowsIn};
+ghost use Rattle.amqp_session_outgoing.specs.Queues.{joined, trailed, turn_of, Distinct, FollowsIn};
 ghost use Rattle.amqp_session_outgoing.specs.Fields.{waiting_at, handle_at, AllWait, AllShort, HasFewAt};
 ghost use Rattle.amqp_session_outgoing.specs.Fields.{ChangesQueue, TakesFirst, Joins};
 ghost use Rattle.amqp_session_outgoing.specs.Spots.{spot_of, notes_left, AreNoted};
@@ -158,7 +158,7 @@ impl<T: Drop, F: Drop> Turns<T, F> {
         (handle, unit)
     }
 
-    /// A batch of a link waits behind what the link has waiting.
+    /// A batch of a link waits behind what the link has waiting. Each link that waits then stands in the turn once.
     pub(crate) fn join(
         &mut self,
         alloc: Global,
@@ -170,6 +170,7 @@ impl<T: Drop, F: Drop> Turns<T, F> {
           queues = joined handle.0 batch.old.items self.old.queues;
           room = self.old.room - length batch.old.items;
         }) }
+        ensures apart { OnOk result (Distinct self.new.queues) }
         ensures err { OnErr result (self.new ≡ self.old) }
         ensures emptied { OnOk result (batch.new.items ≡ []) }
         ensures batch { OnErr result (batch.new.items ≡ batch.old.items) }

@@ -1,8 +1,10 @@
 use Rattle.std.proofs.Common.{◌≡◌, arith, sym, ap, subst}
 use Rattle.amqp_session_outgoing.specs.Queues.{held_in, frames_in, joined}
+use Rattle.amqp_session_outgoing.specs.Spots.{spot_of}
 use Rattle.amqp_session_outgoing.specs.Fields.{waiting_at, EachShort}
 use Rattle.amqp_session_outgoing.proofs.Joining.{held-joined}
 use Rattle.amqp_session_outgoing.proofs.Counting.{frames-fit, frames-joined, short-joined}
+use Rattle.amqp_session_outgoing.proofs.Standing.{noted-apart}
 use Rattle.amqp_session_outgoing.proofs.turns.Turns.join.Goals as goal
 
 pub overflow_add-frames : goal.overflow_add-frames
@@ -26,3 +28,7 @@ invariant_of-self-2 g c =
       stands = omega (arith, c.requires, c.self.invariant.stands, c.in_ok-join.ensures.stands_too, c.join.ensures.stands_within, c.join.ensures.room);
       notes = omega (arith, c.requires, c.self.invariant.notes, c.in_ok-join.ensures.taken);
     }
+
+pub returns-clause-apart : goal.returns-clause-apart
+returns-clause-apart g c =
+    noted-apart c.join.new.queues c.join.new.turn.items (spot_of c.join.new.spots) c.join.ensures.noted
