@@ -19,3 +19,7 @@ pub mod Prepared
 pub mod Transfers
 pub mod Handing
 pub mod Sent
+pub mod AbortsFit
+pub mod Planned
+pub mod Handed
+pub mod Attached

@@ -1,7 +1,9 @@
 -- What is made ready for a link that waits for the peer's Attach: part 2, 2.6.3, 2.6.6, 2.6.13.
-use Rattle.std.specs.Prelude.{◌≡◌, ◌+◌, ◌≤◌, ◌<◌, ℕ, List, All, Bool, true, false, Option, Some, None, length, map}
+use Rattle.std.specs.Prelude.{◌≡◌, ◌+◌, ◌++◌, ◌≤◌, ◌<◌, ℕ, List, All, Bool, true, false, Option, Some, None, length, map}
+use Rattle.amqp_session_types.specs.declared.error.Error.{Error}
 use Rattle.amqp_session_types.specs.declared.handles.OutputHandle.{OutputHandle}
 use Rattle.amqp_session_performatives.specs.declared.attach.Attach.{Attach}
+use Rattle.amqp_session_performatives.specs.declared.session_frame.SessionFrame.{SessionFrame}
 use Rattle.amqp_session_outgoing.specs.Queues.{frames_in, room_behind}
 use Rattle.amqp_session_core.specs.Batch.{Transfers}
 use Rattle.amqp_session_core.specs.Steps.{Reserves, Step}
@@ -9,22 +11,25 @@ use Rattle.amqp_link_unsettled.specs.declared.exchanging.Abort.{Abort}
 use Rattle.amqp_endpoint_fitting.specs.Fits.{UnitFits}
 use Rattle.amqp_endpoint_model.specs.State.{error_of}
 use Rattle.amqp_endpoint_model.specs.Step.{not_allowed}
+use Rattle.amqp_endpoint_attached.specs.Detaching.{is_there}
 use Rattle.amqp_endpoint_attached.specs.Linked.{Linked, LinksIn, end_at, gives}
 use Rattle.amqp_endpoint_messages.specs.All.{open_count}
-use Rattle.amqp_endpoint_messages.specs.GivingUp.{abort_fits, all_fit, batch_of, fitting, planned_at}
+use Rattle.amqp_endpoint_messages.specs.GivingUp.{ClosesWhere, abort_fits, all_fit, batch_of, fitting, planned_at}
 use Rattle.amqp_endpoint_messages.specs.declared.giving_up.AttachReady.{AttachReady}
 use Rattle.amqp_endpoint_messages.specs.declared.giving_up.GivingUp.{GivingUp}
 
 -- The transfers of these deliveries before the first that the peer takes no frame for, on whichever channel, and whether
--- there is such a one. Each of them fits the peer's frames.
-pub record IsMadeReady (limit : ℕ) (handle : OutputHandle) (aborts : List Abort) (giving : GivingUp) : Type 0 where
-  pub batches :
-      (channel : ℕ) → giving.batches.items ≡ map (batch_of handle) (fitting limit channel handle aborts)
-  pub fits : (channel : ℕ) → giving.all_fit ≡ all_fit limit channel handle aborts
+-- it takes one for each. Each of them fits the peer's frames.
+pub record ArePlanned (limit : ℕ) (handle : OutputHandle) (aborts : List Abort) (batches : List Transfers) (all : Bool)
+    : Type 0 where
+  pub these : (channel : ℕ) → batches ≡ map (batch_of handle) (fitting limit channel handle aborts)
+  pub whether : (channel : ℕ) → all ≡ all_fit limit channel handle aborts
   pub fit :
-      (channel : ℕ)
-      → All (λ abort. All (UnitFits channel limit handle.0) (batch_of handle abort))
-      (fitting limit channel handle aborts)
+      (channel other : ℕ)
+      → All (λ abort. All (UnitFits other limit handle.0) (batch_of handle abort)) (fitting limit channel handle aborts)
+
+abbrev pub IsMadeReady : ℕ → OutputHandle → List Abort → GivingUp → Type 0
+IsMadeReady limit handle aborts giving = ArePlanned limit handle aborts giving.batches.items giving.all_fit
 
 -- That of one of them, where the peer takes it.
 abbrev pub IsPlanned : ℕ → OutputHandle → Abort → Option Transfers → Type 0
@@ -60,3 +65,10 @@ pub record MadeRoomIn (old new : LinksIn) : Type 0 where
 pub record MadeRoom (old new : Linked) : Type 0 where
   pub made : MadeRoomIn old.session new.session
   pub rest : new ≡ record old { session = new.session }
+
+-- The link is closed, where it is attached, and what is handed out goes on by its Detach, where that leaves at once.
+pub record ClosesOut (handle : OutputHandle) (why : Error) (old : Linked) (out : List SessionFrame) (new : Linked)
+    (out_new : List SessionFrame) : Type 0 where
+  pub frames : List SessionFrame
+  pub closes : ClosesWhere (is_there (end_at old handle)) why old handle frames new
+  pub queued : out_new ≡ out ++ frames

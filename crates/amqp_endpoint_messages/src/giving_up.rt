@@ -1,29 +1,33 @@
 //! What a link does once it is attached at both ends: it tells the outcomes that the peer's list decides, and gives
 //! deliveries up (part 2, 2.6.13, 2.7.5).
-ghost use Rattle.std.specs.Prelude.{◌≡◌, ◌≢◌, ◌+◌, ◌≤◌, ◌<◌, ◌++◌, ◌↔◌, ℕ, [], ◌∷◌, All, IfOk, IsOk, IsSome, IsTrue, None};
-ghost use Rattle.std.specs.Prelude.{OnErr, OnOk, Some, length, true};
+ghost use Rattle.std.specs.Prelude.{◌≡◌, ◌+◌, ◌≤◌, ◌<◌, ℕ, List, [], ◌∷◌, All, IfOk, IsSome, None, OnErr, OnOk, length};
 ghost use Rattle.std.specs.Vec.{vec_capacity, vec_len};
 ghost use Rattle.std.specs.VecDeque.{deque_capacity, deque_len};
-ghost use Rattle.amqp_session_types.specs.declared.error.Error.{Error};
+ghost use Rattle.amqp_session_types.specs.declared.handles.OutputHandle.{OutputHandle};
 ghost use Rattle.amqp_session_outgoing.specs.Queues.{frames_in, room_behind};
+ghost use Rattle.amqp_session_core.specs.Batch.{first_of};
 ghost use Rattle.amqp_session_core.specs.State.{link_at};
+ghost use Rattle.amqp_link_unsettled.specs.declared.exchanging.Abort.{Abort};
+ghost use Rattle.amqp_link.specs.Preparing.{left_by};
 ghost use Rattle.amqp_endpoint_model.specs.State.{error_of};
 ghost use Rattle.amqp_endpoint_model.specs.Step.{not_allowed as condition};
 ghost use Rattle.amqp_endpoint_attached.specs.Detaching.{is_there};
 ghost use Rattle.amqp_endpoint_attached.specs.Linked.{end_at, end_in};
 ghost use Rattle.amqp_endpoint_messages.specs.All.{open_count};
 ghost use Rattle.amqp_endpoint_messages.specs.GivingUp.{DoesAttached, DoesClosedFor, HandsEach, HandsOne, IsBare};
-ghost use Rattle.amqp_endpoint_messages.specs.GivingUp.{planned_at, stuck_by, transfer_fits};
-ghost use Rattle.amqp_endpoint_messages.specs.MadeReady.{HasRoomToSend, HasRoomToTell, IsMadeReady, IsPlanned, IsReadyFor};
-ghost use Rattle.amqp_endpoint_messages.specs.MadeReady.{MadeRoom, MadeRoomIn};
+ghost use Rattle.amqp_endpoint_messages.specs.GivingUp.{abort_on, given_up_by, planned_at, stuck_by};
+ghost use Rattle.amqp_endpoint_messages.specs.GivingUp.{transfer_fits};
+ghost use Rattle.amqp_endpoint_messages.specs.MadeReady.{ClosesOut, HasRoomToSend, HasRoomToTell, IsMadeReady, IsPlanned};
+ghost use Rattle.amqp_endpoint_messages.specs.MadeReady.{IsReadyFor, MadeRoom, MadeRoomIn};
 
 use crate::cutting::on_handle;
 use crate::ending::{open_count, tell_first};
 use amqp_endpoint_attached::{LinkSession, detach_placed};
 use amqp_endpoint_links::Numbered;
 use amqp_endpoint_model::{EndpointError, Event, Refused};
-use amqp_link::LinkEnd;
+use amqp_link::{LinkEnd, PreparedAttach};
 use amqp_link_sender::SenderLink;
+use amqp_link_types::LinkError;
 use amqp_link_unsettled::{Abort, fits_text};
 use amqp_session_core::{Batch, BehindFrame, Session};
 use amqp_session_outgoing::Place;
@@ -76,6 +80,7 @@ pub fn make_attach_ready(
         HasRoomToSend handle ready session.new (deque_len out.new) (deque_capacity out.new)) }
     ensures tells { IfOk result (λ ready. HasRoomToTell ready.count (vec_len events.new + 1)
         (vec_capacity events.new)) }
+    ensures bare { IfOk result (λ ready. All IsBare ready.giving.batches.items) }
     ensures made { OnOk result (MadeRoom session.old session.new) }
     ensures kept { OnErr result (session.new ≡ session.old) }
     ensures out { out.new.items ≡ out.old.items }
@@ -111,9 +116,38 @@ fn giving_up_in(
     let Some(link) = session.link(handle) else {
         return Ok(none(alloc));
     };
-    match link.link.prepare_attach(alloc, attach)? {
-        Ok(prepared) => make_giving_up(alloc, limit, handle, prepared.aborts()),
+    let decided = link.link.prepare_attach(alloc, attach)?;
+    giving_up_by(alloc, limit, handle, &decided)
+}
+
+/// The deliveries that are given up as the link takes the Attach that was made ready for it, or none where it refuses
+/// it. It is refused where there is no memory.
+fn giving_up_by(
+    alloc: Global,
+    limit: u32,
+    handle: OutputHandle,
+    decided: &Result<PreparedAttach, LinkError>,
+) -> Result<GivingUp, AllocError>
+    ensures { IfOk result (IsMadeReady limit handle (given_up_by decided.now)) }
+{
+    match decided {
+        Ok(prepared) => giving_up_of(alloc, limit, handle, prepared),
         Err(_) => Ok(none(alloc)),
+    }
+}
+
+/// The same of an end that takes it: a receiving one gives no delivery up.
+fn giving_up_of(
+    alloc: Global,
+    limit: u32,
+    handle: OutputHandle,
+    prepared: &PreparedAttach,
+) -> Result<GivingUp, AllocError>
+    ensures { IfOk result (IsMadeReady limit handle (left_by prepared.now).aborts) }
+{
+    match prepared {
+        PreparedAttach::Sender(prepared) => make_giving_up(alloc, limit, handle, prepared.aborts()),
+        PreparedAttach::Receiver(_) => Ok(none(alloc)),
     }
 }
 
@@ -137,17 +171,17 @@ fn make_giving_up(
     ensures { IfOk result (IsMadeReady limit handle aborts.now) }
 {
     let mut batches = VecDeque::new(alloc);
-    batches.reserve(aborts.len())?;
-    for abort in aborts {
-        match batch_for(alloc, limit, handle, abort)? {
-            Some(batch) => batches.push_back_reserved(batch),
-            None => {
-                return Ok(GivingUp {
-                    batches,
-                    all_fit: false,
-                });
-            }
-        }
+    let mut rest = aborts;
+    while let Some((abort, others)) = rest.split_first() {
+        let planned = batch_for(alloc, limit, handle, abort)?;
+        let Some(batch) = planned else {
+            return Ok(GivingUp {
+                batches,
+                all_fit: false,
+            });
+        };
+        batches.push_back(batch)?;
+        rest = others;
     }
     Ok(GivingUp {
         batches,
@@ -165,15 +199,36 @@ fn batch_for(
 ) -> Result<Option<Batch>, AllocError>
     ensures { IfOk result (IsPlanned limit handle abort.now) }
 {
-    let tag = abort.tag.clone()?;
-    let message_format = abort.message_format;
-    let mut first = on_handle(handle, SenderLink::abort_transfer(Abort { tag, message_format }));
+    let mut first = first_transfer(handle, abort)?;
     if !fits_numbered(&mut first, limit) {
         return Ok(None);
     }
+    let batch = alone(alloc, first)?;
+    Ok(Some(batch))
+}
+
+/// The transfer that gives a delivery up, on the own handle of its link. It is refused where there is no memory.
+fn first_transfer(handle: OutputHandle, abort: &Abort) -> Result<Transfer, AllocError>
+    ensures { IfOk result (λ first. first ≡ abort_on handle abort.now) }
+{
+    let tag = abort.tag.clone()?;
+    let message_format = abort.message_format;
+    Ok(on_handle(
+        handle,
+        SenderLink::abort_transfer(Abort {
+            tag,
+            message_format,
+        }),
+    ))
+}
+
+/// A transfer without a payload that begins a delivery, as a batch. It is refused where there is no memory.
+fn alone(alloc: Global, first: Transfer) -> Result<Batch, AllocError>
+    ensures { IfOk result (λ batch. batch ≡ first_of first [] ∷ []) }
+{
     let mut batch = Batch::new(alloc);
     batch.push_first(alloc, first, Bytes::new())?;
-    Ok(Some(batch))
+    Ok(batch)
 }
 
 /// Whether a transfer without a payload fits a frame of at most so many bytes, whatever number its delivery gets. It
@@ -269,9 +324,20 @@ pub fn go_on_attached(
     let GivingUp { batches, all_fit } = giving;
     tell_first(session, handle, count, Vec::new(alloc), events);
     let stopped = give_up(&mut session.session, alloc, handle, batches, out);
-    if let Some(error) = stuck_by(stopped, all_fit) {
-        close_for(session, alloc, number, handle, (place, why), error, count, out, events);
-    }
+    let Some(error) = stuck_by(stopped, all_fit) else {
+        return;
+    };
+    close_for(
+        session,
+        alloc,
+        number,
+        handle,
+        (place, why),
+        error,
+        count,
+        out,
+        events,
+    );
 }
 
 /// The link with this own handle in the session with this number refuses the peer's Attach for this: it is closed, and
@@ -299,7 +365,17 @@ pub fn refuse_attach(
         why,
         place,
     } = ready;
-    close_for(session, alloc, number, handle, (place, why), error, count, out, events);
+    close_for(
+        session,
+        alloc,
+        number,
+        handle,
+        (place, why),
+        error,
+        count,
+        out,
+        events,
+    );
 }
 
 /// A session takes the transfers of the link with this own handle that give deliveries up, in their order. It stops at
@@ -324,28 +400,29 @@ fn give_up(
     ensures fields { session.new.fields ≡ session.old.fields }
 {
     let mut batches = batches;
-    while let Some(batch) = batches.pop_front() {
-        if !hand_over(session, alloc, handle, batch, out) {
+    while let Some(mut batch) = batches.pop_front() {
+        if !hand_over(session, alloc, handle, &mut batch, out) {
             return true;
         }
     }
     false
 }
 
-/// A session takes one of them, and answers whether it did: not where its number is in use. There is room for it.
+/// A session takes one of them, and answers whether it did: not where its number is in use. There is room for it, and
+/// it takes no memory.
 fn hand_over(
     session: &mut Session<Numbered<LinkEnd>>,
     alloc: Global,
     handle: OutputHandle,
-    batch: Batch,
+    batch: &mut Batch,
     out: &mut VecDeque<SessionFrame>,
 ) -> bool
     requires there { IsSome (link_at session.old handle.0) }
-    requires bare { IsBare batch }
+    requires bare { IsBare batch.old }
     requires room { 0 < session.old.outgoing.room }
     requires spare { deque_len out.old + (frames_in session.old.outgoing.queues + session.old.outgoing.room) + 1
         ≤ deque_capacity out.old }
-    ensures handed { HandsOne handle batch session.old out.old.items result session.new out.new.items }
+    ensures handed { HandsOne handle batch.old session.old out.old.items result session.new out.new.items }
     ensures room { session.old.outgoing.room ≤ session.new.outgoing.room + 1 }
     ensures spare { deque_len out.new + (frames_in session.new.outgoing.queues + session.new.outgoing.room) + 1
         ≤ deque_capacity out.new }
@@ -354,12 +431,8 @@ fn hand_over(
     ensures links { session.new.links ≡ session.old.links }
     ensures fields { session.new.fields ≡ session.old.fields }
 {
-    let mut batch = batch;
-    match session.on_outgoing_transfer(alloc, out, handle, &mut batch) {
-        Ok(()) => {
-            session.give_batch_back(batch);
-            true
-        }
+    match session.on_outgoing_transfer(alloc, out, handle, batch) {
+        Ok(()) => true,
         Err(SessionError::NumberInUse) => false,
         Err(_) => unreachable!(),
     }
@@ -399,20 +472,36 @@ fn close_for(
     ensures { DoesClosedFor number error count handle detach.1 session.old out.old.items events.old.items session.new
         out.new.items events.new.items }
 {
-    let Some(link) = session.session.link(handle) else {
+    let Some(there) = session.session.link(handle) else {
         unreachable!()
     };
-    let link = link.number;
-    let (place, why) = detach;
-    if is_attached(session, handle) {
-        detach_placed(session, handle, place, true, Some(why), out);
-    }
+    let link = there.number;
+    close_where(session, handle, detach, out);
     events.push_reserved(Event::Refused(Refused {
         session: number,
         link: Some(link),
         error,
     }));
     tell_first(session, handle, count, Vec::new(alloc), events);
+}
+
+/// The link with this own handle is closed, where it is attached, with what its Detach says and room for it. It takes no
+/// memory.
+fn close_where(
+    session: &mut LinkSession,
+    handle: OutputHandle,
+    detach: (Place<BehindFrame>, definitions::Error),
+    out: &mut VecDeque<SessionFrame>,
+)
+    requires place { room_behind handle.0 1 session.old.session.outgoing.queues ≤ detach.0 }
+    requires spare { deque_len out.old < deque_capacity out.old }
+    ensures { ClosesOut handle detach.1 session.old out.old.items session.new out.new.items }
+{
+    if !is_attached(session, handle) {
+        return;
+    }
+    let (place, why) = detach;
+    detach_placed(session, handle, place, true, Some(why), out);
 }
 
 /// Whether an attached link has this own handle.
