@@ -87,7 +87,7 @@ behind-more handle (batch ∷ batches) before out old new stopped out_new (inl h
     record { left = sent.left; frames = sent.frames; added = refl; stepped = sent.stepped } in
     record { up = later.up; hands = inl (mid, out ++ sent.frames, one, later.hands); queued = later.queued }
 behind-more handle (batch ∷ batches) before out old new stopped out_new (inr hands) =
-    record { up = out; hands = inr ((hands.0.0, hands.0.1.0, refl), hands.1); queued = hands.0.1.1 }
+    record { up = out; hands = inr ((hands.0.0, hands.0.1, refl), hands.1); queued = hands.0.2 }
 
 pub behind : (handle : OutputHandle) (batches : List Transfers) (before : List SessionFrame) (old new : LinksIn)
     (stopped : Bool) (out_new : List SessionFrame) → HandsEach handle batches old before stopped new out_new
