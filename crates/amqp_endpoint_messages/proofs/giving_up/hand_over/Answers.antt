@@ -39,7 +39,7 @@ returns-in-Err-NumberInUse-clause-handed c =
     c.on_outgoing_transfer.new.out.items
     (subst (λ (e : SessionError). RefusesTransfers c.args.session.now c.args.handle.0 c.args.batch.now e)
     c.in-Err-NumberInUse.field-0-is c.in-Err-NumberInUse.ensures.err)
-    c.in-Err-NumberInUse.ensures.kept.0 c.in-Err-NumberInUse.ensures.kept.1.0
+    c.in-Err-NumberInUse.ensures.kept.0 c.in-Err-NumberInUse.ensures.kept.1
 
 pub unreachable-requires : goal.unreachable-requires
 unreachable-requires c =
