@@ -74,7 +74,7 @@ behind-more : (handle : OutputHandle) (batches : List Transfers) (before out : L
     (stopped : Bool) (out_new : List SessionFrame) → HandsEach handle batches old (before ++ out) stopped new out_new
     → Behind handle batches before out old stopped new out_new
 behind-more handle [] before out old new stopped out_new hands =
-    record { up = out; hands = (hands.0, hands.1.0, refl); queued = hands.1.1 }
+    record { up = out; hands = (hands.0, hands.1, refl); queued = hands.2 }
 behind-more handle (batch ∷ batches) before out old new stopped out_new (inl hands) =
     let mid : LinksIn = hands.0 in
     let out_mid : List SessionFrame = hands.1.0 in
@@ -87,7 +87,7 @@ behind-more handle (batch ∷ batches) before out old new stopped out_new (inl h
     record { left = sent.left; frames = sent.frames; added = refl; stepped = sent.stepped } in
     record { up = later.up; hands = inl (mid, out ++ sent.frames, one, later.hands); queued = later.queued }
 behind-more handle (batch ∷ batches) before out old new stopped out_new (inr hands) =
-    record { up = out; hands = inr ((hands.0.0, hands.0.1.0, refl), hands.1); queued = hands.0.1.1 }
+    record { up = out; hands = inr ((hands.0.0, hands.0.1, refl), hands.1); queued = hands.0.2 }
 
 pub behind : (handle : OutputHandle) (batches : List Transfers) (before : List SessionFrame) (old new : LinksIn)
     (stopped : Bool) (out_new : List SessionFrame) → HandsEach handle batches old before stopped new out_new
@@ -124,8 +124,8 @@ pub links-stay : (old new : LinksIn) (handle : OutputHandle) (batch : Transfers)
     → TransfersSent gives old out handle batch new out_new
     → (new.links ≡ old.links) × (new.fields ≡ old.fields)
 links-stay old new handle batch out out_new sent = (
-  ap (λ (s : LinksIn). s.links) sent.stepped.1.1.0,
-  ap (λ (s : LinksIn). s.fields) sent.stepped.1.1.0,
+  ap (λ (s : LinksIn). s.links) sent.stepped.2,
+  ap (λ (s : LinksIn). s.fields) sent.stepped.2,
 )
 
 -- a place that serves does once room is made for transfers
