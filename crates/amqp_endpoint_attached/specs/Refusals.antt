@@ -6,6 +6,9 @@ use Rattle.amqp_session_types.specs.declared.refusals.SessionError.{SessionError
 use Rattle.amqp_session_types.specs.declared.refusals.SessionError.TheVariants as session
 use Rattle.amqp_session_performatives.specs.declared.attach.Attach.{Attach}
 use Rattle.amqp_session_core.specs.State.{State}
+use Rattle.amqp_link_types.specs.declared.attaching.ReceiverAttachError.{ReceiverAttachError}
+use Rattle.amqp_link_types.specs.declared.attaching.ReceiverAttachError.TheVariants.{DesiredFilterNotSupported}
+use Rattle.amqp_link_types.specs.declared.attaching.ReceiverAttachError.TheVariants.{Memory as NoMemory}
 use Rattle.amqp_link_types.specs.declared.link_error.LinkError.{LinkError}
 use Rattle.amqp_link_types.specs.declared.link_error.LinkError.TheVariants.{SenderAttach, ReceiverAttach}
 use Rattle.amqp_link.specs.declared.end.End.{End}
@@ -53,6 +56,23 @@ abbrev pub RefusesPeer : End → Attach → AttachRefusal → Type 0
 RefusesPeer link attach (Link error) = test_failed link attach ≡ Some error
 RefusesPeer link attach Memory = Unit {0}
 RefusesPeer link attach refusal = ⊥
+
+-- want of memory is told where no test fails, or in place of one that tells a list: the filters that the peer doesn't apply
+abbrev pub MayWantMemory : Option LinkError → Type 0
+MayWantMemory None = Unit {0}
+MayWantMemory (Some (ReceiverAttach (DesiredFilterNotSupported filters))) = Unit {0}
+MayWantMemory (Some error) = ⊥
+
+-- the error of the test that fails first, or want of memory
+abbrev pub RefusesTested : Option LinkError → AttachRefusal → Type 0
+RefusesTested failed (Link error) = failed ≡ Some error
+RefusesTested failed Memory = MayWantMemory failed
+RefusesTested failed refusal = ⊥
+
+-- what a receiver's test answers is told so
+abbrev pub told_of : ReceiverAttachError → AttachRefusal
+told_of NoMemory = Memory
+told_of error = Link (ReceiverAttach error)
 
 -- the own Attach doesn't fit a frame, or there is no memory for it
 abbrev pub RefusesOwn : ℕ → End → OutputHandle → AttachRefusal → Type 0

@@ -1,5 +1,6 @@
 //! How a link that attaches comes to be among the endpoint's links, by its number and its name (part 2, 2.6.1).
-ghost use Rattle.std.specs.Prelude.{◌≡◌, ◌<◌, IfErr, IfOk, OnErr, OnOk, length};
+ghost use Rattle.std.specs.Prelude.{◌≡◌, ◌<◌, IfErr, IfOk, OnErr, OnOk, length, unwrap_or};
+ghost use Rattle.amqp_endpoint_model.specs.declared.error.EndpointError.TheVariants.{Memory};
 ghost use Rattle.amqp_endpoint_tables.specs.LinkState.{IsNewName};
 ghost use Rattle.amqp_endpoint_tables.specs.LinkSteps.{Enters, LowersRoom, Step};
 ghost use Rattle.amqp_endpoint_link_calls.specs.Attaching.{with_room};
@@ -39,6 +40,28 @@ pub(crate) fn prepare(
         Err(LinkRefusal::NameInUse) => Err(EndpointError::DuplicatedLinkName),
         Err(LinkRefusal::Memory) => Err(EndpointError::Memory),
     }
+}
+
+/// Why no link with this name attaches in the session with this number, if that is found before anything grows: the
+/// first that holds of what `prepare` tests. It takes no memory.
+pub(crate) fn name_refusal(
+    talk: &LinkTalk,
+    links: &Links<LinkEnd>,
+    session: u64,
+    name: &Text,
+) -> Option<EndpointError>
+    ensures { BarsName talk.now links.now session name.now (unwrap_or result Memory) }
+{
+    if talk.sessions.place(session).is_none() {
+        return Some(EndpointError::UnknownSession);
+    }
+    if !talk.is_mapped(session) {
+        return Some(EndpointError::IllegalState);
+    }
+    if links.named(name).is_some() {
+        return Some(EndpointError::DuplicatedLinkName);
+    }
+    None
 }
 
 /// A link for which there is room is entered where it was placed. Where it was refused, no more room is left than

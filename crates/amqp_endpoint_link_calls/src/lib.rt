@@ -17,6 +17,7 @@ mod disposing;
 mod entering;
 mod holding;
 mod keeping;
+mod looking;
 pub mod laws;
 mod meeting;
 mod placed;
@@ -26,6 +27,7 @@ mod seeing;
 mod sending;
 mod turns;
 
+pub use looking::attach_refusal;
 pub use attaching::{attach, attach_receiver, attach_sender};
 pub use closing::close_link;
 pub use crediting::{drain, grant};
