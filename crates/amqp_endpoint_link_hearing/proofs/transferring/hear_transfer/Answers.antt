@@ -6,7 +6,7 @@ use Rattle.amqp_endpoint_link_hearing.proofs.transferring.hear_transfer.Goals as
 
 pub returns-in_err-counts-clause-err : goal.returns-in_err-counts-clause-err
 returns-in_err-counts-clause-err c =
-    unnumbered-carried c.from_residual-in_err-counts.result _ c.from_residual-in_err-counts.ensures.1 c.args.talk.now
+    unnumbered-carried c.from_residual.result _ c.from_residual.ensures.1 c.args.talk.now
     c.args.given.now c.args.channel c.args.transfer c.args.payload c.in_err-counts.ensures.err
 
 pub returns-in_err-make_room-clause-err : goal.returns-in_err-make_room-clause-err
