@@ -17,6 +17,7 @@ mod disposing_all;
 mod ending;
 mod entry;
 mod flowing;
+mod foreseeing;
 mod head;
 mod incoming;
 pub mod laws;
