@@ -60,7 +60,7 @@ use Rattle.amqp_endpoint_link_hearing.specs.InSession.{Closes, ClosesIf, GoesOn}
 use Rattle.amqp_endpoint_link_hearing.specs.Leaving.{HasPlace, detach_frame}
 use Rattle.amqp_endpoint_link_hearing.specs.Naming.{link_in, link_of}
 use Rattle.amqp_endpoint_link_hearing.specs.Unechoed.{AreFor, CanClose, IsMade, IsRefused, MadeIn, NoneUntoldIn, RefusedIf}
-use Rattle.amqp_endpoint_link_hearing.specs.Unechoed.{Refuses, TellsSome, handles_in, handles_of, has_one, is_attached_at}
+use Rattle.amqp_endpoint_link_hearing.specs.Unechoed.{Refuses, RefusesBehind, TellsSome, handles_in, handles_of, has_one, is_attached_at}
 use Rattle.amqp_endpoint_link_hearing.specs.Unechoed.{is_among, is_refused, too_large_told, with_handle}
 use Rattle.amqp_endpoint_link_hearing.specs.declared.unechoed.Closing.{Closing}
 use Rattle.amqp_endpoint_link_hearing.proofs.Leavings.{told-done}
@@ -684,65 +684,50 @@ for-all session runs deliveries true handles old new frames events are none r =
     (subst (λ (rs : List (ℕ × ℕ)). Refuses session rs deliveries (handles_of deliveries) old [] [] old)
     (sym (none refl)) (none-refused session deliveries (handles_of deliveries) old))))
 
--- one link, and those behind it
-module _ (session : ℕ) (runs : List (ℕ × ℕ)) (deliveries : List Touched) (closing : Closing) (rest left : List Closing)
-    (is : left ≡ closing ∷ rest) (start old mid : Talk) (out_start out out_mid : List SessionFrame)
-    (events_start events events_mid : List Event)
-    (one : Tells (λ (frames : List SessionFrame) (told : List Event).
-    RefusedIf (is_refused old session runs deliveries closing.handle) session closing.handle old frames told mid) out
-    events out_mid events_mid)
-    (all : List OutputHandle) where
-  abbrev Ends : Talk → List Closing → List SessionFrame → List Event → Type 0
-  Ends from closings begun begun_told =
-      (later : List SessionFrame) (told : List Event) (new : Talk)
-      → Refuses session runs deliveries (handles_in closings) from later told new
-      → Tells (λ (frames : List SessionFrame) (events : List Event).
-      Refuses session runs deliveries all start frames events new) out_start events_start (begun ++ later)
-      (begun_told ++ told)
-
-  pub ends-on : Ends old left out events → Ends mid rest out_mid events_mid
-  ends-on before later told new others =
-      let both : Refuses session runs deliveries (closing.handle ∷ handles_in rest) old (one.frames ++ later)
-      (one.events ++ told) new =
-      (one.frames, one.events, mid, later, told, one.is_so, others, refl, refl) in
-      let so =
-      before (one.frames ++ later) (one.events ++ told) new
-      (subst
-      (λ (cs : List Closing).
-      Refuses session runs deliveries (handles_in cs) old (one.frames ++ later) (one.events ++ told) new)
-      (sym is) both) in
-      record {
-        frames = so.frames;
-        events = so.events;
-        is_so = so.is_so;
-        queued =
-            ap (λ (o : List SessionFrame). o ++ later) one.queued ∙ append_assoc out one.frames later ∙ so.queued;
-        are_told =
-            ap (λ (e : List Event). e ++ told) one.are_told ∙ append_assoc events one.events told ∙ so.are_told;
-      }
-
--- where none is left all are
-pub ends-so : (session : ℕ) (runs : List (ℕ × ℕ)) (deliveries : List Touched) (left : List Closing) → left ≡ []
-    → (start talk : Talk) (out_start out : List SessionFrame) (events_start events : List Event)
-    (all : List OutputHandle)
-    → ((later : List SessionFrame) (told : List Event) (new : Talk)
-    → Refuses session runs deliveries (handles_in left) talk later told new
+-- those that are left behind one that was refused, or not
+pub left-behind : (session : ℕ) (runs : List (ℕ × ℕ)) (deliveries : List Touched) (closing : Closing)
+    (rest left : List Closing) → left ≡ closing ∷ rest → (old mid new : Talk) (out out_mid out_new : List SessionFrame)
+    (told told_mid told_new : List Event)
     → Tells (λ (frames : List SessionFrame) (events : List Event).
-    Refuses session runs deliveries all start frames events new) out_start events_start (out ++ later)
-    (events ++ told))
+    RefusedIf (is_refused old session runs deliveries closing.handle) session closing.handle old frames events mid) out
+    told out_mid told_mid
+    → RefusesBehind session runs deliveries (handles_in rest) mid out_mid told_mid new out_new told_new
+    → RefusesBehind session runs deliveries (handles_in left) old out told new out_new told_new
+left-behind session runs deliveries closing rest left is old mid new out out_mid out_new told told_mid told_new one
+    others =
+    subst
+    (λ (cs : List Closing).
+    RefusesBehind session runs deliveries (handles_in cs) old out told new out_new told_new)
+    (sym is) (mid, out_mid, told_mid, one, others)
+
+-- what all of them hand out and tell
+pub tells-of : (session : ℕ) (runs : List (ℕ × ℕ)) (deliveries : List Touched) (handles : List OutputHandle)
+    (old new : Talk) (out out_new : List SessionFrame) (told told_new : List Event)
+    → RefusesBehind session runs deliveries handles old out told new out_new told_new
     → Tells (λ (frames : List SessionFrame) (events : List Event).
-    Refuses session runs deliveries all start frames events talk) out_start events_start out events
-ends-so session runs deliveries left is start talk out_start out events_start events all ends =
-    let so =
-    ends [] [] talk
-    (subst (λ (cs : List Closing). Refuses session runs deliveries (handles_in cs) talk [] [] talk) (sym is)
-    (refl, refl, refl)) in
+    Refuses session runs deliveries handles old frames events new) out told out_new told_new
+tells-of session runs deliveries [] old new out out_new told told_new (same, kept, silent) =
     record {
-      frames = so.frames;
-      events = so.events;
-      is_so = so.is_so;
-      queued = sym (append-nil out) ∙ so.queued;
-      are_told = sym (append-nil events) ∙ so.are_told;
+      frames = [];
+      events = [];
+      is_so = (refl, refl, same);
+      queued = kept ∙ sym (append-nil out);
+      are_told = silent ∙ sym (append-nil told);
+    }
+tells-of session runs deliveries (handle ∷ handles) old new out out_new told told_new
+    (mid, out_mid, told_mid, one, others) =
+    let r = tells-of session runs deliveries handles mid new out_mid out_new told_mid told_new others in
+    record {
+      frames = one.frames ++ r.frames;
+      events = one.events ++ r.events;
+      is_so =
+          (one.frames, one.events, mid, r.frames, r.events, one.is_so, r.is_so, refl, refl);
+      queued =
+          r.queued ∙ ap (λ (o : List SessionFrame). o ++ r.frames) one.queued
+          ∙ append_assoc out one.frames r.frames;
+      are_told =
+          r.are_told ∙ ap (λ (e : List Event). e ++ r.events) one.are_told
+          ∙ append_assoc told one.events r.events;
     }
 
 -- a link that isn't closed stays

@@ -17,6 +17,7 @@ use Rattle.amqp_endpoint_attached.specs.Detaching.{is_there}
 use Rattle.amqp_endpoint_attached.specs.Linked.{Linked, end_at}
 use Rattle.amqp_endpoint_messages.specs.All.{TellsFirst, first_told, open_count}
 use Rattle.amqp_endpoint_messages.specs.Outcomes.{NoneUntold}
+use Rattle.amqp_endpoint_linking.specs.Handed.{Tells}
 use Rattle.amqp_endpoint_linking.specs.Linking.{Link, Session, Talk}
 use Rattle.amqp_endpoint_link_hearing.specs.InSession.{Closes, GoesOn}
 use Rattle.amqp_endpoint_link_hearing.specs.Leaving.{HasPlace}
@@ -101,6 +102,18 @@ Refuses session runs deliveries (handle ∷ handles) old frames events new =
     × RefusedIf (is_refused old session runs deliveries handle) session handle old own told mid
     × Refuses session runs deliveries handles mid later later_told new
     × (frames ≡ own ++ later) × (events ≡ told ++ later_told)
+
+-- The same, with what was to be sent before and is to be sent then, and with what was told.
+abbrev pub RefusesBehind : ℕ → List (ℕ × ℕ) → List Touched → List OutputHandle → Talk → List SessionFrame → List Event
+    → Talk → List SessionFrame → List Event → Type 0
+RefusesBehind session runs deliveries [] old out told new out_new told_new =
+    (new ≡ old) × (out_new ≡ out) × (told_new ≡ told)
+RefusesBehind session runs deliveries (handle ∷ handles) old out told new out_new told_new =
+    (mid : Talk) × (out_mid : List SessionFrame) × (told_mid : List Event)
+    × Tells (λ (frames : List SessionFrame) (events : List Event).
+    RefusedIf (is_refused old session runs deliveries handle) session handle old frames events mid) out told out_mid
+    told_mid
+    × RefusesBehind session runs deliveries handles mid out_mid told_mid new out_new told_new
 
 -- No link of a session that has begun has a message that ended and wasn't told.
 abbrev pub NoneUntoldIn : Talk → ℕ → Type 0

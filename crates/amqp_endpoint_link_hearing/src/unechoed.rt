@@ -16,7 +16,8 @@ ghost use Rattle.amqp_endpoint_link_hearing.specs.Leaving.{HasPlace};
 ghost use Rattle.amqp_endpoint_link_hearing.specs.Naming.{link_of};
 ghost use Rattle.amqp_endpoint_model.specs.State.{error_of};
 ghost use Rattle.amqp_endpoint_model.specs.Step.{not_allowed};
-ghost use Rattle.amqp_endpoint_link_hearing.specs.Unechoed.{AreFor, CanClose, IsMade, IsRefused, RefusedIf, Refuses};
+ghost use Rattle.amqp_endpoint_link_hearing.specs.Unechoed.{AreFor, CanClose, IsMade, IsRefused, RefusedIf};
+ghost use Rattle.amqp_endpoint_link_hearing.specs.Unechoed.{RefusesBehind};
 ghost use Rattle.amqp_endpoint_link_hearing.specs.Unechoed.{TellsSome, handles_in, handles_of, has_one, is_among, is_in};
 ghost use Rattle.amqp_endpoint_link_hearing.specs.Unechoed.{is_attached_at, is_refused, lies_in, lies_in_one, told_most};
 ghost use Rattle.amqp_endpoint_link_hearing.specs.Unechoed.{too_large_told, with_handle};
@@ -179,9 +180,8 @@ pub(crate) fn refuse_each(
     requires can { All (CanClose talk.old session) closings.items }
     requires spare { deque_len out.old + length closings.items ≤ deque_capacity out.old }
     requires room { vec_len events.old + told_most closings.items ≤ vec_capacity events.old }
-    ensures refuses { Tells (λ frames told.
-        Refuses session barred.now reached.now (handles_in closings.items) talk.old frames told talk.new)
-        out.old.items events.old.items out.new.items events.new.items }
+    ensures refuses { RefusesBehind session barred.now reached.now (handles_in closings.items) talk.old out.old.items
+        events.old.items talk.new out.new.items events.new.items }
     ensures goes { (limit : ℕ) → 512 ≤ limit →
         Goes limit talk.old talk.new out.old.items out.new.items }
     ensures rests { Rests talk.old talk.new out.old.items out.new.items }

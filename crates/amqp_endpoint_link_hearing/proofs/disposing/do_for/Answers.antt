@@ -3,7 +3,7 @@ use Rattle.std.specs.VecDeque.{deque_capacity, deque_len}
 use Rattle.amqp_endpoint_conversation.proofs.Goings.{goes-on, rests-on}
 use Rattle.amqp_endpoint_messages.specs.Echoing.{ServesFor}
 use Rattle.amqp_endpoint_link_hearing.specs.Unechoed.{handles_in}
-use Rattle.amqp_endpoint_link_hearing.proofs.Barrings.{all-can}
+use Rattle.amqp_endpoint_link_hearing.proofs.Barrings.{all-can, tells-of}
 use Rattle.amqp_endpoint_link_hearing.proofs.Dispositions.{done-for}
 use Rattle.amqp_endpoint_link_hearing.proofs.disposing.do_for.Goals as goal
 
@@ -61,7 +61,10 @@ returns-clause-done c =
     c.args.talk.now c.tell_and_echo-barred.new.talk c.refuse_each.new.talk c.args.out.now.items
     c.tell_and_echo-barred.new.out.items c.refuse_each.new.out.items c.args.events.now.items
     c.tell_and_echo-barred.new.events.items c.refuse_each.new.events.items c.tell_and_echo-barred.ensures.done
-    c.refuse_each.ensures.refuses
+    (tells-of c.args.session c.deref-3.result.now c.deref-4.result.now (handles_in c.args.ready.closings.items)
+    c.tell_and_echo-barred.new.talk c.refuse_each.new.talk c.tell_and_echo-barred.new.out.items
+    c.refuse_each.new.out.items c.tell_and_echo-barred.new.events.items c.refuse_each.new.events.items
+    c.refuse_each.ensures.refuses)
 
 pub returns-clause-goes : goal.returns-clause-goes
 returns-clause-goes c least =

@@ -2,7 +2,7 @@ use Rattle.std.proofs.Common.{List, arith, ap, length}
 use Rattle.amqp_endpoint_conversation.proofs.Goings.{goes-on, rests-on}
 use Rattle.amqp_endpoint_link_hearing.specs.Unechoed.{told_most}
 use Rattle.amqp_endpoint_link_hearing.specs.declared.unechoed.Closing.{Closing}
-use Rattle.amqp_endpoint_link_hearing.proofs.Barrings.{can-first, can-rest, ends-on, ends-so}
+use Rattle.amqp_endpoint_link_hearing.proofs.Barrings.{can-first, can-rest, left-behind}
 use Rattle.amqp_endpoint_link_hearing.proofs.unechoed.refuse_each.Goals as goal
 
 pub refuse_if-requires-clause-can : goal.refuse_if-requires-clause-can
@@ -29,11 +29,12 @@ loop-closing-preserved c =
     let rest : List Closing = c.next.new.self.rest.items in
     let left : List Closing = c.loop-closing.rest.rest.items in
     record {
-      ends =
-          ends-on c.args.session c.args.barred.now c.args.reached.now c.in-Some.closing rest left
-          c.in-Some.ensures.items _ c.loop-closing.talk c.refuse_if.new.talk _ c.loop-closing.out.items
-          c.refuse_if.new.out.items _ c.loop-closing.events.items c.refuse_if.new.events.items
-          c.refuse_if.ensures.refuses _ c.loop-closing.invariant.ends;
+      ends = λ new out told later.
+          c.loop-closing.invariant.ends new out told
+          (left-behind c.args.session c.args.barred.now c.args.reached.now c.in-Some.closing rest left
+          c.in-Some.ensures.items c.loop-closing.talk c.refuse_if.new.talk new c.loop-closing.out.items
+          c.refuse_if.new.out.items out c.loop-closing.events.items c.refuse_if.new.events.items told
+          c.refuse_if.ensures.refuses later);
       can =
           can-rest c.loop-closing.talk c.refuse_if.new.talk c.args.session c.in-Some.closing rest left
           c.in-Some.ensures.items c.refuse_if.ensures.keeps c.loop-closing.invariant.can;
@@ -59,6 +60,3 @@ loop-closing-preserved c =
           rests-on _ c.loop-closing.talk c.refuse_if.new.talk _ c.loop-closing.out.items c.refuse_if.new.out.items
           c.loop-closing.invariant.rests c.refuse_if.ensures.rests;
     }
-
-pub returns-clause-refuses : goal.returns-clause-refuses
-returns-clause-refuses c = ?
