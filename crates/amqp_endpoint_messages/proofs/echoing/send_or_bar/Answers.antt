@@ -1,4 +1,5 @@
 use Rattle.std.proofs.Common.{◌≡◌, ◌∷◌, [], ◌++◌, true, false, ap, refl, subst, sym, ◌∙◌}
+use Rattle.std.proofs.lemmas.Bool.{false≢true}
 use Rattle.amqp_session_performatives.specs.declared.disposition.Disposition.{Disposition}
 use Rattle.amqp_endpoint_fitting.specs.Read.{IsReadDisposition}
 use Rattle.amqp_endpoint_model.specs.State.{fits, frame_of}
@@ -78,3 +79,15 @@ returns-clause-barred g c =
     c.args.bars.now.items c.push_reserved.new.self.items
     (subst (λ (d : Disposition). fits c.args.limit (frame_of (disposition_frame 0 d)) ≡ false) c.echo-told.ensures
     (sym (c.fits.ensures 0) ∙ c.if-fits.false)) c.push_reserved.ensures.items
+
+pub push_reserved-requires : goal.push_reserved-requires
+push_reserved-requires g c = c.requires.room c.if-fit.false
+
+pub returns-then-fit-clause-none : goal.returns-then-fit-clause-none
+returns-then-fit-clause-none g c fit = refl
+
+pub returns-then-fits-clause-none : goal.returns-then-fits-clause-none
+returns-then-fits-clause-none g c fit = refl
+
+pub returns-clause-none : goal.returns-clause-none
+returns-clause-none g c fit = absurd (false≢true (sym c.if-fit.false ∙ fit))
