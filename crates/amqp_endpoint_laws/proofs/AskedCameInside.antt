@@ -46,6 +46,8 @@ use Rattle.amqp_endpoint_links.proofs.Routing.{none-stays}
 use Rattle.amqp_endpoint_model.specs.declared.call.Disposal.{Disposal}
 use Rattle.amqp_endpoint_model.specs.declared.call.Sending.{Sending}
 use Rattle.amqp_endpoint_model.specs.declared.event.Event.{Event}
+use Rattle.amqp_endpoint_link_hearing.specs.Unechoed.{TellsSome}
+use Rattle.amqp_endpoint_laws.proofs.HoldingDone.{tells-stays}
 use Rattle.amqp_endpoint_laws.proofs.HoldingDone.{closes-stays, closing-stays, detaches-stay, disposes-all, failing-stays}
 use Rattle.amqp_endpoint_laws.proofs.HoldingDone.{disposes-one, drains-stays, echoes-stay, gives-stays, leave-stay}
 use Rattle.amqp_endpoint_laws.proofs.HoldingDone.{parts-stay, remembers-stays, sends-stays}
@@ -107,6 +109,13 @@ pub closes-keeps : (why : Option Error) (handle : OutputHandle) (frames : List S
 closes-keeps why handle frames old new c =
     less-keeps old new (closed-same (is_there (end_at old handle)) why handle frames old new c)
     (closes-stays why handle frames old new c).leads
+
+-- as one tells of messages
+pub told-keeps : (count : ℕ) (handle : OutputHandle) (old new : Linked) → TellsSome count handle old new
+    → KeepsAsked old new
+told-keeps count handle old new t =
+    less-keeps old new (ap (λ (x : Linked). x.asked) t.rest)
+    (tells-stays count handle (link_at old.session handle.0) old.session new.session t.tells).leads
 
 -- as one parts from its session
 out-same : (handle : OutputHandle) (left : Option Link) (old new : Linked) → TakenOut old handle left new
