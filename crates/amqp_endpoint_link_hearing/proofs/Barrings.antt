@@ -93,6 +93,15 @@ record IsShut (before after : End) : Type 0 where
   apart : is_there (Some after) ≡ false
   untold : length (end_untold after) ≤ length (end_untold before) + open_count (Some before)
 
+told-count : (s : Sending) → length (ended s.messages true failure.Closed).resolved
+    ≡ length s.messages.resolved + length s.messages.unsettled
+told-count s =
+    length-append s.messages.resolved
+    (map (λ (tag : List ℕ). (tag, Failed failure.Closed)) (keys_of s.messages.unsettled))
+    ∙ ap (λ (n : ℕ). length s.messages.resolved + n)
+    (length-map (keys_of s.messages.unsettled) (λ (tag : List ℕ). (tag, Failed failure.Closed))
+    ∙ length-map s.messages.unsettled (λ (e : List ℕ × Open). e.0))
+
 sender-shut : (s : Sending) (o : Option LinkState) → after_send_detach s.base.local_state true ≡ o → (after : End)
     → option_map Sender
     (option_map
@@ -103,19 +112,8 @@ sender-shut s None moves after is = absurd (none-some after is)
 sender-shut s (Some t) moves after is =
     let shut : Sending =
     record s { base = record s.base { local_state = t }; messages = ended s.messages true failure.Closed } in
-    let failed : List (List ℕ × Resolution) =
-    map (λ (tag : List ℕ). (tag, Failed failure.Closed)) (keys_of s.messages.unsettled) in
     let one : IsShut (Sender s) (Sender shut) =
-    record {
-      apart = after-close s.base.local_state t moves;
-      untold =
-          omega (
-            arith,
-            length-append s.messages.resolved failed,
-            length-map (keys_of s.messages.unsettled) (λ (tag : List ℕ). (tag, Failed failure.Closed)),
-            length-map s.messages.unsettled (λ (e : List ℕ × Open). e.0),
-          );
-    } in
+    record { apart = after-close s.base.local_state t moves; untold = omega (arith, told-count s) } in
     subst (IsShut (Sender s)) (same_Some _ _ is) one
 
 receiver-shut : (r : ReceiverState) (o : Option LinkState) → after_send_detach r.base.local_state true ≡ o

@@ -36,25 +36,25 @@ returns-then-fit-clause-barred g c =
 
 pub returns-then-fits-clause-sent : goal.returns-then-fits-clause-sent
 returns-then-fits-clause-sent g c =
-    one-sent c.args.limit c.args.state c.args.run c.args.out.now.items c.send_one-2.new.out.items c.args.session.now.fields
+    one-sent c.args.limit c.args.state c.args.run c.args.out.now.items c.send_one-then-fits.new.out.items c.args.session.now.fields
     c.args.bars.now.items c.args.bars.now.items
     (subst (λ (d : Disposition). fits c.args.limit (frame_of (disposition_frame 0 d)) ≡ true) c.echo-told.ensures
-    (sym (c.fits.ensures 0) ∙ c.if-fits.true)) g.R.LinkRelay.gives c.args.session.now c.send_one-2.new.session
-    (subst (λ (d : Disposition). SendsOne g.R.LinkRelay.gives c.args.session.now d c.send_one-2.new.session) c.echo-told.ensures
-    c.send_one-2.ensures.sent)
+    (sym (c.fits.ensures 0) ∙ c.if-fits.true)) g.R.LinkRelay.gives c.args.session.now c.send_one-then-fits.new.session
+    (subst (λ (d : Disposition). SendsOne g.R.LinkRelay.gives c.args.session.now d c.send_one-then-fits.new.session) c.echo-told.ensures
+    c.send_one-then-fits.ensures.sent)
 
 pub returns-then-fits-clause-added : goal.returns-then-fits-clause-added
 returns-then-fits-clause-added g c =
-    one-added c.args.limit c.args.state c.args.run c.args.out.now.items c.send_one-2.new.out.items c.args.session.now.fields
+    one-added c.args.limit c.args.state c.args.run c.args.out.now.items c.send_one-then-fits.new.out.items c.args.session.now.fields
     c.args.bars.now.items c.args.bars.now.items
     (subst (λ (d : Disposition). fits c.args.limit (frame_of (disposition_frame 0 d)) ≡ true) c.echo-told.ensures
     (sym (c.fits.ensures 0) ∙ c.if-fits.true))
-    (c.send_one-2.ensures.added
+    (c.send_one-then-fits.ensures.added
     ∙ ap (λ (d : Disposition). c.args.out.now.items ++ said_by c.args.session.now.fields d ∷ []) c.echo-told.ensures)
 
 pub returns-then-fits-clause-barred : goal.returns-then-fits-clause-barred
 returns-then-fits-clause-barred g c =
-    none-barred c.args.limit c.args.state c.args.run c.args.out.now.items c.send_one-2.new.out.items c.args.session.now.fields
+    none-barred c.args.limit c.args.state c.args.run c.args.out.now.items c.send_one-then-fits.new.out.items c.args.session.now.fields
     c.args.bars.now.items c.args.bars.now.items
     (subst (λ (d : Disposition). fits c.args.limit (frame_of (disposition_frame 0 d)) ≡ true) c.echo-told.ensures
     (sym (c.fits.ensures 0) ∙ c.if-fits.true)) refl
