@@ -123,10 +123,13 @@ repeats_tag own None = true
 repeats_tag own (Some told) = bytes_eq told own
 
 -- a continuation repeats number, tag and format, or leaves them out
+abbrev pub repeats : Delivery → Option ℕ → Option (List ℕ) → Option ℕ → Bool
+repeats d number tag format =
+    repeats_number (Some d.delivery_id) number && repeats_tag d.delivery_tag tag && repeats_number d.message_format
+    format
+
 abbrev pub agrees : Delivery → Head → Bool
-agrees d h =
-    repeats_number (Some d.delivery_id) h.delivery_id && repeats_tag d.delivery_tag h.delivery_tag && repeats_number
-    d.message_format h.message_format
+agrees d h = repeats d h.delivery_id h.delivery_tag h.message_format
 
 -- what a continuation says besides: once a transfer says that the delivery is settled it is
 abbrev pub continued : Delivery → Head → Delivery

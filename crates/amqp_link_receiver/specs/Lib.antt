@@ -2,6 +2,7 @@ pub mod State
 pub mod Attaching
 pub mod Ending
 pub mod Flowing
+pub mod Foreseen
 pub mod Incoming
 pub mod Disposing
 pub mod DisposingAll

@@ -1,7 +1,7 @@
 //! A delivery that is coming in (part 2, 2.6.14).
 ghost use Rattle.std.specs.Prelude.{◌≡◌, ◌+◌, ◌<◌, ◌^◌, length, IfOk, OnOk, OnErr, false};
 ghost use Rattle.amqp_link_receiver.specs.Deliveries.{agrees, continued, grown, is_too_large, repeats_number};
-ghost use Rattle.amqp_link_receiver.specs.Deliveries.{repeats_tag};
+ghost use Rattle.amqp_link_receiver.specs.Deliveries.{repeats, repeats_tag};
 
 use crate::attachment::Attachment;
 use crate::head::Head;
@@ -34,9 +34,21 @@ impl Incoming<Gathered> {
     pub(crate) fn agrees(&self, head: &Head) -> bool
         ensures { result ≡ agrees self.now head.now }
     {
-        repeats_number(Some(self.delivery_id), head.delivery_id)
-            && repeats_tag(&self.delivery_tag, &head.delivery_tag)
-            && repeats_number(self.message_format, head.message_format)
+        self.repeats(head.delivery_id, &head.delivery_tag, head.message_format)
+    }
+
+    /// Whether number, tag and format are those of the delivery, or are left out.
+    pub(crate) fn repeats(
+        &self,
+        number: Option<u32>,
+        tag: &Option<DeliveryTag>,
+        format: Option<u32>,
+    ) -> bool
+        ensures { result ≡ repeats self.now number tag.now format }
+    {
+        repeats_number(Some(self.delivery_id), number)
+            && repeats_tag(&self.delivery_tag, tag)
+            && repeats_number(self.message_format, format)
     }
 
     /// Whether the message is larger than what is taken with so many bytes more.

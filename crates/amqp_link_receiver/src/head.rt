@@ -126,14 +126,14 @@ pub(crate) fn head_of(transfer: Transfer) -> Head
 }
 
 /// A delivery is settled only where a transfer of it says so.
-fn says(settled: Option<bool>) -> bool
+pub(crate) fn says(settled: Option<bool>) -> bool
     ensures { result ≡ says settled }
 {
     settled.unwrap_or(false)
 }
 
 /// The place that a delivery is resumed from, where its state names one.
-fn place_of(state: &Option<DeliveryState>) -> Option<Received>
+pub(crate) fn place_of(state: &Option<DeliveryState>) -> Option<Received>
     ensures { result ≡ place_of state.now }
 {
     match state {

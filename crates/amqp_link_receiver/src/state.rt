@@ -3,7 +3,8 @@ ghost use Rattle.std.specs.Prelude.{◌≡◌, ◌==◌, [], None, option_copied
 ghost use Rattle.amqp_link_types.specs.declared.refusals.ReceiverTransferError.TheVariants.{TransferLimitExceeded};
 ghost use Rattle.amqp_link_receiver.specs.Receiving.{Answers, Receives, aborted, completed, disposed, ended};
 ghost use Rattle.amqp_link_receiver.specs.Receiving.{half_kept, kept_on, number_of, parted, refusal as refused_as};
-ghost use Rattle.amqp_link_receiver.specs.Receiving.{recounted, spent};
+ghost use Rattle.amqp_link_receiver.specs.Receiving.{received, recounted, spent};
+ghost use Rattle.amqp_link_receiver.specs.Foreseen.{is_message};
 ghost use Rattle.amqp_link_receiver.specs.Steps.{Completes, part_answer};
 ghost use Rattle.amqp_link_receiver.specs.declared.answer.Registering.TheVariants.{Unchanged, Settled};
 ghost use Rattle.amqp_link_receiver.specs.declared.answer.Told.TheVariants.{Dropped, Refused};
@@ -19,6 +20,7 @@ use crate::completing::{finish, take_whole};
 use crate::continuing::{begin, go_on};
 use crate::disposable::{Disposable, DisposeRefusal, disposable_in, tell};
 use crate::entry::Entry;
+use crate::foreseeing::{finishes, is_whole};
 use crate::head::{Head, head_of, start_of};
 use crate::numbering::{name, tag_of};
 use crate::resuming::put_half;
@@ -173,6 +175,27 @@ impl ReceivingEnd {
                 self.held = None;
                 Ok(answer)
             }
+        }
+    }
+
+    /// Whether it would hand out a message for a transfer with its payload, if there is memory (part 2, 2.7.5). It takes
+    /// no memory.
+    #[tactic(auto, using(crate::proofs::Foresight::foreseen))]
+    pub fn completes(&self, attachment: Attachment, transfer: &Transfer, payload: &Bytes) -> bool
+        ensures { result ≡ is_message (received attachment self.now transfer.now payload.now).0.told }
+    {
+        if transfer.aborted {
+            return false;
+        }
+        if transfer.more {
+            return false;
+        }
+        if self.flow.link_credit() == 0 {
+            return false;
+        }
+        match &self.held {
+            Some(held) => finishes(attachment, held, transfer, payload),
+            None => is_whole(attachment, &self.unsettled, transfer, payload),
         }
     }
 
