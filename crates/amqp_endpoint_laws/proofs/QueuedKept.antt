@@ -10,7 +10,7 @@ use Rattle.amqp_session_performatives.specs.declared.begin.Begin.{Begin}
 use Rattle.amqp_session_performatives.specs.declared.session_frame.SessionFrame.{SessionFrame}
 use Rattle.amqp_session_performatives.specs.declared.session_frame.SessionFrameBody.{SessionFrameBody}
 use Rattle.amqp_session_performatives.specs.declared.session_frame.SessionFrameBody.TheVariants as session_body
-use Rattle.amqp_session_outgoing.proofs.Order.{Distinct}
+use Rattle.amqp_session_outgoing.specs.Queues.{Distinct}
 use Rattle.amqp_session_frames.specs.declared.frame.FrameBody.TheVariants as body
 use Rattle.amqp_session_core.specs.State.{State}
 use Rattle.amqp_link_base.specs.Readings.{Piece}

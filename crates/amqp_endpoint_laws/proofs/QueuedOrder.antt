@@ -11,12 +11,12 @@ use Rattle.amqp_session_outgoing.specs.Frames.{LinkFrame, Other, Transferred, fr
 use Rattle.amqp_session_outgoing.specs.Frames.{others}
 use Rattle.amqp_session_outgoing.specs.History as sending
 use Rattle.amqp_session_outgoing.specs.State as sending_state
-use Rattle.amqp_session_outgoing.specs.Queues.{units_of, waiting_of}
+use Rattle.amqp_session_outgoing.specs.Queues.{Distinct, units_of, waiting_of}
 use Rattle.amqp_session_outgoing.specs.Told.{accepted_in as frames_accepted_in, accepted_of as frames_accepted}
 use Rattle.amqp_session_outgoing.specs.Told.{frames_by, out_in, out_of}
 use Rattle.amqp_session_outgoing.specs.declared.frames.Outbound.{Outbound}
 use Rattle.amqp_session_outgoing.specs.declared.frames.Sent.{Sent}
-use Rattle.amqp_session_outgoing.proofs.Order.{Distinct, history-distinct, history-order}
+use Rattle.amqp_session_outgoing.proofs.Order.{history-distinct, history-order}
 use Rattle.amqp_session_core.specs.Batch.{Transfers}
 use Rattle.amqp_session_core.specs.Frames.{Left, behind_frame, frames_behind, frames_left, frames_sent, session_flow}
 use Rattle.amqp_session_core.specs.History.{History, is_freed, own_settles_as, reply_steps, sending_in}

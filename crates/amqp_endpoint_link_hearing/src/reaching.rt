@@ -48,7 +48,7 @@ fn link_under(session: &LinkSession, handle: Handle) -> Option<&Numbered<LinkEnd
 
 /// The counts of the link; none where it isn't a receiving one.
 pub(crate) fn counts_of(link: Option<&Numbered<LinkEnd>>) -> Counts
-    ensures { result ≡ counts_of (option_copied link) }
+    ensures { result ≡ counts_of (option_copied link.entry) }
 {
     match link {
         Some(link) => counts_by(&link.link),
@@ -96,7 +96,7 @@ pub(crate) fn completes_of(
     transfer: &Transfer,
     payload: &Bytes,
 ) -> bool
-    ensures { result ≡ completes_of (option_copied link) transfer.now payload.now }
+    ensures { result ≡ completes_of (option_copied link.entry) transfer.now payload.now }
 {
     match link {
         Some(link) => completes_by(&link.link, transfer, payload),

@@ -115,10 +115,7 @@ fn foresee(
 }
 
 /// There is room for what is told, for a Detach and for the session's Flow.
-fn make_room(
-    out: &mut VecDeque<SessionFrame>,
-    events: &mut Vec<Event>,
-) -> Result<(), EndpointError>
+fn make_room(out: &mut VecDeque<SessionFrame>, events: &mut Vec<Event>) -> Result<(), EndpointError>
     ensures ok { OnOk result ((deque_len out.new + 1 < deque_capacity out.new)
         × (vec_len events.new < vec_capacity events.new)) }
     ensures err { IfErr result (λ e. e ≡ Memory) }
@@ -222,7 +219,9 @@ fn transfer_heard(
         return Ok(());
     };
     let (session, taken) = it;
-    taken_by_link(talk, given, alloc, session, handle, counts, taken, out, events)
+    taken_by_link(
+        talk, given, alloc, session, handle, counts, taken, out, events,
+    )
 }
 
 /// The link that the peer's handle reaches took it, and had these counts before: what is to be done for what it tells
@@ -254,7 +253,9 @@ fn taken_by_link(
     ensures rests { Rests talk.old talk.new out.old.items out.new.items }
 {
     let TransferTaken { told, flow } = taken;
-    match do_for(talk, given, alloc, session, handle, counts, told, out, events) {
+    match do_for(
+        talk, given, alloc, session, handle, counts, told, out, events,
+    ) {
         Ok(()) => {
             hand_out(flow, out);
             Ok(())

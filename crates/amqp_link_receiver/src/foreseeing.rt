@@ -40,7 +40,11 @@ pub(crate) fn finishes(
     ensures { result ≡ is_handed (with_last attachment payload.now
         (delivery_of (Some held.now) [] (head_of transfer.now))) }
 {
-    if !held.repeats(transfer.delivery_id, &transfer.delivery_tag, transfer.message_format) {
+    if !held.repeats(
+        transfer.delivery_id,
+        &transfer.delivery_tag,
+        transfer.message_format,
+    ) {
         return false;
     }
     if attachment.is_other(held.settled || says(transfer.settled), held.rcv_settle_mode) {
