@@ -153,13 +153,13 @@ module _ (it : Transfer) (payload : List ℕ) where
     module _ (session : ℕ) (told : TransferTaken Told) (mid new : Talk)
         (k : IsTaken old channel [] (said.Transfer it payload) session (taken.Transfer told) mid [])
         (p : IsPutBack old it session mid new) where
-      was : Session
+      abbrev was : Session
       was = k.before
 
-      took : Session
+      abbrev took : Session
       took = (k.takes).after
 
-      again : Session
+      abbrev again : Session
       again = (p.back).after
 
       same-stood : p.stood ≡ was

@@ -1,5 +1,5 @@
 -- A link that took a Transfer, and as it stood before.
-use Rattle.std.proofs.Common.{◌≡◌, ℕ, Bool, true, false, List, Option, Some, Ok, Err, refl, sym, ap, ◌∙◌, inl, inr}
+use Rattle.std.proofs.Common.{◌≡◌, ℕ, Bool, true, false, List, Ok, Err, refl, sym, ap, ◌∙◌, inl, inr}
 use Rattle.std.specs.Prelude.{Result, ◌&&◌}
 use Rattle.std.specs.declared.alloc.AllocError.{AllocError}
 use Rattle.amqp_session_performatives.specs.declared.transfer.Transfer.{Transfer}

@@ -1,5 +1,5 @@
 -- What is done for the link that took a Transfer, in its session (part 2, 2.5.6, 2.7.5).
-use Rattle.std.specs.Prelude.{◌≡◌, ◌⊎◌, ℕ, ◌+◌, ◌-◌, ◌<◌, ◌^◌, List, [], ◌++◌, true, Option, Some, None, IsSome}
+use Rattle.std.specs.Prelude.{◌≡◌, ℕ, ◌+◌, ◌-◌, ◌<◌, ◌^◌, List, [], ◌++◌, true, Option, Some, None, IsSome}
 use Rattle.std.specs.Prelude.{option_to_list}
 use Rattle.amqp_session_types.specs.declared.error.Error.{Error}
 use Rattle.amqp_session_types.specs.declared.channels.IncomingChannel.{IncomingChannel}
