@@ -202,8 +202,8 @@ module _ (old new : LinkedSessions) (channel : IncomingChannel) (it : Transfer) 
 
   heard-so : HearsTransfer old.talk old.links old.given channel it payload frames events new.talk new.links new.given
       → HeardBy
-  heard-so (left, inl t) = by-link t.heard t.mid t.answered t.becomes
-  heard-so (left, inr f) =
+  heard-so (inl t) = by-link t.heard t.mid t.answered t.becomes
+  heard-so (inr f) =
       inr (inr (record {
         ended =
             ended-in old.talk channel it payload new.talk frames f.fails.number f.fails.fault f.fails.session

@@ -83,7 +83,7 @@ use Rattle.amqp_endpoint_laws.proofs.HeldCalled.{Stands, TalkSame, live-same, st
 use Rattle.amqp_endpoint_laws.proofs.HeldParting.{left-held, session-back}
 use Rattle.amqp_endpoint_laws.proofs.HeldSessions.{Gone, about-same, ends-gone, inside, keep-in, live-changed, within}
 use Rattle.amqp_endpoint_laws.proofs.Numbers.{KeepNumbers, heard-kept, kept-on, same-kept, step-kept}
-use Rattle.amqp_endpoint_laws.proofs.NumbersInside.{answers-kept, echoes-kept, refuses-kept, remembers-kept, told-kept}
+use Rattle.amqp_endpoint_laws.proofs.NumbersInside.{again-kept, answers-kept, echoes-kept, refuses-kept, remembers-kept, told-kept}
 
 -- a session that the peer's channel reaches answers, and doesn't end by its fault
 abbrev NoFault : Result LinkHeard LinkRefusal → Type 0
@@ -486,13 +486,13 @@ frame-held (body.Flow flow) old new links links_new given given_new limit channe
 frame-held (body.Flow flow) old new links links_new given given_new limit channel frames events (inr f, g) a =
     fails old links channel _ frames events new links_new f a
 frame-held (body.Transfer transfer payload) old new links links_new given given_new limit channel frames events
-    (left, inl t) a =
+    (inl t) a =
     stays-held old new links links_new
     (talk-on old t.mid new (answered old [] channel _ (Ok t.heard) t.mid [] tt t.answered)
     (transfer-becomes _ old t.mid new given transfer frames events given_new t.becomes))
     t.same a
 frame-held (body.Transfer transfer payload) old new links links_new given given_new limit channel frames events
-    (left, inr f) a =
+    (inr f) a =
     fails old links channel _ frames events new links_new f.fails a
 frame-held (body.Disposition disposition) old new links links_new given given_new limit channel frames events
     (inl t, g) a =
@@ -551,10 +551,12 @@ refused-same (body.Attach attach) old new links given limit channel e (inl b) =
 refused-same (body.Attach attach) old new links given limit channel e (inr u) = talk-same old new u.1
 refused-same (body.Flow flow) old new links given limit channel e r = said-refused old channel _ e new r
 refused-same (body.Transfer transfer payload) old new links given limit channel e (inl u) = talk-same old new u.stays
-refused-same (body.Transfer transfer payload) old new links given limit channel e (inr (left, inl r)) =
+refused-same (body.Transfer transfer payload) old new links given limit channel e (inr (inl r)) =
     said-refused old channel _ e new r
-refused-same (body.Transfer transfer payload) old new links given limit channel e (inr (left, inr u)) =
-    answered old [] channel _ (Ok u.heard) new [] tt u.answered
+refused-same (body.Transfer transfer payload) old new links given limit channel e (inr (inr u)) =
+    talk-on old u.mid new (answered old [] channel _ (Ok u.heard) u.mid [] tt u.answered)
+    (in-session _ u.mid u.session new
+    (λ before after again. again-kept u.back.handle u.back.link before after again) u.back.back)
 refused-same (body.Disposition disposition) old new links given limit channel e r = said-refused old channel _ e new r
 refused-same (body.Detach detach) old new links given limit channel e r = said-refused old channel _ e new r
 refused-same (body.End end) old new links given limit channel e (inl b) =

@@ -83,3 +83,5 @@ mod Coming
 mod Connecting
 mod Sending
 mod Joining
+mod BrokenAlike
+mod RefusedAlike

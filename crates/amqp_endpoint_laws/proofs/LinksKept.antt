@@ -198,10 +198,10 @@ module _ (P : Links → Type 0)
   heard (body.Flow flow) old new links links_new given given_new limit channel frames events (inr f, g) came =
       back links links_new came _ f.back
   heard (body.Transfer transfer payload) old new links links_new given given_new limit channel frames events
-      (left, inl t) came =
+      (inl t) came =
       same links links_new came t.same
   heard (body.Transfer transfer payload) old new links links_new given given_new limit channel frames events
-      (left, inr f) came =
+      (inr f) came =
       back links links_new came _ f.fails.back
   heard (body.Disposition disposition) old new links links_new given given_new limit channel frames events
       (inl t, g) came =

@@ -133,10 +133,10 @@ gives-next (body.Flow flow) old new links links_new given given_new limit channe
 gives-next (body.Flow flow) old new links links_new given given_new limit channel frames events (inr f, g) =
     inl (told-unnumbered events _ f.told refl, g)
 gives-next (body.Transfer transfer payload) old new links links_new given given_new limit channel frames events
-    (left, inl t) =
+    (inl t) =
     transfer-becomes _ old t.mid new given transfer frames events given_new t.becomes
 gives-next (body.Transfer transfer payload) old new links links_new given given_new limit channel frames events
-    (left, inr f) =
+    (inr f) =
     inl (told-unnumbered events _ f.fails.told refl, f.uncounted)
 gives-next (body.Disposition disposition) old new links links_new given given_new limit channel frames events
     (inl t, g) =

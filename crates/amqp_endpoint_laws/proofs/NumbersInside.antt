@@ -1,5 +1,5 @@
 -- What is done in a session leaves each link under its handle, but where one attaches or leaves.
-use Rattle.std.proofs.Common.{◌≡◌, ℕ, Bool, true, false, List, [], ◌∷◌, Option, Some, None, ap, refl, ◌∙◌}
+use Rattle.std.proofs.Common.{◌≡◌, ℕ, Bool, true, false, List, [], ◌∷◌, Option, Some, None, ap, refl, sym, ◌∙◌}
 use Rattle.amqp_session_types.specs.declared.error.Error.{Error}
 use Rattle.amqp_session_types.specs.declared.handles.InputHandle.{InputHandle}
 use Rattle.amqp_session_types.specs.declared.handles.OutputHandle.{OutputHandle}
@@ -37,7 +37,7 @@ use Rattle.amqp_endpoint_link_calls.specs.Keeping.{kept_tags}
 use Rattle.amqp_endpoint_link_calls.specs.Sending.{sends}
 use Rattle.amqp_endpoint_link_hearing.specs.Disposing.{TellsAndEchoes}
 use Rattle.amqp_endpoint_link_hearing.specs.InSession.{AnswersIf, Closes, ClosesIf}
-use Rattle.amqp_endpoint_link_hearing.specs.Transferring.{Remembers, remembering}
+use Rattle.amqp_endpoint_link_hearing.specs.Transferring.{Remembers, StandsAgain, remembering}
 use Rattle.amqp_endpoint_laws.proofs.Numbers.{KeepNumbers, Placed, kept-on, placed, same-kept, step-kept}
 
 -- a session that stays
@@ -204,6 +204,12 @@ pub remembers-kept : (handle : OutputHandle) (tag : List ℕ) (number : ℕ) (ol
 remembers-kept handle tag number old new r =
     changed-kept handle.0 r.link (record r.link { link = remembering (r.link).link tag number }) old.session new.session
     r.changed refl
+
+-- or stands as it stood before
+pub again-kept : (handle : OutputHandle) (link : Numbered End) (old new : Linked) → StandsAgain handle link old new
+    → KeepNumbers old.session new.session
+again-kept handle link old new r =
+    changed-kept handle.0 r.spent link old.session new.session r.changed (sym r.number)
 
 -- a link attaches: it comes to stand under its handle
 module _ (before after : Linked) (limit : ℕ) (link : End) (it : PlacedLink) (frames : List SessionFrame) where

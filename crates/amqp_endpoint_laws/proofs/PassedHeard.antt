@@ -552,13 +552,13 @@ module _ {Allows : Batches → Type 0} (P : ℕ → List Wired → Talk → Talk
   frame-heard (body.Flow flow) old new limit channel frames events (inr f, g) =
       taken-there old.talk channel.0 (body.Flow flow) f.number frames new.talk
       (heard-fails old.talk channel (said.Flow flow) f.number f.fault f.session frames new.talk f.answered)
-  frame-heard (body.Transfer transfer payload) old new limit channel frames events (left, inl t) =
+  frame-heard (body.Transfer transfer payload) old new limit channel frames events (inl t) =
       taken-there old.talk channel.0 (body.Transfer transfer payload) (number_of t.heard) frames new.talk
       (there-on old.talk channel.0 (body.Transfer transfer payload) (number_of t.heard) [] frames t.mid new.talk
       (heard-ok old.talk channel (said.Transfer transfer payload) t.heard [] t.mid t.answered)
       (transfer-comes old.talk channel transfer payload t.mid new.talk old.given frames events new.given t.heard
       t.answered t.becomes))
-  frame-heard (body.Transfer transfer payload) old new limit channel frames events (left, inr f) =
+  frame-heard (body.Transfer transfer payload) old new limit channel frames events (inr f) =
       taken-there old.talk channel.0 (body.Transfer transfer payload) f.fails.number frames new.talk
       (heard-fails old.talk channel (said.Transfer transfer payload) f.fails.number f.fails.fault f.fails.session frames
       new.talk f.fails.answered)

@@ -261,10 +261,10 @@ first-body (body.Attach attach) old new links given limit channel e (inl b) =
 first-body (body.Attach attach) old new links given limit channel e (inr u) = first-same old new u.1
 first-body (body.Flow flow) old new links given limit channel e r = first-said old channel _ e new r
 first-body (body.Transfer transfer payload) old new links given limit channel e (inl u) = first-same old new u.stays
-first-body (body.Transfer transfer payload) old new links given limit channel e (inr (left, inl r)) =
+first-body (body.Transfer transfer payload) old new links given limit channel e (inr (inl r)) =
     first-said old channel _ e new r
-first-body (body.Transfer transfer payload) old new links given limit channel e (inr (left, inr u)) =
-    first-answered old channel _ (Ok u.heard) new [] u.answered
+first-body (body.Transfer transfer payload) old new links given limit channel e (inr (inr u)) =
+    first-rest u.mid new (u.back.back).rest ∙ first-answered old channel _ (Ok u.heard) u.mid [] u.answered
 first-body (body.Disposition disposition) old new links given limit channel e r = first-said old channel _ e new r
 first-body (body.Detach detach) old new links given limit channel e r = first-said old channel _ e new r
 first-body (body.End end) old new links given limit channel e (inl b) =

@@ -249,11 +249,11 @@ heard-goes (body.Flow flow) old new links links_new given given_new limit channe
 heard-goes (body.Flow flow) old new links links_new given given_new limit channel frames events (inr f, g) =
     answered old [] channel _ _ new frames f.answered
 heard-goes (body.Transfer transfer payload) old new links links_new given given_new limit channel frames events
-    (left, inl t) =
+    (inl t) =
     goes-on old.sessions t.mid.sessions new.sessions (answered old [] channel _ (Ok t.heard) t.mid [] t.answered)
     (transfer-becomes _ old t.mid new given transfer frames events given_new t.becomes)
 heard-goes (body.Transfer transfer payload) old new links links_new given given_new limit channel frames events
-    (left, inr f) =
+    (inr f) =
     answered old [] channel _ _ new frames f.fails.answered
 heard-goes (body.Disposition disposition) old new links links_new given given_new limit channel frames events
     (inl t, g) =
@@ -298,10 +298,11 @@ refused-goes (body.Attach attach) old new links given limit channel e (inl b) =
 refused-goes (body.Attach attach) old new links given limit channel e (inr u) = talk-stays old new u.1
 refused-goes (body.Flow flow) old new links given limit channel e r = said-refused old channel _ e new r
 refused-goes (body.Transfer transfer payload) old new links given limit channel e (inl u) = talk-stays old new u.stays
-refused-goes (body.Transfer transfer payload) old new links given limit channel e (inr (left, inl r)) =
+refused-goes (body.Transfer transfer payload) old new links given limit channel e (inr (inl r)) =
     said-refused old channel _ e new r
-refused-goes (body.Transfer transfer payload) old new links given limit channel e (inr (left, inr u)) =
-    answered old [] channel _ (Ok u.heard) new [] u.answered
+refused-goes (body.Transfer transfer payload) old new links given limit channel e (inr (inr u)) =
+    goes-on old.sessions u.mid.sessions new.sessions (answered old [] channel _ (Ok u.heard) u.mid [] u.answered)
+    (in-session _ u.mid u.session new u.back.back)
 refused-goes (body.Disposition disposition) old new links given limit channel e r = said-refused old channel _ e new r
 refused-goes (body.Detach detach) old new links given limit channel e r = said-refused old channel _ e new r
 refused-goes (body.End end) old new links given limit channel e r = end-refused old channel end e new r

@@ -5,6 +5,8 @@ ghost use Rattle.std.specs.FinMap as tables;
 ghost use Rattle.amqp_session_performatives.specs.declared.session_frame.SessionFrame.{SessionFrame};
 ghost use Rattle.amqp_session_frames.specs.declared.frame.Frame.{Frame};
 ghost use Rattle.amqp_session_frames.specs.declared.frame.FrameBody.{FrameBody};
+ghost use Rattle.amqp_session_frames.specs.declared.frame.FrameBody.TheVariants as body;
+ghost use Rattle.amqp_session_performatives.specs.declared.transfer.Transfer.{Transfer};
 ghost use Rattle.amqp_session_types.specs.declared.channels.OutgoingChannel.{OutgoingChannel};
 ghost use Rattle.amqp_session_types.specs.declared.handles.OutputHandle.{OutputHandle};
 ghost use Rattle.amqp_link_base.specs.Readings.{Piece, nothing, readings};
@@ -22,6 +24,7 @@ ghost use Rattle.amqp_endpoint_model.specs.Said.{Told, attaching};
 ghost use Rattle.amqp_endpoint_model.specs.State.{State, frame_of, fresh, is_unconnected};
 ghost use Rattle.amqp_endpoint_model.specs.declared.call.Call.{Call};
 ghost use Rattle.amqp_endpoint_model.specs.declared.call.Call.TheVariants.{AttachReceiver, AttachSender};
+ghost use Rattle.amqp_endpoint_model.specs.declared.error.EndpointError.{EndpointError};
 ghost use Rattle.amqp_endpoint_model.specs.declared.event.Event.{Event};
 ghost use Rattle.amqp_endpoint_model.specs.declared.settings.Settings.{Settings};
 ghost use Rattle.amqp_endpoint.specs.Does.{linked};
@@ -476,4 +479,14 @@ pub fn transfers_are_read_in_their_windows()
         (did : IsDone linked settings.max_frame_size sessions (pulled_since [] calls told) (fed_since [] calls told)
         (told_since [] calls told) (done_since [] calls told) (events_told told) (calls_done calls told) end) ×
         Judged settings.first_transfer_number did.since }
+{}
+
+/// A Transfer that ends the connection leaves every link as it was: once the connection is over, the links are those that
+/// they would be if it had been over before the Transfer came. So it is also where a link refused the Transfer, and there
+/// was no memory for its Detach (part 2, 2.6.5, 2.6.7).
+pub fn a_transfer_that_ends_the_connection_leaves_the_links()
+    ensures { (old refused over over_before : LinkedSessions) (limit channel : ℕ) (transfer : Transfer)
+        (payload : List ℕ) (e : EndpointError) →
+        linked.refuses old limit channel (body.Transfer transfer payload) e refused →
+        linked.finishes refused over → linked.finishes old over_before → over.links ≡ over_before.links }
 {}

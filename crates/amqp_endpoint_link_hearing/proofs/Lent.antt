@@ -1,5 +1,5 @@
 -- What is done in a session that is lent.
-use Rattle.std.proofs.Common.{◌≡◌, ◌≤◌, ℕ, Bool, true, List, [], Option, Some, None, Result, Ok}
+use Rattle.std.proofs.Common.{◌≡◌, ◌≤◌, ℕ, true, List, [], Option, Some, None, Result, Ok}
 use Rattle.std.proofs.Common.{Err, IsSome, OnOk, OnErr, refl, sym, ap, subst, ◌∙◌, append-nil, length, drop}
 use Rattle.std.specs.Prelude.{All, ⊤, option_map}
 use Rattle.std.specs.Box.{with_value}

@@ -16,6 +16,7 @@ mod Partings
 mod Readies
 mod Becoming
 mod Dispositions
+mod Stepped
 mod Transfers
 mod Transferred
 mod Messages

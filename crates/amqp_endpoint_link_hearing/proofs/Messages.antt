@@ -1,5 +1,5 @@
 -- A message is handed out.
-use Rattle.std.proofs.Common.{◌≡◌, ℕ, ◌+◌, Bool, true, false, List, [], ◌∷◌, ◌++◌, Option, Some, None, IsSome}
+use Rattle.std.proofs.Common.{◌≡◌, ℕ, ◌+◌, ◌-◌, ◌<◌, ◌^◌, Bool, true, false, List, [], ◌∷◌, ◌++◌, Option, Some, None, IsSome}
 use Rattle.std.proofs.Common.{refl, sym, ap, subst, append-nil}
 use Rattle.std.specs.Prelude.{slice_set}
 use Rattle.std.specs.Box.{with_value}
@@ -21,7 +21,7 @@ use Rattle.amqp_endpoint_conversation.proofs.Calls.{changed-goes, changed-rests}
 use Rattle.amqp_endpoint_attached.specs.Linked.{Linked, gives}
 use Rattle.amqp_endpoint_linking.specs.Handed.{Tells}
 use Rattle.amqp_endpoint_linking.specs.Linking.{Link, Session, Talk}
-use Rattle.amqp_endpoint_link_hearing.specs.InSession.{GoesOn}
+use Rattle.amqp_endpoint_link_hearing.specs.InSession.{ChangesEnd, GoesOn}
 use Rattle.amqp_endpoint_link_hearing.specs.Naming.{link_of}
 use Rattle.amqp_endpoint_link_hearing.specs.Taking.{DoneFor, HandsBy, reached_of}
 use Rattle.amqp_endpoint_link_hearing.specs.Transferring.{Remembers, RemembersUnless, message_told, remembering}
@@ -38,10 +38,10 @@ with-end s handle link after =
           };
     }
 
-pub remembers-in : (s : Linked) (handle : OutputHandle) (tag : List ℕ) (number : ℕ) (link : Link) (after : End)
-    → Some link ≡ link_at s.session handle.0 → after ≡ remembering link.link tag number
-    → Remembers handle tag number s (with-end s handle link after)
-remembers-in s handle tag number link after there is =
+pub changes-in : (becomes : End → End) (s : Linked) (handle : OutputHandle) (link : Link) (after : End)
+    → Some link ≡ link_at s.session handle.0 → after ≡ becomes link.link
+    → ChangesEnd becomes handle s (with-end s handle link after)
+changes-in becomes s handle link after there is =
     record {
       link = link;
       changed = (sym there, ap (λ (end : End). (with-end s handle link end).session) is);
@@ -49,15 +49,15 @@ remembers-in s handle tag number link after there is =
     }
 
 -- in the session that is lent
-pub remembers-on : (handle : OutputHandle) (tag : List ℕ) (number : ℕ) (old : Talk) (session : ℕ) (lent : Session)
+pub changes-on : (becomes : End → End) (handle : OutputHandle) (old : Talk) (session : ℕ) (lent : Session)
     → Some lent ≡ live_at old.sessions session → (before after : Linked) → before ≡ lent.value
-    → Remembers handle tag number before after
-    → GoesOn (Remembers handle tag number) old session (behind-talk old session lent after)
-remembers-on handle tag number old session lent is before after same did =
+    → ChangesEnd becomes handle before after
+    → GoesOn (ChangesEnd becomes handle) old session (behind-talk old session lent after)
+changes-on becomes handle old session lent is before after same did =
     record {
       before = lent;
       after = with_value lent after;
-      done = subst (λ (s : Linked). Remembers handle tag number s after) same did;
+      done = subst (λ (s : Linked). ChangesEnd becomes handle s after) same did;
       stepped = (sym is, refl);
       rest = refl;
     }
@@ -75,34 +75,42 @@ remembers-so settled is handle tag number old session new did =
     subst (λ (b : Bool). RemembersUnless b handle tag number old session new) (sym is) did
 
 -- no frame goes by it
-module _ (handle : OutputHandle) (tag : List ℕ) (number : ℕ) (old : Talk) (session : ℕ) (new : Talk)
+module _ (becomes : End → End) (handle : OutputHandle) (old : Talk) (session : ℕ) (new : Talk)
     (out : List SessionFrame) where
-  remembers-goes : (limit : ℕ) → GoesOn (Remembers handle tag number) old session new → Goes limit old new out out
-  remembers-goes limit g =
+  pub changes-goes : (limit : ℕ) → GoesOn (ChangesEnd becomes handle) old session new → Goes limit old new out out
+  changes-goes limit g =
       let d = g.done in
       subst (λ (o : List SessionFrame). Goes limit old new out o) (append-nil out)
       (changed-goes gives limit session old new g.before g.after
-      (InSession (Changes handle.0 d.link (record d.link { link = remembering (d.link).link tag number })) ∷ [])
+      (InSession (Changes handle.0 d.link (record d.link { link = becomes (d.link).link })) ∷ [])
       [] out g.stepped ((g.after).value, (d.changed, d.rest), refl) answers-plain (tt, tt) (tt, tt)
       ([], [], refl, refl, refl) (All-nil IsRead))
+
+  pub changes-rests : GoesOn (ChangesEnd becomes handle) old session new → Rests old new out out
+  changes-rests g = changed-rests session old new g.before g.after out out g.stepped
+
+module _ (handle : OutputHandle) (tag : List ℕ) (number : ℕ) (old : Talk) (session : ℕ) (new : Talk)
+    (out : List SessionFrame) where
+  abbrev remembered : End → End
+  remembered end = remembering end tag number
 
   pub handed-goes : (settled : Bool) (limit : ℕ) → RemembersUnless settled handle tag number old session new
       → Goes limit old new out out
   handed-goes true limit is = goes-same limit old new out out is refl
-  handed-goes false limit g = remembers-goes limit g
+  handed-goes false limit g = changes-goes remembered handle old session new out limit g
 
   pub handed-rests : (settled : Bool) → RemembersUnless settled handle tag number old session new
       → Rests old new out out
   handed-rests true is = rests-same old new out out is refl
-  handed-rests false g = changed-rests session old new g.before g.after out out g.stepped
+  handed-rests false g = changes-rests remembered handle old session new out g
 
 some-link : (o : Option Link) → IsSome o → (link : Link) × (o ≡ Some link)
 some-link None is = absurd cc
 some-link (Some link) is = (link, refl)
 
 -- the message is told of
-module _ (message : Message) (given : ℕ) (old : Talk) (session input : ℕ) (handle : OutputHandle)
-    (reaches : reached_of old session input ≡ Some handle.0) (there : IsSome (link_of old session handle)) where
+module _ (message : Message) (given : ℕ) (left : given < 2 ^ 64 - 1) (old : Talk) (session input : ℕ)
+    (handle : OutputHandle) (reaches : reached_of old session input ≡ Some handle.0) (there : IsSome (link_of old session handle)) where
   hands-by : (new : Talk) (events events_new : List Event)
       → RemembersUnless message.settled handle message.delivery_tag given old session new
       → ((link : Link) → link_of old session handle ≡ Some link
@@ -112,6 +120,7 @@ module _ (message : Message) (given : ℕ) (old : Talk) (session input : ℕ) (h
       let (link, here) = some-link (link_of old session handle) there in (
         message_told link.number given handle message,
         record {
+          left = left;
           handle = handle;
           reaches = reaches;
           link = link;

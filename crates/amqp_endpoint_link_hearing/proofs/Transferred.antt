@@ -27,10 +27,12 @@ use Rattle.amqp_endpoint_linking.specs.Handed.{Hands, Tells}
 use Rattle.amqp_endpoint_link_hearing.specs.InSession.{Closes, GoesOn, name_of}
 use Rattle.amqp_endpoint_link_hearing.specs.Leaving.{HasPlace}
 use Rattle.amqp_endpoint_link_hearing.specs.Naming.{link_in, link_of}
-use Rattle.amqp_endpoint_link_hearing.specs.Taking.{ClosesBy, DoneFor, FailsFor, FlowFits, IsClosedFor, IsClosing}
+use Rattle.amqp_endpoint_link_hearing.specs.Taking.{ClosesBy, DoneFor, FailsFor, FlowFits, HasBack, IsClosedFor}
+use Rattle.amqp_endpoint_link_hearing.specs.Taking.{IsClosing}
 use Rattle.amqp_endpoint_link_hearing.specs.Taking.{TakenBy, TakenIn, fault_told, reached_in, reached_of}
 use Rattle.amqp_endpoint_link_hearing.specs.Transferring.{ComesToNothing, condition_of}
 use Rattle.amqp_endpoint_link_hearing.specs.declared.leaving.Answer.{Answer}
+use Rattle.amqp_endpoint_link_hearing.specs.declared.reaching.Counts.{Counts}
 use Rattle.amqp_endpoint_link_hearing.proofs.Lent.{on-ok}
 use Rattle.amqp_endpoint_link_hearing.proofs.Takes.{IsNumbered}
 
@@ -125,20 +127,21 @@ closed-by old session handle number n why error new out out_new events events_ne
 
 -- the link that the peer's handle reaches is closed by what was made ready
 pub closes-by : (old : Talk) (session input : ℕ) (error : ReceiverTransferError) (handle : OutputHandle)
-    (answer : Answer) → IsClosing old session input error handle answer → (new : Talk)
+    → reached_of old session input ≡ Some handle.0
+    → (answer : Answer) → IsClosing old session handle error answer → (new : Talk)
     (out out_new : List SessionFrame) (events events_new : List Event)
     → Tells (λ (frames : List SessionFrame) (told : List Event).
     IsClosedFor old session handle answer.error error frames told new) out events out_new events_new
     → Tells (λ (frames : List SessionFrame) (told : List Event).
     ClosesBy error old session input frames told new) out events out_new events_new
-closes-by old session input error handle answer ready new out out_new events events_new t =
+closes-by old session input error handle reaches answer ready new out out_new events events_new t =
     record {
       frames = t.frames;
       events = t.events;
       is_so =
           record {
             handle = handle;
-            reaches = ready.reaches;
+            reaches = reaches;
             closed =
                 subst (λ (e : Option Error). IsClosedFor old session handle e error t.frames t.events new) ready.says
                 t.is_so;
@@ -175,10 +178,11 @@ closed-told it error is r given old session input new out out_new events events_
     DoneFor o given old session input frames told new given) out events out_new events_new)) (sym is) so
 
 pub unclosed-told : (it : Told) (error : ReceiverTransferError) → it ≡ tells.Refused error
-    → (r : Result ⊤ EndpointError) (old new : Talk) → IfErr r (λ (e : EndpointError). (e ≡ Memory) × (new ≡ old))
-    → IfErr r (λ (e : EndpointError). FailsFor it e × (new ≡ old))
-unclosed-told it error is r old new fails =
-    subst (λ (o : Told). IfErr r (λ (e : EndpointError). FailsFor o e × (new ≡ old))) (sym is) fails
+    → (r : Result ⊤ EndpointError) (counts : Counts) (old : Talk) (session input : ℕ) (new : Talk)
+    → IfErr r (λ (e : EndpointError). (e ≡ Memory) × HasBack counts old session input new)
+    → IfErr r (λ (e : EndpointError). FailsFor it counts old session input e new)
+unclosed-told it error is r counts old session input new fails =
+    subst (λ (o : Told). IfErr r (λ (e : EndpointError). FailsFor o counts old session input e new)) (sym is) fails
 
 -- of what else it tells nothing comes
 module _ (given : ℕ) (old : Talk) (session input : ℕ) (out : List SessionFrame) (events : List Event) where
@@ -235,14 +239,11 @@ module _ (talk : Talk) (session input : ℕ) (lent : Session) (is : Some lent �
       (there-live lent.value.session.links (map.get lent.value.session.routes input) handle.0 (sym reaches))
 
   pub made-ready : (error : ReceiverTransferError) (handle : OutputHandle) (answer : Answer)
-      → Some handle.0 ≡ reached lent.value.session input
       → answer.error ≡ Some (error_of (name_of (condition_of error)))
       → HasPlace lent.value handle true answer.error answer.place
-      → IsClosing talk session input error handle answer
-  made-ready error handle answer reaches says place =
+      → IsClosing talk session handle error answer
+  made-ready error handle answer says place =
       record {
-        reaches = here ∙ sym reaches;
-        there = own-there handle reaches;
         says = says;
         place = λ s live.
             subst (λ (a : Session). HasPlace a.value handle true answer.error answer.place)

@@ -1,13 +1,16 @@
 -- The peer's Transfer, once it is heard.
-use Rattle.std.proofs.Common.{◌≡◌, inl, inr, ℕ, ◌+◌, ◌-◌, ◌<◌, ◌^◌, Bool, true, false, List, [], ◌++◌, Option, Some}
+use Rattle.std.proofs.Common.{◌≡◌, inl, inr, ℕ, ◌+◌, Bool, true, false, List, [], ◌++◌, Option, Some}
 use Rattle.std.proofs.Common.{None, Ok, IsSome, refl, sym, ap, subst, ◌∙◌, append-nil, arith}
 use Rattle.std.specs.Prelude.{IfErr, IsErrAnd, Result, Err, ⊤, is_some, if◌then◌else◌, slice_index_or}
 use Rattle.std.proofs.lemmas.Option.{none-some, same_Some}
 use Rattle.amqp_session_types.specs.declared.channels.IncomingChannel.{IncomingChannel}
+use Rattle.amqp_session_types.specs.declared.handles.OutputHandle.{OutputHandle}
 use Rattle.amqp_session_performatives.specs.declared.session_frame.SessionFrame.{SessionFrame}
 use Rattle.amqp_session_performatives.specs.declared.transfer.Transfer.{Transfer}
 use Rattle.amqp_session_core.specs.State.{link_at, live_in, reached}
+use Rattle.amqp_session_core.specs.Steps.{Changes, Step}
 use Rattle.amqp_session_core.specs.Told.{TransferAt}
+use Rattle.amqp_session_core.specs.declared.relay.TransferAnswer.{TransferAnswer}
 use Rattle.amqp_session_core.specs.declared.incoming.TransferTaken.{TransferTaken}
 use Rattle.std.specs.FinMap as map
 use Rattle.amqp_link_receiver.specs.declared.answer.Message.{Message}
@@ -21,6 +24,7 @@ use Rattle.amqp_endpoint_conversation.specs.Hearing.{Answered}
 use Rattle.amqp_endpoint_fitting.specs.Read.{IsRead}
 use Rattle.amqp_endpoint_fitting.proofs.Due.{due}
 use Rattle.amqp_endpoint_model.specs.declared.error.EndpointError.{EndpointError}
+use Rattle.amqp_endpoint_model.specs.declared.error.EndpointError.TheVariants.{Memory}
 use Rattle.amqp_endpoint_model.specs.declared.event.Event.{Event}
 use Rattle.amqp_endpoint_model.specs.Relay.{IsSessionFault}
 use Rattle.amqp_endpoint_model.specs.State.{fits, frame_of}
@@ -30,10 +34,18 @@ use Rattle.amqp_endpoint_attached.proofs.There.{replaced}
 use Rattle.amqp_endpoint_linking.specs.Linking.{Link, Links, Session, Talk}
 use Rattle.amqp_endpoint_linking.specs.Handed.{Tells}
 use Rattle.amqp_endpoint_link_hearing.specs.Saying.{Answers, FailsBySaid, LinkHeard}
-use Rattle.amqp_endpoint_link_hearing.specs.Taking.{ClosesBy, DoneFor, FailsFor, FailsIn, FlowFits, HandsBy, IsUnready}
-use Rattle.amqp_endpoint_link_hearing.specs.Taking.{StandsIn, TakenIn, reached_in, reached_of}
+use Rattle.amqp_endpoint_link_hearing.specs.InSession.{ChangesEnd, GoesOn}
+use Rattle.amqp_endpoint_link_hearing.specs.Naming.{link_in, link_of}
+use Rattle.amqp_endpoint_link_hearing.specs.Reached.{completes_of, counts_by, counts_of, link_among, link_on, link_under}
+use Rattle.amqp_endpoint_link_hearing.specs.Reached.{link_within, recounted}
+use Rattle.amqp_endpoint_link_hearing.specs.Taking.{ClosesBy, DoneFor, FailsFor, FailsIn, FlowFits, HandsBy, HasBack}
+use Rattle.amqp_endpoint_link_hearing.specs.Taking.{HasNumber, HasNumberIn, MayBeNumbered, StandsIn, TakenIn}
+use Rattle.amqp_endpoint_link_hearing.specs.Taking.{reached_in, reached_of}
 use Rattle.amqp_endpoint_link_hearing.specs.Transferring.{Becomes, ClosedBy, Comes, HandsOver, HearsTransfer}
-use Rattle.amqp_endpoint_link_hearing.specs.Transferring.{IsUnclosed, RefusesTransfer, transfer_of}
+use Rattle.amqp_endpoint_link_hearing.specs.Transferring.{IsPutBack, IsUnclosed, IsUnnumbered, RefusesTransfer}
+use Rattle.amqp_endpoint_link_hearing.specs.Transferring.{StandsAgain, transfer_of}
+use Rattle.amqp_endpoint_link_hearing.specs.declared.reaching.Counts.{Counts}
+use Rattle.amqp_endpoint_link_hearing.proofs.Stepped.{link-back, link-completes}
 use Rattle.amqp_endpoint_link_hearing.proofs.Heard.{IsTaken, taken-in}
 
 -- a handle that reached a link reaches it while the link is there
@@ -51,15 +63,21 @@ still-live links new (Some h) handle link is there = by (is_some (slice_index_or
     by false e = absurd (none-some _ e)
 
 -- the link that the peer's handle reached took its Transfer
-pub record TransferredThere (old new : Linked) (it : Transfer) : Type 0 where
+pub record TransferredThere (old new : Linked) (it : Transfer) (payload : List ℕ) (told : TransferTaken Told)
+    : Type 0 where
   pub handle : ℕ
   pub reaches : reached old.session it.handle.0 ≡ Some handle
   pub still : reached new.session it.handle.0 ≡ Some handle
   pub link : Link
   pub there : link_at new.session handle ≡ Some link
+  pub before : Link
+  pub had : link_at old.session handle ≡ Some before
+  pub answer : TransferAnswer Told
+  pub tells : told.told ≡ answer.told
+  pub took : gives.transfers before it payload (Ok answer) link
 
 transfer-in : (old new : Linked) (it : Transfer) (payload : List ℕ) (at : Option ℕ) (told : TransferTaken Told)
-    → TransferAt gives old.session it payload at (Ok told) new.session → TransferredThere old new it
+    → TransferAt gives old.session it payload at (Ok told) new.session → TransferredThere old new it payload told
 transfer-in old new it payload None told t = absurd t
 transfer-in old new it payload (Some handle) told t =
     let s = t.stepped in
@@ -75,6 +93,11 @@ transfer-in old new it payload (Some handle) told t =
           (s.1).after s.0 there;
       link = (s.1).after;
       there = there;
+      before = (s.1).before;
+      had = (s.1).had;
+      answer = t.answer;
+      tells = t.told;
+      took = (s.1).stepped;
     }
 
 -- the Flow of the session fits
@@ -90,11 +113,73 @@ module _ (old : Talk) (channel : IncomingChannel) (out : List SessionFrame) (it 
   taken-there : IsTaken old channel out (said.Transfer it payload) session (taken.Transfer told) mid out_mid
   taken-there = taken-in old channel out (said.Transfer it payload) session (taken.Transfer told) mid out_mid t
 
-  link-there : TransferredThere (taken-there.before).value ((taken-there.takes).after).value it
+  link-there : TransferredThere (taken-there.before).value ((taken-there.takes).after).value it payload told
   link-there =
       transfer-in (taken-there.before).value ((taken-there.takes).after).value it payload
       (reached ((taken-there.before).value).session it.handle.0) told
       ((((taken-there.takes).hears).heard).0).0
+
+  -- as it stood before
+  was-on : link_on old channel it.handle.0 ≡ Some link-there.before
+  was-on =
+      ap (λ (o : Option ℕ). link_among old o it.handle.0) taken-there.reaches
+      ∙ ap (λ (o : Option Session). link_within o it.handle.0) taken-there.live
+      ∙ ap (λ (o : Option ℕ). link_under (taken-there.before).value o) link-there.reaches
+      ∙ link-there.had
+
+  was-of : (handle : OutputHandle) → link-there.handle ≡ handle.0 → link_of old session handle ≡ Some link-there.before
+  was-of handle same =
+      ap (λ (o : Option Session). link_in o handle) taken-there.live
+      ∙ ap (λ (h : ℕ). link_at (taken-there.before).value.session h) (sym same)
+      ∙ link-there.had
+
+  -- a number is left for its message
+  numbered-by : (given : ℕ) → MayBeNumbered old given channel it payload → (tell : Told) → told.told ≡ tell
+      → HasNumber tell given
+  numbered-by given may (tells.Message message) is =
+      may
+      (ap (λ (o : Option Link). completes_of o it payload) was-on
+      ∙ link-completes it payload link-there.answer link-there.before link-there.link link-there.took message
+      (sym link-there.tells ∙ is))
+  numbered-by given may (tells.Refused error) is = tt
+  numbered-by given may tells.Nothing is = tt
+  numbered-by given may (tells.Joined number tag) is = tt
+  numbered-by given may tells.Dropped is = tt
+
+  -- with the counts of before it stands as before
+  stands-again : (counts : Counts) → counts ≡ counts_by (link-there.before).link → (error : ReceiverTransferError)
+      → told.told ≡ tells.Refused error → (handle : OutputHandle) → link-there.handle ≡ handle.0 → (new : Talk)
+      → GoesOn (ChangesEnd (recounted counts) handle) mid session new
+      → GoesOn (StandsAgain handle link-there.before) mid session new
+  stands-again counts counted error refuses handle same new g =
+      let d = g.done in
+      let here : (taken-there.takes).after ≡ g.before = same_Some _ _ (sym taken-there.stands ∙ (g.stepped).0) in
+      let there : link_at (g.before).value.session handle.0 ≡ Some link-there.link =
+      ap (λ (s : Session). link_at s.value.session handle.0) (sym here)
+      ∙ ap (λ (h : ℕ). link_at ((taken-there.takes).after).value.session h) (sym same)
+      ∙ link-there.there in
+      let is : d.link ≡ link-there.link = same_Some _ _ (sym (d.changed).0 ∙ there) in
+      let back : record d.link { link = recounted counts (d.link).link } ≡ link-there.before =
+      ap (λ (l : Link). record l { link = recounted counts l.link }) is
+      ∙ ap (λ (c : Counts). record (link-there.link) { link = recounted c (link-there.link).link }) counted
+      ∙ link-back it payload link-there.answer link-there.before link-there.link link-there.took error
+      (sym link-there.tells ∙ refuses) in
+      record {
+        before = g.before;
+        after = g.after;
+        done =
+            record {
+              spent = d.link;
+              number = ap (λ (l : Link). l.number) is ∙ (link-there.took).1;
+              changed =
+                  subst
+                  (λ (l : Link).
+                  Step gives (g.before).value.session (Changes handle.0 d.link l) (g.after).value.session) back d.changed;
+              rest = d.rest;
+            };
+        stepped = g.stepped;
+        rest = g.rest;
+      }
 
   reaches-on : reached_of mid session it.handle.0 ≡ Some link-there.handle
   reaches-on = ap (λ (o : Option Session). reached_in o it.handle.0) taken-there.stands ∙ link-there.still
@@ -115,6 +200,7 @@ module _ (old : Talk) (channel : IncomingChannel) (out : List SessionFrame) (it 
   handed-by message given frames events new given_new h none counted =
       let same : link-there.handle ≡ (h.handle).0 = same_Some _ _ (sym reaches-on ∙ h.reaches) in
       record {
+        left = h.left;
         stood = taken-there.before;
         live = taken-there.live;
         handle = h.handle;
@@ -154,27 +240,47 @@ module _ (old : Talk) (channel : IncomingChannel) (out : List SessionFrame) (it 
   comes (tells.Joined number tag) given frames events new given_new d = d
   comes tells.Dropped given frames events new given_new d = d
 
-  unclosed-for : (tell : Told) → told.told ≡ tell → (e : EndpointError) → FailsFor tell e
+  put-back : (counts : Counts) → counts ≡ counts_of (link_on old channel it.handle.0)
+      → (error : ReceiverTransferError) → told.told ≡ tells.Refused error → (new : Talk)
+      → HasBack counts mid session it.handle.0 new → IsPutBack old it session mid new
+  put-back counts counted error refuses new b =
+      let same : link-there.handle ≡ (b.handle).0 = same_Some _ _ (sym reaches-on ∙ b.reaches) in
+      record {
+        stood = taken-there.before;
+        live = taken-there.live;
+        handle = b.handle;
+        reaches = link-there.reaches ∙ ap (λ (n : ℕ). Some n) same;
+        link = link-there.before;
+        was = was-of b.handle same;
+        back =
+            stands-again counts (counted ∙ ap counts_of was-on) error refuses b.handle same new b.back;
+      }
+
+  unclosed-for : (counts : Counts) → counts ≡ counts_of (link_on old channel it.handle.0) → (tell : Told)
+      → told.told ≡ tell → (e : EndpointError) (new : Talk)
+      → FailsFor tell counts mid session it.handle.0 e new
       → Answers old channel (said.Transfer it payload) (Ok (Live session (taken.Transfer told))) [] mid
-      → IsSessionFault e × IsUnclosed old channel it payload e mid
-  unclosed-for (tells.Refused error) is e fails answered =
+      → IsSessionFault e × IsUnclosed old channel it payload e new
+  unclosed-for counts counted (tells.Refused error) is e new (fails, back) answered =
       let why : IsSessionFault e = subst IsSessionFault (sym fails) tt in (
         why,
         record {
           heard = Live session (taken.Transfer told);
+          mid = mid;
           answered = answered;
           session = session;
           took = told;
           error = error;
           by_link = refl;
           refused = is;
+          back = put-back counts counted error is new back;
           is = fails;
         },
       )
-  unclosed-for (tells.Message message) is e fails answered = absurd fails
-  unclosed-for tells.Nothing is e fails answered = absurd fails
-  unclosed-for (tells.Joined number tag) is e fails answered = absurd fails
-  unclosed-for tells.Dropped is e fails answered = absurd fails
+  unclosed-for counts counted (tells.Message message) is e new fails answered = absurd fails
+  unclosed-for counts counted tells.Nothing is e new fails answered = absurd fails
+  unclosed-for counts counted (tells.Joined number tag) is e new fails answered = absurd fails
+  unclosed-for counts counted tells.Dropped is e new fails answered = absurd fails
 
 module _ (old : Talk) (channel : IncomingChannel) (out : List SessionFrame) (it : Transfer) (payload : List ℕ) where
   stands-so : (heard : LinkHeard) (mid : Talk) (out_mid : List SessionFrame)
@@ -191,6 +297,20 @@ module _ (old : Talk) (channel : IncomingChannel) (out : List SessionFrame) (it 
   stands-for heard took is mid out_mid t =
       subst (λ (o : Option (ℕ × TransferTaken Told)). StandsIn mid it.handle.0 o) (sym is)
       (stands-so heard mid out_mid t)
+
+  numbered-so : (given : ℕ) → MayBeNumbered old given channel it payload → (heard : LinkHeard) (mid : Talk)
+      (out_mid : List SessionFrame) → Answered gives old out channel (said.Transfer it payload) (Ok heard) mid out_mid
+      → HasNumberIn (transfer_of heard) given
+  numbered-so given may (Live session (taken.Transfer told)) mid out_mid t =
+      numbered-by old channel out it payload session told mid out_mid t given may told.told refl
+  numbered-so given may heard mid out_mid t = tt
+
+  pub numbered-for : (given : ℕ) → MayBeNumbered old given channel it payload → (heard : LinkHeard)
+      (took : Option (ℕ × TransferTaken Told)) → took ≡ transfer_of heard → (mid : Talk) (out_mid : List SessionFrame)
+      → Answered gives old out channel (said.Transfer it payload) (Ok heard) mid out_mid → HasNumberIn took given
+  numbered-for given may heard took is mid out_mid t =
+      subst (λ (o : Option (ℕ × TransferTaken Told)). HasNumberIn o given) (sym is)
+      (numbered-so given may heard mid out_mid t)
 
   becomes : (heard : LinkHeard) (given : ℕ) (mid : Talk) (out_mid frames : List SessionFrame) (events : List Event)
       (new : Talk) (given_new : ℕ) → Answered gives old out channel (said.Transfer it payload) (Ok heard) mid out_mid
@@ -214,7 +334,7 @@ module _ (old : Talk) (channel : IncomingChannel) (out : List SessionFrame) (it 
       (same ∙ sym (append-nil out)) t
 
   pub transfer-taken : (heard : LinkHeard) (took : Option (ℕ × TransferTaken Told)) → took ≡ transfer_of heard
-      → (given given_new : ℕ) → given < 2 ^ 64 - 1 → (mid : Talk) (out_mid : List SessionFrame)
+      → (given given_new : ℕ) (mid : Talk) (out_mid : List SessionFrame)
       (links links_new : Links) (new : Talk) (told told_new : List Event) (out_new : List SessionFrame)
       → out_mid ≡ out → links_new ≡ links
       → Answered gives old out channel (said.Transfer it payload) (Ok heard) mid out_mid
@@ -222,78 +342,78 @@ module _ (old : Talk) (channel : IncomingChannel) (out : List SessionFrame) (it 
       TakenIn took given mid it.handle.0 frames events new given_new) out_mid told out_new told_new
       → Tells (λ (frames : List SessionFrame) (events : List Event).
       HearsTransfer old links given channel it payload frames events new links_new given_new) out told out_new told_new
-  transfer-taken heard took is given given_new left mid out_mid links links_new new told told_new out_new same rest t l
-      =
+  transfer-taken heard took is given given_new mid out_mid links links_new new told told_new out_new same rest t l =
       record {
         frames = l.frames;
         events = l.events;
-        is_so = (
-          left,
-          inl (record {
-            heard = heard;
-            mid = mid;
-            answered = heard-alone heard mid out_mid same t;
-            becomes =
-                becomes heard given mid out_mid l.frames l.events new given_new t
-                (subst (λ (o : Option (ℕ × TransferTaken Told)).
-                TakenIn o given mid it.handle.0 l.frames l.events new given_new) is l.is_so);
-            same = rest;
-          }),
-        );
+        is_so =
+            inl (record {
+              heard = heard;
+              mid = mid;
+              answered = heard-alone heard mid out_mid same t;
+              becomes =
+                  becomes heard given mid out_mid l.frames l.events new given_new t
+                  (subst (λ (o : Option (ℕ × TransferTaken Told)).
+                  TakenIn o given mid it.handle.0 l.frames l.events new given_new) is l.is_so);
+              same = rest;
+            });
         queued = l.queued ∙ ap (λ (o : List SessionFrame). o ++ l.frames) same;
         are_told = l.are_told;
       }
 
-  pub transfer-fails : (given : ℕ) → given < 2 ^ 64 - 1 → (links links_new : Links) (new : Talk)
+  pub transfer-fails : (given : ℕ) (links links_new : Links) (new : Talk)
       (told told_new : List Event) (out_new : List SessionFrame)
       → Tells (λ (frames : List SessionFrame) (events : List Event).
       FailsBySaid old links channel (said.Transfer it payload) frames events new links_new) out told out_new told_new
       → Tells (λ (frames : List SessionFrame) (events : List Event).
       HearsTransfer old links given channel it payload frames events new links_new given) out told out_new told_new
-  transfer-fails given left links links_new new told told_new out_new t =
+  transfer-fails given links links_new new told told_new out_new t =
       record {
         frames = t.frames;
         events = t.events;
-        is_so = (left, inr (record { fails = t.is_so; uncounted = refl }));
+        is_so = inr (record { fails = t.is_so; uncounted = refl });
         queued = t.queued;
         are_told = t.are_told;
       }
 
   -- there is no memory for the Detach of the link
-  unclosed-so : (heard : LinkHeard) (mid : Talk) (out_mid : List SessionFrame) (e : EndpointError) → out_mid ≡ out
+  unclosed-so : (counts : Counts) → counts ≡ counts_of (link_on old channel it.handle.0) → (heard : LinkHeard)
+      (mid : Talk) (out_mid : List SessionFrame) (e : EndpointError) (new : Talk) → out_mid ≡ out
       → Answered gives old out channel (said.Transfer it payload) (Ok heard) mid out_mid
-      → FailsIn (transfer_of heard) e → IsSessionFault e × IsUnclosed old channel it payload e mid
-  unclosed-so (Live session (taken.Transfer told)) mid out_mid e same t fails =
-      unclosed-for old channel out it payload session told mid out_mid t told.told refl e fails
+      → FailsIn (transfer_of heard) counts mid it.handle.0 e new
+      → IsSessionFault e × IsUnclosed old channel it payload e new
+  unclosed-so counts counted (Live session (taken.Transfer told)) mid out_mid e new same t fails =
+      unclosed-for old channel out it payload session told mid out_mid t counts counted told.told refl e new fails
       (heard-alone (Live session (taken.Transfer told)) mid out_mid same t)
-  unclosed-so heard mid out_mid e same t fails = absurd fails
+  unclosed-so counts counted heard mid out_mid e new same t fails = absurd fails
 
-  pub transfer-unclosed : (heard : LinkHeard) (took : Option (ℕ × TransferTaken Told)) → took ≡ transfer_of heard
-      → (given : ℕ) → given < 2 ^ 64 - 1 → (mid : Talk) (out_mid : List SessionFrame) (e : EndpointError) (new : Talk)
+  pub transfer-unclosed : (counts : Counts) → counts ≡ counts_of (link_on old channel it.handle.0)
+      → (heard : LinkHeard) (took : Option (ℕ × TransferTaken Told)) → took ≡ transfer_of heard
+      → (given : ℕ) (mid : Talk) (out_mid : List SessionFrame) (e : EndpointError) (new : Talk)
       → out_mid ≡ out → Answered gives old out channel (said.Transfer it payload) (Ok heard) mid out_mid
-      → FailsIn took e → new ≡ mid → IsSessionFault e × RefusesTransfer old given channel it payload e new
-  transfer-unclosed heard took is given left mid out_mid e new same t fails stays =
+      → FailsIn took counts mid it.handle.0 e new
+      → IsSessionFault e × RefusesTransfer old given channel it payload e new
+  transfer-unclosed counts counted heard took is given mid out_mid e new same t fails =
       let (why, unclosed) =
-      unclosed-so heard mid out_mid e same t
-      (subst (λ (o : Option (ℕ × TransferTaken Told)). FailsIn o e) is fails) in (
-        why,
-        inr (left, inr (subst (λ (n : Talk). IsUnclosed old channel it payload e n) (sym stays) unclosed)),
-      )
+      unclosed-so counts counted heard mid out_mid e new same t
+      (subst (λ (o : Option (ℕ × TransferTaken Told)). FailsIn o counts mid it.handle.0 e new) is fails) in
+      (why, inr (inr unclosed))
 
--- no number is left for a message, or there is no memory even for what is told
-transfer-unready : (old : Talk) (given : ℕ) (channel : IncomingChannel) (it : Transfer) (payload : List ℕ)
-    (e : EndpointError) → IsUnready given e → IsSessionFault e × RefusesTransfer old given channel it payload e old
-transfer-unready old given channel it payload e (inl (used_up, is)) =
-    let why : IsSessionFault e = subst IsSessionFault (sym is) tt in
-    (why, inl (record { used_up = used_up; is = is; stays = refl }))
-transfer-unready old given channel it payload e (inr (left, is)) =
-    let why : IsSessionFault e = subst IsSessionFault (sym is) tt in (why, inr (left, inl (inr (is, refl))))
+-- no number is left for its message, or there is no memory even for what is told: that is what is answered
+module _ (r : Result ⊤ EndpointError) (why : EndpointError) (is : IsErrAnd r (λ (e : EndpointError). e ≡ why))
+    (old : Talk) (given : ℕ) (channel : IncomingChannel) (it : Transfer) (payload : List ℕ) where
+  carried : (r : Result ⊤ EndpointError) → IsErrAnd r (λ (e : EndpointError). e ≡ why)
+      → IsSessionFault why × RefusesTransfer old given channel it payload why old
+      → IfErr r (λ (e : EndpointError). IsSessionFault e × RefusesTransfer old given channel it payload e old)
+  carried (Ok done) is refuses = tt
+  carried (Err e) is refuses =
+      subst (λ (x : EndpointError). IsSessionFault x × RefusesTransfer old given channel it payload x old) (sym is)
+      refuses
 
--- that is what is answered
-pub unready-carried : (r : Result ⊤ EndpointError) (why : EndpointError) → IsErrAnd r (λ (e : EndpointError). e ≡ why)
-    → (old : Talk) (given : ℕ) (channel : IncomingChannel) (it : Transfer) (payload : List ℕ) → IsUnready given why
-    → IfErr r (λ (e : EndpointError). IsSessionFault e × RefusesTransfer old given channel it payload e old)
-unready-carried (Ok done) why is old given channel it payload unready = tt
-unready-carried (Err e) why is old given channel it payload unready =
-    transfer-unready old given channel it payload e
-    (subst (λ (x : EndpointError). IsUnready given x) (sym is) unready)
+  pub unnumbered-carried : IsUnnumbered old given channel it payload why old
+      → IfErr r (λ (e : EndpointError). IsSessionFault e × RefusesTransfer old given channel it payload e old)
+  unnumbered-carried u = carried r is (subst IsSessionFault (sym u.is) tt, inl u)
+
+  pub unready-carried : why ≡ Memory
+      → IfErr r (λ (e : EndpointError). IsSessionFault e × RefusesTransfer old given channel it payload e old)
+  unready-carried memory = carried r is (subst IsSessionFault (sym memory) tt, inr (inl (inr (memory, refl))))

@@ -3,11 +3,13 @@ use Rattle.std.specs.Prelude.{◌≡◌, ℕ, List, [], Bool, true, false, Optio
 use Rattle.amqp_session_types.specs.declared.error.Error.{Error}
 use Rattle.amqp_session_types.specs.declared.handles.OutputHandle.{OutputHandle}
 use Rattle.amqp_session_performatives.specs.declared.session_frame.SessionFrame.{SessionFrame}
+use Rattle.amqp_session_core.specs.Steps.{Step as SessionStep, Changes}
+use Rattle.amqp_link.specs.declared.end.End.{End}
 use Rattle.amqp_endpoint_tables.specs.Steps.{Step, ChangesLive}
 use Rattle.amqp_endpoint_fitting.specs.Plain.{message_size_exceeded, transfer_limit_exceeded}
 use Rattle.amqp_endpoint_model.specs.Step.{not_allowed}
 use Rattle.amqp_endpoint_attached.specs.Detaching.{DetachGiven, DetachReplied, is_there}
-use Rattle.amqp_endpoint_attached.specs.Linked.{Linked, end_at}
+use Rattle.amqp_endpoint_attached.specs.Linked.{Linked, end_at, gives}
 use Rattle.amqp_endpoint_attached.specs.TakenOut.{TakenOut}
 use Rattle.amqp_endpoint_linking.specs.Linking.{Link, Session, Talk}
 use Rattle.amqp_endpoint_link_hearing.specs.declared.closing.Condition.{Condition}
@@ -20,6 +22,14 @@ pub record GoesOn (Does : Linked → Linked → Type 0) (old : Talk) (session : 
   pub done : Does before.value after.value
   pub stepped : Step old.sessions (ChangesLive session before after) new.sessions
   pub rest : new ≡ record old { sessions = new.sessions }
+
+-- the end of the link with this own handle becomes this by what its owner does, and all else of its session stays
+pub record ChangesEnd (becomes : End → End) (handle : OutputHandle) (old new : Linked) : Type 0 where
+  pub link : Link
+  pub changed :
+      SessionStep gives old.session
+      (Changes handle.0 link (record link { link = becomes link.link })) new.session
+  pub rest : new ≡ record old { session = new.session }
 
 -- the condition's name (part 2, 2.8.15, 2.8.18)
 abbrev pub name_of : Condition → List ℕ

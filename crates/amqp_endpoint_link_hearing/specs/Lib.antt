@@ -9,5 +9,6 @@ pub mod Detaching
 pub mod Leaves
 pub mod Readied
 pub mod Disposing
+pub mod Reached
 pub mod Transferring
 pub mod Taking

@@ -32,8 +32,9 @@ use Rattle.amqp_endpoint_model.specs.State.{error_of}
 use Rattle.amqp_endpoint_attached.specs.Linked.{Linked, gives}
 use Rattle.amqp_endpoint_linking.specs.Linking.{Link, Links, Session, Talk}
 use Rattle.amqp_endpoint_link_hearing.specs.Attaching.{refused_told}
-use Rattle.amqp_endpoint_link_hearing.specs.InSession.{Closes, GoesOn, name_of}
+use Rattle.amqp_endpoint_link_hearing.specs.InSession.{ChangesEnd, Closes, GoesOn, name_of}
 use Rattle.amqp_endpoint_link_hearing.specs.Naming.{link_of}
+use Rattle.amqp_endpoint_link_hearing.specs.Reached.{completes_of, link_on}
 use Rattle.amqp_endpoint_link_hearing.specs.Saying.{Answers, FailsBySaid, LinkHeard, RefusesSaid}
 use Rattle.amqp_endpoint_link_hearing.specs.declared.closing.Condition.{Condition}
 use Rattle.amqp_endpoint_link_hearing.specs.declared.closing.Condition.TheVariants as condition
@@ -74,22 +75,19 @@ remembering (Receiver link) tag number = Receiver (message_numbered link tag num
 remembering (Sender link) tag number = Sender link
 
 -- the link with this own handle remembers it
-pub record Remembers (handle : OutputHandle) (tag : List ℕ) (number : ℕ) (old new : Linked) : Type 0 where
-  pub link : Link
-  pub changed :
-      Step gives old.session
-      (Changes handle.0 link (record link { link = remembering link.link tag number })) new.session
-  pub rest : new ≡ record old { session = new.session }
+abbrev pub Remembers : OutputHandle → List ℕ → ℕ → Linked → Linked → Type 0
+Remembers handle tag number = ChangesEnd (λ end. remembering end tag number) handle
 
 -- of a message that its sender settled it remembers nothing, since that isn't to be disposed of (part 2, 2.6.12)
 abbrev pub RemembersUnless : Bool → OutputHandle → List ℕ → ℕ → Talk → ℕ → Talk → Type 0
 RemembersUnless true handle tag number old session new = new ≡ old
 RemembersUnless false handle tag number old session new = GoesOn (Remembers handle tag number) old session new
 
--- a message came whole by the link that the peer's handle reached: it is told under the next number, which the link
--- remembers unless the message is settled
+-- a message came whole by the link that the peer's handle reached, and a number is left: it is told under the next one,
+-- which the link remembers unless the message is settled
 pub record HandsOver (old : Talk) (given : ℕ) (it : Transfer) (session : ℕ) (message : Message) (mid : Talk)
     (frames : List SessionFrame) (events : List Event) (new : Talk) (given_new : ℕ) : Type 0 where
+  pub left : given < 2 ^ 64 - 1
   pub stood : Session
   pub live : live_at old.sessions session ≡ Some stood
   pub handle : OutputHandle
@@ -168,33 +166,47 @@ pub record FailsByTransfer (old : Talk) (links : Links) (given : ℕ) (channel :
   pub fails : FailsBySaid old links channel (said.Transfer it payload) frames events new links_new
   pub uncounted : given_new ≡ given
 
--- it is heard where a number is left for a message
 abbrev pub HearsTransfer : Talk → Links → ℕ → IncomingChannel → Transfer → List ℕ → List SessionFrame → List Event
     → Talk → Links → ℕ → Type 0
 HearsTransfer old links given channel it payload frames events new links_new given_new =
-    (given < 2 ^ 64 - 1)
-    × (TakesTransfer old links given channel it payload frames events new links_new given_new
-    ⊎ FailsByTransfer old links given channel it payload frames events new links_new given_new)
+    TakesTransfer old links given channel it payload frames events new links_new given_new
+    ⊎ FailsByTransfer old links given channel it payload frames events new links_new given_new
 
--- a link refuses it, and there is no memory for its Detach
+-- the link with this own handle stands as it stood before, and all else of its session stays
+pub record StandsAgain (handle : OutputHandle) (link : Link) (old new : Linked) : Type 0 where
+  pub spent : Link
+  pub number : spent.number ≡ link.number
+  pub changed : Step gives old.session (Changes handle.0 spent link) new.session
+  pub rest : new ≡ record old { session = new.session }
+
+-- that is the link that the peer's handle reached
+pub record IsPutBack (old : Talk) (it : Transfer) (session : ℕ) (mid new : Talk) : Type 0 where
+  pub stood : Session
+  pub live : live_at old.sessions session ≡ Some stood
+  pub handle : OutputHandle
+  pub reaches : reached stood.value.session it.handle.0 ≡ Some handle.0
+  pub link : Link
+  pub was : link_of old session handle ≡ Some link
+  pub back : GoesOn (StandsAgain handle link) mid session new
+
+-- a link refuses it, and there is no memory for its Detach: the link stands as before, as though it hadn't heard it
 pub record IsUnclosed (old : Talk) (channel : IncomingChannel) (it : Transfer) (payload : List ℕ) (e : EndpointError)
     (new : Talk) : Type 0 where
   pub heard : LinkHeard
-  pub answered : Answers old channel (said.Transfer it payload) (Ok heard) [] new
+  pub mid : Talk
+  pub answered : Answers old channel (said.Transfer it payload) (Ok heard) [] mid
   pub session : ℕ
   pub took : TransferTaken Told
   pub error : ReceiverTransferError
   pub by_link : transfer_of heard ≡ Some (session, took)
   pub refused : took.told ≡ told.Refused error
+  pub back : IsPutBack old it session mid new
   pub is : e ≡ Memory
 
--- what is heard ends the connection by this
-abbrev pub BarsTransfer : Talk → IncomingChannel → Transfer → List ℕ → EndpointError → Talk → Type 0
-BarsTransfer old channel it payload e new =
-    RefusesSaid old channel (said.Transfer it payload) e new ⊎ IsUnclosed old channel it payload e new
-
--- no number is left for a message: it isn't heard, and nothing changes
-pub record IsUnnumbered (old : Talk) (given : ℕ) (e : EndpointError) (new : Talk) : Type 0 where
+-- the link that it reaches would hand out a message for it, and no number is left: it isn't heard, and nothing changes
+pub record IsUnnumbered (old : Talk) (given : ℕ) (channel : IncomingChannel) (it : Transfer) (payload : List ℕ)
+    (e : EndpointError) (new : Talk) : Type 0 where
+  pub completes : completes_of (link_on old channel it.handle.0) it payload ≡ true
   pub used_up : given ≡ 2 ^ 64 - 1
   pub is : e ≡ NumbersUsedUp
   pub stays : new ≡ old
@@ -202,4 +214,6 @@ pub record IsUnnumbered (old : Talk) (given : ℕ) (e : EndpointError) (new : Ta
 -- it ends the connection by this
 abbrev pub RefusesTransfer : Talk → ℕ → IncomingChannel → Transfer → List ℕ → EndpointError → Talk → Type 0
 RefusesTransfer old given channel it payload e new =
-    IsUnnumbered old given e new ⊎ ((given < 2 ^ 64 - 1) × BarsTransfer old channel it payload e new)
+    IsUnnumbered old given channel it payload e new
+    ⊎ RefusesSaid old channel (said.Transfer it payload) e new
+    ⊎ IsUnclosed old channel it payload e new

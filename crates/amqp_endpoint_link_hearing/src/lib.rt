@@ -14,6 +14,7 @@ mod handing;
 mod hearing;
 mod leaving;
 mod naming;
+mod reaching;
 mod refusing;
 mod transferring;
 

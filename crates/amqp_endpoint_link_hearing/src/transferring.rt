@@ -12,16 +12,19 @@ ghost use Rattle.amqp_endpoint_linking.specs.Handed.{Tells};
 ghost use Rattle.amqp_endpoint_linking.specs.Linking.{Session};
 ghost use Rattle.amqp_endpoint_link_hearing.specs.Leaving.{HasPlace};
 ghost use Rattle.amqp_endpoint_link_hearing.specs.Naming.{link_of};
-ghost use Rattle.amqp_endpoint_link_hearing.specs.Taking.{ClosesBy, DoneFor, FailsFor, FailsIn, FlowFits, IsClosing};
-ghost use Rattle.amqp_endpoint_link_hearing.specs.Taking.{IsClosedFor, IsUnready, StandsIn, TakenBy, TakenIn};
+ghost use Rattle.amqp_endpoint_link_hearing.specs.Reached.{counts_of, link_on};
+ghost use Rattle.amqp_endpoint_link_hearing.specs.Taking.{ClosesBy, DoneFor, FailsFor, FailsIn, FlowFits, HasBack};
+ghost use Rattle.amqp_endpoint_link_hearing.specs.Taking.{HasNumber, HasNumberIn, IsClosedFor, IsClosing};
+ghost use Rattle.amqp_endpoint_link_hearing.specs.Taking.{MayBeNumbered, StandsIn, TakenBy, TakenIn};
 ghost use Rattle.amqp_endpoint_link_hearing.specs.Taking.{fault_told, reached_of};
-ghost use Rattle.amqp_endpoint_link_hearing.specs.Transferring.{HearsTransfer, RefusesTransfer, condition_of};
-ghost use Rattle.amqp_endpoint_link_hearing.specs.Transferring.{transfer_of};
+ghost use Rattle.amqp_endpoint_link_hearing.specs.Transferring.{HearsTransfer, IsUnnumbered, RefusesTransfer};
+ghost use Rattle.amqp_endpoint_link_hearing.specs.Transferring.{condition_of, transfer_of};
 
 use crate::closing::{Condition, close, make_closing};
 use crate::handing::{hand_over, own_handle};
 use crate::leaving::Answer;
 use crate::naming::number_of;
+use crate::reaching::{Counts, completes_of, counts_of, link_on, set_counts};
 use crate::refusing::refuse;
 use amqp_endpoint_conversation::{Conversation, Heard};
 use amqp_endpoint_fitting::frames_are_read;
@@ -34,7 +37,7 @@ use amqp_link_receiver::Told;
 use amqp_link_types::{LinkError, ReceiverTransferError};
 use amqp_session_core::TransferTaken;
 use amqp_session_performatives::{SessionFrame, Transfer};
-use amqp_session_types::{Handle, IncomingChannel, InputHandle, OutputHandle};
+use amqp_session_types::{Handle, IncomingChannel, OutputHandle};
 use bytes::Bytes;
 use std::alloc::{AllocError, Global};
 use std::collections::VecDeque;
@@ -51,12 +54,12 @@ use std::collections::VecDeque;
 /// is ending nothing comes of it. A session that refuses it ends by its fault: its End is handed out, its links are
 /// given back, and `Refused` is told.
 ///
-/// It ends the connection with `NumbersUsedUp` exactly where `given` is 2^64 - 1, which is no message's number,
-/// whatever the Transfer says: it isn't heard then, and nothing changes. It ends it with `Connection` of `NotFound`
-/// where the channel reaches no session, with `Session` where one refuses it that the peer asks for, and with `Memory`.
-/// Nothing is handed out or told then, no message gets a number, and no link is given back; nor does a session change,
-/// but that where there is no memory one that has begun may have refused it, or taken it for a link that is to be
-/// closed for it.
+/// It ends the connection with `NumbersUsedUp` exactly where the link that it reaches would hand out a message for it,
+/// if there is memory, and `given` is 2^64 - 1, which is no message's number: it isn't heard then, and nothing changes.
+/// It ends it with `Connection` of `NotFound` where the channel reaches no session, with `Session` where one refuses it
+/// that the peer asks for, and with `Memory`. Nothing is handed out or told then, no message gets a number, and no link
+/// is given back; nor does a session change, but that where there is no memory one that has begun may have refused it,
+/// or taken it for a link that is to be closed for it. That link stands as before then, with its credit.
 pub fn hear_transfer(
     talk: &mut Conversation<Numbered<LinkEnd>>,
     links: &mut Links<LinkEnd>,
@@ -80,35 +83,52 @@ pub fn hear_transfer(
         Goes limit talk.old talk.new out.old.items out.new.items }
     ensures rests { Rests talk.old talk.new out.old.items out.new.items }
 {
-    make_room(*given, out, events)?;
+    let counts = foresee(talk, *given, channel, &transfer, &payload)?;
+    make_room(out, events)?;
     take_transfer(
-        talk, links, given, alloc, channel, transfer, payload, out, events,
+        talk, links, given, alloc, channel, counts, transfer, payload, out, events,
     )?;
     Ok(())
 }
 
-/// A number is left for a message, and there is room for what is told, for a Detach and for the session's Flow.
-fn make_room(
+/// The counts of the link that it reaches, once a number is left for the message that it would complete.
+fn foresee(
+    talk: &Conversation<Numbered<LinkEnd>>,
     given: u64,
-    out: &mut VecDeque<SessionFrame>,
-    events: &mut Vec<Event>,
-) -> Result<(), EndpointError>
-    ensures ok { OnOk result ((given < 2 ^ 64 - 1) × (deque_len out.new + 1 < deque_capacity out.new)
+    channel: IncomingChannel,
+    transfer: &Transfer,
+    payload: &Bytes,
+) -> Result<Counts, EndpointError>
+    ensures counts { IfOk result (λ counts. counts ≡ counts_of (link_on talk.now channel transfer.now.handle.0)) }
+    ensures left { OnOk result (MayBeNumbered talk.now given channel transfer.now payload.now) }
+    ensures err { IfErr result (λ e.
+        IsUnnumbered talk.now given channel transfer.now payload.now e talk.now) }
+{
+    let link = link_on(talk, channel, transfer.handle);
+    if given < u64::MAX {
+        return Ok(counts_of(link));
+    }
+    if completes_of(link, transfer, payload) {
+        return Err(EndpointError::NumbersUsedUp);
+    }
+    Ok(counts_of(link))
+}
+
+/// There is room for what is told, for a Detach and for the session's Flow.
+fn make_room(out: &mut VecDeque<SessionFrame>, events: &mut Vec<Event>) -> Result<(), EndpointError>
+    ensures ok { OnOk result ((deque_len out.new + 1 < deque_capacity out.new)
         × (vec_len events.new < vec_capacity events.new)) }
-    ensures err { IfErr result (IsUnready given) }
+    ensures err { IfErr result (λ e. e ≡ Memory) }
     ensures out { out.new.items ≡ out.old.items }
     ensures events { events.new.items ≡ events.old.items }
 {
-    if given == u64::MAX {
-        return Err(EndpointError::NumbersUsedUp);
-    }
     events.reserve(1)?;
     out.reserve(2)?;
     Ok(())
 }
 
-/// Takes it. A number is left for a message, and there is room for what it tells, for a Detach and for the session's
-/// Flow.
+/// Takes it. The counts are those of the link that it reaches, a number is left for the message that it would complete,
+/// and there is room for what it tells, for a Detach and for the session's Flow.
 #[inline(never)]
 fn take_transfer(
     talk: &mut Conversation<Numbered<LinkEnd>>,
@@ -116,12 +136,14 @@ fn take_transfer(
     given: &mut u64,
     alloc: Global,
     channel: IncomingChannel,
+    counts: Counts,
     transfer: Transfer,
     payload: Bytes,
     out: &mut VecDeque<SessionFrame>,
     events: &mut Vec<Event>,
 ) -> Result<(), EndpointError>
-    requires left { given.old < 2 ^ 64 - 1 }
+    requires counts { counts ≡ counts_of (link_on talk.old channel transfer.handle.0) }
+    requires left { MayBeNumbered talk.old given.old channel transfer payload }
     requires spare { deque_len out.old + 1 < deque_capacity out.old }
     requires room { vec_len events.old < vec_capacity events.old }
     ensures ok { OnOk result
@@ -141,7 +163,7 @@ fn take_transfer(
     match amqp_endpoint_conversation::hear(talk, alloc, out, channel, said) {
         Ok(heard) => {
             let took = transfer_of(heard);
-            match transfer_heard(talk, given, alloc, handle, took, out, events) {
+            match transfer_heard(talk, given, alloc, handle, counts, took, out, events) {
                 Ok(()) => Ok(()),
                 Err(error) => Err(error),
             }
@@ -167,25 +189,26 @@ fn transfer_of(heard: Heard<AttachTold, Told, Detached>) -> Option<(u64, Transfe
     }
 }
 
-/// The Transfer was heard, and the link that the peer's handle reaches took it, if one did. A number is left for a
-/// message, and there is room for what is told, for a Detach and for the session's Flow.
+/// The Transfer was heard, and the link that the peer's handle reaches took it, if one did, and had these counts before.
+/// A number is left for its message, and there is room for what is told, for a Detach and for the session's Flow.
 fn transfer_heard(
     talk: &mut Conversation<Numbered<LinkEnd>>,
     given: &mut u64,
     alloc: Global,
     handle: Handle,
+    counts: Counts,
     took: Option<(u64, TransferTaken<Told>)>,
     out: &mut VecDeque<SessionFrame>,
     events: &mut Vec<Event>,
 ) -> Result<(), EndpointError>
     requires stands { StandsIn talk.old handle.0 took }
-    requires left { given.old < 2 ^ 64 - 1 }
+    requires left { HasNumberIn took given.old }
     requires spare { deque_len out.old + 1 < deque_capacity out.old }
     requires room { vec_len events.old < vec_capacity events.old }
     ensures ok { OnOk result
         (Tells (λ frames told. TakenIn took given.old talk.old handle.0 frames told talk.new given.new)
         out.old.items events.old.items out.new.items events.new.items) }
-    ensures err { IfErr result (λ e. FailsIn took e × (talk.new ≡ talk.old)) }
+    ensures err { IfErr result (λ e. FailsIn took counts talk.old handle.0 e talk.new) }
     ensures kept { OnErr result ((given.new ≡ given.old) × (out.new.items ≡ out.old.items)
         × (events.new.items ≡ events.old.items)) }
     ensures goes { (limit : ℕ) → 512 ≤ limit →
@@ -196,30 +219,33 @@ fn transfer_heard(
         return Ok(());
     };
     let (session, taken) = it;
-    taken_by_link(talk, given, alloc, session, handle, taken, out, events)
+    taken_by_link(
+        talk, given, alloc, session, handle, counts, taken, out, events,
+    )
 }
 
-/// The link that the peer's handle reaches took it: what is to be done for what it tells is done, and the session's
-/// Flow goes behind. A number is left for a message, and there is room for all that.
+/// The link that the peer's handle reaches took it, and had these counts before: what is to be done for what it tells
+/// is done, and the session's Flow goes behind. A number is left for its message, and there is room for all that.
 fn taken_by_link(
     talk: &mut Conversation<Numbered<LinkEnd>>,
     given: &mut u64,
     alloc: Global,
     session: u64,
     handle: Handle,
+    counts: Counts,
     taken: TransferTaken<Told>,
     out: &mut VecDeque<SessionFrame>,
     events: &mut Vec<Event>,
 ) -> Result<(), EndpointError>
     requires there { IsSome (reached_of talk.old session handle.0) }
     requires flow { FlowFits taken.flow }
-    requires left { given.old < 2 ^ 64 - 1 }
+    requires left { HasNumber taken.told given.old }
     requires spare { deque_len out.old + 1 < deque_capacity out.old }
     requires room { vec_len events.old < vec_capacity events.old }
     ensures ok { OnOk result
         (Tells (λ frames told. TakenBy taken given.old talk.old session handle.0 frames told talk.new given.new)
         out.old.items events.old.items out.new.items events.new.items) }
-    ensures err { IfErr result (λ e. FailsFor taken.told e × (talk.new ≡ talk.old)) }
+    ensures err { IfErr result (λ e. FailsFor taken.told counts talk.old session handle.0 e talk.new) }
     ensures kept { OnErr result ((given.new ≡ given.old) × (out.new.items ≡ out.old.items)
         × (events.new.items ≡ events.old.items)) }
     ensures goes { (limit : ℕ) → 512 ≤ limit →
@@ -227,7 +253,9 @@ fn taken_by_link(
     ensures rests { Rests talk.old talk.new out.old.items out.new.items }
 {
     let TransferTaken { told, flow } = taken;
-    match do_for(talk, given, alloc, session, handle, told, out, events) {
+    match do_for(
+        talk, given, alloc, session, handle, counts, told, out, events,
+    ) {
         Ok(()) => {
             hand_out(flow, out);
             Ok(())
@@ -240,25 +268,26 @@ fn taken_by_link(
 }
 
 /// What is to be done for what the link tells that the peer's handle reaches: its message is handed out, or it is
-/// closed for its fault. A number is left for a message, and there is room for all that.
+/// closed for its fault. It had these counts before, a number is left for its message, and there is room for all that.
 fn do_for(
     talk: &mut Conversation<Numbered<LinkEnd>>,
     given: &mut u64,
     alloc: Global,
     session: u64,
     handle: Handle,
+    counts: Counts,
     told: Told,
     out: &mut VecDeque<SessionFrame>,
     events: &mut Vec<Event>,
 ) -> Result<(), EndpointError>
     requires there { IsSome (reached_of talk.old session handle.0) }
-    requires left { given.old < 2 ^ 64 - 1 }
+    requires left { HasNumber told given.old }
     requires spare { deque_len out.old + 1 < deque_capacity out.old }
     requires room { vec_len events.old < vec_capacity events.old }
     ensures ok { OnOk result
         (Tells (λ frames said. DoneFor told given.old talk.old session handle.0 frames said talk.new given.new)
         out.old.items events.old.items out.new.items events.new.items) }
-    ensures err { IfErr result (λ e. FailsFor told e × (talk.new ≡ talk.old)) }
+    ensures err { IfErr result (λ e. FailsFor told counts talk.old session handle.0 e talk.new) }
     ensures kept { OnErr result ((given.new ≡ given.old) × (out.new.items ≡ out.old.items)
         × (events.new.items ≡ events.old.items)) }
     ensures spare { deque_len out.new < deque_capacity out.new }
@@ -272,7 +301,7 @@ fn do_for(
             hand_over(talk, given, alloc, session, handle, message, events);
             Ok(())
         }
-        Told::Refused(error) => close_for(talk, alloc, session, handle, error, out, events),
+        Told::Refused(error) => close_for(talk, alloc, session, handle, counts, error, out, events),
         Told::Nothing => Ok(()),
         Told::Joined { number: _, tag: _ } => Ok(()),
         Told::Dropped => Ok(()),
@@ -304,12 +333,14 @@ fn hand_out(flow: Option<SessionFrame>, out: &mut VecDeque<SessionFrame>)
     frames_are_read(out, from);
 }
 
-/// The link that the peer's handle reaches is closed for this fault. There is room for it.
+/// The link that the peer's handle reaches is closed for this fault. There is room for it. Where there is no memory it
+/// has the counts again that it had before.
 fn close_for(
     talk: &mut Conversation<Numbered<LinkEnd>>,
     alloc: Global,
     session: u64,
     handle: Handle,
+    counts: Counts,
     error: ReceiverTransferError,
     out: &mut VecDeque<SessionFrame>,
     events: &mut Vec<Event>,
@@ -319,7 +350,7 @@ fn close_for(
     requires room { vec_len events.old < vec_capacity events.old }
     ensures ok { OnOk result (Tells (λ frames told. ClosesBy error talk.old session handle.0 frames told talk.new)
         out.old.items events.old.items out.new.items events.new.items) }
-    ensures err { IfErr result (λ e. (e ≡ Memory) × (talk.new ≡ talk.old)) }
+    ensures err { IfErr result (λ e. (e ≡ Memory) × HasBack counts talk.old session handle.0 talk.new) }
     ensures kept { OnErr result ((out.new.items ≡ out.old.items)
         × (events.new.items ≡ events.old.items)) }
     ensures spare { deque_len out.new < deque_capacity out.new }
@@ -327,31 +358,30 @@ fn close_for(
         Goes limit talk.old talk.new out.old.items out.new.items }
     ensures rests { Rests talk.old talk.new out.old.items out.new.items }
 {
-    let (handle, answer) = closing_of(talk, alloc, session, handle, error)?;
+    let handle = own_handle(talk, session, handle);
+    let Ok(answer) = closing_of(talk, alloc, session, handle, error) else {
+        set_counts(talk, session, handle, counts);
+        return Err(EndpointError::Memory);
+    };
     close_by_link(talk, session, handle, answer, error, out, events);
     Ok(())
 }
 
-/// Makes ready to close the link that the peer's handle reaches: its own handle, and its Detach. It is refused where
-/// there is no memory.
+/// Makes ready to close the link with this own handle by its Detach. It is refused where there is no memory.
 fn closing_of(
     talk: &Conversation<Numbered<LinkEnd>>,
     alloc: Global,
     session: u64,
-    handle: Handle,
+    handle: OutputHandle,
     error: ReceiverTransferError,
-) -> Result<(OutputHandle, Answer), AllocError>
-    requires { IsSome (reached_of talk.now session handle.0) }
-    ensures { IfOk result (λ it. IsClosing talk.now session handle.0 error it.0 it.1) }
+) -> Result<Answer, AllocError>
+    requires { IsSome (link_of talk.now session handle) }
+    ensures { IfOk result (IsClosing talk.now session handle error) }
 {
     let Some(session) = talk.sessions.live(session) else {
         unreachable!()
     };
-    let Some(handle) = session.session.link_by_input_handle(InputHandle(handle.0)) else {
-        unreachable!()
-    };
-    let answer = make_closing(session, alloc, handle, condition_of(error))?;
-    Ok((handle, answer))
+    make_closing(session, alloc, handle, condition_of(error))
 }
 
 /// The link is closed for this fault by what was made ready. There is room for it.

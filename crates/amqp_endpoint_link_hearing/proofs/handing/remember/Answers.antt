@@ -2,7 +2,8 @@ use Rattle.std.proofs.Common.{sym, subst}
 use Rattle.std.specs.Prelude.{IsSome}
 use Rattle.amqp_endpoint_attached.specs.Linked.{Linked, end_at}
 use Rattle.amqp_endpoint_link_hearing.proofs.Lent.{end-lent, none-lent}
-use Rattle.amqp_endpoint_link_hearing.proofs.Messages.{remembers-on}
+use Rattle.amqp_endpoint_link_hearing.specs.Transferring.{remembering}
+use Rattle.amqp_endpoint_link_hearing.proofs.Messages.{changes-on}
 use Rattle.amqp_endpoint_link_hearing.proofs.handing.remember.Goals as goal
 
 pub unreachable-requires : goal.unreachable-requires
@@ -17,6 +18,6 @@ remember_in-requires c =
 
 pub returns : goal.returns
 returns c =
-    remembers-on c.args.handle c.args.tag.now c.args.number c.args.talk.now c.args.session c.in-Some.session.now
-    c.in-Some.ensures.value c.deref_mut.result.now c.remember_in.new.session c.deref_mut.ensures.value
+    changes-on (λ end. remembering end c.args.tag.now c.args.number) c.args.handle c.args.talk.now c.args.session
+    c.in-Some.session.now c.in-Some.ensures.value c.deref_mut.result.now c.remember_in.new.session c.deref_mut.ensures.value
     c.remember_in.ensures

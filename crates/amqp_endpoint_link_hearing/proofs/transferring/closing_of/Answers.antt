@@ -1,15 +1,6 @@
-use Rattle.std.proofs.Common.{◌≡◌, None, subst}
-use Rattle.amqp_session_core.specs.State.{reached}
-use Rattle.amqp_endpoint_attached.specs.Linked.{Linked}
-use Rattle.amqp_endpoint_link_hearing.proofs.Transferred.{lives, none-there}
+use Rattle.amqp_endpoint_link_hearing.proofs.Lent.{none-lent}
 use Rattle.amqp_endpoint_link_hearing.proofs.transferring.closing_of.Goals as goal
 
 pub unreachable-requires : goal.unreachable-requires
-unreachable-requires c = absurd (lives c.args.talk.now c.args.session c.args.handle.0 c.in_default.ensures c.requires)
-
-pub unreachable-requires-in_default-link_by_input_handle : goal.unreachable-requires-in_default-link_by_input_handle
-unreachable-requires-in_default-link_by_input_handle c =
-    absurd
-    (none-there c.args.talk.now c.args.session c.args.handle.0 c.in-Some.session.now c.in-Some.ensures
-    (subst (λ (s : Linked). None ≡ reached s.session c.args.handle.0) c.deref.ensures
-    c.in_default-link_by_input_handle.ensures) c.requires)
+unreachable-requires c =
+    absurd (none-lent c.args.talk.now c.args.session c.args.handle c.in_default.ensures c.requires)
