@@ -83,7 +83,8 @@ use Rattle.amqp_endpoint_laws.proofs.HeldCalled.{Stands, TalkSame, live-same, st
 use Rattle.amqp_endpoint_laws.proofs.HeldParting.{left-held, session-back}
 use Rattle.amqp_endpoint_laws.proofs.HeldSessions.{Gone, about-same, ends-gone, inside, keep-in, live-changed, within}
 use Rattle.amqp_endpoint_laws.proofs.Numbers.{KeepNumbers, heard-kept, kept-on, same-kept, step-kept}
-use Rattle.amqp_endpoint_laws.proofs.NumbersInside.{again-kept, answers-kept, echoes-kept, refuses-kept, remembers-kept, told-kept}
+use Rattle.amqp_endpoint_laws.proofs.NumbersInside.{again-kept, answers-kept, echoes-kept, refuses-kept}
+use Rattle.amqp_endpoint_laws.proofs.NumbersInside.{remembers-kept, told-kept}
 
 -- a session that the peer's channel reaches answers, and doesn't end by its fault
 abbrev NoFault : Result LinkHeard LinkRefusal → Type 0

@@ -481,9 +481,9 @@ pub fn transfers_are_read_in_their_windows()
         Judged settings.first_transfer_number did.since }
 {}
 
-/// A Transfer that ends the connection leaves every link as it was: once the connection is over, the links are those that
-/// they would be if it had been over before the Transfer came. So it is also where a link refused the Transfer, and there
-/// was no memory for its Detach (part 2, 2.6.5, 2.6.7).
+/// A Transfer that ends the connection leaves every link as it was: once the connection is over, the links are those
+/// that they would be if it had been over before the Transfer came. So it is also where a link refused the Transfer, and
+/// there was no memory for its Detach (part 2, 2.6.5, 2.6.7).
 pub fn a_transfer_that_ends_the_connection_leaves_the_links()
     ensures { (old refused over over_before : LinkedSessions) (limit channel : ℕ) (transfer : Transfer)
         (payload : List ℕ) (e : EndpointError) →

@@ -1,5 +1,6 @@
 -- A message is handed out.
-use Rattle.std.proofs.Common.{◌≡◌, ℕ, ◌+◌, ◌-◌, ◌<◌, ◌^◌, Bool, true, false, List, [], ◌∷◌, ◌++◌, Option, Some, None, IsSome}
+use Rattle.std.proofs.Common.{◌≡◌, ℕ, ◌+◌, ◌-◌, ◌<◌, ◌^◌, Bool, true, false, List, [], ◌∷◌, ◌++◌}
+use Rattle.std.proofs.Common.{Option, Some, None, IsSome}
 use Rattle.std.proofs.Common.{refl, sym, ap, subst, append-nil}
 use Rattle.std.specs.Prelude.{slice_set}
 use Rattle.std.specs.Box.{with_value}

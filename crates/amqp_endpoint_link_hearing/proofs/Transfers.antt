@@ -36,7 +36,8 @@ use Rattle.amqp_endpoint_linking.specs.Handed.{Tells}
 use Rattle.amqp_endpoint_link_hearing.specs.Saying.{Answers, FailsBySaid, LinkHeard}
 use Rattle.amqp_endpoint_link_hearing.specs.InSession.{ChangesEnd, GoesOn}
 use Rattle.amqp_endpoint_link_hearing.specs.Naming.{link_in, link_of}
-use Rattle.amqp_endpoint_link_hearing.specs.Reached.{completes_of, counts_by, counts_of, link_among, link_on, link_under}
+use Rattle.amqp_endpoint_link_hearing.specs.Reached.{completes_of, counts_by, counts_of, link_among, link_on}
+use Rattle.amqp_endpoint_link_hearing.specs.Reached.{link_under}
 use Rattle.amqp_endpoint_link_hearing.specs.Reached.{link_within, recounted}
 use Rattle.amqp_endpoint_link_hearing.specs.Taking.{ClosesBy, DoneFor, FailsFor, FailsIn, FlowFits, HandsBy, HasBack}
 use Rattle.amqp_endpoint_link_hearing.specs.Taking.{HasNumber, HasNumberIn, MayBeNumbered, StandsIn, TakenIn}

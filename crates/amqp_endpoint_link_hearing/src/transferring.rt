@@ -189,8 +189,8 @@ fn transfer_of(heard: Heard<AttachTold, Told, Detached>) -> Option<(u64, Transfe
     }
 }
 
-/// The Transfer was heard, and the link that the peer's handle reaches took it, if one did, and had these counts before.
-/// A number is left for its message, and there is room for what is told, for a Detach and for the session's Flow.
+/// The Transfer was heard, and the link that the peer's handle reaches took it, if one did, and had these counts
+/// before. A number is left for its message, and there is room for what is told, for a Detach and for the session's Flow.
 fn transfer_heard(
     talk: &mut Conversation<Numbered<LinkEnd>>,
     given: &mut u64,

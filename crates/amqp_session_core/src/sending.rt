@@ -96,9 +96,9 @@ impl<R: LinkRelay> Session<R> {
         }
     }
 
-    /// Room for so many Flows and Detaches of a link, as `place_behind` answers it, which serves also behind transfers that
-    /// come to wait later: it has room for so many by themselves, also where the link has nothing waiting now. It is
-    /// refused with `Memory` alone.
+    /// Room for so many Flows and Detaches of a link, as `place_behind` answers it, which serves also behind transfers
+    /// that come to wait later: it has room for so many by themselves, also where the link has nothing waiting now. It
+    /// is refused with `Memory` alone.
     pub fn place_behind_more(
         &self,
         alloc: Global,
@@ -209,10 +209,10 @@ impl<R: LinkRelay> Session<R> {
         Ok(())
     }
 
-    /// Makes room for so many transfers: batches of so many in all, of one link or of several, aren't refused for want of
-    /// memory, where `out` is the same and at most so many frames of others are put into it. Behind all transfers and all
-    /// frames that wait, `out` has room for these others. Each accepted batch takes of the room as many as it has. It is
-    /// refused with `Memory` alone, and nothing changes then.
+    /// Makes room for so many transfers: batches of so many in all, of one link or of several, aren't refused for want
+    /// of memory, where `out` is the same and at most so many frames of others are put into it. Behind all transfers and
+    /// all frames that wait, `out` has room for these others. Each accepted batch takes of the room as many as it has.
+    /// It is refused with `Memory` alone, and nothing changes then.
     pub fn reserve_transfers(
         &mut self,
         out: &mut VecDeque<SessionFrame>,

@@ -39,8 +39,8 @@ impl<S: SessionRelay> Endpoint<S> {
     /// - `PeerLimitUnder512`: what the peer's Open says (part 2, 2.7.1).
     /// - `Frame`: a whole piece that is no frame. `Connection(IllegalState)`: a second Open.
     /// - `Connection`, `Session`, `NumbersUsedUp`: what the sessions refuse so that the connection ends.
-    /// - `Memory`: there was no memory. It is broken off, without a frame, before the frame that met it; but a link that
-    ///   refused a Transfer, and for whose Detach there was none, has taken that Transfer.
+    /// - `Memory`: there was no memory. It is broken off, without a frame, before the frame that met it; a link that
+    ///   refused a Transfer, and for whose Detach there was none, stands as it did before that Transfer.
     ///
     /// At all of these but the first, `NumbersUsedUp` and the last the own Close is queued, with the error, unless it
     /// was queued before. The peer's Close ends the connection too, without a fault: it is answered by the own one.

@@ -3,7 +3,8 @@ use Rattle.amqp_endpoint_links.specs.declared.hearing.LinkPerformative.TheVarian
 use Rattle.amqp_endpoint_conversation.proofs.Goings.{goes-on, rests-on}
 use Rattle.amqp_endpoint_link_hearing.proofs.Plain.{answers-plain}
 use Rattle.amqp_endpoint_link_hearing.proofs.Refusals.{bars, fails, heard-kept, kept}
-use Rattle.amqp_endpoint_link_hearing.proofs.Transfers.{numbered-for, stands-for, transfer-fails, transfer-taken, transfer-unclosed}
+use Rattle.amqp_endpoint_link_hearing.proofs.Transfers.{numbered-for, stands-for, transfer-fails, transfer-taken}
+use Rattle.amqp_endpoint_link_hearing.proofs.Transfers.{transfer-unclosed}
 use Rattle.amqp_endpoint_link_hearing.proofs.transferring.take_transfer.Goals as goal
 
 pub transfer_heard-requires-clause-stands : goal.transfer_heard-requires-clause-stands
