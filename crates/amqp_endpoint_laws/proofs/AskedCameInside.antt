@@ -38,6 +38,7 @@ use Rattle.amqp_endpoint_link_hearing.specs.Disposing.{TellsAndEchoes}
 use Rattle.amqp_endpoint_link_hearing.specs.Flowing.{LeaveWith, LeavesOnce, LeavesWith, ended_link}
 use Rattle.amqp_endpoint_link_hearing.specs.InSession.{AnswersIf, Closes, ClosesIf}
 use Rattle.amqp_endpoint_link_hearing.specs.Transferring.{Remembers}
+use Rattle.amqp_endpoint_link_hearing.specs.Unechoed.{TellsSome}
 use Rattle.amqp_endpoint_link_calls.specs.Disposing.{disposes_of_all, disposes_of_one}
 use Rattle.amqp_endpoint_link_calls.specs.Sending.{sends}
 use Rattle.amqp_endpoint_linking.specs.Linking.{Link, Links}
@@ -48,7 +49,7 @@ use Rattle.amqp_endpoint_model.specs.declared.call.Sending.{Sending}
 use Rattle.amqp_endpoint_model.specs.declared.event.Event.{Event}
 use Rattle.amqp_endpoint_laws.proofs.HoldingDone.{closes-stays, closing-stays, detaches-stay, disposes-all, failing-stays}
 use Rattle.amqp_endpoint_laws.proofs.HoldingDone.{disposes-one, drains-stays, echoes-stay, gives-stays, leave-stay}
-use Rattle.amqp_endpoint_laws.proofs.HoldingDone.{parts-stay, remembers-stays, sends-stays}
+use Rattle.amqp_endpoint_laws.proofs.HoldingDone.{parts-stay, remembers-stays, sends-stays, tells-stays}
 use Rattle.amqp_endpoint_laws.proofs.HoldingInside.{LeadsLess, behind-stays, less}
 use Rattle.amqp_endpoint_laws.proofs.PassedPlaces.{KeepsAsked, WasAsked}
 
@@ -107,6 +108,13 @@ pub closes-keeps : (why : Option Error) (handle : OutputHandle) (frames : List S
 closes-keeps why handle frames old new c =
     less-keeps old new (closed-same (is_there (end_at old handle)) why handle frames old new c)
     (closes-stays why handle frames old new c).leads
+
+-- as one tells of messages
+pub told-keeps : (count : ℕ) (handle : OutputHandle) (old new : Linked) → TellsSome count handle old new
+    → KeepsAsked old new
+told-keeps count handle old new t =
+    less-keeps old new (ap (λ (x : Linked). x.asked) t.rest)
+    (tells-stays count handle (link_at old.session handle.0) old.session new.session t.tells).leads
 
 -- as one parts from its session
 out-same : (handle : OutputHandle) (left : Option Link) (old new : Linked) → TakenOut old handle left new

@@ -76,6 +76,7 @@ use Rattle.amqp_endpoint_link_hearing.specs.Saying.{BarsSaid, EndsBy, FailsBySai
 use Rattle.amqp_endpoint_link_hearing.specs.Transferring as transferring
 use Rattle.amqp_endpoint_link_hearing.specs.Transferring.{Comes, RemembersUnless}
 use Rattle.amqp_endpoint.specs.Hearing.{Hears, RefusesBody}
+use Rattle.amqp_endpoint_link_hearing.proofs.Barrings.{refuses-by}
 use Rattle.amqp_endpoint_laws.specs.Conversing.{SessionsAct}
 use Rattle.amqp_endpoint_laws.specs.Held.{Agrees, Numbers, number_at, number_in, number_live, number_of}
 use Rattle.amqp_endpoint_laws.proofs.Agreeing.{Same, stay}
@@ -383,8 +384,16 @@ disposition-follows : (runs : Option (ℕ × SmallVec (ℕ × ℕ))) (limit : �
     (frames : List SessionFrame) (events : List Event)
     → disposing.Follows runs limit old it mid frames events new → TalkSame mid new
 disposition-follows (Some (session, runs)) limit old mid new it frames events d =
-    in-session _ mid session new
-    (λ before after t. echoes-kept d.deliveries _ runs.items frames events before after t) d.done
+    let t = d.done in
+    talk-on mid t.mid new
+    (in-session _ mid session t.mid
+    (λ before after e. echoes-kept d.deliveries _ _ t.sent t.told before after e) t.echoes)
+    (refuses-by (λ fs a b. TalkSame a b) session (λ a b same. talk-same a b same)
+    (λ fs more a b c x y. talk-on a b c x y)
+    (λ handle fs a b g. in-session _ a session b (λ x y c. refuses-kept _ handle fs x y c) g)
+    (λ count handle a b g. in-session _ a session b
+    (λ x y s. told-kept count handle (link_at x.session handle.0) x.session y.session s.tells) g)
+    _ d.deliveries _ t.mid new t.closed t.ended t.refuses)
 disposition-follows None limit old mid new it frames events r = talk-same mid new r.stays
 
 -- the peer's Detach

@@ -82,13 +82,13 @@ use Rattle.amqp_endpoint_tables.specs.Steps.{TellsEnd}
 use Rattle.amqp_endpoint_tables.specs.declared.place.PeerEnd.TheVariants.{Missing, Received}
 use Rattle.amqp_endpoint_tables.specs.declared.place.Place.TheVariants.{Asked, Live, Ending, Over}
 use Rattle.amqp_endpoint_tables.proofs.Owning.{at}
+use Rattle.amqp_endpoint_link_hearing.proofs.Barrings.{refuses-by}
 use Rattle.amqp_endpoint_laws.specs.Held.{number_of}
 use Rattle.amqp_endpoint_laws.proofs.HeldCalled.{accepted-none, begun-none}
 use Rattle.amqp_endpoint_laws.proofs.HoldingDone.{StaysBy, attached-comes, attached-first, closes-stays, closing-stays}
-use Rattle.amqp_endpoint_laws.proofs.HoldingDone.{failing-stays}
-use Rattle.amqp_endpoint_laws.proofs.HoldingDone.{detaches-stay}
-use Rattle.amqp_endpoint_laws.proofs.HoldingDone.{disposes-all, disposes-one, drains-stays, echoes-stay, gives-stays}
-use Rattle.amqp_endpoint_laws.proofs.HoldingDone.{leave-stay, parts-stay, sends-stays}
+use Rattle.amqp_endpoint_laws.proofs.HoldingDone.{detaches-stay, disposes-all, disposes-one, drains-stays, echoes-stay}
+use Rattle.amqp_endpoint_laws.proofs.HoldingDone.{failing-stays, gives-stays, leave-stay, parts-stay, sends-stays}
+use Rattle.amqp_endpoint_laws.proofs.HoldingDone.{tells-stays}
 use Rattle.amqp_endpoint_laws.proofs.HoldingEnds.{Comes, Goes, Holding, IsEmpty, IsFresh, goes-still}
 use Rattle.amqp_endpoint_laws.proofs.HoldingEnds.{held_link}
 use Rattle.amqp_endpoint_laws.proofs.HoldingInside.{all-same, calm-stays}
@@ -174,7 +174,15 @@ disposition-comes : (o : Option (ℕ × SmallVec (ℕ × ℕ))) (limit : ℕ) (o
     (frames : List SessionFrame) (events : List Event) → disposing.Follows o limit old it mid frames events new
     → AllRest mid.sessions new.sessions
 disposition-comes (Some (session, runs)) limit old mid new it frames events d =
-    goes-on-stays _ mid session new (λ a b t. echoes-stay d.deliveries _ runs.items frames events a b t) d.done
+    let t = d.done in
+    all-on mid.sessions t.mid.sessions new.sessions
+    (goes-on-stays _ mid session t.mid (λ a b e. echoes-stay d.deliveries _ _ t.sent t.told a b e) t.echoes)
+    (refuses-by (λ fs a b. AllRest a.sessions b.sessions) session (λ a b same. talk-same a b same)
+    (λ fs more a b c x y. all-on a.sessions b.sessions c.sessions x y)
+    (λ handle fs a b g. goes-on-stays _ a session b (λ x y c. closes-stays _ handle fs x y c) g)
+    (λ count handle a b g. goes-on-stays _ a session b
+    (λ x y s. tells-stays count handle (link_at x.session handle.0) x.session y.session s.tells) g)
+    _ d.deliveries _ t.mid new t.closed t.ended t.refuses)
 disposition-comes None limit old mid new it frames events r = talk-same mid new r.stays
 
 detach-comes : (o : Option (ℕ × Detached)) (limit : ℕ) (old mid new : Talk) (links links_new : Links) (it : Detach)

@@ -128,7 +128,7 @@ told-holds : (k count : ℕ) (end : End) → held_end k (behind_told count end) 
 told-holds k count (Sender s) = refl
 told-holds k count (Receiver r) = refl
 
-tells-stays : (count : ℕ) (handle : OutputHandle) (link : Option Link) (old new : LinksIn)
+pub tells-stays : (count : ℕ) (handle : OutputHandle) (link : Option Link) (old new : LinksIn)
     → TellsIn count handle link old new → Rests old new
 tells-stays count handle None old new same = all-same old new same
 tells-stays count handle (Some link) old new s =

@@ -19,7 +19,7 @@ use Rattle.amqp_session_performatives.specs.declared.transfer.Transfer.{Transfer
 use Rattle.amqp_session_frames.specs.declared.frame.FrameBody.{FrameBody}
 use Rattle.amqp_session_frames.specs.declared.frame.FrameBody.TheVariants as body
 use Rattle.amqp_session_core.specs.Frames.{session_flow}
-use Rattle.amqp_session_core.specs.State.{reached as link_reached}
+use Rattle.amqp_session_core.specs.State.{link_at, reached as link_reached}
 use Rattle.amqp_session_core.specs.Told.{TransferAt}
 use Rattle.amqp_session_core.specs.declared.fields.SessionFields.{SessionFields}
 use Rattle.amqp_session_core.specs.declared.incoming.TransferTaken.{TransferTaken}
@@ -64,7 +64,8 @@ use Rattle.amqp_endpoint_link_hearing.specs.Transferring as transferring
 use Rattle.amqp_endpoint_link_hearing.specs.Transferring.{Comes, RemembersUnless, transfer_of}
 use Rattle.amqp_endpoint_link_hearing.specs.declared.attaching.LinkAttached.{LinkAttached}
 use Rattle.amqp_endpoint_link_hearing.proofs.Inside.{closes-inside, leave-inside, remembers-inside, tells-echoes-inside}
-use Rattle.amqp_endpoint_link_hearing.proofs.Inside.{tells-parts-inside}
+use Rattle.amqp_endpoint_link_hearing.proofs.Inside.{tells-parts-inside, told-inside}
+use Rattle.amqp_endpoint_link_hearing.proofs.Barrings.{refuses-by}
 use Rattle.amqp_endpoint.specs.Hearing.{Hears as HearsFrame}
 use Rattle.amqp_endpoint.specs.declared.linked.LinkedSessions.{LinkedSessions}
 use Rattle.amqp_endpoint_laws.specs.Following.{comes, goes}
@@ -74,7 +75,7 @@ use Rattle.amqp_endpoint_conversation.specs.Windows.{body_said}
 use Rattle.amqp_endpoint_conversation.proofs.Inside.{alike-inside, both-on, said-both}
 use Rattle.amqp_endpoint_laws.specs.Passed.{begun_by, session_taking}
 use Rattle.amqp_endpoint_laws.proofs.AskedCameInside.{closes-keeps, echoes-keep, leave-keeps, parts-keep}
-use Rattle.amqp_endpoint_laws.proofs.AskedCameInside.{remembers-keeps}
+use Rattle.amqp_endpoint_laws.proofs.AskedCameInside.{remembers-keeps, told-keeps}
 use Rattle.amqp_endpoint_laws.proofs.PassedJudged.{live-begun}
 use Rattle.amqp_endpoint_laws.proofs.PassedPlaces.{KeepsAsked, eq-same}
 use Rattle.amqp_endpoint_laws.proofs.PassedWalk.{Walk}
@@ -407,13 +408,31 @@ module _ {Allows : Batches → Type 0} (P : ℕ → List Wired → Talk → Talk
     transfer-comes (heard.Live n (taken.Disposition back runs)) a c = nothing-passed n frames mid new c.silent c.stays
     transfer-comes (heard.Live n (taken.Detach t)) a c = nothing-passed n frames mid new c.silent c.stays
 
+  -- one thing after another
+  both-pass : (m : ℕ) (frames more : List SessionFrame) (old mid new : Talk) → P m (goes frames) old mid
+      → P m (goes more) mid new → P m (goes (frames ++ more)) old new
+  both-pass m frames more old mid new a b =
+      subst (λ (ws : List Wired). P m ws old new) (sym (behind-others frames more))
+      (w.on m (goes frames) (goes more) old mid new a b)
+
   -- a Disposition
   disposition-comes : (h : LinkHeard) (limit : ℕ) (old mid new : Talk) (it : Disposition) (frames : List SessionFrame)
       (events : List Event) → disposing.Follows (runs_of h) limit old it mid frames events new
       → P (number_of h) (goes frames) mid new
   disposition-comes (heard.Live n (taken.Disposition back runs)) limit old mid new it frames events d =
-      goes-passed _ mid n new frames (λ a b t. tells-echoes-inside d.deliveries _ runs.items frames events a b t)
-      (λ a b t. echoes-keep d.deliveries _ runs.items frames events a b t) d.done
+      let t = d.done in
+      subst (λ (fs : List SessionFrame). P n (goes fs) mid new) (sym t.frames_are)
+      (both-pass n t.sent t.closed mid t.mid new
+      (goes-passed _ mid n t.mid t.sent (λ a b e. tells-echoes-inside d.deliveries _ _ t.sent t.told a b e)
+      (λ a b e. echoes-keep d.deliveries _ _ t.sent t.told a b e) t.echoes)
+      (refuses-by (λ fs a b. P n (goes fs) a b) n (λ a b same. nothing-passed n [] a b refl same)
+      (λ fs more a b c x y. both-pass n fs more a b c x y)
+      (λ handle fs a b g. goes-passed _ a n b fs (λ x y c. closes-inside _ handle fs x y c)
+      (λ x y c. closes-keeps _ handle fs x y c) g)
+      (λ count handle a b g. goes-passed _ a n b []
+      (λ x y s. told-inside count handle (link_at x.session handle.0) x.session y.session s.tells)
+      (λ x y s. told-keeps count handle x y s) g)
+      _ d.deliveries _ t.mid new t.closed t.ended t.refuses))
   disposition-comes (heard.Asked n) limit old mid new it frames events r =
       nothing-passed n frames mid new r.silent r.stays
   disposition-comes (heard.Dropped n) limit old mid new it frames events r =

@@ -1,11 +1,13 @@
 -- The peer's Disposition.
 use Rattle.std.proofs.Common.{◌≡◌, ◌≤◌, ◌<◌, inl, inr, ℕ, List, [], ◌∷◌, ◌++◌, Option, Some, None, Ok, IsSome, All}
-use Rattle.std.proofs.Common.{map, length, drop, arith, refl, sym, ap, subst, ◌∙◌, append-nil}
+use Rattle.std.proofs.Common.{map, length, get_or, arith, refl, sym, ap, subst, ◌∙◌, append-nil, append_assoc, Bool, true}
 use Rattle.std.specs.Prelude.{◌^◌, is_some, slice_set}
 use Rattle.std.specs.Box.{with_value}
 use Rattle.smallvec.specs.SmallVec.{SmallVec}
 use Rattle.std.proofs.lemmas.List.Elements.{All-nil}
+use Rattle.std.proofs.lemmas.Option.{same_Some}
 use Rattle.amqp_session_types.specs.declared.channels.IncomingChannel.{IncomingChannel}
+use Rattle.amqp_session_types.specs.declared.handles.OutputHandle.{OutputHandle}
 use Rattle.amqp_session_states.specs.declared.delivery_state.DeliveryState.{DeliveryState}
 use Rattle.amqp_session_performatives.specs.declared.disposition.Disposition.{Disposition}
 use Rattle.amqp_session_performatives.specs.declared.session_frame.SessionFrame.{SessionFrame}
@@ -26,22 +28,26 @@ use Rattle.amqp_endpoint_model.specs.declared.event.Event.{Event}
 use Rattle.amqp_endpoint_conversation.specs.Going.{Goes, Rests, Within}
 use Rattle.amqp_endpoint_conversation.proofs.Alone.{answer-alone}
 use Rattle.amqp_endpoint_conversation.proofs.Calls.{changed-goes, changed-rests}
-use Rattle.amqp_endpoint_conversation.proofs.Goings.{read-behind}
 use Rattle.amqp_endpoint_messages.specs.Dispositions.{SendsEach, frames_of}
 use Rattle.amqp_endpoint_attached.specs.Linked.{Linked, LinksIn, gives}
-use Rattle.amqp_endpoint_messages.specs.Echoing.{EchoFits, SendsEchoes, echoes_of, told_back}
+use Rattle.amqp_endpoint_messages.specs.Echoing.{SendsEchoes, barred, echoes_of, going}
 use Rattle.amqp_endpoint_messages.specs.Outcomes.{NoneUntold, outcomes_told}
 use Rattle.amqp_endpoint_messages.specs.Reached.{behind_one, behind_reached, end_behind, link_behind, reached_told}
 use Rattle.amqp_endpoint_messages.proofs.EndedTold.{each-sent, told-all, told-ends}
-use Rattle.amqp_endpoint_messages.proofs.Lengths.{all-fit}
+use Rattle.amqp_endpoint_messages.proofs.Lengths.{going-fit}
 use Rattle.amqp_endpoint_messages.proofs.Numbers.{no-more-runs}
+use Rattle.amqp_endpoint_messages.proofs.Opens.{opens-fall, taken-stays}
 use Rattle.amqp_endpoint_linking.specs.Linking.{Link, Links, Session, Talk}
 use Rattle.amqp_endpoint_linking.specs.Handed.{Tells}
 use Rattle.amqp_endpoint_link_hearing.specs.Disposing.{DoneBy, DoneIn, Follows, HearsDisposition, IsReady, Prepares}
-use Rattle.amqp_endpoint_link_hearing.specs.Disposing.{Rested, Serves, StandsFor, TellsAndEchoes, runs_of}
+use Rattle.amqp_endpoint_link_hearing.specs.Disposing.{Rested, Serves, StandsFor, TellsAndEchoes, TellsAndRefuses}
+use Rattle.amqp_endpoint_link_hearing.specs.Disposing.{runs_of}
 use Rattle.amqp_endpoint_link_hearing.specs.InSession.{GoesOn}
 use Rattle.amqp_endpoint_link_hearing.specs.Saying.{FailsBySaid, LinkHeard}
+use Rattle.amqp_endpoint_link_hearing.specs.Unechoed.{AreFor, CanClose, IsMade, MadeIn, NoneUntoldIn, Refuses, handles_of}
 use Rattle.amqp_endpoint_link_hearing.specs.declared.disposing.Ready.{Ready}
+use Rattle.amqp_endpoint_link_hearing.specs.declared.unechoed.Closing.{Closing}
+use Rattle.amqp_endpoint_link_hearing.proofs.Barrings.{Same, all-told, echoed-same, for-all, live-behind, made-can, made-on}
 use Rattle.amqp_endpoint_link_hearing.proofs.Doing.{LinkAct}
 use Rattle.amqp_endpoint_link_hearing.proofs.Heard.{IsTaken, taken-in}
 use Rattle.amqp_endpoint_link_hearing.proofs.Lent.{behind-talk}
@@ -160,9 +166,9 @@ module _ (deliveries : List Touched) (state : Option DeliveryState) (runs : List
     pub echoed-waits : (most : ℕ) → Within most old → Within most new
     echoed-waits most within = (stills most).waits within
 
-    pub echoed-goes : (limit from : ℕ) → limit < 2 ^ 32 → EchoFits limit state → from ≡ length out
-        → All IsRead (drop from out_new) → Goes limit old new out out_new
-    echoed-goes limit from small fits is reads =
+    pub echoed-goes : (limit : ℕ) (asked : List (ℕ × ℕ)) → limit < 2 ^ 32 → runs ≡ going limit state asked
+        → Goes limit old new out out_new
+    echoed-goes limit asked small are =
         let s = stills limit in
         let e = ((t.is_so).done).echoes in
         let fields = (behind_reached ((t.is_so).before).value.session deliveries).fields in
@@ -173,14 +179,103 @@ module _ (deliveries : List Touched) (state : Option DeliveryState) (runs : List
           queued = t.queued;
           fit = λ least within.
               subst (λ (fs : List SessionFrame). All (FrameFits limit) fs) (sym e.frames_are)
-              (all-fit limit state fields runs small least fits
-              (subst (λ (fs : List SessionFrame). All IsRead fs) e.frames_are
-              (read-behind out out_new t.frames from is t.queued reads)));
+              (subst (λ (rs : List (ℕ × ℕ)). All (FrameFits limit) (frames_of fields (echoes_of state rs))) (sym are)
+              (going-fit limit state fields asked small));
         }
+
+    pub echoed-can : (c : Closing) → MadeIn old session c → CanClose new session c
+    echoed-can c made =
+        let g = t.is_so in
+        made-can old new session g.before g.after g.stepped
+        (echoed-same deliveries state runs t.frames t.events (g.before).value (g.after).value g.done) c made
 
     pub echoed-rests : Rests old new out out_new
     echoed-rests =
         let g = t.is_so in changed-rests session old new g.before g.after out out_new g.stepped
+
+-- then links are closed
+module _ (limit session : ℕ) (deliveries : List Touched) (state : Option DeliveryState) (runs barred_runs : List (ℕ × ℕ))
+    (is : barred_runs ≡ barred limit state runs) (old mid new : Talk) (out out_mid out_new : List SessionFrame)
+    (events events_mid events_new : List Event)
+    (echoed : Tells (λ (frames : List SessionFrame) (told : List Event).
+    GoesOn (TellsAndEchoes deliveries state (going limit state runs) frames told) old session mid) out events out_mid
+    events_mid) where
+  pub refused-behind : (fit : Bool) (handles : List OutputHandle) → AreFor fit deliveries handles
+      → (fit ≡ true → barred_runs ≡ [])
+      → Tells (λ (frames : List SessionFrame) (told : List Event).
+      Refuses session barred_runs deliveries handles mid frames told new) out_mid events_mid out_new events_new
+      → Tells (λ (frames : List SessionFrame) (told : List Event).
+      TellsAndRefuses limit session deliveries state runs (handles_of deliveries) old frames told new) out events
+      out_new events_new
+  refused-behind fit handles are none r =
+      record {
+        frames = echoed.frames ++ r.frames;
+        events = echoed.events ++ r.events;
+        is_so =
+            record {
+              mid = mid;
+              sent = echoed.frames;
+              told = echoed.events;
+              echoes = echoed.is_so;
+              closed = r.frames;
+              ended = r.events;
+              refuses =
+                  subst
+                  (λ (rs : List (ℕ × ℕ)). Refuses session rs deliveries (handles_of deliveries) mid r.frames r.events
+                  new)
+                  is
+                  (for-all session barred_runs deliveries fit handles mid new r.frames r.events are none r.is_so);
+              frames_are = refl;
+              events_are = refl;
+            };
+        queued =
+            r.queued ∙ ap (λ (o : List SessionFrame). o ++ r.frames) echoed.queued
+            ∙ append_assoc out echoed.frames r.frames;
+        are_told =
+            r.are_told ∙ ap (λ (e : List Event). e ++ r.events) echoed.are_told
+            ∙ append_assoc events echoed.events r.events;
+      }
+
+-- as slices of what was made ready were lent
+pub done-for : (limit session : ℕ) (state : Option DeliveryState) (fit : Bool) (handles : List OutputHandle)
+    (items ds others : List Touched) (runs rs bs found : List (ℕ × ℕ)) → ds ≡ items → others ≡ items → rs ≡ runs
+    → bs ≡ found → found ≡ barred limit state rs → AreFor fit items handles → (fit ≡ true → found ≡ [])
+    → (old mid new : Talk) (out out_mid out_new : List SessionFrame) (events events_mid events_new : List Event)
+    → Tells (λ (frames : List SessionFrame) (told : List Event).
+    GoesOn (TellsAndEchoes ds state (going limit state rs) frames told) old session mid) out events out_mid events_mid
+    → Tells (λ (frames : List SessionFrame) (told : List Event).
+    Refuses session bs others handles mid frames told new) out_mid events_mid out_new events_new
+    → Tells (λ (frames : List SessionFrame) (told : List Event).
+    TellsAndRefuses limit session items state runs (handles_of items) old frames told new) out events out_new
+    events_new
+done-for limit session state fit handles items ds others runs rs bs found same also are bars is for none old mid new out
+    out_mid out_new events events_mid events_new echoed refused =
+    refused-behind limit session items state runs found
+    (is ∙ ap (λ (xs : List (ℕ × ℕ)). barred limit state xs) are) old mid new out out_mid out_new events events_mid
+    events_new
+    (subst
+    (λ (xs : List (ℕ × ℕ)).
+    Tells (λ (frames : List SessionFrame) (told : List Event).
+    GoesOn (TellsAndEchoes items state (going limit state xs) frames told) old session mid) out events out_mid
+    events_mid)
+    are
+    (subst
+    (λ (xs : List Touched).
+    Tells (λ (frames : List SessionFrame) (told : List Event).
+    GoesOn (TellsAndEchoes xs state (going limit state rs) frames told) old session mid) out events out_mid
+    events_mid)
+    same echoed))
+    fit handles for none
+    (subst
+    (λ (xs : List (ℕ × ℕ)).
+    Tells (λ (frames : List SessionFrame) (told : List Event).
+    Refuses session xs items handles mid frames told new) out_mid events_mid out_new events_new)
+    bars
+    (subst
+    (λ (xs : List Touched).
+    Tells (λ (frames : List SessionFrame) (told : List Event).
+    Refuses session bs xs handles mid frames told new) out_mid events_mid out_new events_new)
+    also refused))
 
 -- no session is there that none is
 pub none-live : (o : Option Session) → None ≡ o → IsSome o → ⊥
@@ -207,25 +302,47 @@ module _ (limit : ℕ) (old : Talk) (channel : IncomingChannel) (out : List Sess
         no-more-runs gives (taken-there.before).value.session ((taken-there.takes).after).value.session it runs.items
         (ready.reached).items ((((taken-there.takes).hears).heard).0).1 is-ready.deliveries
 
+    heard-same : Same (taken-there.before).value ((taken-there.takes).after).value
+    heard-same =
+        let stays = taken-stays it (taken-there.before).value.session ((taken-there.takes).after).value.session
+        (map (echo_of it) runs.items) ((((taken-there.takes).hears).heard).0).1 in
+        record {
+          fields = stays.fields;
+          queues = stays.queues;
+          opens = λ h.
+              opens-fall it (taken-there.before).value.session ((taken-there.takes).after).value.session
+              (map (echo_of it) runs.items) (ready.reached).items ((((taken-there.takes).hears).heard).0).1
+              is-ready.deliveries h.0;
+        }
+
+    made-so : All (MadeIn mid session) (ready.closings).items
+    made-so k d below s live =
+        let is : s ≡ (taken-there.takes).after = same_Some _ _ (sym live ∙ taken-there.stands) in
+        subst (λ (x : Session). IsMade x.value (get_or (ready.closings).items k d)) (sym is)
+        (made-on (taken-there.before).value ((taken-there.takes).after).value heard-same _ (is-ready.made k d below))
+
     serves : Serves limit mid session runs.items ready
     serves =
         record {
           there = ap is_some taken-there.stands;
           few = few-runs;
-          copies =
+          echoes =
               record {
                 each = (is-ready.serves).each;
                 enough = omega (arith, few-runs, (is-ready.serves).enough);
+                fit = (is-ready.serves).fit;
+                none = (is-ready.serves).none;
+                room = λ wide. omega (arith, few-runs, (is-ready.serves).room wide);
               };
-          fits = is-ready.fits;
+          handles = is-ready.handles;
+          made = made-so;
         }
 
     -- what it tells are the outcomes of what the Disposition ends
-    module _ (state : Option DeliveryState) (frames : List SessionFrame) (events : List Event) (new : Talk)
-        (g : GoesOn (TellsAndEchoes (ready.reached).items state runs.items frames events) mid session new) where
+    module _ (state : Option DeliveryState) (sent : List (ℕ × ℕ)) (frames : List SessionFrame) (events : List Event)
+        (new : Talk) (g : GoesOn (TellsAndEchoes (ready.reached).items state sent frames events) mid session new) where
       same-session : (a b : Session) → Some a ≡ Some b → a.value.session ≡ b.value.session
-      same-session a b same =
-          let is : a ≡ b = cc in ap (λ (x : Session). x.value.session) is
+      same-session a b same = ap (λ (x : Session). x.value.session) (same_Some a b same)
 
       behind-hearing : (g.before).value.session ≡ ((taken-there.takes).after).value.session
       behind-hearing =
@@ -242,40 +359,48 @@ module _ (limit : ℕ) (old : Talk) (channel : IncomingChannel) (out : List Sess
 
       none-so : NoneUntold (taken-there.before).value.session → NoneUntold (g.after).value.session
       none-so none =
-          each-sent (behind_reached (g.before).value.session (ready.reached).items) (echoes_of state runs.items)
+          each-sent (behind_reached (g.before).value.session (ready.reached).items) (echoes_of state sent)
           (g.after).value.session ((g.done).echoes).sends
           (subst (λ (s : LinksIn). NoneUntold (behind_reached s (ready.reached).items)) (sym behind-hearing)
           (told-all it (taken-there.before).value.session ((taken-there.takes).after).value.session
           (map (echo_of it) runs.items) (ready.reached).items none ((((taken-there.takes).hears).heard).0).1
           is-ready.deliveries))
 
-    done-by : (state : Option DeliveryState) (frames : List SessionFrame) (events : List Event) (new : Talk)
-        → state ≡ told_back limit (taken-there.before).value.session.fields.channel.0 it.state
-        → GoesOn (TellsAndEchoes (ready.reached).items state runs.items frames events) mid session new
+      none-in : NoneUntold (taken-there.before).value.session → NoneUntoldIn new session
+      none-in none s live =
+          let is : s ≡ g.after =
+          same_Some _ _ (sym live ∙ live-behind mid new session g.before g.after g.stepped) in
+          subst (λ (x : Session). NoneUntold x.value.session) (sym is) (none-so none)
+
+    done-by : (frames : List SessionFrame) (events : List Event) (new : Talk)
+        → TellsAndRefuses limit session (ready.reached).items it.state runs.items (handles_of (ready.reached).items)
+        mid frames events new
         → DoneIn limit old it session runs.items mid frames events new
-    done-by state frames events new is g =
-        let back : Option DeliveryState =
-        told_back limit (taken-there.before).value.session.fields.channel.0 it.state in
-        let goes : GoesOn (TellsAndEchoes (ready.reached).items back runs.items frames events) mid session new =
-        subst
-        (λ (state : Option DeliveryState).
-        GoesOn (TellsAndEchoes (ready.reached).items state runs.items frames events) mid session new)
-        is g in
+    done-by frames events new d =
         record {
           stood = taken-there.before;
           live = taken-there.live;
           deliveries = (ready.reached).items;
           are_reached = is-ready.deliveries;
-          done = goes;
-          outcomes = outcomes-so back frames events new goes;
-          all_told = none-so back frames events new goes;
+          done = d;
+          outcomes = outcomes-so it.state (going limit it.state runs.items) d.sent d.told d.mid d.echoes;
+          all_told = λ none.
+              all-told session (barred limit it.state runs.items) (ready.reached).items
+              (handles_of (ready.reached).items) d.mid new d.closed d.ended d.refuses
+              (none-in it.state (going limit it.state runs.items) d.sent d.told d.mid d.echoes none);
         }
 
     done-in : (frames : List SessionFrame) (events : List Event) (new : Talk)
-        → GoesOn
-        (TellsAndEchoes (ready.reached).items (ready.echoes).state runs.items frames events) mid session new
+        → TellsAndRefuses limit session (ready.reached).items (ready.echoes).state runs.items
+        (handles_of (ready.reached).items) mid frames events new
         → DoneIn limit old it session runs.items mid frames events new
-    done-in frames events new g = done-by (ready.echoes).state frames events new is-ready.state g
+    done-in frames events new d =
+        done-by frames events new
+        (subst
+        (λ (state : Option DeliveryState).
+        TellsAndRefuses limit session (ready.reached).items state runs.items (handles_of (ready.reached).items) mid
+        frames events new)
+        is-ready.state d)
 
 module _ (limit : ℕ) (old : Talk) (channel : IncomingChannel) (out : List SessionFrame) (it : Disposition) where
   stands-so : (heard : LinkHeard) (ready : Option Ready) (mid : Talk) (out_mid : List SessionFrame)
@@ -296,7 +421,7 @@ module _ (limit : ℕ) (old : Talk) (channel : IncomingChannel) (out : List Sess
   follows : (heard : LinkHeard) (ready : Option Ready) (mid : Talk) (out_mid : List SessionFrame)
       (frames : List SessionFrame) (events : List Event) (new : Talk) → Prepares limit old channel it ready
       → Answered gives old out channel (said.Disposition it) (Ok heard) mid out_mid
-      → DoneBy (runs_of heard) ready mid frames events new → Follows (runs_of heard) limit old it mid frames events new
+      → DoneBy limit (runs_of heard) ready mid frames events new → Follows (runs_of heard) limit old it mid frames events new
   follows (Live session (taken.Disposition back runs)) (Some ready) mid out_mid frames events new p t d =
       done-in limit old channel out it back session runs mid out_mid t ready p frames events new d
   follows (Live session (taken.Disposition back runs)) None mid out_mid frames events new p t d =
@@ -314,7 +439,7 @@ module _ (limit : ℕ) (old : Talk) (channel : IncomingChannel) (out : List Sess
       → Prepares limit old channel it ready
       → Answered gives old out channel (said.Disposition it) (Ok heard) mid out_mid
       → Tells (λ (frames : List SessionFrame) (events : List Event).
-      DoneBy took ready mid frames events new) out_mid told out_new told_new
+      DoneBy limit took ready mid frames events new) out_mid told out_new told_new
       → Hears links links_new new told told_new out_new
   disposition-taken heard took is ready mid out_mid links links_new new told told_new out_new stays same p t d =
       record {
@@ -329,7 +454,7 @@ module _ (limit : ℕ) (old : Talk) (channel : IncomingChannel) (out : List Sess
                   (same ∙ sym (append-nil out)) t;
               follows =
                   follows heard ready mid out_mid d.frames d.events new p t
-                  (subst (λ (o : Option (ℕ × SmallVec (ℕ × ℕ))). DoneBy o ready mid d.frames d.events new) is d.is_so);
+                  (subst (λ (o : Option (ℕ × SmallVec (ℕ × ℕ))). DoneBy limit o ready mid d.frames d.events new) is d.is_so);
               same = stays;
             });
         queued = d.queued ∙ ap (λ (o : List SessionFrame). o ++ d.frames) same;
@@ -351,10 +476,10 @@ module _ (limit : ℕ) (old : Talk) (channel : IncomingChannel) (out : List Sess
       }
 
 -- nothing comes of it
-module _ (mid : Talk) (out : List SessionFrame) (told : List Event) where
+module _ (limit : ℕ) (mid : Talk) (out : List SessionFrame) (told : List Event) where
   abbrev pub NothingSo : Option (ℕ × SmallVec (ℕ × ℕ)) → Option Ready → Type 0
   NothingSo took ready =
-      Tells (λ (frames : List SessionFrame) (events : List Event). DoneBy took ready mid frames events mid) out told out
+      Tells (λ (frames : List SessionFrame) (events : List Event). DoneBy limit took ready mid frames events mid) out told out
       told
 
   rested : Tells (λ (frames : List SessionFrame) (events : List Event). Rested mid frames events mid) out told out told

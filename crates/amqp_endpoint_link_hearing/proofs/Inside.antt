@@ -84,7 +84,7 @@ parts-inside handle answers closed error left frames old new p =
     (answered-inside answers handle closed error frames old p.mid p.answered) (out-inside handle left p.mid new p.out)
 
 -- a link tells of messages
-told-inside : (count : ℕ) (handle : OutputHandle) (link : Option Link) (old new : LinksIn)
+pub told-inside : (count : ℕ) (handle : OutputHandle) (link : Option Link) (old new : LinksIn)
     → TellsIn count handle link old new → DoneInside gives old [] new
 told-inside count handle None old new is = none-inside gives old new is
 told-inside count handle (Some link) old new stepped =

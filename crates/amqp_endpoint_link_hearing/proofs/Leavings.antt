@@ -39,7 +39,7 @@ fields-told count handle None old new is = ap (λ (s : LinksIn). s.fields) is
 fields-told count handle (Some link) old new stepped = ap (λ (s : LinksIn). s.fields) stepped.1
 
 -- and brings no frame
-told-done : (limit count : ℕ) (handle : OutputHandle) (link : Option Link) (old mid new : Linked)
+pub told-done : (limit count : ℕ) (handle : OutputHandle) (link : Option Link) (old mid new : Linked)
     (frames : List SessionFrame) → TellsIn count handle link old.session mid.session
     → mid ≡ record old { session = mid.session } → Done limit mid frames new → Done limit old frames new
 told-done limit count handle None old mid new frames is rest d =

@@ -15,6 +15,7 @@ mod Leavings
 mod Partings
 mod Readies
 mod Becoming
+pub mod Barrings
 mod Dispositions
 mod Stepped
 mod Transfers

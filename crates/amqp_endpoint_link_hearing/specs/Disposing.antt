@@ -1,7 +1,8 @@
 -- The peer's Disposition (part 2, 2.6.12, 2.7.6, 2.8.3).
-use Rattle.std.specs.Prelude.{◌≡◌, ◌≤◌, ◌⊎◌, ℕ, List, [], length, Option, Some, None, Ok, IsSome}
+use Rattle.std.specs.Prelude.{◌≡◌, ◌≤◌, ◌⊎◌, ℕ, ◌+◌, List, [], ◌++◌, All, length, Option, Some, None, Ok, IsSome}
 use Rattle.smallvec.specs.SmallVec.{SmallVec}
 use Rattle.amqp_session_types.specs.declared.channels.IncomingChannel.{IncomingChannel}
+use Rattle.amqp_session_types.specs.declared.handles.OutputHandle.{OutputHandle}
 use Rattle.amqp_session_states.specs.declared.delivery_state.DeliveryState.{DeliveryState}
 use Rattle.amqp_session_performatives.specs.declared.disposition.Disposition.{Disposition}
 use Rattle.amqp_session_performatives.specs.declared.session_frame.SessionFrame.{SessionFrame}
@@ -14,12 +15,14 @@ use Rattle.amqp_endpoint_conversation.specs.declared.hearing.Heard.TheVariants.{
 use Rattle.amqp_endpoint_tables.specs.State.{live_at, reached}
 use Rattle.amqp_endpoint_model.specs.declared.event.Event.{Event}
 use Rattle.amqp_endpoint_attached.specs.Linked.{Linked}
-use Rattle.amqp_endpoint_messages.specs.Echoing.{EchoFits, SendsEchoes, ServesFor, told_back}
+use Rattle.amqp_endpoint_messages.specs.Echoing.{SendsEchoes, ServesFor, barred, each_fits, going}
 use Rattle.amqp_endpoint_messages.specs.Outcomes.{NoneUntold, outcomes_told}
 use Rattle.amqp_endpoint_messages.specs.Reached.{behind_reached, reached_told}
 use Rattle.amqp_endpoint_linking.specs.Linking.{Links, Session, Talk}
 use Rattle.amqp_endpoint_link_hearing.specs.InSession.{GoesOn}
 use Rattle.amqp_endpoint_link_hearing.specs.Saying.{Answers, FailsBySaid, LinkHeard}
+use Rattle.amqp_endpoint_link_hearing.specs.Unechoed.{AreFor, IsMade, MadeIn, NoneUntoldIn, Refuses, handles_in, handles_of}
+use Rattle.amqp_endpoint_link_hearing.specs.Unechoed.{told_most}
 use Rattle.amqp_endpoint_link_hearing.specs.declared.disposing.Ready.{Ready}
 
 -- A session took a Disposition, and these runs of its deliveries are to be echoed.
@@ -35,22 +38,34 @@ pub record TellsAndEchoes (deliveries : List Touched) (state : Option DeliverySt
   pub echoes :
       SendsEchoes state runs (record old { session = behind_reached old.session deliveries }) frames new
 
--- The session of the Disposition does so: the deliveries are those that the Disposition reached, and the state that is
--- told back is the Disposition's, where the peer takes a frame that tells it. Where none of its links had a message
--- that ended and wasn't told, those that are told are the outcomes of what the Disposition ends, in the order of its
--- deliveries, and none is left untold.
+-- They do so, and one Disposition goes back for each run of which the peer takes its frame. Of the other runs none does:
+-- then of the links with these handles each is closed that is attached and has a delivery in one of them.
+pub record TellsAndRefuses (limit session : ℕ) (deliveries : List Touched) (state : Option DeliveryState)
+    (runs : List (ℕ × ℕ)) (handles : List OutputHandle) (old : Talk) (frames : List SessionFrame) (events : List Event)
+    (new : Talk) : Type 0 where
+  pub mid : Talk
+  pub sent : List SessionFrame
+  pub told : List Event
+  pub echoes : GoesOn (TellsAndEchoes deliveries state (going limit state runs) sent told) old session mid
+  pub closed : List SessionFrame
+  pub ended : List Event
+  pub refuses : Refuses session (barred limit state runs) deliveries handles mid closed ended new
+  pub frames_are : frames ≡ sent ++ closed
+  pub events_are : events ≡ told ++ ended
+
+-- The session of the Disposition does so: the deliveries are those that the Disposition reached, the state that is told
+-- back is the Disposition's, and the links are those of the deliveries, in the order in which the first of each comes.
+-- Where none of its links had a message that ended and wasn't told, those that are told first are the outcomes of what
+-- the Disposition ends, in the order of its deliveries, and none is left untold in the end.
 pub record DoneIn (limit : ℕ) (old : Talk) (it : Disposition) (session : ℕ) (runs : List (ℕ × ℕ)) (mid : Talk)
     (frames : List SessionFrame) (events : List Event) (new : Talk) : Type 0 where
   pub stood : Session
   pub live : live_at old.sessions session ≡ Some stood
   pub deliveries : List Touched
   pub are_reached : AreTouched it (table_of it.role stood.value.session) deliveries
-  pub done :
-      GoesOn
-      (TellsAndEchoes deliveries (told_back limit stood.value.session.fields.channel.0 it.state) runs frames events)
-      mid session new
-  pub outcomes : NoneUntold stood.value.session → events ≡ outcomes_told it stood.value.session deliveries
-  pub all_told : NoneUntold stood.value.session → NoneUntold done.after.value.session
+  pub done : TellsAndRefuses limit session deliveries it.state runs (handles_of deliveries) mid frames events new
+  pub outcomes : NoneUntold stood.value.session → done.told ≡ outcomes_told it stood.value.session deliveries
+  pub all_told : NoneUntold stood.value.session → NoneUntoldIn new session
 
 -- Nothing more comes of it.
 pub record Rested (mid : Talk) (frames : List SessionFrame) (events : List Event) (new : Talk) : Type 0 where
@@ -81,12 +96,15 @@ HearsDisposition old links limit channel it frames events new links_new =
     TakesDisposition old links limit channel it frames events new links_new
     ⊎ FailsBySaid old links channel (said.Disposition it) frames events new links_new
 
--- What is made ready before the Disposition is heard: the deliveries that it will reach, and what goes back.
+-- What is made ready before the Disposition is heard: the deliveries that it will reach, what goes back, and the links
+-- that may be closed.
 pub record IsReady (limit : ℕ) (s : Linked) (it : Disposition) (ready : Ready) : Type 0 where
   pub deliveries : AreTouched it (table_of it.role s.session) ready.reached.items
-  pub state : ready.echoes.state ≡ told_back limit s.session.fields.channel.0 it.state
-  pub fits : EchoFits limit ready.echoes.state
-  pub serves : ServesFor (length ready.reached.items) ready.echoes
+  pub state : ready.echoes.state ≡ it.state
+  pub fits : ready.echoes.fits ≡ each_fits limit it.state
+  pub serves : ServesFor limit (length ready.reached.items) ready.echoes
+  pub handles : AreFor ready.echoes.fits ready.reached.items (handles_in ready.closings.items)
+  pub made : All (IsMade s) ready.closings.items
 
 abbrev pub ReadyFor : ℕ → Linked → Disposition → Option Ready → Type 0
 ReadyFor limit s it None = ⊥
@@ -98,24 +116,31 @@ Prepares limit talk channel it ready =
     (number : ℕ) (s : Session) → reached talk.sessions channel.0 ≡ Some number
     → live_at talk.sessions number ≡ Some s → ReadyFor limit s.value it ready
 
--- So many deliveries will be reached.
-abbrev pub count_of : Option Ready → ℕ
-count_of None = 0
-count_of (Some ready) = length ready.reached.items
+-- So many frames are handed out at most, and so many events told.
+abbrev pub frames_most : Option Ready → ℕ
+frames_most None = 0
+frames_most (Some ready) = length ready.reached.items + length ready.closings.items
+
+abbrev pub events_most : Option Ready → ℕ
+events_most None = 0
+events_most (Some ready) = length ready.reached.items + told_most ready.closings.items
 
 -- The session took the Disposition, and what was made ready serves.
 pub record Serves (limit : ℕ) (mid : Talk) (session : ℕ) (runs : List (ℕ × ℕ)) (ready : Ready) : Type 0 where
   pub there : IsSome (live_at mid.sessions session)
   pub few : length runs ≤ length ready.reached.items
-  pub copies : ServesFor (length runs) ready.echoes
-  pub fits : EchoFits limit ready.echoes.state
+  pub echoes : ServesFor limit (length runs) ready.echoes
+  pub handles : AreFor ready.echoes.fits ready.reached.items (handles_in ready.closings.items)
+  pub made : All (MadeIn mid session) ready.closings.items
 
 abbrev pub StandsFor : ℕ → Talk → Option (ℕ × SmallVec (ℕ × ℕ)) → Option Ready → Type 0
 StandsFor limit mid (Some (session, runs)) (Some ready) = Serves limit mid session runs.items ready
 StandsFor limit mid took ready = Unit {0}
 
 -- What was made ready is done.
-abbrev pub DoneBy : Option (ℕ × SmallVec (ℕ × ℕ)) → Option Ready → Talk → List SessionFrame → List Event → Talk → Type 0
-DoneBy (Some (session, runs)) (Some ready) mid frames events new =
-    GoesOn (TellsAndEchoes ready.reached.items ready.echoes.state runs.items frames events) mid session new
-DoneBy took ready mid frames events new = Rested mid frames events new
+abbrev pub DoneBy : ℕ → Option (ℕ × SmallVec (ℕ × ℕ)) → Option Ready → Talk → List SessionFrame → List Event → Talk
+    → Type 0
+DoneBy limit (Some (session, runs)) (Some ready) mid frames events new =
+    TellsAndRefuses limit session ready.reached.items ready.echoes.state runs.items (handles_of ready.reached.items) mid
+    frames events new
+DoneBy limit took ready mid frames events new = Rested mid frames events new

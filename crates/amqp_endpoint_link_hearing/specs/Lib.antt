@@ -8,6 +8,7 @@ pub mod Leaving
 pub mod Detaching
 pub mod Leaves
 pub mod Readied
+pub mod Unechoed
 pub mod Disposing
 pub mod Reached
 pub mod Transferring

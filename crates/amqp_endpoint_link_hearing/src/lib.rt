@@ -2,7 +2,7 @@
 //! and its Detach (part 2, 2.6.3 to 2.6.6, 2.7.3 to 2.7.7).
 //!
 //! What comes of it say specs/: Attaching, Flowing, Transferring, Disposing and Detaching; how a session refuses it,
-//! Saying.
+//! Saying; and which links are closed by a Disposition that can't be echoed, Unechoed.
 #![tactic(auto)]
 
 mod attaching;
@@ -17,6 +17,7 @@ mod naming;
 mod reaching;
 mod refusing;
 mod transferring;
+mod unechoed;
 
 pub use attaching::{LinkAttached, hear_attach};
 pub use detaching::hear_detach;

@@ -102,7 +102,7 @@ reaches-to (l ∷ links) zero link e = omega arith
 reaches-to (l ∷ links) (suc i) link e =
     let h : i < length links = reaches-to links i link e in omega arith
 
-set-at : (links : List (Option Link)) (i h : ℕ) (link : Link) (f : Link → Link)
+pub set-at : (links : List (Option Link)) (i h : ℕ) (link : Link) (f : Link → Link)
     → slice_index_or links i None ≡ Some link
     → slice_index_or (slice_set links i (Some (f link))) h None
     ≡ (if i == h then mapped f (slice_index_or links h None) else slice_index_or links h None)
@@ -143,7 +143,7 @@ none-at links i h f there = by (eqb_tells i h)
 abbrev pub link_told_on : List ℕ → Link → Link
 link_told_on tag link = record link { link = end_behind tag link.link }
 
-told-at : (s : LinksIn) (d : Touched) (h : ℕ) → link_at (behind_one s d) h
+pub told-at : (s : LinksIn) (d : Touched) (h : ℕ) → link_at (behind_one s d) h
     ≡ (if d.handle.0 == h then mapped (link_told_on d.tag) (link_at s h) else link_at s h)
 told-at s d h = by (link_at s d.handle.0) refl
   where
@@ -196,7 +196,7 @@ module _ (it : Disposition) where
   abbrev pub disposed_link : List ℕ → Link → Link
   disposed_link tag link = record link { link = end_disposed it.role it.settled it.state tag link.link }
 
-  disposed-at : (s : LinksIn) (d : Touched) (h : ℕ) → link_at (one_disposed it s d) h
+  pub disposed-at : (s : LinksIn) (d : Touched) (h : ℕ) → link_at (one_disposed it s d) h
       ≡ (if d.handle.0 == h then mapped (disposed_link d.tag) (link_at s h) else link_at s h)
   disposed-at s d h = by (link_at s d.handle.0) refl
     where
@@ -553,7 +553,7 @@ module _ (it : Disposition) where
             let is-same : a ≡ b = cc in
             (ap (λ (x : Delivery). x.handle.0) is-same, ap (λ (x : Delivery). x.tag) is-same)
 
-    walk-is : (ds : List Touched) (old new : List (Option Link)) (walk : List Reach)
+    pub walk-is : (ds : List Touched) (old new : List (Option Link)) (walk : List Reach)
         → Walks gives.disposes it table (each_number ds) old walk new → All (StandsIn table) ds → (s : LinksIn)
         → s.links ≡ old → (all_disposed s ds).links ≡ new
     walk-is [] old new [] same all s is = is ∙ sym same
@@ -609,6 +609,17 @@ module _ (it : Disposition) where
         → NoneUntold (behind_reached new ds)
     none-left old new ds walk none walks all =
         awaited-none new old ds (awaits-all old new ds walk none walks all)
+
+-- the links behind a disposition are those of the walk over its deliveries
+pub walked-links : (it : Disposition) (old new : LinksIn) (echoes : List Disposition) (ds : List Touched)
+    → DispositionTaken gives old it echoes new → AreTouched it (table_of it.role old) ds
+    → (all_disposed it old ds).links ≡ new.links
+walked-links it old new echoes ds t a =
+    walk-is it (table_of it.role old) ds old.links new.links t.walk
+    (subst (λ (ns : List ℕ). Walks gives.disposes it (table_of it.role old) ns old.links t.walk new.links)
+    (touched-same it (table_of it.role old) (t.stepped).numbers (each_number ds) (t.stepped).touched a.numbers)
+    (t.stepped).walked)
+    a.deliveries old refl
 
 -- what a session's links tell behind a disposition is what it ended
 module _ (it : Disposition) (old new : LinksIn) (echoes : List Disposition) (ds : List Touched) (none : NoneUntold old)

@@ -1,8 +1,9 @@
 -- No Disposition that goes back is longer than the longest.
 use Rattle.std.proofs.Common.{◌≡◌, ℕ, ◌+◌, ◌-◌, ◌≤◌, ◌<◌, Bool, true, false, List, [], ◌∷◌, ◌++◌, All, length}
 use Rattle.std.proofs.Common.{arith, refl, sym, ap, subst, ◌∙◌}
-use Rattle.std.specs.Prelude.{◌^◌, ◌==◌, Option, Some, None, nat_lt, if◌then◌else◌}
+use Rattle.std.specs.Prelude.{◌^◌, ◌==◌, Option, Some, None, nat_le, nat_lt, if◌then◌else◌}
 use Rattle.std.specs.Int.{w32, to_be_bytes}
+use Rattle.std.proofs.lemmas.Bool.Decides.{nat_tests}
 use Rattle.std.proofs.lemmas.List.{length-append}
 use Rattle.std.proofs.lemmas.List.Elements.{All-cons, All-head, All-nil, All-tail}
 use Rattle.serde_amqp_item.specs.Item.{Item, items_of, scalar, boolean, uint, ulong, described, list}
@@ -21,11 +22,11 @@ use Rattle.amqp_endpoint_fitting.specs.Plain.{IsUint}
 use Rattle.amqp_endpoint_fitting.proofs.Frames.{disposition_fits, larger_fits}
 use Rattle.amqp_endpoint_fitting.specs.Fits.{FrameFits}
 use Rattle.amqp_endpoint_fitting.specs.Read.{IsRead, IsReadDisposition}
-use Rattle.amqp_endpoint_messages.specs.Longest.{disposition_frame, longest}
+use Rattle.amqp_endpoint_messages.specs.Longest.{disposition_frame, longest, state_fits}
 use Rattle.amqp_endpoint_messages.specs.Dispositions.{frames_of, said_by}
 use Rattle.amqp_endpoint_messages.proofs.Longer.{no-longer, telling}
 use Rattle.amqp_endpoint_messages.proofs.Sizes.{to-frame, to-text}
-use Rattle.amqp_endpoint_messages.specs.Echoing.{EchoFits, echo, echo_fits, echoes_of, longest_echo, told_back}
+use Rattle.amqp_endpoint_messages.specs.Echoing.{each_fits, echo, echoes_of, going, run_fits}
 
 -- the text of a Disposition of five fields, of which the first is this byte and the others have this text
 abbrev text_with : ℕ → Option (List ℕ) → Option (List ℕ)
@@ -102,12 +103,6 @@ module _ (limit : ℕ) (state : DeliveryState) (first last : ℕ) where
   abbrev rest : Option (List ℕ)
   rest = canon_all (items_of (behind_role state first last))
 
-  to-receiver : OfSender → OfReceiver
-  to-receiver fit =
-      subst (λ (o : Option (List ℕ)). FitsText limit o) (sym (ap whole (receivers-fields state first last)))
-      (swapped limit 0x42 0x41 rest
-      (subst (λ (o : Option (List ℕ)). FitsText limit o) (ap whole (senders-fields state first last)) fit))
-
   to-sender : OfReceiver → OfSender
   to-sender fit =
       subst (λ (o : Option (List ℕ)). FitsText limit o) (sym (ap whole (senders-fields state first last)))
@@ -116,58 +111,37 @@ module _ (limit : ℕ) (state : DeliveryState) (first last : ℕ) where
 
 -- where the longest fits each does
 state-fits : (limit channel : ℕ) (state : DeliveryState) (first last : ℕ) → limit < 2 ^ 32
-    → EchoFits limit (Some state) → IsUint first → IsUint last
+    → state_fits limit 0 state ≡ true → IsUint first → IsUint last
     → fits limit (frame_of (disposition_frame channel (echo (Some state) (first, last)))) ≡ true
 state-fits limit channel state first last least fit h k =
-    let most : FitsText limit (canon (disposition_item (longest state))) =
-    to-receiver limit state (2 ^ 32 - 1) (2 ^ 32 - 1)
-    (to-text limit channel (longest_echo (Some state)) (fit channel)) in
+    let most : FitsText limit (canon (disposition_item (longest state))) = to-text limit 0 (longest state) fit in
     to-frame limit channel (echo (Some state) (first, last)) least
     (to-sender limit state first last (no-longer limit state first (Some last) true h k most))
 
-one-fits : (limit : ℕ) (state : Option DeliveryState) (fields : SessionFields) (run : ℕ × ℕ) → limit < 2 ^ 32
-    → 512 ≤ limit → EchoFits limit state → IsReadDisposition (echo state run)
-    → FrameFits limit (said_by fields (echo state run))
-one-fits limit None fields run least enough fit read =
-    larger_fits limit (frame_of (said_by fields (echo None run))) enough
-    (disposition_fits fields.channel.0 (echo None run)
-    (record { first = read.first; last = read.last; state = tt }))
-one-fits limit (Some state) fields run least enough fit read =
-    state-fits limit fields.channel.0 state run.0 run.1 least fit read.first read.last
+wide : (limit : ℕ) → nat_le 512 limit ≡ true → 512 ≤ limit
+wide limit h = grind (arith, nat_tests)
 
-pub all-fit : (limit : ℕ) (state : Option DeliveryState) (fields : SessionFields) (runs : List (ℕ × ℕ))
-    → limit < 2 ^ 32 → 512 ≤ limit → EchoFits limit state → All IsRead (frames_of fields (echoes_of state runs))
-    → All (FrameFits limit) (frames_of fields (echoes_of state runs))
-all-fit limit state fields [] least enough fit reads = All-nil (FrameFits limit)
-all-fit limit state fields (run ∷ runs) least enough fit reads =
-    let frame : SessionFrame = said_by fields (echo state run) in
-    let others : List SessionFrame = frames_of fields (echoes_of state runs) in
-    All-cons (FrameFits limit) frame others
-    (one-fits limit state fields run least enough fit (All-head IsRead frame others reads))
-    (all-fit limit state fields runs least enough fit (All-tail IsRead frame others reads))
+pub one-fits : (limit : ℕ) (state : Option DeliveryState) (run : ℕ × ℕ) → limit < 2 ^ 32
+    → each_fits limit state ≡ true → IsReadDisposition (echo state run) → run_fits limit state run ≡ true
+one-fits limit None run least fit read =
+    larger_fits limit (frame_of (disposition_frame 0 (echo None run))) (wide limit fit)
+    (disposition_fits 0 (echo None run) (record { first = read.first; last = read.last; state = tt }))
+one-fits limit (Some state) run least fit read = state-fits limit 0 state run.0 run.1 least fit read.first read.last
 
--- the longest that tells a state is measured
-pub measured : (limit : ℕ) (state : Option DeliveryState) (r : Bool) (d : Disposition) → d ≡ longest_echo state
-    → ((channel : ℕ) → r ≡ fits limit (frame_of (disposition_frame channel d))) → (channel : ℕ)
-    → r ≡ echo_fits limit channel state
-measured limit state r d is measures channel =
-    measures channel ∙ ap (λ (x : Disposition). fits limit (frame_of (disposition_frame channel x))) is
-
--- the state that is told back, as it is measured
-module _ (limit : ℕ) (state : Option DeliveryState) (r : Bool) (is : (channel : ℕ) → r ≡ echo_fits limit channel state)
+-- what goes back fits, on whichever channel
+pub going-fit : (limit : ℕ) (state : Option DeliveryState) (fields : SessionFields) (runs : List (ℕ × ℕ))
+    → limit < 2 ^ 32 → All (FrameFits limit) (frames_of fields (echoes_of state (going limit state runs)))
+going-fit limit state fields [] least = All-nil (FrameFits limit)
+going-fit limit state fields (run ∷ runs) least =
+    by (run_fits limit state run) refl (going-fit limit state fields runs least)
   where
-    pub told-state : (told : Option DeliveryState) → told ≡ state → r ≡ true → (channel : ℕ)
-        → told ≡ told_back limit channel state
-    told-state told same fit channel =
-        same ∙ ap (λ (b : Bool). if b then state else None) (sym fit ∙ is channel)
-
-    pub told-none : r ≡ false → (channel : ℕ) → None ≡ told_back limit channel state
-    told-none fit channel = ap (λ (b : Bool). if b then state else None) (sym fit ∙ is channel)
-
-    fits-so : (o : Option DeliveryState) → o ≡ state → r ≡ true → EchoFits limit o
-    fits-so None same fit = tt
-    fits-so (Some it) same fit = λ channel.
-        ap (λ (x : Option DeliveryState). echo_fits limit channel x) same ∙ sym (is channel) ∙ fit
-
-    pub state-told-fits : (told : Option DeliveryState) → told ≡ state → r ≡ true → EchoFits limit told
-    state-told-fits told same fit = fits-so told same fit
+    by : (b : Bool) → run_fits limit state run ≡ b
+        → All (FrameFits limit) (frames_of fields (echoes_of state (going limit state runs)))
+        → All (FrameFits limit)
+        (frames_of fields
+        (echoes_of state (if b then run ∷ going limit state runs else going limit state runs)))
+    by true fit others =
+        All-cons (FrameFits limit) (said_by fields (echo state run))
+        (frames_of fields (echoes_of state (going limit state runs)))
+        (to-frame limit fields.channel.0 (echo state run) least (to-text limit 0 (echo state run) fit)) others
+    by false fit others = others

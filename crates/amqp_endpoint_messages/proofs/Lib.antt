@@ -10,6 +10,7 @@ pub mod Telling
 pub mod Firsts
 pub mod Numbers
 pub mod EndedTold
+pub mod Opens
 pub mod Lengths
 pub mod Goings
 pub mod Lists

@@ -1,12 +1,13 @@
 -- What goes back to a receiver that settles once the sender did: part 2, 2.6.12, 2.7.6, 2.8.3.
-use Rattle.std.specs.Prelude.{◌≡◌, ◌≤◌, ℕ, ◌-◌, ◌^◌, List, map, length, All, Bool, true, false, Option, Some, None}
+use Rattle.std.specs.Prelude.{◌≡◌, ◌≤◌, ℕ, List, [], ◌∷◌, map, length, nat_le, All, Bool, true, false, Option, Some, None}
 use Rattle.std.specs.Prelude.{if◌then◌else◌}
+use Rattle.std.specs.Vec.{vec_capacity}
 use Rattle.amqp_session_types.specs.declared.modes.Role.TheVariants.{Sender}
 use Rattle.amqp_session_states.specs.declared.delivery_state.DeliveryState.{DeliveryState}
 use Rattle.amqp_session_performatives.specs.declared.disposition.Disposition.{Disposition}
 use Rattle.amqp_session_performatives.specs.declared.session_frame.SessionFrame.{SessionFrame}
 use Rattle.amqp_endpoint_model.specs.State.{fits, frame_of}
-use Rattle.amqp_endpoint_messages.specs.Longest.{disposition_frame}
+use Rattle.amqp_endpoint_messages.specs.Longest.{disposition_frame, state_fits}
 use Rattle.amqp_endpoint_messages.specs.Dispositions.{SendsEach, frames_of}
 use Rattle.amqp_endpoint_attached.specs.Linked.{Linked, gives}
 use Rattle.amqp_endpoint_messages.specs.declared.echoing.Echoes.{Echoes}
@@ -28,27 +29,36 @@ echo state run =
 abbrev pub echoes_of : Option DeliveryState → List (ℕ × ℕ) → List Disposition
 echoes_of state runs = map (echo state) runs
 
--- The longest one that tells a state says the largest numbers (part 1, 1.6.5).
-abbrev pub longest_echo : Option DeliveryState → Disposition
-longest_echo state = echo state (2 ^ 32 - 1, 2 ^ 32 - 1)
+-- Whether the peer takes the frame that settles a run so, whatever its channel (part 2, 2.4.1).
+abbrev pub run_fits : ℕ → Option DeliveryState → ℕ × ℕ → Bool
+run_fits limit state run = fits limit (frame_of (disposition_frame 0 (echo state run)))
 
--- Whichever run it is, the peer takes a frame on this channel that tells the state (part 2, 2.4.1).
-abbrev pub echo_fits : ℕ → ℕ → Option DeliveryState → Bool
-echo_fits limit channel state = fits limit (frame_of (disposition_frame channel (longest_echo state)))
+-- Those of these runs, in their order, of which the peer takes that frame.
+abbrev pub going : ℕ → Option DeliveryState → List (ℕ × ℕ) → List (ℕ × ℕ)
+going limit state [] = []
+going limit state (run ∷ runs) =
+    if run_fits limit state run then run ∷ going limit state runs else going limit state runs
 
--- The state that the peer told is told back where the peer takes such a frame; else none is.
-abbrev pub told_back : ℕ → ℕ → Option DeliveryState → Option DeliveryState
-told_back limit channel state = if echo_fits limit channel state then state else None
+-- And those of which it doesn't.
+abbrev pub barred : ℕ → Option DeliveryState → List (ℕ × ℕ) → List (ℕ × ℕ)
+barred limit state [] = []
+barred limit state (run ∷ runs) =
+    if run_fits limit state run then barred limit state runs else run ∷ barred limit state runs
 
--- What is told back fits the limit, on whichever channel.
-abbrev pub EchoFits : ℕ → Option DeliveryState → Type 0
-EchoFits limit None = Unit {0}
-EchoFits limit (Some state) = (channel : ℕ) → echo_fits limit channel (Some state) ≡ true
+-- The peer takes the frame of each run: where it tells a state, the longest that tells it fits; else each limit that a
+-- peer may set is enough (part 2, 2.4.1, 2.7.1).
+abbrev pub each_fits : ℕ → Option DeliveryState → Bool
+each_fits limit None = nat_le 512 limit
+each_fits limit (Some state) = state_fits limit 0 state
 
--- There are copies of the state for so many runs.
-pub record ServesFor (runs : ℕ) (echoes : Echoes) : Type 0 where
+-- There are copies of the state for so many runs, and room for those of which the peer doesn't take the frame, unless
+-- it takes each.
+pub record ServesFor (limit runs : ℕ) (echoes : Echoes) : Type 0 where
   pub each : All (λ s. s ≡ echoes.state) echoes.copies.items
   pub enough : runs ≤ length echoes.copies.items
+  pub fit : echoes.fits ≡ true → each_fits limit echoes.state ≡ true
+  pub none : echoes.barred.items ≡ []
+  pub room : echoes.fits ≡ false → runs ≤ vec_capacity echoes.barred
 
 -- A session settles these runs with this state, and hands out the Dispositions that tell it.
 pub record SendsEchoes (state : Option DeliveryState) (runs : List (ℕ × ℕ)) (old : Linked) (frames : List SessionFrame)

@@ -47,6 +47,8 @@ pub fn tell_first(
         session.new }
     ensures told { (error : Option Error) → AreCopies error count copies.items →
         events.new.items ≡ events.old.items ++ first_told count error (link_at session.old.session handle.0) }
+    ensures few { vec_len events.new ≤ vec_len events.old + count }
+    ensures capacity { vec_capacity events.new ≡ vec_capacity events.old }
     ensures there { IsSome (end_at session.old handle) → IsSome (end_at session.new handle) }
     ensures waiting { session.new.session.outgoing ≡ session.old.session.outgoing }
     ensures fields { session.new.session.fields ≡ session.old.session.fields }
@@ -66,6 +68,8 @@ fn tell_in(
     ensures tells { TellsIn count handle (link_at session.old handle.0) session.old session.new }
     ensures told { (error : Option Error) → AreCopies error count copies.items →
         events.new.items ≡ events.old.items ++ first_told count error (link_at session.old handle.0) }
+    ensures few { vec_len events.new ≤ vec_len events.old + count }
+    ensures capacity { vec_capacity events.new ≡ vec_capacity events.old }
 {
     let Some(link) = session.link_mut(handle) else {
         return;
@@ -86,6 +90,8 @@ pub fn tell_by(
     ensures tells { link.new ≡ behind_told count link.old }
     ensures told { (error : Option Error) → AreCopies error count copies.items →
         events.new.items ≡ events.old.items ++ told_by number error count link.old }
+    ensures few { vec_len events.new ≤ vec_len events.old + count }
+    ensures capacity { vec_capacity events.new ≡ vec_capacity events.old }
 {
     match link.end_mut() {
         End::Sender(sender) => tell_each(sender, number, count, copies, events),
@@ -105,6 +111,8 @@ fn tell_each(
     ensures tells { sender.new ≡ with_ended sender.old (drop count sender.old.messages.resolved) }
     ensures told { (error : Option Error) → AreCopies error count copies.items →
         events.new.items ≡ events.old.items ++ all_told number error (take count sender.old.messages.resolved) }
+    ensures few { vec_len events.new ≤ vec_len events.old + count }
+    ensures capacity { vec_capacity events.new ≡ vec_capacity events.old }
 {
     let mut each = copies.into_iter();
     let mut left = count;

@@ -13,8 +13,7 @@ ghost use Rattle.amqp_session_core.specs.declared.fields.SessionFields.{SessionF
 ghost use Rattle.amqp_endpoint_attached.specs.Linked.{LinksIn, gives};
 ghost use Rattle.amqp_endpoint_messages.specs.Dispositions.{frames_of};
 ghost use Rattle.amqp_endpoint_fitting.specs.Fits.{FrameFits};
-ghost use Rattle.amqp_endpoint_fitting.specs.Read.{IsRead};
-ghost use Rattle.amqp_endpoint_messages.specs.Echoing.{EchoFits, echo, echoes_of};
+ghost use Rattle.amqp_endpoint_messages.specs.Echoing.{echo, echoes_of, going};
 ghost use Rattle.amqp_endpoint_messages.specs.Outcomes.{NoneUntold, outcomes_told};
 ghost use Rattle.amqp_endpoint_messages.specs.Reached.{behind_reached, reached_told};
 
@@ -27,12 +26,10 @@ pub fn no_more_runs_than_deliveries<R: LinkRelay>()
         length runs ≤ length reached }
 {}
 
-/// What goes back fits the limit, whichever runs it settles (part 2, 2.4.1). The numbers of the frames are such as are
-/// read of them.
+/// What goes back fits the limit, whichever runs are to be settled (part 2, 2.4.1).
 pub fn what_goes_back_fits()
     ensures { (limit : ℕ) (state : Option DeliveryState) (fields : SessionFields) (runs : List (ℕ × ℕ)) →
-        limit < 2 ^ 32 → 512 ≤ limit → EchoFits limit state → All IsRead (frames_of fields (echoes_of state runs)) →
-        All (FrameFits limit) (frames_of fields (echoes_of state runs)) }
+        limit < 2 ^ 32 → All (FrameFits limit) (frames_of fields (echoes_of state (going limit state runs))) }
 {}
 
 /// Of a receiver's disposition that goes back which its session wants echoed: settled, with the same state (part 2,

@@ -48,6 +48,8 @@ pub fn tell_reached(session: &mut LinkSession, reached: &[Touched], events: &mut
         ++ reached_told session.old.session reached.now }
     ensures behind { session.new ≡ record session.old
         { session = behind_reached session.old.session reached.now } }
+    ensures few { vec_len events.new ≤ vec_len events.old + length reached.now }
+    ensures capacity { vec_capacity events.new ≡ vec_capacity events.old }
 {
     tell_each(&mut session.session, reached, events);
 }
@@ -57,6 +59,8 @@ fn tell_each(session: &mut Session<Numbered<LinkEnd>>, reached: &[Touched], even
     requires room { vec_len events.old + length reached.now ≤ vec_capacity events.old }
     ensures told { events.new.items ≡ events.old.items ++ reached_told session.old reached.now }
     ensures behind { session.new ≡ behind_reached session.old reached.now }
+    ensures few { vec_len events.new ≤ vec_len events.old + length reached.now }
+    ensures capacity { vec_capacity events.new ≡ vec_capacity events.old }
 {
     for delivery in reached {
         tell_one(session, delivery.handle, &delivery.tag, events);

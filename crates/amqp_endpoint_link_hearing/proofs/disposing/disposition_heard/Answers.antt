@@ -3,9 +3,9 @@ use Rattle.amqp_endpoint_link_hearing.proofs.disposing.disposition_heard.Goals a
 
 pub returns-in_default-clause-done : goal.returns-in_default-clause-done
 returns-in_default-clause-done c =
-    none-took c.args.talk.now c.args.out.now.items c.args.events.now.items c.args.took c.args.ready c.in_default.is
+    none-took c.args.limit c.args.talk.now c.args.out.now.items c.args.events.now.items c.args.took c.args.ready c.in_default.is
 
 pub returns-in_default-ready-clause-done : goal.returns-in_default-ready-clause-done
 returns-in_default-ready-clause-done c =
-    none-ready c.args.talk.now c.args.out.now.items c.args.events.now.items c.args.took c.args.ready
+    none-ready c.args.limit c.args.talk.now c.args.out.now.items c.args.events.now.items c.args.took c.args.ready
     c.in_default-ready.is

@@ -29,8 +29,8 @@ returns-in-Ok-clause-goes c least =
     (c.disposition_heard.ensures.goes least)
 
 pub returns-in-Ok-clause-waits : goal.returns-in-Ok-clause-waits
-returns-in-Ok-clause-waits c most within =
-    c.disposition_heard.ensures.waits most ((c.hear.ensures.goes most answers-plain).waits within)
+returns-in-Ok-clause-waits c most least within =
+    c.disposition_heard.ensures.waits most least ((c.hear.ensures.goes most answers-plain).waits within)
 
 pub returns-in-Ok-clause-rests : goal.returns-in-Ok-clause-rests
 returns-in-Ok-clause-rests c =
@@ -50,7 +50,7 @@ pub returns-in-Ok-refuse-clause-goes : goal.returns-in-Ok-refuse-clause-goes
 returns-in-Ok-refuse-clause-goes c least = c.hear.ensures.goes c.args.limit answers-plain
 
 pub returns-in-Ok-refuse-clause-waits : goal.returns-in-Ok-refuse-clause-waits
-returns-in-Ok-refuse-clause-waits c most within = (c.hear.ensures.goes most answers-plain).waits within
+returns-in-Ok-refuse-clause-waits c most least within = (c.hear.ensures.goes most answers-plain).waits within
 
 pub returns-clause-err : goal.returns-clause-err
 returns-clause-err c =
@@ -71,4 +71,4 @@ pub returns-clause-goes : goal.returns-clause-goes
 returns-clause-goes c least = c.hear.ensures.goes c.args.limit answers-plain
 
 pub returns-clause-waits : goal.returns-clause-waits
-returns-clause-waits c most within = (c.hear.ensures.goes most answers-plain).waits within
+returns-clause-waits c most least within = (c.hear.ensures.goes most answers-plain).waits within

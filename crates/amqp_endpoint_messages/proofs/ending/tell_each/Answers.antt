@@ -1,4 +1,4 @@
-use Rattle.std.proofs.Common.{◌<◌, ◌++◌, ◌-◌, ℕ, arith, drop, subst, sym, take}
+use Rattle.std.proofs.Common.{◌<◌, ◌++◌, ◌-◌, ◌∙◌, ℕ, arith, drop, subst, sym, take}
 use Rattle.amqp_endpoint_messages.specs.All.{all_told, with_ended}
 use Rattle.amqp_endpoint_messages.proofs.Telling.{left-test, state-step, told-step}
 use Rattle.amqp_endpoint_messages.proofs.ending.tell_each.Goals as goal
@@ -13,6 +13,13 @@ loop-left-preserved c =
         c.tell.ensures.len,
         c.tell.ensures.capacity,
       );
+      few = omega (
+        arith,
+        c.loop-left.invariant.few,
+        c.loop-left-test.true,
+        c.tell.ensures.len,
+      );
+      capacity = c.tell.ensures.capacity ∙ c.loop-left.invariant.capacity;
       state =
           state-step c.loop-left.left (c.loop-left.left - 1) (left-test c.loop-left.left c.loop-left-test.true)
           c.in-Some.tag c.in-Some.resolution c.loop-left.sender c.take_resolved.new.self

@@ -9,6 +9,8 @@ abbrev pub invariant-loop-left : goal.invariant-loop-left
 invariant-loop-left l =
     record {
       room : vec_len l.events + l.left ≤ vec_capacity l.events;
+      few : vec_len l.events + l.left ≤ vec_len l.fn.events + l.count;
+      capacity : vec_capacity l.events ≡ vec_capacity l.fn.events;
       state : with_ended l.sender (drop l.left l.sender.messages.resolved)
           ≡ with_ended l.fn.sender (drop l.count l.fn.sender.messages.resolved);
       told : (error : Option Error) → AreCopies error l.count l.fn.copies.items

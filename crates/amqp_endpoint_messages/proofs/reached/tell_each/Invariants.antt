@@ -10,4 +10,6 @@ invariant-loop-delivery l =
           ≡ l.fn.events.items ++ reached_told l.fn.session l.reached;
       behind : behind_reached l.session (drop l.delivery-index l.reached) ≡ behind_reached l.fn.session l.reached;
       room : vec_len l.events + length l.reached ≤ vec_capacity l.events + l.delivery-index;
+      few : vec_len l.events ≤ vec_len l.fn.events + l.delivery-index;
+      capacity : vec_capacity l.events ≡ vec_capacity l.fn.events;
     }
