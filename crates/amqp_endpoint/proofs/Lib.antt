@@ -3,3 +3,4 @@ mod Heard
 mod AttachedLinks
 pub mod Messages
 pub mod Writing
+pub mod Unsent

@@ -144,7 +144,7 @@ BarsCall old limit (call.Drain link) e = BarsDrain old.talk (link_place old.link
 BarsCall old limit (call.Credit link) e = credit_told (end_of old.talk (link_place old.links link)) ≡ Err e
 BarsCall old limit (call.HeldBack session) e = held_told (place_at old.talk.sessions session) ≡ Err e
 BarsCall old limit (call.Waiting session) e = BarsWaiting (place_at old.talk.sessions session) e
-BarsCall old limit (call.Send link message) e = BarsSending limit old.sent old.talk old.links link message e
+BarsCall old limit (call.Send link message) e = BarsSending old.sent old.talk old.links link message e
 BarsCall old limit (call.Dispose link message disposal) e =
     BarsDisposing limit old.talk old.links old.given link (message ∷ []) disposal e
 BarsCall old limit (call.DisposeAll link messages disposal) e =

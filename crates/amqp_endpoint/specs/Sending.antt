@@ -1,5 +1,6 @@
 -- How an endpoint sends messages and disposes of those that came (part 2, 2.6.12, 2.7.5, 2.7.6).
-use Rattle.std.specs.Prelude.{◌≡◌, ◌⊎◌, ℕ, ◌-◌, ◌^◌, ◌<◌, List, [], Bool, true, false, Option, Some, None}
+use Rattle.std.specs.Prelude.{◌≡◌, ◌⊎◌, ℕ, ◌-◌, ◌^◌, ◌<◌, nat_lt, if◌then◌else◌, List, [], length, Bool, true, false}
+use Rattle.std.specs.Prelude.{Option, Some, None}
 use Rattle.std.specs.Int.{w64, to_be_bytes}
 use Rattle.amqp_session_performatives.specs.declared.session_frame.SessionFrame.{SessionFrame}
 use Rattle.amqp_session_states.specs.declared.outcome.Outcome.{Outcome}
@@ -10,7 +11,7 @@ use Rattle.amqp_endpoint_model.specs.declared.error.EndpointError.{EndpointError
 use Rattle.amqp_endpoint_model.specs.declared.error.EndpointError.TheVariants.{Memory, NumbersUsedUp}
 use Rattle.amqp_endpoint_linking.specs.Linking.{Links, Talk}
 use Rattle.amqp_endpoint_link_calls.specs.Calling.{DoneAt}
-use Rattle.amqp_endpoint_link_calls.specs.Sending.{BarsSend, sends}
+use Rattle.amqp_endpoint_link_calls.specs.Sending.{refusal_at, sends}
 
 -- the tag of a message is its number among all that the endpoint accepted, as eight bytes (part 2, 2.8.7)
 abbrev pub tag_of : ℕ → List ℕ
@@ -32,9 +33,23 @@ pub record SendsMessage (limit serial : ℕ) (old : Talk) (links : Links) (link 
   pub tagged : tag ≡ tag_of serial
   pub told : outcome ≡ outcome_of settled
 
--- why it isn't sent: the serial numbers are used up, or the link doesn't send it, or there is no memory for its tag
-abbrev pub BarsSending : ℕ → ℕ → Talk → Links → ℕ → Sending → EndpointError → Type 0
-BarsSending limit serial talk links link message e =
-    ((e ≡ NumbersUsedUp) × (serial ≡ 2 ^ 64 - 1))
-    ⊎ BarsSend limit talk (place_at links link) (tag_of serial) message e
-    ⊎ (e ≡ Memory)
+-- no serial number is left for a message
+abbrev pub number_refusal : ℕ → Option EndpointError
+number_refusal serial = if nat_lt serial (2 ^ 64 - 1) then None else Some NumbersUsedUp
+
+-- the second refusal counts where there is no first
+abbrev pub before : Option EndpointError → Option EndpointError → Option EndpointError
+before (Some e) second = Some e
+before None second = second
+
+-- why no message of so many bytes is sent by the link with a number as the one of this serial number, if one isn't: the
+-- first that holds of what the link and its session refuse, and behind that, that no serial number is left
+abbrev pub send_refusal : ℕ → Talk → Links → ℕ → ℕ → Option EndpointError
+send_refusal serial talk links link size =
+    before (refusal_at talk (place_at links link) (tag_of serial) size) (number_refusal serial)
+
+-- why a message isn't sent: so, or where nothing speaks against it, for want of memory
+abbrev pub BarsSending : ℕ → Talk → Links → ℕ → Sending → EndpointError → Type 0
+BarsSending serial talk links link message e =
+    (send_refusal serial talk links link (length message.payload) ≡ Some e)
+    ⊎ ((e ≡ Memory) × (send_refusal serial talk links link (length message.payload) ≡ None))

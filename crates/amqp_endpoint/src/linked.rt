@@ -1,7 +1,7 @@
 //! What the sessions do for their connection.
 use crate::attaching::{attach_receiver, attach_sender};
 use crate::hearing::hear;
-use crate::sending::send;
+use crate::sending::{send, send_refusal};
 use amqp_endpoint_conversation::Conversation;
 use amqp_endpoint_link_calls as calls;
 use amqp_endpoint_link_calls as messages;
@@ -232,6 +232,10 @@ impl SessionRelay for LinkedSessions {
             message,
             out,
         )
+    }
+
+    fn send_refusal(&self, alloc: Global, link: u64, size: usize) -> Option<EndpointError> {
+        send_refusal(&self.talk, &self.links, alloc, self.sent, link, size)
     }
 
     fn dispose(

@@ -18,3 +18,4 @@ pub mod OnTheWay
 pub mod Connections
 pub mod MoveLaws
 pub mod TurnLaws
+pub mod Unsent

@@ -1,10 +1,9 @@
 -- How a message is sent as its bytes (part 2, 2.6.12; part 3, 3.2).
-use Rattle.std.specs.Prelude.{◌≡◌, ◌⊎◌, ℕ, List, Option, Some, None}
+use Rattle.std.specs.Prelude.{◌≡◌, ◌^◌, ℕ, List, length, Option, Some, None}
 use Rattle.amqp_link_message.specs.declared.sendable.Sendable.{Sendable}
 use Rattle.amqp_endpoint_model.specs.declared.call.Sending.{Sending}
 use Rattle.amqp_endpoint_model.specs.declared.call.Call.TheVariants.{Send}
 use Rattle.amqp_endpoint_model.specs.declared.error.EndpointError.{EndpointError}
-use Rattle.amqp_endpoint_model.specs.declared.error.EndpointError.TheVariants.{Memory, MessageTooLarge}
 use Rattle.amqp_endpoint_model.specs.declared.answer.Sent.{Sent}
 use Rattle.amqp_endpoint_model.specs.Relay.{Relations}
 use Rattle.amqp_endpoint_model.specs.Said.{message_sent}
@@ -16,11 +15,6 @@ abbrev pub sending_of : {B : Type 0} → Sendable B → List ℕ → Sending
 sending_of sendable payload =
     record { payload = payload; message_format = sendable.message_format; settled = sendable.settled }
 
--- why a message has no bytes: a section is too long to be written, or there is no memory
-abbrev pub IsUnwritten : Option (List ℕ) → EndpointError → Type 0
-IsUnwritten None e = e ≡ MessageTooLarge
-IsUnwritten (Some payload) e = e ≡ Memory
-
 module _ {S : Type 0} (does : Relations S) {B : Type 0} where
   -- it is sent as the bytes of its sections, one behind the other
   abbrev pub IsSent : Option (List ℕ) → State S → ℕ → Sendable B → Sent → State S → Type 0
@@ -28,8 +22,9 @@ module _ {S : Type 0} (does : Relations S) {B : Type 0} where
   IsSent (Some payload) old link sendable sent new =
       SessionsDo does old (Send link (sending_of sendable payload)) (message_sent sent.tag sent.outcome) new
 
-  -- these are refused so, or there is no memory for them; one of which a section is too long to be written is too large
+  -- these are refused so; one of which a section is too long to be written is refused as any of 2^32 bytes is
   abbrev pub IsUnsent : Option (List ℕ) → State S → ℕ → Sendable B → EndpointError → Type 0
-  IsUnsent None old link sendable e = e ≡ MessageTooLarge
+  IsUnsent None old link sendable e =
+      (payload : List ℕ) → length payload ≡ 2 ^ 32 → IsRefused does old (Send link (sending_of sendable payload)) e
   IsUnsent (Some payload) old link sendable e =
-      IsRefused does old (Send link (sending_of sendable payload)) e ⊎ (e ≡ Memory)
+      IsRefused does old (Send link (sending_of sendable payload)) e

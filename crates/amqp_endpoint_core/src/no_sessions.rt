@@ -164,6 +164,10 @@ impl SessionRelay for NoSessions {
         Err(EndpointError::UnknownLink)
     }
 
+    fn send_refusal(&self, _alloc: Global, _link: u64, _size: usize) -> Option<EndpointError> {
+        Some(EndpointError::UnknownLink)
+    }
+
     fn dispose(
         &mut self,
         _alloc: Global,

@@ -16,3 +16,4 @@ pub mod Own
 pub mod AttachGoing
 pub mod Entered
 pub mod AttachInside
+pub mod Unsent

@@ -34,5 +34,5 @@ pub use disposing::{dispose, dispose_all};
 pub use holding::{LinkTalk, holder};
 pub use placed::Placed;
 pub use seeing::credit;
-pub use sending::send;
+pub use sending::{send, send_refusal};
 pub use turns::{held_back, waiting};

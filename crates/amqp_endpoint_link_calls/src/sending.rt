@@ -5,13 +5,13 @@ ghost use Rattle.amqp_endpoint_tables.specs.State.{live_at};
 ghost use Rattle.amqp_endpoint_messages.specs.Sending.{with_tag};
 ghost use Rattle.amqp_endpoint_conversation.specs.Going.{Goes, Rests};
 ghost use Rattle.amqp_endpoint_link_calls.specs.Calling.{DoneAt, DoneIn};
-ghost use Rattle.amqp_endpoint_link_calls.specs.Sending.{BarsSend, BarsSendIn, sends};
+ghost use Rattle.amqp_endpoint_link_calls.specs.Sending.{BarsSend, BarsSendIn, refusal_at, refusal_live, sends};
 
 use crate::{LinkTalk, holder};
 use amqp_endpoint_fitting::frames_are_read;
 use amqp_endpoint_messages as messages;
 use amqp_endpoint_model::{EndpointError, Sending};
-use amqp_endpoint_tables::Links;
+use amqp_endpoint_tables::{LinkPlace, Links};
 use amqp_link::LinkEnd;
 use amqp_session_performatives::SessionFrame;
 use amqp_session_types::{DeliveryTag, OutputHandle};
@@ -28,11 +28,10 @@ use std::collections::VecDeque;
 /// where the link is at rest, isn't attached in its session, or receives, where one of the two Attach lists only a part
 /// of the unsettled deliveries, or where a message with the tag is open; with `MessageTooLarge` exactly where the
 /// message is larger than the link takes (part 2, 2.7.3), or has 2^32 bytes or more; with `CreditMissing` exactly where
-/// the link has no credit (part 2, 2.6.7); with `FrameTooLarge` exactly where a frame has no room for a byte of it,
-/// which is never so with a tag of at most 32 bytes, as any delivery's has, and a limit that a peer may set (part 2,
-/// 2.4.1, 2.8.7); with `NumberInUse` exactly where the delivery's number is that of an unsettled delivery, or of one
-/// that waits (part 2, 2.8.6). `Memory` stands in place of the last two alone, or where none of these holds. Nothing
-/// changes then.
+/// the link has no credit (part 2, 2.6.7); with `NumberInUse` exactly where the delivery's number is that of an
+/// unsettled delivery, or of one that waits (part 2, 2.8.6). `Memory` comes only where none of these holds. Nothing
+/// changes then. It is never refused with `FrameTooLarge` where the tag has at most 32 bytes, as any delivery's has,
+/// and the limit is one that a peer may set (part 2, 2.4.1, 2.8.7).
 pub fn send(
     talk: &mut LinkTalk,
     alloc: Global,
@@ -56,6 +55,42 @@ pub fn send(
     let sent = send_in(talk, alloc, session, handle, limit, tag, message, out);
     frames_are_read(out, from);
     sent
+}
+
+/// Why no message with this tag and so many bytes is sent by the link with this number, if one isn't: the first that
+/// holds of what `send` tests. It takes no memory, and asks for none.
+pub fn send_refusal(
+    talk: &LinkTalk,
+    links: &Links<LinkEnd>,
+    link: u64,
+    tag: &DeliveryTag,
+    size: usize,
+) -> Option<EndpointError>
+    ensures { result ≡ refusal_at talk.now (place_at links.now link) tag.now size }
+{
+    let Some(place) = links.place(link) else {
+        return Some(EndpointError::UnknownLink);
+    };
+    match place {
+        LinkPlace::Held { session, handle } => refusal_in(talk, *session, *handle, tag, size),
+        LinkPlace::AtRest(_) => Some(EndpointError::IllegalState),
+    }
+}
+
+/// Why none is sent by the link with this own handle in the session with this number, if one isn't.
+fn refusal_in(
+    talk: &LinkTalk,
+    session: u64,
+    handle: OutputHandle,
+    tag: &DeliveryTag,
+    size: usize,
+) -> Option<EndpointError>
+    ensures { result ≡ refusal_live (live_at talk.now.sessions session) handle tag.now size }
+{
+    let Some(session) = talk.sessions.live(session) else {
+        return Some(EndpointError::IllegalState);
+    };
+    messages::send_refusal(&session.session, handle, tag, size)
 }
 
 /// A message is sent by the link with this own handle in the session with this number, as a delivery with this tag.

@@ -17,6 +17,7 @@ pub mod Lists
 pub mod Fitting
 pub mod Room
 pub mod Prepared
+pub mod Unsent
 pub mod Transfers
 pub mod Handing
 pub mod Sent

@@ -3,11 +3,14 @@ use Rattle.std.proofs.Common.{◌≡◌, ℕ, List, Bool, true, false, Option, S
 use Rattle.std.proofs.Common.{None, Result, Err, ◌≤◌, refl, sym, ap, subst, ◌∙◌, length, arith}
 use Rattle.std.proofs.lemmas.List.{set-get_or, set-set}
 use Rattle.std.proofs.lemmas.Option.{same_Some}
-use Rattle.std.specs.Prelude.{◌<◌, ◌^◌, IfSome, IsSome, is_none, is_some, max, min, option_map}
+use Rattle.std.specs.FinMap as map
+use Rattle.std.specs.Prelude.{◌<◌, ◌^◌, ◌+◌, ◌%◌, IfSome, IsSome, is_none, is_some, max, min, option_map}
 use Rattle.amqp_session_types.specs.declared.handles.OutputHandle.{OutputHandle}
 use Rattle.amqp_session_performatives.specs.declared.session_frame.SessionFrame.{SessionFrame}
 use Rattle.amqp_session_performatives.specs.declared.transfer.Transfer.{Transfer}
-use Rattle.amqp_session_outgoing.specs.History.{HasFreeNumbers}
+use Rattle.amqp_session_outgoing.specs.Frames.{firsts_of}
+use Rattle.amqp_session_outgoing.specs.History.{HasFreeNumbers, IsFree}
+use Rattle.amqp_session_outgoing.specs.Queues.{firsts_in}
 use Rattle.amqp_session_outgoing.specs.State.{State as Outgoing}
 use Rattle.amqp_session_core.specs.declared.batch.BehindFrame.{BehindFrame}
 use Rattle.amqp_session_core.specs.declared.batch.TransferFrame.{TransferFrame}
@@ -31,52 +34,84 @@ use Rattle.amqp_endpoint_model.specs.declared.error.EndpointError.{EndpointError
 use Rattle.amqp_endpoint_model.specs.declared.error.EndpointError.TheVariants.{Memory, FrameTooLarge, NumberInUse}
 use Rattle.amqp_endpoint_attached.specs.Linked.{Linked, LinksIn, gives, end_in}
 use Rattle.amqp_endpoint_attached.proofs.There.{replaced}
-use Rattle.amqp_endpoint_messages.specs.Sending.{CutInto, GoesOut, HandsOver, HasRoom, IsCut}
-use Rattle.amqp_endpoint_messages.specs.Sending.{Lowers, MaySend, MayTake, Message, MessageSent, ReadiesIn}
-use Rattle.amqp_endpoint_messages.specs.Sending.{RefusesSend, StaysBehind, first_on, goes, link_refusal, lowered}
-use Rattle.amqp_endpoint_messages.specs.Sending.{on_handle, refusal_of, sending, sent_by}
+use Rattle.amqp_endpoint_messages.specs.Sending.{GoesOut, HandsOver, HasRoom, IsCut, Lowers, MaySend, MayTake}
+use Rattle.amqp_endpoint_messages.specs.Sending.{Message, MessageSent, ReadiesIn, RefusesSend, StaysBehind}
+use Rattle.amqp_endpoint_messages.specs.Sending.{behind_link, first_on, goes, has_free_number, link_refusal, lowered}
+use Rattle.amqp_endpoint_messages.specs.Sending.{on_handle, send_refusal, sending, sent_by}
 use Rattle.amqp_endpoint_messages.proofs.Fitting.{all-fit}
-use Rattle.amqp_endpoint_messages.proofs.Prepared.{has_absent, has_credit, never_memory}
+use Rattle.amqp_endpoint_messages.proofs.Prepared.{has_absent, has_credit, is-free}
+use Rattle.amqp_endpoint_messages.proofs.Prepared.{never_memory as no_memory}
 use Rattle.amqp_endpoint_messages.proofs.Room.{tag-leaves-room}
+use Rattle.amqp_endpoint_messages.proofs.Transfers.{delivery_firsts}
 
--- what the link refuses as it is looked at
-refused : (limit : ℕ) (s : LinksIn) (handle : OutputHandle) (m : Message) (e : SendRefusal)
-    → link_refusal (end_in s handle) m ≡ Some e → RefusesSend limit s handle m (refusal_of e)
-refused limit s handle m link.IllegalState by = by
-refused limit s handle m link.MessageTooLarge by = by
-refused limit s handle m link.CreditMissing by = by
-refused limit s handle m link.Memory by = absurd (none (end_in s handle) by)
+-- want of memory is no reason, and that no frame is as long
+never_memory : (s : LinksIn) (handle : OutputHandle) (tag : List ℕ) (size : ℕ)
+    → send_refusal s handle tag size ≡ Some Memory → ⊥
+never_memory s handle tag size is = by (link_refusal (end_in s handle) tag size) (has_free_number s)
+    (none (end_in s handle)) is
   where
-    none : (end : Option End) → link_refusal end m ≡ Some link.Memory → ⊥
+    none : (end : Option End) → link_refusal end tag size ≡ Some link.Memory → ⊥
     none None is = absurd cc
     none (Some (Receiver r)) is = absurd cc
-    none (Some (Sender t)) is = never_memory t m.tag (length m.payload) is
+    none (Some (Sender t)) is = no_memory t tag size is
 
-pub refused_look : (limit : ℕ) (s : LinksIn) (handle : OutputHandle) (m : Message) (e : SendRefusal)
-    (told : EndpointError) → told ≡ refusal_of e → link_refusal (end_in s handle) m ≡ Some e
-    → RefusesSend limit s handle m told
-refused_look limit s handle m e told is by =
-    subst (λ (x : EndpointError). RefusesSend limit s handle m x) (sym is) (refused limit s handle m e by)
+    by : (o : Option SendRefusal) (free : Bool) → (o ≡ Some link.Memory → ⊥) → behind_link o free ≡ Some Memory → ⊥
+    by (Some link.IllegalState) free never is = absurd cc
+    by (Some link.MessageTooLarge) free never is = absurd cc
+    by (Some link.CreditMissing) free never is = absurd cc
+    by (Some link.Memory) free never is = never refl
+    by None true never is = absurd cc
+    by None false never is = absurd cc
+
+pub never_frame : (o : Option SendRefusal) (free : Bool) → behind_link o free ≡ Some FrameTooLarge → ⊥
+never_frame (Some link.IllegalState) free is = absurd cc
+never_frame (Some link.MessageTooLarge) free is = absurd cc
+never_frame (Some link.CreditMissing) free is = absurd cc
+never_frame (Some link.Memory) free is = absurd cc
+never_frame None true is = absurd cc
+never_frame None false is = absurd cc
+
+-- what is refused as the link and the session are looked at
+pub refused_look : (limit : ℕ) (s : LinksIn) (handle : OutputHandle) (m : Message) (size : ℕ) (e : EndpointError)
+    → size ≡ length m.payload → send_refusal s handle m.tag size ≡ Some e → RefusesSend limit s handle m e
+refused_look limit s handle m size e is why =
+    by e (ap (λ (n : ℕ). send_refusal s handle m.tag n) (sym is) ∙ why)
+  where
+    by : (e : EndpointError) → send_refusal s handle m.tag (length m.payload) ≡ Some e
+        → RefusesSend limit s handle m e
+    by Memory why = absurd (never_memory s handle m.tag (length m.payload) why)
+    by FrameTooLarge why =
+        absurd (never_frame (link_refusal (end_in s handle) m.tag (length m.payload)) (has_free_number s) why)
+    by e why = why
+
+-- where nothing speaks against it, want of memory refuses it
+pub without_memory : (limit : ℕ) (s : LinksIn) (handle : OutputHandle) (m : Message) (size : ℕ)
+    → size ≡ length m.payload → send_refusal s handle m.tag size ≡ None → RefusesSend limit s handle m Memory
+without_memory limit s handle m size is none = ap (λ (n : ℕ). send_refusal s handle m.tag n) (sym is) ∙ none
 
 -- which never is that no frame is as long
 abbrev Refused : EndpointError → Result Bool EndpointError
 Refused e = Err e
 
-no_frame : (e : SendRefusal) → Refused (refusal_of e) ≡ Refused FrameTooLarge → ⊥
-no_frame link.IllegalState is = absurd cc
-no_frame link.MessageTooLarge is = absurd cc
-no_frame link.CreditMissing is = absurd cc
-no_frame link.Memory is = absurd cc
+pub not_a_frame : (s : LinksIn) (handle : OutputHandle) (tag : List ℕ) (size : ℕ) (e : EndpointError)
+    → send_refusal s handle tag size ≡ Some e → Refused e ≡ Refused FrameTooLarge → ⊥
+not_a_frame s handle tag size FrameTooLarge why same =
+    never_frame (link_refusal (end_in s handle) tag size) (has_free_number s) why
+not_a_frame s handle tag size e why same = absurd cc
 
-pub not_a_frame : (e : SendRefusal) (told : EndpointError) → told ≡ refusal_of e → Refused told ≡ Refused FrameTooLarge
-    → ⊥
-not_a_frame e told is same = no_frame e (ap (λ (x : EndpointError). Refused x) (sym is) ∙ same)
+-- the message is cut into these transfers
+record CutInto (limit : ℕ) (s : LinksIn) (handle : OutputHandle) (m : Message) (transfers : Transfers) : Type 0 where
+  pub link : Sending
+  pub takes : MayTake s handle m link
+  pub room : ℕ
+  pub is_room : room_of (first_on handle m (goes link m)) limit ≡ Some room
+  pub splits : Splits (first_on handle m (goes link m)) m.payload room transfers
 
--- it refuses nothing
-pub nothing_refused : (end : Option End) (m : Message) (room : ℕ) → HasRoom end m room → link_refusal end m ≡ None
-nothing_refused None m room has = absurd has
-nothing_refused (Some (Receiver r)) m room has = absurd has
-nothing_refused (Some (Sender t)) m room has = has.0
+-- the transfers of a delivery have free numbers where the next one is free
+free_batch : (o : Outgoing TransferFrame BehindFrame) (batch : Transfers) → firsts_of batch ≤ 1
+    → IsFree o (firsts_in o.queues) → HasFreeNumbers o batch
+free_batch o batch few free i less =
+    subst (λ (n : ℕ). IsFree o n) (omega (arith, few, less)) free
 
 -- a link of a session that made a message ready
 module _ (s : LinksIn) (handle : OutputHandle) (m : Message) (ready : PreparedSend) (mid : LinksIn)
@@ -150,27 +185,47 @@ module _ (s : LinksIn) (handle : OutputHandle) (m : Message) (ready : PreparedSe
   outgoing_same : mid.outgoing ≡ s.outgoing
   outgoing_same = ap (λ (t : LinksIn). t.outgoing) by.changed.1
 
-  -- it stays behind
-  pub stays : (limit : ℕ) (e : EndpointError) → StaysBehind limit mid handle ready e → RefusesSend limit s handle m e
-  stays limit FrameTooLarge none =
-      record {
-        link = by.before;
-        takes = takes;
-        none = ap (λ (t : Transfer). room_of t limit) (sym first_is) ∙ none;
-      }
-  stays limit NumberInUse used =
-      record {
-        transfers = (used.cut).batch;
-        cut = cut_into limit used.cut used.is_cut;
-        used =
-            subst (λ (o : Outgoing TransferFrame BehindFrame). HasFreeNumbers o (used.cut).batch → ⊥) outgoing_same
-            used.used;
-      }
-  stays limit Memory none = ap (λ (o : Option End). link_refusal o m) there_before ∙ by.allowed
-  stays limit e none = absurd none
+  -- the number of its delivery is free, where nothing speaks against it
+  next_free : send_refusal s handle m.tag (length m.payload) ≡ None → IsFree s.outgoing (firsts_in s.outgoing.queues)
+  next_free none =
+      is-free (firsts_in s.outgoing.queues)
+      (map.get s.outgoing.unsettled ((s.outgoing.next_delivery_number + firsts_in s.outgoing.queues) % 2 ^ 32))
+      (free (link_refusal (end_in s handle) m.tag (length m.payload)) (has_free_number s) none)
+    where
+      free : (o : Option SendRefusal) (b : Bool) → behind_link o b ≡ None → b ≡ true
+      free (Some e) b is = absurd cc
+      free None true is = refl
+      free None false is = absurd cc
 
-  room_is : (room : ℕ) → HasRoom (end_in s handle) m room → room ≡ by.before.messages.room
-  room_is room has = (subst (λ (o : Option End). HasRoom o m room) there_before has).1
+  -- it stays behind
+  pub stays : (limit size : ℕ) (e : EndpointError) → size ≡ length m.payload
+      → send_refusal s handle m.tag size ≡ None → StaysBehind limit mid handle ready e
+      → RefusesSend limit s handle m e
+  stays limit size e is none behind =
+      told e (ap (λ (n : ℕ). send_refusal s handle m.tag n) (sym is) ∙ none) behind
+    where
+      told : (e : EndpointError) → send_refusal s handle m.tag (length m.payload) ≡ None
+          → StaysBehind limit mid handle ready e → RefusesSend limit s handle m e
+      told FrameTooLarge none behind = (
+        none,
+        record {
+          link = by.before;
+          takes = takes;
+          none = ap (λ (t : Transfer). room_of t limit) (sym first_is) ∙ behind;
+        },
+      )
+      told NumberInUse none behind =
+          absurd
+          (behind.used
+          (free_batch mid.outgoing (behind.cut).batch
+          (delivery_firsts (on_handle handle ready.transfer) (behind.cut).batch (behind.is_cut).splits.delivery)
+          (subst (λ (o : Outgoing TransferFrame BehindFrame). IsFree o (firsts_in o.queues)) (sym outgoing_same)
+          (next_free none))))
+      told Memory none behind = none
+      told e none behind = absurd behind
+
+  room_is : (size room : ℕ) → HasRoom (end_in s handle) m.tag size room → room ≡ by.before.messages.room
+  room_is size room has = (subst (λ (o : Option End). HasRoom o m.tag size room) there_before has).1
 
   -- the link is there, to give up the room that it made
   pub is_there : (t : LinksIn) → t ≡ mid → IsSome (link_at t handle.0)
@@ -183,15 +238,15 @@ module _ (s : LinksIn) (handle : OutputHandle) (m : Message) (ready : PreparedSe
   least : (n room : ℕ) → room ≡ n → min (max n 1) room ≡ n
   least n room is = omega (arith, is)
 
-  gives_up : (room : ℕ) → HasRoom (end_in s handle) m room
+  gives_up : (size room : ℕ) → HasRoom (end_in s handle) m.tag size room
       → lowered (Sender (with_room by.before)) room ≡ Sender by.before
-  gives_up room has =
-      ap (λ (n : ℕ). Sender (made n)) (least by.before.messages.room room (room_is room has))
+  gives_up size room has =
+      ap (λ (n : ℕ). Sender (made n)) (least by.before.messages.room room (room_is size room has))
 
   -- with that the session is as it was
-  pub as_before : (t new : LinksIn) (room : ℕ) → t ≡ mid → HasRoom (end_in s handle) m room → Lowers t handle room new
-      → new ≡ s
-  as_before t new room same has lowers =
+  pub as_before : (t new : LinksIn) (size room : ℕ) → t ≡ mid → HasRoom (end_in s handle) m.tag size room
+      → Lowers t handle room new → new ≡ s
+  as_before t new size room same has lowers =
       let stood : Some (record { number = lowers.number; link = lowers.before })
       ≡ Some (sending by.number (with_room by.before)) =
       sym lowers.changed.0 ∙ ap (λ (u : LinksIn). link_at u handle.0) same ∙ behind in
@@ -201,7 +256,7 @@ module _ (s : LinksIn) (handle : OutputHandle) (m : Message) (ready : PreparedSe
       (same_Some _ _ stood)
       ∙ ap (λ (e : End).
       record t { links = slice_set t.links handle.0 (Some (record { number = by.number; link = e })) })
-      (gives_up room has)
+      (gives_up size room has)
       ∙ ap (λ (u : LinksIn).
       record u { links = slice_set u.links handle.0 (Some (sending by.number by.before)) })
       (same ∙ by.changed.1)

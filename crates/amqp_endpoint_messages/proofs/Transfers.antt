@@ -1,12 +1,14 @@
 -- The transfers of a message: each that begins a delivery has a tag, and why there are none.
 use Rattle.std.proofs.Common.{◌≡◌, ◌⊎◌, inl, inr, ℕ, List, [], ◌∷◌, Bool, true, false, Option, Some, None}
-use Rattle.std.proofs.Common.{Result, Ok, Err, refl, sym, subst}
+use Rattle.std.proofs.Common.{Result, Ok, Err, refl, sym, subst, ap, ◌≤◌, arith}
 use Rattle.std.specs.Prelude.{IsSomeAnd}
 use Rattle.amqp_session_types.specs.declared.handles.Handle.{Handle}
 use Rattle.amqp_session_types.specs.declared.handles.OutputHandle.{OutputHandle}
 use Rattle.amqp_session_performatives.specs.declared.transfer.Transfer.{Transfer}
-use Rattle.amqp_session_outgoing.specs.Frames.{HasTag, HaveTags}
+use Rattle.amqp_session_outgoing.specs.Frames.{HasTag, HaveTags, first_count, firsts_of}
 use Rattle.amqp_session_outgoing.specs.declared.frames.Outbound.{Outbound}
+use Rattle.amqp_session_outgoing.specs.declared.frames.Part.{Part}
+use Rattle.amqp_session_outgoing.specs.declared.frames.Part.TheVariants.{Untagged, Settled, Unsettled, Continuation}
 use Rattle.amqp_session_core.specs.declared.batch.BehindFrame.{BehindFrame}
 use Rattle.amqp_session_core.specs.declared.batch.TransferFrame.{TransferFrame}
 use Rattle.amqp_session_core.specs.Batch.{Transfers, leaves_settled, part_of}
@@ -40,6 +42,24 @@ delivery_tagged first tag (u ∷ us) is are =
           (subst (λ (t : Option (List ℕ)). HasTag (part_of t settled)) (sym is) (part_tagged tag settled)),
       later_tagged first.handle us are.1,
     )
+
+-- the transfers of a delivery begin no other
+later_firsts : (handle : Handle) (us : Transfers) → AreLater handle us → firsts_of us ≡ 0
+later_firsts handle [] are = refl
+later_firsts handle (u ∷ us) are =
+    let none : first_count u.part ≡ 0 = ap (λ (v : Unit). first_count v.part) are.0 in
+    omega (arith, none, later_firsts handle us are.1)
+
+one_at_most : (p : Part) → first_count p ≤ 1
+one_at_most Untagged = omega arith
+one_at_most Settled = omega arith
+one_at_most (Unsettled tag) = omega arith
+one_at_most Continuation = omega arith
+
+pub delivery_firsts : (first : Transfer) (us : Transfers) → IsDelivery first us → firsts_of us ≤ 1
+delivery_firsts first [] are = absurd are
+delivery_firsts first (u ∷ us) are =
+    omega (arith, one_at_most u.part, later_firsts first.handle us are.1)
 
 -- there are transfers where a frame has room
 pub are_cut : (o : Option ℕ) (first : Transfer) (payload : List ℕ) (batch : Transfers)

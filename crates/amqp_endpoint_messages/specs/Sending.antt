@@ -1,10 +1,12 @@
 -- How a message is sent by a link of a session: part 2, 2.6.12, 2.7.5.
-use Rattle.std.specs.Prelude.{◌≡◌, ◌⊎◌, ℕ, ◌<◌, List, Bool, All, Option, Some, None, IfSome, IsSome, is_none, length}
-use Rattle.std.specs.Prelude.{min, Result, Ok, Err}
+use Rattle.std.specs.Prelude.{◌≡◌, ◌⊎◌, ℕ, ◌+◌, ◌%◌, ◌^◌, ◌<◌, nat_lt, List, Bool, true, false, ◌&&◌, All, Option}
+use Rattle.std.specs.Prelude.{Some, None, IfSome, IsSome, is_none, length, min, Result, Ok, Err}
+use Rattle.std.specs.FinMap as map
 use Rattle.amqp_session_types.specs.declared.handles.OutputHandle.{OutputHandle}
 use Rattle.amqp_session_performatives.specs.declared.session_frame.SessionFrame.{SessionFrame}
 use Rattle.amqp_session_performatives.specs.declared.transfer.Transfer.{Transfer}
 use Rattle.amqp_session_outgoing.specs.History.{HasFreeNumbers}
+use Rattle.amqp_session_outgoing.specs.Queues.{firsts_in}
 use Rattle.amqp_session_core.specs.Batch.{Transfers}
 use Rattle.amqp_session_core.specs.State.{link_at}
 use Rattle.amqp_session_core.specs.Steps.{Step, Changes}
@@ -61,16 +63,17 @@ first_on handle m settled =
 abbrev pub on_handle : OutputHandle → Transfer → Transfer
 on_handle handle first = record first { handle = record { 0 = handle.0 } }
 
--- why no sending link takes the message: there is none, or the first of the link's reasons that holds
-abbrev pub link_refusal : Option End → Message → Option SendRefusal
-link_refusal None m = Some link.IllegalState
-link_refusal (Some (Receiver r)) m = Some link.IllegalState
-link_refusal (Some (Sender s)) m = refusal s m.tag (length m.payload)
+-- why no sending link takes a message with this tag and so many bytes: there is none, or the first of the link's
+-- reasons that holds
+abbrev pub link_refusal : Option End → List ℕ → ℕ → Option SendRefusal
+link_refusal None tag size = Some link.IllegalState
+link_refusal (Some (Receiver r)) tag size = Some link.IllegalState
+link_refusal (Some (Sender s)) tag size = refusal s tag size
 
 -- the link's refusal: a reason that holds, or want of memory where none does
 abbrev pub RefusesByLink : Option End → Message → SendRefusal → Type 0
-RefusesByLink end m link.Memory = link_refusal end m ≡ None
-RefusesByLink end m e = link_refusal end m ≡ Some e
+RefusesByLink end m link.Memory = link_refusal end m.tag (length m.payload) ≡ None
+RefusesByLink end m e = link_refusal end m.tag (length m.payload) ≡ Some e
 
 -- the endpoint's refusal for that of a link
 abbrev pub refusal_of : SendRefusal → EndpointError
@@ -79,11 +82,29 @@ refusal_of link.MessageTooLarge = MessageTooLarge
 refusal_of link.CreditMissing = CreditMissing
 refusal_of link.Memory = Memory
 
--- a sending link to which nothing speaks against the message has room for so many
-abbrev pub HasRoom : Option End → Message → ℕ → Type 0
-HasRoom None m room = ⊥
-HasRoom (Some (Receiver r)) m room = ⊥
-HasRoom (Some (Sender s)) m room = (refusal s m.tag (length m.payload) ≡ None) × (room ≡ s.messages.room)
+-- the number that the next delivery gets is no unsettled delivery's, and none of those of the deliveries that wait:
+-- fewer than 2^32 do (part 2, 2.8.6)
+abbrev pub has_free_number : LinksIn → Bool
+has_free_number s =
+    nat_lt (firsts_in s.outgoing.queues) (2 ^ 32)
+    && is_none
+    (map.get s.outgoing.unsettled ((s.outgoing.next_delivery_number + firsts_in s.outgoing.queues) % 2 ^ 32))
+
+-- behind the link's reasons it is tested whether the number of the delivery is in use
+abbrev pub behind_link : Option SendRefusal → Bool → Option EndpointError
+behind_link (Some e) free = Some (refusal_of e)
+behind_link None true = None
+behind_link None false = Some NumberInUse
+
+-- why no message with this tag and so many bytes is sent by the link with this own handle: the first reason that holds
+abbrev pub send_refusal : LinksIn → OutputHandle → List ℕ → ℕ → Option EndpointError
+send_refusal s handle tag size = behind_link (link_refusal (end_in s handle) tag size) (has_free_number s)
+
+-- a sending link to which nothing speaks against a message with this tag and so many bytes has room for so many
+abbrev pub HasRoom : Option End → List ℕ → ℕ → ℕ → Type 0
+HasRoom None tag size room = ⊥
+HasRoom (Some (Receiver r)) tag size room = ⊥
+HasRoom (Some (Sender s)) tag size room = (refusal s tag size ≡ None) × (room ≡ s.messages.room)
 
 -- an end makes a message ready, and room for it
 pub record Readies (old : End) (m : Message) (ready : PreparedSend) (new : End) : Type 0 where
@@ -235,31 +256,13 @@ pub record FitsNoFrame (limit : ℕ) (s : LinksIn) (handle : OutputHandle) (m : 
   pub takes : MayTake s handle m link
   pub none : room_of (first_on handle m (goes link m)) limit ≡ None
 
--- the message is cut into these transfers
-pub record CutInto (limit : ℕ) (s : LinksIn) (handle : OutputHandle) (m : Message) (transfers : Transfers) : Type 0
-  where
-    pub link : Sending
-    pub takes : MayTake s handle m link
-    pub room : ℕ
-    pub is_room : room_of (first_on handle m (goes link m)) limit ≡ Some room
-    pub splits : Splits (first_on handle m (goes link m)) m.payload room transfers
-
--- the number that its delivery would get is that of an unsettled one, or of one that waits (part 2, 2.8.6)
-pub record HasNoNumber (limit : ℕ) (s : LinksIn) (handle : OutputHandle) (m : Message) : Type 0 where
-  pub transfers : Transfers
-  pub cut : CutInto limit s handle m transfers
-  pub used : HasFreeNumbers s.outgoing transfers → ⊥
-
--- why a message isn't sent: the first of these that holds, or want of memory, which stands in place of the last two
--- alone
+-- why a message isn't sent: the first reason that holds (part 2, 2.6.7, 2.7.3, 2.8.6), or where none does, want of
+-- memory. Under a limit that no peer may set it may also be that no frame of the peer's has room for a byte of it
 abbrev pub RefusesSend : ℕ → LinksIn → OutputHandle → Message → EndpointError → Type 0
-RefusesSend limit s handle m IllegalState = link_refusal (end_in s handle) m ≡ Some link.IllegalState
-RefusesSend limit s handle m MessageTooLarge = link_refusal (end_in s handle) m ≡ Some link.MessageTooLarge
-RefusesSend limit s handle m CreditMissing = link_refusal (end_in s handle) m ≡ Some link.CreditMissing
-RefusesSend limit s handle m FrameTooLarge = FitsNoFrame limit s handle m
-RefusesSend limit s handle m NumberInUse = HasNoNumber limit s handle m
-RefusesSend limit s handle m Memory = link_refusal (end_in s handle) m ≡ None
-RefusesSend limit s handle m e = ⊥
+RefusesSend limit s handle m Memory = send_refusal s handle m.tag (length m.payload) ≡ None
+RefusesSend limit s handle m FrameTooLarge =
+    (send_refusal s handle m.tag (length m.payload) ≡ None) × FitsNoFrame limit s handle m
+RefusesSend limit s handle m e = send_refusal s handle m.tag (length m.payload) ≡ Some e
 
 -- how a message is sent
 abbrev pub SendAnswered : Linked → ℕ → OutputHandle → Message → Result Bool EndpointError → List SessionFrame → Linked

@@ -28,5 +28,6 @@ pub use ending::{open_count, tell_by, tell_first};
 pub use looking::is_receiving;
 pub use measuring::state_fits;
 pub use one::dispose;
+pub use preparing::send_refusal;
 pub use reached::{reached_by, tell_reached};
 pub use sending::send;

@@ -1,11 +1,11 @@
 //! What a link does where a message is sent by it (part 2, 2.6.7, 2.6.12).
-ghost use Rattle.std.specs.Prelude.{◌≡◌, None, Some, IfOk, IfErr, OnErr, IsSome};
+ghost use Rattle.std.specs.Prelude.{◌≡◌, None, Some, IfOk, IfErr, OnErr, OnOk, IsSome, length};
 ghost use Rattle.amqp_session_core.specs.State.{link_at};
 ghost use Rattle.amqp_link_sender.specs.Sends.{sent};
 ghost use Rattle.amqp_endpoint_attached.specs.Linked.{end_in};
 ghost use Rattle.amqp_endpoint_messages.specs.Sending.{Commits, HasRoom, IsReady, Lowers, MaySend, Readies, ReadiesIn};
 ghost use Rattle.amqp_endpoint_messages.specs.Sending.{RefusesByLink, link_refusal, lowered, refusal_of, sent_by};
-ghost use Rattle.amqp_endpoint_messages.specs.Sending.{with_tag};
+ghost use Rattle.amqp_endpoint_messages.specs.Sending.{send_refusal, with_tag};
 
 use amqp_endpoint_links::Numbered;
 use amqp_endpoint_model::{EndpointError, Sending};
@@ -17,34 +17,77 @@ use amqp_session_types::{DeliveryTag, OutputHandle};
 use bytes::Bytes;
 use std::alloc::AllocError;
 
-/// For how many messages the sending link with this own handle has room, where nothing speaks against this one.
+/// Why no message with this tag and so many bytes is sent by the link with this own handle, if one isn't. It takes no
+/// memory, and asks for none.
 ///
-/// It is refused with `IllegalState` where no sending link has the handle, and then with the first of the link's
-/// reasons that holds; never with `Memory`.
-pub(crate) fn room_in(
+/// The first that holds: `IllegalState`: no sending link that is attached has the handle, one of the two Attach lists
+/// only a part of the unsettled deliveries, or a message with the tag is open; `MessageTooLarge` (part 2, 2.7.3);
+/// `CreditMissing` (part 2, 2.6.7); `NumberInUse`: the number that the next delivery gets is that of an unsettled one,
+/// or of one that waits (part 2, 2.8.6).
+pub fn send_refusal(
     session: &Session<Numbered<LinkEnd>>,
     handle: OutputHandle,
     tag: &DeliveryTag,
-    message: &Sending,
+    size: usize,
+) -> Option<EndpointError>
+    ensures { result ≡ send_refusal session.now handle tag.now size }
+{
+    match room_for(session, handle, tag, size) {
+        Ok(_) => None,
+        Err(refusal) => Some(refusal),
+    }
+}
+
+/// For how many messages the sending link with this own handle has room, where nothing speaks against one with this tag
+/// and so many bytes. It is refused as `send_refusal` says.
+pub(crate) fn room_for(
+    session: &Session<Numbered<LinkEnd>>,
+    handle: OutputHandle,
+    tag: &DeliveryTag,
+    size: usize,
+) -> Result<usize, EndpointError>
+    ensures ok { IfOk result (HasRoom (end_in session.now handle) tag.now size) }
+    ensures none { OnOk result (send_refusal session.now handle tag.now size ≡ None) }
+    ensures err { IfErr result (λ e. send_refusal session.now handle tag.now size ≡ Some e) }
+{
+    let room = match room_in(session, handle, tag, size) {
+        Ok(room) => room,
+        Err(refusal) => return Err(refusal_of(refusal)),
+    };
+    if session.has_free_number() {
+        return Ok(room);
+    }
+    Err(EndpointError::NumberInUse)
+}
+
+/// For how many messages the sending link with this own handle has room, where nothing speaks at the link against one
+/// with this tag and so many bytes.
+///
+/// It is refused with `IllegalState` where no sending link has the handle, and then with the first of the link's
+/// reasons that holds; never with `Memory`.
+fn room_in(
+    session: &Session<Numbered<LinkEnd>>,
+    handle: OutputHandle,
+    tag: &DeliveryTag,
+    size: usize,
 ) -> Result<usize, SendRefusal>
-    ensures ok { IfOk result (HasRoom (end_in session.now handle) (with_tag tag.now message.now)) }
-    ensures err { IfErr result (λ e.
-        link_refusal (end_in session.now handle) (with_tag tag.now message.now) ≡ Some e) }
+    ensures ok { IfOk result (HasRoom (end_in session.now handle) tag.now size) }
+    ensures err { IfErr result (λ e. link_refusal (end_in session.now handle) tag.now size ≡ Some e) }
 {
     let Some(link) = session.link(handle) else {
         return Err(SendRefusal::IllegalState);
     };
-    room_of(&link.link, tag, message)
+    room_of(&link.link, tag, size)
 }
 
-/// For how many messages an end has room, where it sends and nothing speaks against this one.
-fn room_of(link: &LinkEnd, tag: &DeliveryTag, message: &Sending) -> Result<usize, SendRefusal>
-    ensures ok { IfOk result (HasRoom (Some link.now) (with_tag tag.now message.now)) }
-    ensures err { IfErr result (λ e. link_refusal (Some link.now) (with_tag tag.now message.now)
-        ≡ Some e) }
+/// For how many messages an end has room, where it sends and nothing speaks against one with this tag and so many
+/// bytes.
+fn room_of(link: &LinkEnd, tag: &DeliveryTag, size: usize) -> Result<usize, SendRefusal>
+    ensures ok { IfOk result (HasRoom (Some link.now) tag.now size) }
+    ensures err { IfErr result (λ e. link_refusal (Some link.now) tag.now size ≡ Some e) }
 {
     match link.end() {
-        End::Sender(sender) => match sender.refusal(tag, message.payload.len()) {
+        End::Sender(sender) => match sender.refusal(tag, size) {
             Some(refusal) => Err(refusal),
             None => Ok(sender.room()),
         },
@@ -60,7 +103,7 @@ pub(crate) fn prepare_in(
     tag: DeliveryTag,
     message: &Sending,
 ) -> Result<PreparedSend, AllocError>
-    requires { link_refusal (end_in session.old handle) (with_tag tag message.now) ≡ None }
+    requires { link_refusal (end_in session.old handle) tag (length message.now.payload) ≡ None }
     ensures ok { IfOk result (λ ready.
         ReadiesIn session.old handle (with_tag tag message.now) ready session.new) }
     ensures kept { OnErr result (session.new ≡ session.old) }
@@ -124,7 +167,7 @@ fn prepare_end(
 }
 
 /// The endpoint's refusal for that of a link.
-pub(crate) fn refusal_of(refusal: SendRefusal) -> EndpointError
+fn refusal_of(refusal: SendRefusal) -> EndpointError
     ensures { result ≡ refusal_of refusal }
 {
     match refusal {

@@ -9,7 +9,7 @@ ghost use Rattle.amqp_endpoint_messages.specs.Sending.{GoesOut, HandsOver, MaySe
 ghost use Rattle.amqp_endpoint_messages.specs.Sending.{StaysBehind, with_tag};
 
 use crate::cutting::cut;
-use crate::preparing::{commit_in, lower_room_in, prepare_in, refusal_of, room_in};
+use crate::preparing::{commit_in, lower_room_in, prepare_in, room_for};
 use amqp_endpoint_attached::LinkSession;
 use amqp_endpoint_links::Numbered;
 use amqp_endpoint_model::{EndpointError, Sending};
@@ -28,10 +28,10 @@ use std::collections::VecDeque;
 ///
 /// It is refused, in this order, exactly where: `IllegalState`: no sending link that is attached has the handle, one of
 /// the two Attach lists only a part of the unsettled deliveries, or a message with the tag is open; `MessageTooLarge`;
-/// `CreditMissing`; `FrameTooLarge`: a frame has no room for a byte of the message; `NumberInUse`: its delivery's
-/// number is that of an unsettled delivery, or of one that waits (part 2, 2.8.6). `Memory` stands in place of the last
-/// two alone, or where none of these holds. Nothing changes then. Where the tag has at most 32 bytes, as any delivery's
-/// has, and the limit is one that a peer may set, it is never refused with `FrameTooLarge` (part 2, 2.4.1, 2.8.7).
+/// `CreditMissing`; `NumberInUse`: its delivery's number is that of an unsettled delivery, or of one that waits (part
+/// 2, 2.8.6). `Memory` comes only where none of these holds. Nothing changes then. Where the tag has at most 32 bytes,
+/// as any delivery's has, and the limit is one that a peer may set, it is never refused with `FrameTooLarge` (part 2,
+/// 2.4.1, 2.8.7); else it may be where none of the others holds and a frame has no room for a byte of the message.
 pub fn send(
     session: &mut LinkSession,
     alloc: Global,
@@ -49,9 +49,9 @@ pub fn send(
     ensures capacity { deque_capacity out.old ≤ deque_capacity out.new }
 {
     numbers_are_read(handle, message);
-    let room = match room_in(&session.session, handle, &tag, message) {
+    let room = match room_for(&session.session, handle, &tag, message.payload.len()) {
         Ok(room) => room,
-        Err(refusal) => return Err(refusal_of(refusal)),
+        Err(refused) => return Err(refused),
     };
     let Ok(ready) = prepare_in(&mut session.session, handle, tag, message) else {
         return Err(EndpointError::Memory);

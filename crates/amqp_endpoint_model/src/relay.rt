@@ -1,5 +1,5 @@
 //! What the sessions of an endpoint are to its connection.
-ghost use Rattle.std.specs.Prelude.{◌≡◌, ◌≤◌, ℕ, [], IfErr, IfOk, OnErr, OnOk};
+ghost use Rattle.std.specs.Prelude.{◌≡◌, ◌≤◌, ◌^◌, ℕ, min, [], length, unwrap_or, IfErr, IfOk, OnErr, OnOk};
 ghost use Rattle.std.specs.Borrow.{Lends};
 ghost use types.Logic.{sem};
 ghost use Rattle.amqp_session_frames.specs.State as channels;
@@ -12,6 +12,8 @@ ghost use Rattle.amqp_endpoint_model.specs.declared.call.Call.TheVariants.{Accep
 ghost use Rattle.amqp_endpoint_model.specs.declared.call.Call.TheVariants.{Begin, CloseLink, Credit, Detach, Drain};
 ghost use Rattle.amqp_endpoint_model.specs.declared.call.Call.TheVariants.{End, Grant, HeldBack, IsEnded, TryEnd};
 ghost use Rattle.amqp_endpoint_model.specs.declared.call.Call.TheVariants.{Dispose, DisposeAll, Send, Waiting};
+ghost use Rattle.amqp_endpoint_model.specs.declared.call.Sending.{Sending};
+ghost use Rattle.amqp_endpoint_model.specs.declared.error.EndpointError.TheVariants.{Memory};
 
 use crate::LinkSettings;
 use crate::answer::{Attaching, Sent};
@@ -313,6 +315,13 @@ pub trait SessionRelay: Drop {
         ensures quiet { does.idle self.old → out.new.items ≡ out.old.items }
         ensures idle { does.idle self.old → does.idle self.new }
         ensures still { StandsStill (does.connection self.old) (does.connection self.new) };
+
+    /// Why no message of so many bytes is sent by the link with this number, if one isn't, where 2^32 bytes stand for
+    /// as many or more: the first reason that holds. Where none does, want of memory alone refuses one. It takes no
+    /// memory.
+    fn send_refusal(&self, alloc: Global, link: u64, size: usize) -> Option<EndpointError>
+        ensures { (limit : ℕ) → (message : Sending) → min (length message.payload) (2 ^ 32) ≡ size →
+            does.bars self.now limit (Send link message) (unwrap_or result Memory) };
 
     /// Disposes of the message with this number that came by the link with this number. Its Disposition is handed out
     /// (part 2, 2.6.12, 2.7.6).

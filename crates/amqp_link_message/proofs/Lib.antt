@@ -3,3 +3,4 @@ pub mod Ending
 pub mod Keeping
 pub mod Listing
 pub mod Rows
+pub mod Sizes

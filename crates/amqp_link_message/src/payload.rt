@@ -8,7 +8,7 @@ ghost use Rattle.serde_amqp_ser.specs.Written.{capped};
 ghost use Rattle.serde_amqp_ser.specs.Sizes.{HasLength, IsTooLong};
 ghost use Rattle.serde_amqp_ser.specs.Puts.{listed, place_of, OnlyWhere, WantsMemory};
 ghost use Rattle.amqp_link_sections.specs.Annotations.{footer_item, footer_taken};
-ghost use Rattle.amqp_link_message.specs.Payload.{payload_text};
+ghost use Rattle.amqp_link_message.specs.Payload.{capped_size, payload_text};
 ghost use Rattle.amqp_link_message.specs.Parts.{at_most_one, if_there, ReadsParts, NoParts};
 ghost use Rattle.amqp_link_message.specs.Message.{message_items, message_parts, message_takes};
 ghost use Rattle.amqp_link_message.specs.BodyLaws.{body_begins};
@@ -24,6 +24,9 @@ use bytes::Bytes;
 use serde_amqp_item::Error;
 use serde_amqp_ser::{Counter, Serializer, Sink};
 use std::alloc::Global;
+
+/// What stands for the size of a payload that is as large or larger: no message is.
+const TOO_LARGE: usize = 4_294_967_296;
 
 /// The body of a message that is written.
 struct BodyPart<'a, B> {
@@ -113,6 +116,18 @@ impl<B: WriteBody> Message<B> {
             return Err(Error::InvalidLength);
         };
         Ok(size)
+    }
+
+    /// How many bytes the message's payload has, counted without memory, where 2^32 stand for as many or more, and for
+    /// that of a message of which an item has no canonical text: for what no link sends (part 2, 2.7.3).
+    #[tactic(auto, using(crate::proofs::Sizes::sizes))]
+    pub fn capped_size(&self) -> usize
+        ensures { result ≡ capped_size (payload_text (message_items B.items self.now)) }
+    {
+        match self.payload_size() {
+            Ok(size) => size.min(TOO_LARGE),
+            Err(_) => TOO_LARGE,
+        }
     }
 
     /// The bytes that the message is written as, where its body holds them already and it has no other sections.

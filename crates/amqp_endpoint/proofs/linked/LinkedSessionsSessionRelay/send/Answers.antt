@@ -26,3 +26,6 @@ returns-clause-idle c = c.send.ensures.rests.idle
 
 pub returns-clause-still : goal.returns-clause-still
 returns-clause-still c = c.send.ensures.goes.still
+
+pub returns-clause-err : goal.returns-clause-err
+returns-clause-err c = c.send.ensures.err c.requires.least
