@@ -59,9 +59,10 @@ use Rattle.amqp_endpoint_link_hearing.specs.Disposing.{TellsAndEchoes}
 use Rattle.amqp_endpoint_link_hearing.specs.InSession.{Closes, ClosesIf, GoesOn}
 use Rattle.amqp_endpoint_link_hearing.specs.Leaving.{HasPlace, detach_frame}
 use Rattle.amqp_endpoint_link_hearing.specs.Naming.{link_in, link_of}
-use Rattle.amqp_endpoint_link_hearing.specs.Unechoed.{AreFor, CanClose, IsMade, IsRefused, MadeIn, NoneUntoldIn, RefusedIf}
-use Rattle.amqp_endpoint_link_hearing.specs.Unechoed.{Refuses, RefusesBehind, TellsSome, handles_in, handles_of, has_one, is_attached_at}
-use Rattle.amqp_endpoint_link_hearing.specs.Unechoed.{is_among, is_refused, too_large_told, with_handle}
+use Rattle.amqp_endpoint_link_hearing.specs.Unechoed.{AreFor, CanClose, IsMade, IsRefused, MadeIn, NoneUntoldIn}
+use Rattle.amqp_endpoint_link_hearing.specs.Unechoed.{RefusedIf, Refuses, RefusesBehind, TellsSome, handles_in}
+use Rattle.amqp_endpoint_link_hearing.specs.Unechoed.{handles_of, has_one, is_attached_at, is_among, is_refused}
+use Rattle.amqp_endpoint_link_hearing.specs.Unechoed.{too_large_told, with_handle}
 use Rattle.amqp_endpoint_link_hearing.specs.declared.unechoed.Closing.{Closing}
 use Rattle.amqp_endpoint_link_hearing.proofs.Leavings.{told-done}
 use Rattle.amqp_endpoint_link_hearing.proofs.Lending.{lives}

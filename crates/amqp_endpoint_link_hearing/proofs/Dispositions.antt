@@ -1,6 +1,6 @@
 -- The peer's Disposition.
-use Rattle.std.proofs.Common.{◌≡◌, ◌≤◌, ◌<◌, inl, inr, ℕ, List, [], ◌∷◌, ◌++◌, Option, Some, None, Ok, IsSome, All}
-use Rattle.std.proofs.Common.{map, length, get_or, arith, refl, sym, ap, subst, ◌∙◌, append-nil, append_assoc, Bool, true}
+use Rattle.std.proofs.Common.{◌≡◌, ◌≤◌, ◌<◌, inl, inr, ℕ, List, [], ◌∷◌, ◌++◌, Option, Some, None, Ok, IsSome, All, map}
+use Rattle.std.proofs.Common.{length, get_or, arith, refl, sym, ap, subst, ◌∙◌, append-nil, append_assoc, Bool, true}
 use Rattle.std.specs.Prelude.{◌^◌, is_some, slice_set}
 use Rattle.std.specs.Box.{with_value}
 use Rattle.smallvec.specs.SmallVec.{SmallVec}
@@ -44,10 +44,12 @@ use Rattle.amqp_endpoint_link_hearing.specs.Disposing.{Rested, Serves, StandsFor
 use Rattle.amqp_endpoint_link_hearing.specs.Disposing.{runs_of}
 use Rattle.amqp_endpoint_link_hearing.specs.InSession.{GoesOn}
 use Rattle.amqp_endpoint_link_hearing.specs.Saying.{FailsBySaid, LinkHeard}
-use Rattle.amqp_endpoint_link_hearing.specs.Unechoed.{AreFor, CanClose, IsMade, MadeIn, NoneUntoldIn, Refuses, handles_of}
+use Rattle.amqp_endpoint_link_hearing.specs.Unechoed.{AreFor, CanClose, IsMade, MadeIn, NoneUntoldIn, Refuses}
+use Rattle.amqp_endpoint_link_hearing.specs.Unechoed.{handles_of}
 use Rattle.amqp_endpoint_link_hearing.specs.declared.disposing.Ready.{Ready}
 use Rattle.amqp_endpoint_link_hearing.specs.declared.unechoed.Closing.{Closing}
-use Rattle.amqp_endpoint_link_hearing.proofs.Barrings.{Same, all-told, echoed-same, for-all, live-behind, made-can, made-on}
+use Rattle.amqp_endpoint_link_hearing.proofs.Barrings.{Same, all-told, echoed-same, for-all, live-behind, made-can}
+use Rattle.amqp_endpoint_link_hearing.proofs.Barrings.{made-on}
 use Rattle.amqp_endpoint_link_hearing.proofs.Doing.{LinkAct}
 use Rattle.amqp_endpoint_link_hearing.proofs.Heard.{IsTaken, taken-in}
 use Rattle.amqp_endpoint_link_hearing.proofs.Lent.{behind-talk}

@@ -21,8 +21,8 @@ use Rattle.amqp_endpoint_messages.specs.Reached.{behind_reached, reached_told}
 use Rattle.amqp_endpoint_linking.specs.Linking.{Links, Session, Talk}
 use Rattle.amqp_endpoint_link_hearing.specs.InSession.{GoesOn}
 use Rattle.amqp_endpoint_link_hearing.specs.Saying.{Answers, FailsBySaid, LinkHeard}
-use Rattle.amqp_endpoint_link_hearing.specs.Unechoed.{AreFor, IsMade, MadeIn, NoneUntoldIn, Refuses, handles_in, handles_of}
-use Rattle.amqp_endpoint_link_hearing.specs.Unechoed.{told_most}
+use Rattle.amqp_endpoint_link_hearing.specs.Unechoed.{AreFor, IsMade, MadeIn, NoneUntoldIn, Refuses, handles_in}
+use Rattle.amqp_endpoint_link_hearing.specs.Unechoed.{handles_of, told_most}
 use Rattle.amqp_endpoint_link_hearing.specs.declared.disposing.Ready.{Ready}
 
 -- A session took a Disposition, and these runs of its deliveries are to be echoed.
@@ -38,8 +38,8 @@ pub record TellsAndEchoes (deliveries : List Touched) (state : Option DeliverySt
   pub echoes :
       SendsEchoes state runs (record old { session = behind_reached old.session deliveries }) frames new
 
--- They do so, and one Disposition goes back for each run of which the peer takes its frame. Of the other runs none does:
--- then of the links with these handles each is closed that is attached and has a delivery in one of them.
+-- They do so, and one Disposition goes back for each run of which the peer takes its frame. Of the other runs none
+-- does: then of the links with these handles each is closed that is attached and has a delivery in one of them.
 pub record TellsAndRefuses (limit session : ℕ) (deliveries : List Touched) (state : Option DeliveryState)
     (runs : List (ℕ × ℕ)) (handles : List OutputHandle) (old : Talk) (frames : List SessionFrame) (events : List Event)
     (new : Talk) : Type 0 where

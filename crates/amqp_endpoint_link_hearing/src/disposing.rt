@@ -50,13 +50,13 @@ struct Ready {
 /// the message that ended first of those that it hasn't told yet, where that has the delivery's tag: `Outcome` is told
 /// (part 3, 3.4).
 /// Where the receiver settles once the sender did (part 2, 2.8.3), the Disposition is echoed: for each run of such
-/// deliveries, in order, one is handed out, settled, with the same state, where it fits `limit` bytes. Of the other runs
-/// none is: behind what is, each attached link that has a delivery in one of them is closed, in the order in which the
-/// first of the deliveries of each comes. Its own closing Detach says amqp:not-allowed, and is handed out, or waits
+/// deliveries, in order, one is handed out, settled, with the same state, where it fits `limit` bytes. Of the other
+/// runs none is: behind what is, each attached link that has a delivery in one of them is closed, in the order in which
+/// the first of the deliveries of each comes. Its own closing Detach says amqp:not-allowed, and is handed out, or waits
 /// behind what the link has waiting; `Refused` is told with `FrameTooLarge`, and behind it the `Outcome` of each of its
 /// open messages, in the order in which they were sent: that its state has become illegal. Nothing comes of it in a
-/// session that is ending. A session that refuses it ends by its fault: its End is handed out, its links are given back,
-/// and `Refused` is told.
+/// session that is ending. A session that refuses it ends by its fault: its End is handed out, its links are given
+/// back, and `Refused` is told.
 ///
 /// It ends the connection with `Connection` of `NotFound` where the channel reaches no session, with `Session` where
 /// one refuses it that the peer asks for, and with `Memory`. Nothing is handed out or told then, and no link is given

@@ -17,10 +17,9 @@ ghost use Rattle.amqp_endpoint_link_hearing.specs.Naming.{link_of};
 ghost use Rattle.amqp_endpoint_model.specs.State.{error_of};
 ghost use Rattle.amqp_endpoint_model.specs.Step.{not_allowed};
 ghost use Rattle.amqp_endpoint_link_hearing.specs.Unechoed.{AreFor, CanClose, IsMade, IsRefused, RefusedIf};
-ghost use Rattle.amqp_endpoint_link_hearing.specs.Unechoed.{RefusesBehind};
-ghost use Rattle.amqp_endpoint_link_hearing.specs.Unechoed.{TellsSome, handles_in, handles_of, has_one, is_among, is_in};
-ghost use Rattle.amqp_endpoint_link_hearing.specs.Unechoed.{is_attached_at, is_refused, lies_in, lies_in_one, told_most};
-ghost use Rattle.amqp_endpoint_link_hearing.specs.Unechoed.{too_large_told, with_handle};
+ghost use Rattle.amqp_endpoint_link_hearing.specs.Unechoed.{RefusesBehind, TellsSome, handles_in, handles_of, has_one};
+ghost use Rattle.amqp_endpoint_link_hearing.specs.Unechoed.{is_among, is_in, is_attached_at, is_refused, lies_in};
+ghost use Rattle.amqp_endpoint_link_hearing.specs.Unechoed.{lies_in_one, told_most, too_large_told, with_handle};
 
 use crate::closing::{Condition, close, make_closing};
 use crate::leaving::Answer;
@@ -165,8 +164,8 @@ pub(crate) fn told_most(closings: &[Closing]) -> Option<usize>
 /// Closes those of the links for which this is ready that are attached and have one of these deliveries in one of these
 /// runs, one after the other (part 2, 2.6.6): for each its own closing Detach is handed out, or waits behind what the
 /// link has waiting, and says that this isn't allowed (part 2, 2.8.15); `Refused` is told with `FrameTooLarge`, and
-/// behind it the `Outcome` of each of its open messages, in the order in which they were sent: that its state has become
-/// illegal. There is room for all that, and it takes no memory.
+/// behind it the `Outcome` of each of its open messages, in the order in which they were sent: that its state has
+/// become illegal. There is room for all that, and it takes no memory.
 pub(crate) fn refuse_each(
     talk: &mut Conversation<Numbered<LinkEnd>>,
     alloc: Global,
@@ -359,8 +358,8 @@ fn tell_too_large(session: u64, link: u64, events: &mut Vec<Event>)
     }));
 }
 
-/// The link with this own handle in the session with this number, which has begun, tells of so many of the messages that
-/// ended and that it hasn't told of yet. There is room for it.
+/// The link with this own handle in the session with this number, which has begun, tells of so many of the messages
+/// that ended and that it hasn't told of yet. There is room for it.
 fn tell_some(
     talk: &mut Conversation<Numbered<LinkEnd>>,
     alloc: Global,

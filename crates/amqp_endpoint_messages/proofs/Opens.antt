@@ -1,6 +1,6 @@
 -- How many messages of links are open behind a disposition of the peer.
-use Rattle.std.proofs.Common.{◌≡◌, ◌≤◌, ◌==◌, ℕ, List, [], ◌∷◌, Bool, true, false, cond, Option, Some, None, length, All}
-use Rattle.std.proofs.Common.{refl, sym, ap, subst, ◌∙◌, arith}
+use Rattle.std.proofs.Common.{◌≡◌, ◌≤◌, ◌==◌, ℕ, List, [], ◌∷◌, Bool, true, false, cond, Option, Some, None, length}
+use Rattle.std.proofs.Common.{All, refl, sym, ap, subst, ◌∙◌, arith}
 use Rattle.std.specs.Prelude.{if◌then◌else◌, option_map, slice_index_or}
 use Rattle.std.specs.Map.{remove_entry, set_value}
 use Rattle.std.specs.Str.{bytes_eq}
@@ -30,8 +30,8 @@ use Rattle.amqp_endpoint_messages.specs.All.{open_count}
 use Rattle.amqp_endpoint_messages.specs.Dispositions.{SendsEach}
 use Rattle.amqp_endpoint_messages.specs.Outcomes.{end_disposed, one_disposed}
 use Rattle.amqp_endpoint_messages.specs.Reached.{behind_one, behind_reached, end_behind, link_behind}
-use Rattle.amqp_endpoint_messages.proofs.EndedTold.{Link, all_disposed, disposed-at, disposed_link, link_told_on, mapped}
-use Rattle.amqp_endpoint_messages.proofs.EndedTold.{told-at, walked-links}
+use Rattle.amqp_endpoint_messages.proofs.EndedTold.{Link, all_disposed, disposed-at, disposed_link, link_told_on}
+use Rattle.amqp_endpoint_messages.proofs.EndedTold.{mapped, told-at, walked-links}
 
 -- how many messages of a link are open, where it is there
 abbrev pub opens : Option Link → ℕ

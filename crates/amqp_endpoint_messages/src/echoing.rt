@@ -1,5 +1,6 @@
 //! What goes back to a receiver that settles once the sender did (part 2, 2.6.12, 2.7.6, 2.8.3).
-ghost use Rattle.std.specs.Prelude.{◌≡◌, ◌+◌, ◌≤◌, ◌<◌, ◌++◌, ◌∷◌, [], ℕ, All, IfOk, false, true, if◌then◌else◌, length};
+ghost use Rattle.std.specs.Prelude.{◌≡◌, ◌+◌, ◌≤◌, ◌<◌, ◌++◌, ◌∷◌, [], ℕ, All, IfOk, false, true, if◌then◌else◌};
+ghost use Rattle.std.specs.Prelude.{length};
 ghost use Rattle.std.specs.Vec.{vec_capacity, vec_len};
 ghost use Rattle.std.specs.VecDeque.{deque_capacity, deque_len};
 ghost use Rattle.amqp_session_core.specs.Disposing.{AreCopies};
@@ -122,9 +123,9 @@ fn copies(
 }
 
 /// Settles those of these runs of deliveries, each told by its first and its last number, which a disposition of the
-/// peer wants echoed (part 2, 2.6.12, 2.7.6, 2.8.3): for each, in order, a Disposition of the sender goes back, settled,
-/// with the state that was made ready, where it fits the limit. Answers the others, in order: nothing goes back of them.
-/// There are none where what was made ready fits whichever run it settles.
+/// peer wants echoed (part 2, 2.6.12, 2.7.6, 2.8.3): for each, in order, a Disposition of the sender goes back,
+/// settled, with the state that was made ready, where it fits the limit. Answers the others, in order: nothing goes
+/// back of them. There are none where what was made ready fits whichever run it settles.
 /// There must be room for as many frames as there are runs, and what was made ready serves. It takes no memory.
 pub fn send_echoes(
     session: &mut LinkSession,

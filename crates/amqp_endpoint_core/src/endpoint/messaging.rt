@@ -21,10 +21,10 @@ impl<S: SessionRelay> Endpoint<S> {
     /// of its delivery, which no other message of the endpoint has, and that it is accepted where it went settled.
     ///
     /// `UnknownLink` where no link has the number, then `IllegalState` where it receives or isn't attached, then
-    /// `MessageTooLarge` where the message is larger than both ends allow, or has 2^32 bytes, then `CreditMissing`, then
-    /// `NumberInUse` where the number of its delivery is still unsettled, then `NumbersUsedUp` where no number is left
-    /// for its tag. `Memory` where there is no memory, and none of these holds. A refusal changes nothing. Exactly when
-    /// each comes say the sessions (`bars` of their relations).
+    /// `MessageTooLarge` where the message is larger than both ends allow, or has 2^32 bytes, then `CreditMissing`,
+    /// then `NumberInUse` where the number of its delivery is still unsettled, then `NumbersUsedUp` where no number is
+    /// left for its tag. `Memory` where there is no memory, and none of these holds. A refusal changes nothing. Exactly
+    /// when each comes say the sessions (`bars` of their relations).
     pub fn send_raw(&mut self, link: u64, message: &Sending) -> Result<Sent, EndpointError>
         ensures ok { IfOk result (λ s. SessionsDo S.does self.old (Call.Send link message.now)
             (message_sent s.tag s.outcome) self.new) }
