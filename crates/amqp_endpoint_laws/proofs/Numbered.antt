@@ -1,5 +1,5 @@
 -- A frame of the peer hands out one message under the next number, or none.
-use Rattle.std.proofs.Common.{◌≡◌, ◌⊎◌, inl, inr, ℕ, suc, Bool, true, false, List, [], ◌∷◌, Option, Some}
+use Rattle.std.proofs.Common.{◌≡◌, ◌⊎◌, inl, inr, ℕ, suc, Bool, true, false, List, [], ◌∷◌, ◌++◌, Option, Some}
 use Rattle.std.proofs.Common.{None, Ok, Err}
 use Rattle.std.proofs.Common.{arith, refl, ap, ◌∙◌}
 use Rattle.std.specs.Prelude.{Result}
@@ -12,6 +12,7 @@ use Rattle.amqp_session_performatives.specs.declared.detach.Detach.{Detach}
 use Rattle.amqp_session_performatives.specs.declared.disposition.Disposition.{Disposition}
 use Rattle.amqp_session_performatives.specs.declared.session_frame.SessionFrame.{SessionFrame}
 use Rattle.amqp_session_performatives.specs.declared.transfer.Transfer.{Transfer}
+use Rattle.amqp_session_core.specs.declared.dispositions.Touched.{Touched}
 use Rattle.amqp_session_core.specs.declared.incoming.TransferTaken.{TransferTaken}
 use Rattle.amqp_session_frames.specs.declared.frame.FrameBody.{FrameBody}
 use Rattle.amqp_session_frames.specs.declared.frame.FrameBody.TheVariants as body
@@ -28,7 +29,7 @@ use Rattle.amqp_endpoint_attached.specs.Linked.{end_at}
 use Rattle.amqp_endpoint_model.specs.declared.event.Event.{Event}
 use Rattle.amqp_endpoint_linking.specs.Hearing.{begin_told, end_told}
 use Rattle.amqp_endpoint_linking.specs.Linking.{Link, Links, Talk}
-use Rattle.amqp_endpoint_messages.specs.All.{told_by}
+use Rattle.amqp_endpoint_messages.specs.All.{first_told, open_count, told_by}
 use Rattle.amqp_endpoint_link_hearing.specs.declared.attaching.LinkAttached.{LinkAttached}
 use Rattle.amqp_endpoint_links.specs.declared.asking.AttachTaken.TheVariants as answer
 use Rattle.amqp_endpoint_links.specs.declared.hearing.PerformativeTaken.TheVariants as taken
@@ -40,11 +41,14 @@ use Rattle.amqp_endpoint_link_hearing.specs.Attaching.{LinkTakes}
 use Rattle.amqp_endpoint_link_hearing.specs.Detaching as detaching
 use Rattle.amqp_endpoint_link_hearing.specs.Detaching.{detached_told, ending}
 use Rattle.amqp_endpoint_link_hearing.specs.Disposing as disposing
+use Rattle.amqp_endpoint_link_hearing.specs.Naming.{link_of}
 use Rattle.amqp_endpoint_link_hearing.specs.Transferring as transferring
 use Rattle.amqp_endpoint_link_hearing.specs.Transferring.{Comes}
+use Rattle.amqp_endpoint_link_hearing.specs.Unechoed.{RefusedIf, Refuses, is_refused, too_large_told}
 use Rattle.amqp_endpoint.specs.Hearing.{Hears}
 use Rattle.amqp_endpoint_laws.specs.Telling.{numbers_told}
-use Rattle.amqp_endpoint_laws.proofs.Unnumbered.{Unnumbered, both-unnumbered, by-unnumbered, reached-unnumbered}
+use Rattle.amqp_endpoint_laws.proofs.Unnumbered.{Unnumbered, both-unnumbered, by-unnumbered, first-unnumbered}
+use Rattle.amqp_endpoint_laws.proofs.Unnumbered.{reached-unnumbered}
 
 -- where so many messages were handed out before, and behind that so many
 abbrev pub GivesNext : List Event → ℕ → ℕ → Type 0
@@ -98,11 +102,38 @@ transfer-becomes (Some (session, took)) old mid new given it frames events given
 transfer-becomes None old mid new given it frames events given_new c =
     inl (told-unnumbered events [] c.untold refl, c.uncounted)
 
+-- a link is closed, since no frame holds what it has to tell
+refused-unnumbered : (b : Bool) (session : ℕ) (handle : OutputHandle) (old new : Talk) (frames : List SessionFrame)
+    (events : List Event) → RefusedIf b session handle old frames events new → Unnumbered events
+refused-unnumbered true session handle old new frames events r =
+    let count : ℕ = open_count (Some r.link.link) in
+    let ended : Option Link = link_of r.mid session handle in
+    told-unnumbered events _ r.tells
+    (both-unnumbered (too_large_told session r.link.number) (first_told count None ended) refl
+    (first-unnumbered count None ended))
+refused-unnumbered false session handle old new frames events r = told-unnumbered events [] r.1 refl
+
+refuses-unnumbered : (session : ℕ) (runs : List (ℕ × ℕ)) (deliveries : List Touched) (handles : List OutputHandle)
+    (old new : Talk) (frames : List SessionFrame) (events : List Event)
+    → Refuses session runs deliveries handles old frames events new → Unnumbered events
+refuses-unnumbered session runs deliveries [] old new frames events r = told-unnumbered events [] r.1 refl
+refuses-unnumbered session runs deliveries (handle ∷ handles) old new frames events
+    (own, first, mid, later, later_told, one, others, f, e) =
+    told-unnumbered events (first ++ later_told) e
+    (both-unnumbered first later_told
+    (refused-unnumbered (is_refused old session runs deliveries handle) session handle old mid own first one)
+    (refuses-unnumbered session runs deliveries handles mid new later later_told others))
+
 disposition-follows : (runs : Option (ℕ × SmallVec (ℕ × ℕ))) (limit : ℕ) (old mid new : Talk) (it : Disposition)
     (frames : List SessionFrame) (events : List Event)
     → disposing.Follows runs limit old it mid frames events new → Unnumbered events
 disposition-follows (Some (session, runs)) limit old mid new it frames events d =
-    told-unnumbered events _ d.done.done.told (reached-unnumbered d.done.before.value.session d.deliveries)
+    let t = d.done in
+    told-unnumbered events (t.told ++ t.ended) t.events_are
+    (both-unnumbered t.told t.ended
+    (told-unnumbered t.told _ t.echoes.done.told
+    (reached-unnumbered t.echoes.before.value.session d.deliveries))
+    (refuses-unnumbered session _ d.deliveries _ t.mid new t.closed t.ended t.refuses))
 disposition-follows None limit old mid new it frames events r = told-unnumbered events [] r.untold refl
 
 detach-becomes : (took_it : Option (ℕ × Detached)) (limit : ℕ) (old mid new : Talk) (links links_new : Links)

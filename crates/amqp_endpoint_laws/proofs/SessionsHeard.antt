@@ -58,6 +58,7 @@ use Rattle.amqp_endpoint_link_hearing.specs.InSession.{GoesOn}
 use Rattle.amqp_endpoint_link_hearing.specs.Saying.{LinkHeard, LinkRefusal, RefusesSaid}
 use Rattle.amqp_endpoint_link_hearing.specs.Transferring as transferring
 use Rattle.amqp_endpoint_link_hearing.specs.Transferring.{Comes, RemembersUnless}
+use Rattle.amqp_endpoint_link_hearing.proofs.Barrings.{refuses-by}
 use Rattle.amqp_endpoint.specs.Hearing.{Hears, RefusesBody}
 use Rattle.amqp_endpoint_laws.proofs.SessionsGoing.{Go, goes-by, goes-on, stays}
 
@@ -211,7 +212,14 @@ flow-lets-go (Some session) frames mid new links links_new g = in-session _ mid 
 disposition-follows : (runs : Option (ℕ × SmallVec (ℕ × ℕ))) (limit : ℕ) (old mid new : Talk) (it : Disposition)
     (frames : List SessionFrame) (events : List Event)
     → disposing.Follows runs limit old it mid frames events new → TalkGoes mid new
-disposition-follows (Some (session, runs)) limit old mid new it frames events d = in-session _ mid session new d.done
+disposition-follows (Some (session, runs)) limit old mid new it frames events d =
+    let t = d.done in
+    goes-on mid.sessions t.mid.sessions new.sessions (in-session _ mid session t.mid t.echoes)
+    (refuses-by (λ fs a b. TalkGoes a b) session (λ a b same. talk-stays a b same)
+    (λ fs more a b c x y. goes-on a.sessions b.sessions c.sessions x y)
+    (λ handle fs a b g. in-session _ a session b g)
+    (λ count handle a b g. in-session _ a session b g)
+    _ d.deliveries _ t.mid new t.closed t.ended t.refuses)
 disposition-follows None limit old mid new it frames events r = talk-stays mid new r.stays
 
 detach-becomes : (took_it : Option (ℕ × Detached)) (limit : ℕ) (old mid new : Talk) (links links_new : Links)
