@@ -21,3 +21,7 @@ pub mod Unsent
 pub mod Transfers
 pub mod Handing
 pub mod Sent
+pub mod AbortsFit
+pub mod Planned
+pub mod Handed
+pub mod Attached
