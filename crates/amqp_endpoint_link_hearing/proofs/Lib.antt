@@ -4,6 +4,7 @@ mod Lending
 mod Flows
 mod Releases
 mod Doing
+mod AttachDone
 pub mod Heard
 mod Attaches
 mod Detaches
@@ -16,6 +17,8 @@ mod Partings
 mod Readies
 mod Becoming
 pub mod Barrings
+mod AttachReadied
+mod AttachServes
 mod Dispositions
 mod Stepped
 mod Transfers
