@@ -1,8 +1,10 @@
 -- What comes of a link that attaches, with its own frames.
-use Rattle.std.proofs.Common.{◌≡◌, ℕ, true, List, [], ◌++◌, refl, sym, ap, ◌∙◌, append-nil}
+use Rattle.std.proofs.Common.{◌≡◌, ℕ, true, List, [], ◌++◌, Result, Ok, Err, refl, sym, ap, subst, ◌∙◌, append-nil}
+use Rattle.std.specs.Prelude.{IfErr, IsErrAnd}
 use Rattle.std.proofs.lemmas.List.Elements.{All-nil}
 use Rattle.amqp_session_performatives.specs.declared.session_frame.SessionFrame.{SessionFrame}
 use Rattle.amqp_link.specs.declared.end.End.{End}
+use Rattle.amqp_endpoint_model.specs.declared.error.EndpointError.{EndpointError}
 use Rattle.amqp_endpoint_model.specs.declared.event.Event.{Event}
 use Rattle.amqp_endpoint_model.specs.State.{fits, frame_of}
 use Rattle.amqp_endpoint_conversation.specs.Going.{Goes, Rests}
@@ -56,3 +58,9 @@ rests-still talk out = record { silent = λ none. refl; idle = λ none. none }
 -- where nothing was told before, what is told is all
 pub told-first : (told told_new events : List Event) → told ≡ [] → told_new ≡ told ++ events → told_new ≡ events
 told-first told told_new events none is = is ∙ ap (λ (before : List Event). before ++ events) none
+
+-- what it was refused by is what is answered
+pub carried : {X : Type 0} (P : EndpointError → Type 0) (r : Result X EndpointError) (why : EndpointError)
+    → IsErrAnd r (λ (e : EndpointError). e ≡ why) → P why → IfErr r P
+carried P (Ok x) why is so = tt
+carried P (Err e) why is so = subst P (sym is) so

@@ -2,9 +2,10 @@
 ghost use Rattle.std.specs.Prelude.{◌≡◌, ◌<◌, ◌≤◌, ◌++◌, ℕ, [], IfErr, IfOk, OnErr};
 ghost use Rattle.std.specs.Vec.{vec_capacity, vec_len};
 ghost use Rattle.amqp_endpoint_conversation.specs.Going.{Goes, Rests, Within};
-ghost use Rattle.amqp_endpoint_attached.specs.Links.{receiver_by, sender_by};
-ghost use Rattle.amqp_endpoint_link_calls.specs.Refusals.{BarsAttaching, MayAttach};
+ghost use Rattle.amqp_endpoint_attached.specs.Links.{link_by, receiver_by, sender_by};
+ghost use Rattle.amqp_endpoint_link_calls.specs.Refusals.{BarsAttaching};
 ghost use Rattle.amqp_endpoint_linking.specs.Handed.{Hands};
+ghost use Rattle.amqp_endpoint_model.specs.declared.error.EndpointError.TheVariants.{Memory};
 ghost use Rattle.amqp_endpoint.specs.Attaching.{LinkAttached, exchange_told};
 
 use amqp_endpoint_conversation::Conversation;
@@ -16,15 +17,14 @@ use amqp_endpoint_tables::Links;
 use amqp_link::LinkEnd;
 use amqp_link_base::AttachExchange;
 use amqp_session_performatives::SessionFrame;
-use serde_amqp_types::Text;
-use std::alloc::{AllocError, Global};
+use amqp_session_types::Role;
+use std::alloc::Global;
 use std::collections::VecDeque;
 
 /// Attaches a sending link with these settings in the session with this number, and answers its number with what comes
 /// of it at once (part 2, 2.6.3).
 ///
-/// It is refused as `amqp_endpoint_link_calls::attach_sender` is, with `Memory` also where there is none for what
-/// is told. Nothing changes then.
+/// It is refused as `amqp_endpoint_link_calls::attach_sender` is. Nothing changes then.
 pub(crate) fn attach_sender(
     talk: &mut Conversation<Numbered<LinkEnd>>,
     links: &mut Links<LinkEnd>,
@@ -44,7 +44,7 @@ pub(crate) fn attach_sender(
     ensures waits { (most : ℕ) → Within most talk.old → Within most talk.new }
     ensures rests { Rests talk.old talk.new out.old.items out.new.items }
 {
-    let mut events = room_to_tell(talk, links, alloc, session, &settings.name)?;
+    let mut events = room_to_tell(talk, links, alloc, session, Role::Sender, settings)?;
     let placed = link::attach_sender(talk, links, alloc, limit, session, settings, out)?;
     let link = tell_placed(placed, &mut events);
     Ok(Attaching { link, events })
@@ -70,32 +70,41 @@ pub(crate) fn attach_receiver(
     ensures waits { (most : ℕ) → Within most talk.old → Within most talk.new }
     ensures rests { Rests talk.old talk.new out.old.items out.new.items }
 {
-    let mut events = room_to_tell(talk, links, alloc, session, &settings.name)?;
+    let mut events = room_to_tell(talk, links, alloc, session, Role::Receiver, settings)?;
     let placed = link::attach_receiver(talk, links, alloc, limit, session, settings, out)?;
     let link = tell_placed(placed, &mut events);
     Ok(Attaching { link, events })
 }
 
-/// Room for what comes of a link at once, where it may attach in the session with this number by this name. It is
-/// refused where there is no memory, and only there.
+/// Room for what comes of a link at once. It is refused with what speaks against the link before it is made, and then
+/// with `Memory`.
 fn room_to_tell(
     talk: &Conversation<Numbered<LinkEnd>>,
     links: &Links<LinkEnd>,
     alloc: Global,
     session: u64,
-    name: &Text,
-) -> Result<Vec<Event>, AllocError>
-    ensures ok { IfOk result (λ events. (events.items ≡ [])
-        × (MayAttach talk.now links.now session name.now → vec_len events < vec_capacity events)) }
-    ensures err { OnErr result (MayAttach talk.now links.now session name.now) }
+    role: Role,
+    settings: &LinkSettings,
+) -> Result<Vec<Event>, EndpointError>
+    ensures ok { IfOk result (λ events. (events.items ≡ []) × (vec_len events < vec_capacity events)) }
+    ensures err { (limit : ℕ) → IfErr result
+        (BarsAttaching limit talk.now links.now session (link_by role settings.now)) }
 {
-    if !talk.is_mapped(session) {
-        return Ok(Vec::new(alloc));
+    match link::attach_refusal(talk, links, alloc, session, role, settings) {
+        Some(refusal) => Err(refusal),
+        None => room_for_one(alloc),
     }
-    if links.named(name).is_some() {
-        return Ok(Vec::new(alloc));
+}
+
+/// Room for one event.
+fn room_for_one(alloc: Global) -> Result<Vec<Event>, EndpointError>
+    ensures ok { IfOk result (λ events. (events.items ≡ []) × (vec_len events < vec_capacity events)) }
+    ensures err { IfErr result (λ e. e ≡ Memory) }
+{
+    match Vec::with_capacity(alloc, 1) {
+        Ok(events) => Ok(events),
+        Err(_) => Err(EndpointError::Memory),
     }
-    Vec::with_capacity(alloc, 1)
 }
 
 /// Tells what comes of a link at once, and answers its number. There is room for it. The link gives no delivery up, as

@@ -10,3 +10,4 @@ pub mod Refusing
 pub mod Owned
 pub mod Handing
 pub mod Fitting
+pub mod Tested

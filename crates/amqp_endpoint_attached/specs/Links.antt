@@ -1,6 +1,8 @@
 -- The links of an endpoint in its sessions, how they are made, and their own Attach (part 2, 2.6.3, 2.7.3).
 use Rattle.std.specs.Prelude.{◌≡◌, ℕ, Bool, true, false, Option, None, option_map}
 use Rattle.amqp_session_types.specs.declared.handles.OutputHandle.{OutputHandle}
+use Rattle.amqp_session_types.specs.declared.modes.Role.{Role}
+use Rattle.amqp_session_types.specs.declared.modes.Role.TheVariants as role
 use Rattle.amqp_session_performatives.specs.declared.attach.Attach.{Attach}
 use Rattle.amqp_session_performatives.specs.declared.session_frame.SessionFrame.{SessionFrame}
 use Rattle.amqp_session_performatives.specs.declared.session_frame.SessionFrameBody.TheVariants as body
@@ -59,6 +61,11 @@ sender_by s =
 
 abbrev pub receiver_by : LinkSettings → End
 receiver_by s = Receiver (unattached (base_by s) s.initial_delivery_count None)
+
+-- one in this role
+abbrev pub link_by : Role → LinkSettings → End
+link_by role.Sender s = sender_by s
+link_by role.Receiver s = receiver_by s
 
 -- a link that was never attached, or of which both Detach were exchanged
 abbrev pub is_at_rest : LinkState → Bool

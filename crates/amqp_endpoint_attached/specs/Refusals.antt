@@ -6,6 +6,9 @@ use Rattle.amqp_session_types.specs.declared.refusals.SessionError.{SessionError
 use Rattle.amqp_session_types.specs.declared.refusals.SessionError.TheVariants as session
 use Rattle.amqp_session_performatives.specs.declared.attach.Attach.{Attach}
 use Rattle.amqp_session_core.specs.State.{State}
+use Rattle.amqp_link_types.specs.declared.attaching.ReceiverAttachError.{ReceiverAttachError}
+use Rattle.amqp_link_types.specs.declared.attaching.ReceiverAttachError.TheVariants.{DesiredFilterNotSupported}
+use Rattle.amqp_link_types.specs.declared.attaching.ReceiverAttachError.TheVariants.{Memory as NoMemory}
 use Rattle.amqp_link_types.specs.declared.link_error.LinkError.{LinkError}
 use Rattle.amqp_link_types.specs.declared.link_error.LinkError.TheVariants.{SenderAttach, ReceiverAttach}
 use Rattle.amqp_link.specs.declared.end.End.{End}
@@ -53,6 +56,24 @@ abbrev pub RefusesPeer : End → Attach → AttachRefusal → Type 0
 RefusesPeer link attach (Link error) = test_failed link attach ≡ Some error
 RefusesPeer link attach Memory = Unit {0}
 RefusesPeer link attach refusal = ⊥
+
+-- a test tells a list: the filters that the peer doesn't apply
+abbrev pub TellsList : Option LinkError → Type 0
+TellsList (Some (ReceiverAttach (DesiredFilterNotSupported filters))) = Unit {0}
+TellsList failed = ⊥
+
+-- what is found of the link's tests, of which the first that fails is this: that none fails, its error, or, in place of
+-- a list alone, want of memory for it
+abbrev pub FindsTested : Option LinkError → Option AttachRefusal → Type 0
+FindsTested failed None = failed ≡ None
+FindsTested failed (Some (Link error)) = failed ≡ Some error
+FindsTested failed (Some Memory) = TellsList failed
+FindsTested failed (Some refusal) = ⊥
+
+-- what a receiver's test answers is told so
+abbrev pub told_of : ReceiverAttachError → AttachRefusal
+told_of NoMemory = Memory
+told_of error = Link (ReceiverAttach error)
 
 -- the own Attach doesn't fit a frame, or there is no memory for it
 abbrev pub RefusesOwn : ℕ → End → OutputHandle → AttachRefusal → Type 0

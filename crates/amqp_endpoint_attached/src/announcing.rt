@@ -21,7 +21,7 @@ use std::collections::VecDeque;
 
 /// The own handle that the next link gets. It is refused with `HandleMaxReached` exactly where the peer doesn't allow
 /// it.
-pub(crate) fn offered<R: Drop>(session: &Session<R>) -> Result<OutputHandle, AttachRefusal>
+pub fn offered<R: Drop>(session: &Session<R>) -> Result<OutputHandle, AttachRefusal>
     ensures ok { IfOk result (λ handle. (handle ≡ offered session.now) × IsOffered session.now) }
     ensures err { IfErr result (λ e. (e ≡ HandleMaxReached)
         × (session.now.handle_max < session.now.offered)) }

@@ -17,7 +17,9 @@ mod making;
 mod receiving;
 mod refusal;
 mod sending;
+mod testing;
 
+pub use announcing::offered;
 pub use answering::{Answered, answer};
 pub use attaching::attach;
 pub use detaching::{answer_detach, detach, detach_placed};
@@ -27,3 +29,4 @@ pub use making::{receiver, sender};
 pub use receiving::{drain, grant};
 pub use refusal::{AttachRefusal, Unattached};
 pub use sending::LinkSession;
+pub use testing::test;

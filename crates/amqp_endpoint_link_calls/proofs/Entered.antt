@@ -11,7 +11,7 @@ use Rattle.amqp_endpoint_tables.specs.LinkSteps.{Enters, Step}
 use Rattle.amqp_endpoint_link_calls.specs.Attaching.{AttachesIn, LinkAttaches, with_room}
 use Rattle.amqp_endpoint_link_calls.specs.Naming.{name_of}
 use Rattle.amqp_endpoint_link_calls.specs.Places.{LinkTalk, LinksBy}
-use Rattle.amqp_endpoint_link_calls.specs.Refusals.{BarsAttaching, BarsIn, BarsMade, MayAttach, RefusesIn}
+use Rattle.amqp_endpoint_link_calls.specs.Refusals.{BarsIn, BarsMade, BarsPlacing, MayAttach, RefusesIn}
 use Rattle.amqp_endpoint_link_calls.specs.Refusals.{of_refusal}
 use Rattle.amqp_endpoint_link_calls.specs.declared.placed.Placed.{Placed}
 use Rattle.amqp_endpoint_link_calls.proofs.Own.{own}
@@ -77,7 +77,7 @@ module _ {X : Type 0} (old new : LinkTalk) (out out_new : List SessionFrame) (li
 module _ (limit : ℕ) (talk : LinkTalk) (links : LinksBy) (session : ℕ) (link : End)
     (may : MayAttach talk links session (name_of link)) where
   by-refusal : (refused : AttachRefusal) → RefusesIn limit talk session link refused
-      → BarsAttaching limit talk links session link (of_refusal refused)
+      → BarsPlacing limit talk links session link (of_refusal refused)
   by-refusal why.HandleMaxReached refuses = (may, refuses)
   by-refusal why.HandleInUse refuses = (may, refuses)
   by-refusal (why.Link e) refuses = (may, refuses)
@@ -85,25 +85,25 @@ module _ (limit : ℕ) (talk : LinkTalk) (links : LinksBy) (session : ℕ) (link
   by-refusal why.Memory refuses = may
 
   pub bars-placing : (e : EndpointError) → BarsIn limit talk session link e
-      → BarsAttaching limit talk links session link e
+      → BarsPlacing limit talk links session link e
   bars-placing e (refused, is, refuses) =
-      subst (λ (x : EndpointError). BarsAttaching limit talk links session link x) (sym is)
+      subst (λ (x : EndpointError). BarsPlacing limit talk links session link x) (sym is)
       (by-refusal refused refuses)
 
   pub bars-made : {X : Type 0} (made : Result End X) (e : EndpointError)
-      → IfOk made (λ l. l ≡ link) → BarsMade limit talk session made e → BarsAttaching limit talk links session link e
+      → IfOk made (λ l. l ≡ link) → BarsMade limit talk session made e → BarsPlacing limit talk links session link e
   bars-made (Ok l) e is bars =
       bars-placing e (subst (λ (x : End). BarsIn limit talk session x e) is bars)
   bars-made (Err x) e is bars =
-      subst (λ (y : EndpointError). BarsAttaching limit talk links session link y) (sym bars) may
+      subst (λ (y : EndpointError). BarsPlacing limit talk links session link y) (sym bars) may
 
   pub all-bars : (r : Result Placed EndpointError) → IfErr r (BarsIn limit talk session link)
-      → IfErr r (BarsAttaching limit talk links session link)
+      → IfErr r (BarsPlacing limit talk links session link)
   all-bars (Ok placed) bars = tt
   all-bars (Err e) bars = bars-placing e bars
 
   pub all-bars-made : {X : Type 0} (made : Result End X) → IfOk made (λ l. l ≡ link)
       → (r : Result Placed EndpointError) → IfErr r (BarsMade limit talk session made)
-      → IfErr r (BarsAttaching limit talk links session link)
+      → IfErr r (BarsPlacing limit talk links session link)
   all-bars-made made by (Ok placed) bars = tt
   all-bars-made made by (Err e) bars = bars-made made e by bars

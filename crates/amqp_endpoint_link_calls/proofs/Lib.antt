@@ -15,5 +15,6 @@ pub mod AttachLent
 pub mod Own
 pub mod AttachGoing
 pub mod Entered
+pub mod Looked
 pub mod AttachInside
 pub mod Unsent

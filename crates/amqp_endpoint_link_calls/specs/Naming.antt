@@ -30,7 +30,9 @@ pub record IsAsked (asked : Asked) (handle : ℕ) (name : List ℕ) (role : Role
 
 -- which asked link one answers: the one that has its name, of which the peer has the other end. It answers none where
 -- the peer asks for none of its name, or for one of which it has the same end
+abbrev pub MeetsBy : Asked → List ℕ → Role → Option InputHandle → Type 0
+MeetsBy asked name role None = IsNewName asked name ⊎ ((handle : ℕ) × IsAsked asked handle name role)
+MeetsBy asked name role (Some input) = IsAsked asked input.0 name (opposite role)
+
 abbrev pub Meets : Asked → End → Option InputHandle → Type 0
-Meets asked link None =
-    IsNewName asked (name_of link) ⊎ ((handle : ℕ) × IsAsked asked handle (name_of link) (role_of link))
-Meets asked link (Some input) = IsAsked asked input.0 (name_of link) (opposite (role_of link))
+Meets asked link input = MeetsBy asked (name_of link) (role_of link) input

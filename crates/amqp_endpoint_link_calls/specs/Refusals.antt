@@ -1,12 +1,16 @@
 -- Why a link doesn't attach in one of an endpoint's sessions: part 2, 2.5.5, 2.6.1, 2.6.3, 2.7.2, 2.7.3.
-use Rattle.std.specs.Prelude.{◌≡◌, ℕ, List, Option, Some, None, IsSome, Result, Ok, Err}
+use Rattle.std.specs.Prelude.{◌≡◌, ◌<◌, ◌⊎◌, ℕ, List, Option, Some, None, IsSome, option_map, Result, Ok, Err}
+use Rattle.std.specs.FinMap as map
 use Rattle.std.specs.Global.{Box}
 use Rattle.amqp_session_types.specs.declared.handles.InputHandle.{InputHandle}
 use Rattle.amqp_session_types.specs.declared.refusals.SessionError.TheVariants.{HandleInUse as InUse}
+use Rattle.amqp_link_types.specs.declared.link_error.LinkError.{LinkError}
 use Rattle.amqp_link.specs.declared.end.End.{End}
-use Rattle.amqp_endpoint_attached.specs.Answering.{RefusesAnswer}
+use Rattle.amqp_endpoint_links.specs.Asked.{Asked}
+use Rattle.amqp_endpoint_attached.specs.Answering.{RefusesAnswer, asked_failed}
 use Rattle.amqp_endpoint_attached.specs.Attaching.{RefusesAttach}
 use Rattle.amqp_endpoint_attached.specs.Linked.{Linked}
+use Rattle.amqp_endpoint_attached.specs.Refusals.{FindsTested, IsOffered}
 use Rattle.amqp_endpoint_attached.specs.declared.refusal.AttachRefusal.{AttachRefusal}
 use Rattle.amqp_endpoint_attached.specs.declared.refusal.AttachRefusal.TheVariants as why
 use Rattle.amqp_endpoint_conversation.specs.Ending.{IsMapped}
@@ -36,6 +40,34 @@ pub record RefusesIn (limit : ℕ) (talk : LinkTalk) (session : ℕ) (link : End
   pub live : live_at talk.sessions session ≡ Some before
   pub refused : RefusesOne limit before.value link refusal
 
+-- which test a link fails first of the one that it answers, if it answers one
+abbrev pub failed_at : End → Asked → Option InputHandle → Option LinkError
+failed_at link asked None = None
+failed_at link asked (Some input) = asked_failed link (map.get asked input.0)
+
+-- what is found in a session of a link that meets this one, before anything grows: that the handle which is offered is
+-- above the peer's handle-max, and else what is found of the tests of the one that it answers
+abbrev pub FindsBy : Option InputHandle → Linked → End → Option AttachRefusal → Type 0
+FindsBy input before link (Some why.HandleMaxReached) = before.session.handle_max < before.session.offered
+FindsBy input before link found =
+    IsOffered before.session × FindsTested (failed_at link before.asked input) found
+
+-- what is found of one, by whether the peer asks for it there
+pub record FindsOne (before : Linked) (link : End) (found : Option AttachRefusal) : Type 0 where
+  pub input : Option InputHandle
+  pub meets : Meets before.asked link input
+  pub finds : FindsBy input before link found
+
+-- in the session with this number
+pub record FindsIn (talk : LinkTalk) (session : ℕ) (link : End) (found : Option AttachRefusal) : Type 0 where
+  pub before : Box Linked
+  pub live : live_at talk.sessions session ≡ Some before
+  pub one : FindsOne before.value link found
+
+-- nothing speaks against it there but what takes memory: its own Attach, or a test that tells a list
+abbrev pub IsClearIn : LinkTalk → ℕ → End → Type 0
+IsClearIn talk session link = FindsIn talk session link None ⊎ FindsIn talk session link (Some why.Memory)
+
 -- what the endpoint says of it
 abbrev pub of_refusal : AttachRefusal → EndpointError
 of_refusal why.HandleMaxReached = HandleMaxReached
@@ -48,6 +80,12 @@ of_refusal why.Memory = Memory
 abbrev pub BarsIn : ℕ → LinkTalk → ℕ → End → EndpointError → Type 0
 BarsIn limit talk session link e =
     (refusal : AttachRefusal) × (e ≡ of_refusal refusal) × RefusesIn limit talk session link refusal
+
+-- what is found in the session with this number, as the endpoint says it
+pub record FindsSaid (talk : LinkTalk) (session : ℕ) (link : End) (said : Option EndpointError) : Type 0 where
+  pub found : Option AttachRefusal
+  pub finds : FindsIn talk session link found
+  pub says : said ≡ option_map of_refusal found
 
 -- likewise of a link that was made, or that there was no memory for it
 abbrev pub BarsMade : {X : Type 0} → ℕ → LinkTalk → ℕ → Result End X → EndpointError → Type 0
@@ -75,8 +113,15 @@ BarsName talk links session name DuplicatedLinkName = IsMapped talk session × I
 BarsName talk links session name Memory = MayAttach talk links session name
 BarsName talk links session name e = ⊥
 
+-- what is found of it before anything grows: the first that holds, which is never want of memory, or that none does
+abbrev pub FindsName : LinkTalk → LinksBy → ℕ → List ℕ → Option EndpointError → Type 0
+FindsName talk links session name None = MayAttach talk links session name
+FindsName talk links session name (Some Memory) = ⊥
+FindsName talk links session name (Some e) = BarsName talk links session name e
+
 -- why a link doesn't: so, or its session refuses it, which tests the handle that it offers, then the Attach that the
--- link answers, and then the link's own
+-- link answers, and then the link's own. Want of memory stands where none of these but the last refuses it, or in place
+-- of a test that tells a list
 abbrev pub BarsAttaching : ℕ → LinkTalk → LinksBy → ℕ → End → EndpointError → Type 0
 BarsAttaching limit talk links session link UnknownSession = place_at talk.sessions session ≡ None
 BarsAttaching limit talk links session link IllegalState = IsUnmapped talk session
@@ -90,5 +135,25 @@ BarsAttaching limit talk links session link FrameTooLarge =
     MayAttach talk links session (name_of link) × RefusesIn limit talk session link why.FrameTooLarge
 BarsAttaching limit talk links session link (Session InUse) =
     MayAttach talk links session (name_of link) × RefusesIn limit talk session link why.HandleInUse
-BarsAttaching limit talk links session link Memory = MayAttach talk links session (name_of link)
+BarsAttaching limit talk links session link Memory =
+    MayAttach talk links session (name_of link) × IsClearIn talk session link
 BarsAttaching limit talk links session link e = ⊥
+
+-- likewise, but that want of memory stands in place of each behind the name
+abbrev pub BarsPlacing : ℕ → LinkTalk → LinksBy → ℕ → End → EndpointError → Type 0
+BarsPlacing limit talk links session link Memory = MayAttach talk links session (name_of link)
+BarsPlacing limit talk links session link e = BarsAttaching limit talk links session link e
+
+-- what is found of a link before anything grows: the first of these that holds but for whether its own Attach fits, and
+-- for whether a link of the session has the handle of the one that it answers, or that none does. It is want of memory
+-- in place of a test alone that tells a list
+abbrev pub FindsAttaching : LinkTalk → LinksBy → ℕ → End → Option EndpointError → Type 0
+FindsAttaching talk links session link None =
+    MayAttach talk links session (name_of link) × FindsIn talk session link None
+FindsAttaching talk links session link (Some HandleMaxReached) =
+    MayAttach talk links session (name_of link) × FindsIn talk session link (Some why.HandleMaxReached)
+FindsAttaching talk links session link (Some (Link error)) =
+    MayAttach talk links session (name_of link) × FindsIn talk session link (Some (why.Link error))
+FindsAttaching talk links session link (Some Memory) =
+    MayAttach talk links session (name_of link) × FindsIn talk session link (Some why.Memory)
+FindsAttaching talk links session link (Some e) = BarsName talk links session (name_of link) e

@@ -6,10 +6,11 @@ ghost use Rattle.amqp_endpoint_attached.specs.Links.{is_at_rest, receiver_by, se
 ghost use Rattle.amqp_endpoint_conversation.specs.Ending.{IsMapped};
 ghost use Rattle.amqp_endpoint_conversation.specs.Going.{Goes, Rests, Within};
 ghost use Rattle.amqp_endpoint_link_calls.specs.Attaching.{AttachesIn, LinkAttaches};
-ghost use Rattle.amqp_endpoint_link_calls.specs.Refusals.{BarsAttaching, BarsMade};
+ghost use Rattle.amqp_endpoint_link_calls.specs.Refusals.{BarsAttaching, BarsMade, BarsPlacing};
 
 use crate::LinkTalk;
 use crate::entering::{enter, prepare};
+use crate::looking::attach_refusal;
 use crate::placed::Placed;
 use crate::placing::attach_live;
 use amqp_endpoint_attached::{receiver, sender};
@@ -17,6 +18,7 @@ use amqp_endpoint_model::{EndpointError, LinkSettings};
 use amqp_endpoint_tables::Links;
 use amqp_link::LinkEnd;
 use amqp_session_performatives::SessionFrame;
+use amqp_session_types::Role;
 use std::alloc::{AllocError, Global};
 use std::collections::VecDeque;
 
@@ -47,7 +49,7 @@ pub fn attach(
     requires { is_at_rest (state_of link) ≡ true }
     ensures ok { IfOk result (λ placed. LinkAttaches talk.old links.old out.old.items limit session link placed
         talk.new links.new out.new.items) }
-    ensures err { IfErr result (BarsAttaching limit talk.old links.old session link) }
+    ensures err { IfErr result (BarsPlacing limit talk.old links.old session link) }
     ensures kept { OnErr result
         ((talk.new ≡ talk.old) × (links.new ≡ links.old) × (out.new.items ≡ out.old.items)) }
     ensures goes { Goes limit talk.old talk.new out.old.items out.new.items }
@@ -64,7 +66,8 @@ pub fn attach(
 /// Attaches a sending link with these settings, which is new, in the session with this number, as `attach` does (part
 /// 2, 2.6.3, 2.7.3).
 ///
-/// It is refused as `attach` is, with `Memory` also where there is none for the link. Nothing changes then.
+/// It is refused as `attach` is, but that `Memory` stands in place of none but `FrameTooLarge` and
+/// `Session(HandleInUse)`, and of `Link` where that tells a list of filters. Nothing changes then.
 pub fn attach_sender(
     talk: &mut LinkTalk,
     links: &mut Links<LinkEnd>,
@@ -77,6 +80,32 @@ pub fn attach_sender(
     ensures ok { IfOk result (λ placed. LinkAttaches talk.old links.old out.old.items limit session
         (sender_by settings.now) placed talk.new links.new out.new.items) }
     ensures err { IfErr result (BarsAttaching limit talk.old links.old session
+        (sender_by settings.now)) }
+    ensures kept { OnErr result
+        ((talk.new ≡ talk.old) × (links.new ≡ links.old) × (out.new.items ≡ out.old.items)) }
+    ensures goes { Goes limit talk.old talk.new out.old.items out.new.items }
+    ensures waits { (most : ℕ) → Within most talk.old → Within most talk.new }
+    ensures rests { Rests talk.old talk.new out.old.items out.new.items }
+{
+    match attach_refusal(talk, links, alloc, session, Role::Sender, settings) {
+        Some(refusal) => Err(refusal),
+        None => place_sender(talk, links, alloc, limit, session, settings, out),
+    }
+}
+
+/// One that sends attaches, which is made. `Memory` may stand in place of each refusal behind `DuplicatedLinkName`.
+fn place_sender(
+    talk: &mut LinkTalk,
+    links: &mut Links<LinkEnd>,
+    alloc: Global,
+    limit: u32,
+    session: u64,
+    settings: &LinkSettings,
+    out: &mut VecDeque<SessionFrame>,
+) -> Result<Placed, EndpointError>
+    ensures ok { IfOk result (λ placed. LinkAttaches talk.old links.old out.old.items limit session
+        (sender_by settings.now) placed talk.new links.new out.new.items) }
+    ensures err { IfErr result (BarsPlacing limit talk.old links.old session
         (sender_by settings.now)) }
     ensures kept { OnErr result
         ((talk.new ≡ talk.old) × (links.new ≡ links.old) × (out.new.items ≡ out.old.items)) }
@@ -108,6 +137,32 @@ pub fn attach_receiver(
     ensures ok { IfOk result (λ placed. LinkAttaches talk.old links.old out.old.items limit session
         (receiver_by settings.now) placed talk.new links.new out.new.items) }
     ensures err { IfErr result (BarsAttaching limit talk.old links.old session
+        (receiver_by settings.now)) }
+    ensures kept { OnErr result
+        ((talk.new ≡ talk.old) × (links.new ≡ links.old) × (out.new.items ≡ out.old.items)) }
+    ensures goes { Goes limit talk.old talk.new out.old.items out.new.items }
+    ensures waits { (most : ℕ) → Within most talk.old → Within most talk.new }
+    ensures rests { Rests talk.old talk.new out.old.items out.new.items }
+{
+    match attach_refusal(talk, links, alloc, session, Role::Receiver, settings) {
+        Some(refusal) => Err(refusal),
+        None => place_receiver(talk, links, alloc, limit, session, settings, out),
+    }
+}
+
+/// One that receives attaches, which is made. `Memory` may stand in place of each refusal behind `DuplicatedLinkName`.
+fn place_receiver(
+    talk: &mut LinkTalk,
+    links: &mut Links<LinkEnd>,
+    alloc: Global,
+    limit: u32,
+    session: u64,
+    settings: &LinkSettings,
+    out: &mut VecDeque<SessionFrame>,
+) -> Result<Placed, EndpointError>
+    ensures ok { IfOk result (λ placed. LinkAttaches talk.old links.old out.old.items limit session
+        (receiver_by settings.now) placed talk.new links.new out.new.items) }
+    ensures err { IfErr result (BarsPlacing limit talk.old links.old session
         (receiver_by settings.now)) }
     ensures kept { OnErr result
         ((talk.new ≡ talk.old) × (links.new ≡ links.old) × (out.new.items ≡ out.old.items)) }

@@ -3,7 +3,7 @@ ghost use Rattle.std.specs.Prelude.{◌≡◌, ◌<◌, IfErr, IfOk, OnErr, OnOk
 ghost use Rattle.amqp_endpoint_tables.specs.LinkState.{IsNewName};
 ghost use Rattle.amqp_endpoint_tables.specs.LinkSteps.{Enters, LowersRoom, Step};
 ghost use Rattle.amqp_endpoint_link_calls.specs.Attaching.{with_room};
-ghost use Rattle.amqp_endpoint_link_calls.specs.Refusals.{BarsName, MayAttach};
+ghost use Rattle.amqp_endpoint_link_calls.specs.Refusals.{BarsName, FindsName, MayAttach};
 
 use crate::LinkTalk;
 use crate::placed::Placed;
@@ -38,6 +38,29 @@ pub(crate) fn prepare(
         Ok(name) => Ok(name),
         Err(LinkRefusal::NameInUse) => Err(EndpointError::DuplicatedLinkName),
         Err(LinkRefusal::Memory) => Err(EndpointError::Memory),
+    }
+}
+
+/// Why no link with this name attaches in the session with this number, if that is found before anything grows: the
+/// first that holds of what `prepare` tests. It takes no memory.
+#[tactic(auto, using(crate::proofs::Looked::names))]
+pub(crate) fn name_refusal(
+    talk: &LinkTalk,
+    links: &Links<LinkEnd>,
+    session: u64,
+    name: &Text,
+) -> Option<EndpointError>
+    ensures { FindsName talk.now links.now session name.now result }
+{
+    if talk.sessions.place(session).is_none() {
+        return Some(EndpointError::UnknownSession);
+    }
+    if !talk.is_mapped(session) {
+        return Some(EndpointError::IllegalState);
+    }
+    match links.named(name) {
+        Some(_) => Some(EndpointError::DuplicatedLinkName),
+        None => None,
     }
 }
 

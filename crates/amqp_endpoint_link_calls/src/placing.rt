@@ -188,7 +188,7 @@ fn attach_own(
 }
 
 /// The endpoint's name for what a session refuses.
-fn of_refusal(refusal: AttachRefusal) -> EndpointError
+pub(crate) fn of_refusal(refusal: AttachRefusal) -> EndpointError
     ensures { result ≡ of_refusal refusal }
 {
     match refusal {

@@ -13,11 +13,12 @@ impl<S: SessionRelay> Endpoint<S> {
     /// for the link before.
     ///
     /// `UnknownSession` where no session has the number, then `IllegalState` where it isn't mapped, then
-    /// `DuplicatedLinkName` where a link here has the name, then `HandleMaxReached` where no handle is left that the peer
-    /// takes (part 2, 2.7.2), then `Link` where the peer's Attach can't be answered, then `FrameTooLarge` where the
-    /// Attach is longer than the peer takes. `Memory` where there is no memory. A refusal
-    /// changes nothing. Exactly when each comes say the sessions (`bars` of their relations): those that attach no link
-    /// answer `IllegalState` in every session that there is, and `UnknownLink` of every link.
+    /// `DuplicatedLinkName` where a link here has the name, then `HandleMaxReached` where no handle is left that the
+    /// peer takes (part 2, 2.7.2), then `Link` where the peer's Attach can't be answered, then `FrameTooLarge` where the
+    /// Attach is longer than the peer takes. `Memory` where there is no memory, in place of none of these but
+    /// `FrameTooLarge`, and `Link` where that lists filters. A refusal changes nothing. Exactly when each comes say the
+    /// sessions (`bars` of their relations): those that attach no link answer `IllegalState` in every session that
+    /// there is, and `UnknownLink` of every link.
     pub fn attach_sender(
         &mut self,
         session: u64,
