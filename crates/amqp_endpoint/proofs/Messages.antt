@@ -76,7 +76,7 @@ module _ (old new : LinkedSessions) (limit link : ℕ) (disposal : Disposal) (ou
   where
     pub disposes-all : (messages : List ℕ) (r : Result ⊤ EndpointError)
         → OnOk r (DisposedAt limit (place_at old.links link) messages disposal old.talk out new.talk out_new)
-        → OnOk r (refusal_of limit old.talk old.links old.given link messages disposal ≡ None)
+        → OnOk r (refusal_of old.talk old.links old.given link messages ≡ None)
         → OnOk r (Called linked old limit (DisposeAll link messages disposal) done out new out_new)
     disposes-all messages (Ok u) d allowed =
         called old new limit (DisposeAll link messages disposal) out out_new least within goes
@@ -89,7 +89,7 @@ module _ (old new : LinkedSessions) (limit link : ℕ) (disposal : Disposal) (ou
 
     pub disposes-one : (message : ℕ) (r : Result ⊤ EndpointError)
         → OnOk r (DisposedOneAt limit (place_at old.links link) message disposal old.talk out new.talk out_new)
-        → OnOk r (refusal_of limit old.talk old.links old.given link (message ∷ []) disposal ≡ None)
+        → OnOk r (refusal_of old.talk old.links old.given link (message ∷ []) ≡ None)
         → OnOk r (Called linked old limit (Dispose link message disposal) done out new out_new)
     disposes-one message (Ok u) d allowed =
         called old new limit (Dispose link message disposal) out out_new least within goes

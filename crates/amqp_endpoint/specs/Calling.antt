@@ -27,7 +27,7 @@ use Rattle.amqp_endpoint_link_calls.specs.Seeing.{credit_told}
 use Rattle.amqp_endpoint_link_calls.specs.Waiting.{BarsWaiting, TurnTold, held_told}
 use Rattle.amqp_endpoint.specs.declared.linked.LinkedSessions.{LinkedSessions}
 use Rattle.amqp_endpoint_link_calls.specs.Disposing.{DisposedAt, DisposedOneAt}
-use Rattle.amqp_endpoint_link_calls.specs.Refusing.{BarsDisposing, refusal_of}
+use Rattle.amqp_endpoint_link_calls.specs.Refusing.{BarsDisposing, BarsDisposingOne, refusal_of}
 use Rattle.amqp_endpoint.specs.Attaching.{LinkAttached}
 use Rattle.amqp_endpoint.specs.Sending.{BarsSending, SendsMessage}
 
@@ -75,14 +75,14 @@ pub record Sends (limit : ℕ) (old : LinkedSessions) (link : ℕ) (message : Se
 -- messages are disposed of, against which nothing speaks, and where each link is stays
 pub record Disposes (limit : ℕ) (old : LinkedSessions) (link : ℕ) (messages : List ℕ) (disposal : Disposal)
     (frames : List SessionFrame) (new : LinkedSessions) : Type 0 where
-  pub allowed : refusal_of limit old.talk old.links old.given link messages disposal ≡ None
+  pub allowed : refusal_of old.talk old.links old.given link messages ≡ None
   pub disposes : DisposedAt limit (link_place old.links link) messages disposal old.talk [] new.talk frames
   pub same : new.links ≡ old.links
 
 -- or one is
 pub record DisposesOfOne (limit : ℕ) (old : LinkedSessions) (link message : ℕ) (disposal : Disposal)
     (frames : List SessionFrame) (new : LinkedSessions) : Type 0 where
-  pub allowed : refusal_of limit old.talk old.links old.given link (message ∷ []) disposal ≡ None
+  pub allowed : refusal_of old.talk old.links old.given link (message ∷ []) ≡ None
   pub disposes : DisposedOneAt limit (link_place old.links link) message disposal old.talk [] new.talk frames
   pub same : new.links ≡ old.links
 
@@ -146,7 +146,7 @@ BarsCall old limit (call.HeldBack session) e = held_told (place_at old.talk.sess
 BarsCall old limit (call.Waiting session) e = BarsWaiting (place_at old.talk.sessions session) e
 BarsCall old limit (call.Send link message) e = BarsSending old.sent old.talk old.links link message e
 BarsCall old limit (call.Dispose link message disposal) e =
-    BarsDisposing limit old.talk old.links old.given link (message ∷ []) disposal e
+    BarsDisposingOne limit old.talk old.links old.given link message disposal e
 BarsCall old limit (call.DisposeAll link messages disposal) e =
     BarsDisposing limit old.talk old.links old.given link messages disposal e
 BarsCall old limit call e = ⊥

@@ -3,7 +3,7 @@ use Rattle.std.proofs.Common.{◌≡◌, ◌≤◌, ℕ, Bool, true, false, List
 use Rattle.std.proofs.Common.{IsSome, refl, sym, ap, subst, ◌∙◌}
 use Rattle.std.proofs.lemmas.List.Elements.{All-nil}
 use Rattle.std.proofs.lemmas.Option.{none-some}
-use Rattle.std.specs.Prelude.{OnErr, OnOk, ⊤}
+use Rattle.std.specs.Prelude.{IfErr, OnErr, OnOk, ⊤}
 use Rattle.std.specs.Box.{with_value}
 use Rattle.std.specs.Global.{Box}
 use Rattle.amqp_session_types.specs.declared.handles.OutputHandle.{OutputHandle}
@@ -13,6 +13,8 @@ use Rattle.amqp_session_performatives.specs.declared.session_frame.SessionFrame.
 use Rattle.amqp_session_core.specs.Steps.{Changes, SendsDisposition, Step}
 use Rattle.amqp_link_base.specs.declared.detached.Detached.{Detached}
 use Rattle.amqp_link_receiver.specs.declared.answer.Told.{Told}
+use Rattle.amqp_link_receiver.specs.declared.disposable.DisposeRefusal.{DisposeRefusal}
+use Rattle.amqp_link_receiver.specs.DisposingAll.{Named}
 use Rattle.amqp_link.specs.declared.end.End.{End}
 use Rattle.amqp_link.specs.declared.relay.AttachTold.{AttachTold}
 use Rattle.amqp_endpoint_links.specs.History.{AskingHistory, AskingAct, InSession}
@@ -26,8 +28,10 @@ use Rattle.amqp_endpoint_attached.specs.Linked.{Linked, LinksIn, end_at, gives}
 use Rattle.amqp_endpoint_attached.specs.Receiving.{is_receiving}
 use Rattle.amqp_endpoint_messages.specs.Disposing.{DisposesOfAll, DisposesOfOne}
 use Rattle.amqp_endpoint_messages.specs.Dispositions.{IsDisposed, SendsEach, frames_of}
+use Rattle.amqp_endpoint_messages.specs.Refusals.{IsTooLong, RefusesAll, named_at}
 use Rattle.amqp_endpoint_model.specs.declared.call.Disposal.{Disposal}
 use Rattle.amqp_endpoint_model.specs.declared.error.EndpointError.{EndpointError}
+use Rattle.amqp_endpoint_model.specs.declared.error.EndpointError.TheVariants.{FrameTooLarge}
 use Rattle.amqp_endpoint_link_calls.specs.Calling.{Does, DoneIn}
 use Rattle.amqp_endpoint_link_calls.specs.Places.{LinkTalk, end_live}
 use Rattle.amqp_endpoint_link_calls.proofs.Done.{changed, done-in}
@@ -35,6 +39,7 @@ use Rattle.amqp_endpoint_link_calls.proofs.Going.{answers-plain}
 use Rattle.amqp_endpoint_link_calls.specs.Disposing.{disposes_of_all, disposes_of_one, disposes_of_tag}
 use Rattle.amqp_endpoint_link_calls.specs.Disposing.{disposes_of_tags}
 use Rattle.amqp_endpoint_link_calls.specs.Keeping.{kept_tag, kept_tags}
+use Rattle.amqp_endpoint_link_calls.specs.Refusing.{AreTooLong, BarsTelling, too_large_or_memory}
 
 abbrev LinkAct : Type 0
 LinkAct = AskingAct (Numbered End) AttachTold Told Detached
@@ -104,6 +109,12 @@ pub one-change : (handle : OutputHandle) (tag : List ℕ) (state : DeliveryState
     → DisposesOfOne handle tag state asked old told new → ChangesLink handle old new
 one-change handle tag state asked old told new d = record { stood = _; stands = _; changed = d.changed }
 
+-- once no message is refused, this is left to refuse them
+left : (link : Option End) (named : Result Named DisposeRefusal) (TooLong : Type 0) (e : EndpointError)
+    → RefusesAll link named TooLong e → BarsTelling TooLong (too_large_or_memory e)
+left link named TooLong FrameTooLarge refuses = refuses.2
+left link named TooLong e refuses = tt
+
 -- the session is lent
 module _ (old : LinkTalk) (number : ℕ) (lent : Box Linked) (live : live_at old.sessions number ≡ Some lent)
     (before after : Linked) (same : before ≡ lent.value) where
@@ -136,6 +147,22 @@ module _ (old : LinkTalk) (number : ℕ) (lent : Box Linked) (live : live_at old
           queued = answered.added;
           fit = λ least within. answered.fit;
         }
+
+  -- what refuses it there
+  pub left-over : (limit : ℕ) (handle : OutputHandle) (tags : List (List ℕ)) (state : DeliveryState)
+      (asked : Option Bool) (e : EndpointError)
+      → RefusesAll (end_at before handle) (named_at (end_at before handle) tags)
+      (IsTooLong limit (end_at before handle) tags state asked) e
+      → BarsTelling (IsTooLong limit (end_live (live_at old.sessions number) handle) tags state asked)
+      (too_large_or_memory e)
+  left-over limit handle tags state asked e refuses =
+      let is : end_at before handle ≡ end_live (live_at old.sessions number) handle =
+      ap (λ (s : Linked). end_at s handle) same
+      ∙ sym (ap (λ (s : Option (Box Linked)). end_live s handle) live) in
+      subst
+      (λ (o : Option End). BarsTelling (IsTooLong limit o tags state asked) (too_large_or_memory e)) is
+      (left (end_at before handle) (named_at (end_at before handle) tags)
+      (IsTooLong limit (end_at before handle) tags state asked) e refuses)
 
   -- it is done there
   pub disposed-in : (Disposes : OutputHandle → LinksIn → List Disposition → LinksIn → Type 0) (limit : ℕ)
@@ -215,6 +242,19 @@ module _ (limit : ℕ) (disposal : Disposal) (old new : LinkTalk) (number : ℕ)
         queued = d.queued;
       }
 
+-- what refuses the deliveries refuses the messages
+pub kept-too-long : (limit : ℕ) (link : Option End) (messages : List ℕ) (tags : List (List ℕ)) (disposal : Disposal)
+    (state : DeliveryState) → tags ≡ kept_tags link messages → state ≡ disposal.state
+    → (result : Result ⊤ EndpointError)
+    → IfErr result (BarsTelling (IsTooLong limit link tags state disposal.settled))
+    → IfErr result (BarsTelling (AreTooLong limit link messages disposal))
+kept-too-long limit link messages tags disposal state are is result bars =
+    subst
+    (λ (ts : List (List ℕ)).
+    IfErr result (BarsTelling (IsTooLong limit link ts disposal.state disposal.settled))) are
+    (subst
+    (λ (s : DeliveryState). IfErr result (BarsTelling (IsTooLong limit link tags s disposal.settled))) is bars)
+
 -- the link keeps the message
 pub keeps-none : (tag : Option (List ℕ)) → None ≡ tag → IsSome tag → ⊥
 keeps-none None is some = absurd cc
@@ -253,3 +293,8 @@ no-ok X (Err why) e is = tt
 pub no-err : (X : Type 0) (result : Result ⊤ EndpointError) (done : ⊤) → result ≡ Ok done → OnErr result X
 no-err X (Ok it) done is = tt
 no-err X (Err why) done is = absurd cc
+
+pub err-on : (P Q : EndpointError → Type 0) (result : Result ⊤ EndpointError) → ((e : EndpointError) → P e → Q e)
+    → IfErr result P → IfErr result Q
+err-on P Q (Ok done) f so = tt
+err-on P Q (Err e) f so = f e so

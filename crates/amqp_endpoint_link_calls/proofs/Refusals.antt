@@ -21,12 +21,13 @@ use Rattle.amqp_endpoint_model.specs.declared.error.EndpointError.{EndpointError
 use Rattle.amqp_endpoint_model.specs.declared.error.EndpointError.TheVariants.{Memory}
 use Rattle.amqp_endpoint_attached.specs.Receiving.{is_receiving}
 use Rattle.amqp_endpoint_link_calls.specs.Calling.{DoneIn}
-use Rattle.amqp_endpoint_link_calls.specs.Places.{IsNotHeld, LinksBy, LinkTalk, Where, end_live}
+use Rattle.amqp_endpoint_link_calls.specs.Places.{IsNotHeld, LinksBy, LinkTalk, Where, end_live, end_of}
 use Rattle.amqp_endpoint_link_calls.specs.Disposing.{DisposedAt, DisposedOneAt, disposes_of_all, disposes_of_one}
 use Rattle.amqp_endpoint_link_calls.specs.Keeping.{kept_tag}
-use Rattle.amqp_endpoint_link_calls.specs.Refusing.{Refused, RefusesBy, disposable_behind, disposable_under}
-use Rattle.amqp_endpoint_link_calls.specs.Refusing.{first_refused, is_told, refusal_of}
-use Rattle.amqp_endpoint_link_calls.specs.Refusing.{or_behind, refusal_by, said_at, said_of, while_attached}
+use Rattle.amqp_endpoint_link_calls.specs.Refusing.{AreTooLong, BarsTelling, BarsTellingOne, Refused, RefusesBy}
+use Rattle.amqp_endpoint_link_calls.specs.Refusing.{RefusesOneBy, disposable_behind, disposable_under, first_refused}
+use Rattle.amqp_endpoint_link_calls.specs.Refusing.{message_fits, or_behind, refusal_by, refusal_of, said_at, said_of}
+use Rattle.amqp_endpoint_link_calls.specs.Refusing.{while_attached}
 
 module _ (r : ReceiverState) (attached : Bool) (messages : List ℕ) (at : ℕ) (below : at < length messages) where
   abbrev here : ℕ
@@ -95,9 +96,9 @@ module _ (r : ReceiverState) (message : ℕ) (messages : List ℕ) where
       by None e = absurd (none-some _ (sym e))
       by (Some tag) e = refl
 
-module _ (talk : LinkTalk) (links : LinksBy) (given : ℕ) (fits : Bool) (message : ℕ) (messages : List ℕ) where
+module _ (talk : LinkTalk) (links : LinksBy) (given : ℕ) (message : ℕ) (messages : List ℕ) where
   abbrev Passes : Result (Option Refused) EndpointError → Type 0
-  Passes said = refusal_by talk links given fits said ≡ None
+  Passes said = refusal_by talk links given said ≡ None
 
   said-nothing : (o : Option Refused) → Passes (Ok o) → o ≡ None
   said-nothing None passes = refl
@@ -130,13 +131,12 @@ module _ (talk : LinkTalk) (links : LinksBy) (given : ℕ) (fits : Bool) (messag
       record { attached = so.0; keeps = so.1 }
 
 -- a link of which a message isn't refused is held by a session
-pub passes-in : (limit : ℕ) (talk : LinkTalk) (links : LinksBy) (given link : ℕ) (messages : List ℕ)
-    (disposal : Disposal) (message : ℕ) (others : List ℕ) (refused : Option EndpointError)
-    → refused ≡ refusal_of limit talk links given link messages disposal → None ≡ refused
-    → messages ≡ message ∷ others → IsIn talk (place_at links link) message
-passes-in limit talk links given link messages disposal message others refused is none named =
-    is-in talk links given (is_told limit (message ∷ others) disposal.state) message others (place_at links link)
-    (subst (λ (ms : List ℕ). refusal_of limit talk links given link ms disposal ≡ None) named
+pub passes-in : (talk : LinkTalk) (links : LinksBy) (given link : ℕ) (messages : List ℕ) (message : ℕ)
+    (others : List ℕ) (refused : Option EndpointError) → refused ≡ refusal_of talk links given link messages
+    → None ≡ refused → messages ≡ message ∷ others → IsIn talk (place_at links link) message
+passes-in talk links given link messages message others refused is none named =
+    is-in talk links given message others (place_at links link)
+    (subst (λ (ms : List ℕ). refusal_of talk links given link ms ≡ None) named
     (sym is ∙ sym none))
 
 pub not-unheld : (talk : LinkTalk) (place : Where) (message : ℕ) (e : EndpointError) → IsIn talk place message
@@ -169,9 +169,30 @@ module _ (limit : ℕ) (disposal : Disposal) (old new : LinkTalk) (out out_new :
   disposed-one-at message d =
       subst (λ (p : Where). DisposedOneAt limit p message disposal old out new out_new) (sym held) d
 
--- nothing but memory is wanted then
-pub wants-memory : (refused : Option EndpointError) (messages : List ℕ) (message : ℕ) (others : List ℕ)
-    (e : EndpointError) → refused ≡ None → messages ≡ message ∷ others → e ≡ Memory → RefusesBy refused messages e
-wants-memory refused messages message others e none named is =
-    subst (λ (r : Option EndpointError). RefusesBy r messages e) (sym none)
-    (subst (λ (ms : List ℕ). RefusesBy None ms e) (sym named) is)
+-- what is left refuses them then
+module _ (limit : ℕ) (disposal : Disposal) (talk : LinkTalk) (place : Where) (session : ℕ) (handle : OutputHandle)
+    (held : place ≡ Some (Held session handle)) (refused : Option EndpointError) (none : refused ≡ None) where
+  pub bars-all : (messages : List ℕ) (message : ℕ) (others : List ℕ) (e : EndpointError) → messages ≡ message ∷ others
+      → BarsTelling (AreTooLong limit (end_live (live_at talk.sessions session) handle) messages disposal) e
+      → RefusesBy refused messages (AreTooLong limit (end_of talk place) messages disposal) e
+  bars-all messages message others e named bars =
+      let P : Option EndpointError → List ℕ → Where → Type 0 =
+      λ r ms p. RefusesBy r ms (AreTooLong limit (end_of talk p) ms disposal) e in
+      subst (λ (r : Option EndpointError). P r messages place) (sym none)
+      (subst (λ (ms : List ℕ). P None ms place) (sym named)
+      (subst (P None (message ∷ others)) (sym held)
+      (subst
+      (λ (ms : List ℕ).
+      BarsTelling (AreTooLong limit (end_live (live_at talk.sessions session) handle) ms disposal) e) named bars)))
+
+  pub bars-one : (message : ℕ) (e : EndpointError)
+      → BarsTellingOne (message_fits limit (end_live (live_at talk.sessions session) handle) message disposal) e
+      → RefusesOneBy refused (message_fits limit (end_of talk place) message disposal) e
+  bars-one message e bars =
+      let P : Option EndpointError → Where → Type 0 =
+      λ r p. RefusesOneBy r (message_fits limit (end_of talk p) message disposal) e in
+      subst (λ (r : Option EndpointError). P r place) (sym none) (subst (P None) (sym held) bars)
+
+-- where it fits, memory alone is wanted
+pub wants-memory : (fit : Bool) (e : EndpointError) → fit ≡ true → e ≡ Memory → BarsTellingOne fit e
+wants-memory fit e fits is = subst (λ (x : EndpointError). BarsTellingOne fit x) (sym is) fits

@@ -1,7 +1,6 @@
 -- Why messages of an endpoint's links aren't disposed of: part 2, 2.6.12, 2.7.6.
 use Rattle.std.specs.Prelude.{◌≡◌, ℕ, ◌==◌, ◌||◌, ◌++◌, Bool, true, false, List, [], ◌∷◌, length, nat_le, Option, Some}
-use Rattle.std.specs.Prelude.{None, Result, Ok, Err, if◌then◌else◌}
-use Rattle.amqp_session_states.specs.declared.delivery_state.DeliveryState.{DeliveryState}
+use Rattle.std.specs.Prelude.{None, Result, Ok, Err, if◌then◌else◌, ⊤}
 use Rattle.amqp_link_receiver.specs.Numbering.{tag_of}
 use Rattle.amqp_link_receiver.specs.declared.disposable.Disposable.{Disposable}
 use Rattle.amqp_link_receiver.specs.declared.disposable.DisposeRefusal.{DisposeRefusal}
@@ -17,9 +16,9 @@ use Rattle.amqp_endpoint_model.specs.declared.error.EndpointError.TheVariants.{A
 use Rattle.amqp_endpoint_model.specs.declared.error.EndpointError.TheVariants.{IllegalState, Memory, NotAssociated}
 use Rattle.amqp_endpoint_model.specs.declared.error.EndpointError.TheVariants.{UnknownLink, UnknownMessage}
 use Rattle.amqp_endpoint_attached.specs.Receiving.{is_receiving}
-use Rattle.amqp_endpoint_messages.specs.Longest.{state_fits}
+use Rattle.amqp_endpoint_messages.specs.Refusals.{IsTooLong, one_fits}
 use Rattle.amqp_endpoint_link_calls.specs.Places.{LinksBy, LinkTalk, Where, end_held, end_of}
-use Rattle.amqp_endpoint_link_calls.specs.Keeping.{one_keeps}
+use Rattle.amqp_endpoint_link_calls.specs.Keeping.{kept_tag, kept_tags, one_keeps}
 
 -- the message is among those that were named before it
 abbrev pub is_among : ℕ → List ℕ → Bool
@@ -83,31 +82,69 @@ error_of talk links given (message, refusal.NotKept) =
 error_of talk links given (message, refusal.AlreadyDisposed) = AlreadyDisposed
 error_of talk links given (message, refusal.NotAssociated) = NotAssociated
 
--- a frame holds the state that is told, whatever its channel; of no message none is told
-abbrev pub is_told : ℕ → List ℕ → DeliveryState → Bool
-is_told limit [] state = true
-is_told limit (message ∷ messages) state = state_fits limit 0 state
+-- what the messages are refused with for what they are: what the link says, then what the first message says that can't
+-- be disposed of
+abbrev pub refusal_by : LinkTalk → LinksBy → ℕ → Result (Option Refused) EndpointError → Option EndpointError
+refusal_by talk links given (Err why) = Some why
+refusal_by talk links given (Ok (Some refused)) = Some (error_of talk links given refused)
+refusal_by talk links given (Ok None) = None
 
--- what the messages are refused with, where it isn't for want of memory: what the link says, then what the first
--- message says that can't be disposed of, then that no frame holds the state
-abbrev pub refusal_by : LinkTalk → LinksBy → ℕ → Bool → Result (Option Refused) EndpointError → Option EndpointError
-refusal_by talk links given fits (Err why) = Some why
-refusal_by talk links given fits (Ok (Some refused)) = Some (error_of talk links given refused)
-refusal_by talk links given true (Ok None) = None
-refusal_by talk links given false (Ok None) = Some FrameTooLarge
+-- what these messages of the link with this number are refused with for that, if they are: so many numbers were given
+abbrev pub refusal_of : LinkTalk → LinksBy → ℕ → ℕ → List ℕ → Option EndpointError
+refusal_of talk links given link messages =
+    refusal_by talk links given (said_at talk (place_at links link) messages)
 
--- what these messages of the link with this number are refused with, if they are: so many numbers were given
-abbrev pub refusal_of : ℕ → LinkTalk → LinksBy → ℕ → ℕ → List ℕ → Disposal → Option EndpointError
-refusal_of limit talk links given link messages disposal =
-    refusal_by talk links given (is_told limit messages disposal.state) (said_at talk (place_at links link) messages)
+-- of the Dispositions that would tell the state of these messages of a link one doesn't fit the limit (part 2, 2.4.1,
+-- 2.7.6)
+abbrev pub AreTooLong : ℕ → Option End → List ℕ → Disposal → Type 0
+AreTooLong limit link messages disposal =
+    IsTooLong limit link (kept_tags link messages) disposal.state disposal.settled
 
--- they are refused with that, or there is no memory: of no message none is wanted
-abbrev pub RefusesBy : Option EndpointError → List ℕ → EndpointError → Type 0
-RefusesBy (Some why) messages e = e ≡ why
-RefusesBy None [] e = ⊥
-RefusesBy None (message ∷ messages) e = e ≡ Memory
+-- the Disposition that would tell the state of one message fits the limit; of one that the link doesn't keep there is
+-- none
+abbrev pub tag_fits : ℕ → Option End → Option (List ℕ) → Disposal → Bool
+tag_fits limit link None disposal = true
+tag_fits limit link (Some tag) disposal = one_fits limit link tag disposal.state disposal.settled
+
+abbrev pub message_fits : ℕ → Option End → ℕ → Disposal → Bool
+message_fits limit link message disposal = tag_fits limit link (kept_tag link message) disposal
+
+-- why messages aren't disposed of that can be: a Disposition that would go doesn't fit, or there is no memory
+abbrev pub BarsTelling : Type 0 → EndpointError → Type 0
+BarsTelling TooLong FrameTooLarge = TooLong
+BarsTelling TooLong Memory = ⊤
+BarsTelling TooLong e = ⊥
+
+-- why one isn't: its Disposition doesn't fit, and then there is no memory
+abbrev pub BarsTellingOne : Bool → EndpointError → Type 0
+BarsTellingOne fit FrameTooLarge = fit ≡ false
+BarsTellingOne fit Memory = fit ≡ true
+BarsTellingOne fit e = ⊥
+
+-- what is left to refuse messages that can be disposed of
+abbrev pub too_large_or_memory : EndpointError → EndpointError
+too_large_or_memory FrameTooLarge = FrameTooLarge
+too_large_or_memory e = Memory
+
+-- they are refused for what they are, and else for that: of no message nothing is told, and no memory is wanted
+abbrev pub RefusesBy : Option EndpointError → List ℕ → Type 0 → EndpointError → Type 0
+RefusesBy (Some why) messages TooLong e = e ≡ why
+RefusesBy None [] TooLong e = ⊥
+RefusesBy None (message ∷ messages) TooLong e = BarsTelling TooLong e
+
+-- so is one
+abbrev pub RefusesOneBy : Option EndpointError → Bool → EndpointError → Type 0
+RefusesOneBy (Some why) fit e = e ≡ why
+RefusesOneBy None fit e = BarsTellingOne fit e
 
 -- why these messages of the link with this number aren't disposed of
 abbrev pub BarsDisposing : ℕ → LinkTalk → LinksBy → ℕ → ℕ → List ℕ → Disposal → EndpointError → Type 0
 BarsDisposing limit talk links given link messages disposal e =
-    RefusesBy (refusal_of limit talk links given link messages disposal) messages e
+    RefusesBy (refusal_of talk links given link messages) messages
+    (AreTooLong limit (end_of talk (place_at links link)) messages disposal) e
+
+-- why one of them isn't
+abbrev pub BarsDisposingOne : ℕ → LinkTalk → LinksBy → ℕ → ℕ → ℕ → Disposal → EndpointError → Type 0
+BarsDisposingOne limit talk links given link message disposal e =
+    RefusesOneBy (refusal_of talk links given link (message ∷ []))
+    (message_fits limit (end_of talk (place_at links link)) message disposal) e

@@ -5,6 +5,7 @@ ghost use Rattle.amqp_endpoint_tables.specs.declared.link_place.LinkPlace.TheVar
 ghost use Rattle.amqp_endpoint_model.specs.declared.error.EndpointError.TheVariants.{Memory};
 ghost use Rattle.amqp_endpoint_tables.specs.State.{live_at};
 ghost use Rattle.amqp_endpoint_attached.specs.Receiving.{is_receiving};
+ghost use Rattle.amqp_endpoint_messages.specs.Refusals.{IsTooLong};
 ghost use Rattle.amqp_endpoint_conversation.specs.Going.{Goes, Rests, Within};
 ghost use Rattle.amqp_endpoint_link_calls.specs.Calling.{DoneIn};
 ghost use Rattle.amqp_endpoint_link_calls.specs.Places.{end_live};
@@ -12,10 +13,11 @@ ghost use Rattle.amqp_endpoint_link_calls.specs.Keeping.{kept_tag};
 ghost use Rattle.amqp_endpoint_link_calls.specs.Disposing.{DisposedAt, DisposedOneAt, disposes_of_all};
 ghost use Rattle.amqp_endpoint_link_calls.specs.Disposing.{disposes_of_one};
 ghost use Rattle.amqp_endpoint_link_calls.specs.Disposing.{disposes_of_tag, disposes_of_tags};
-ghost use Rattle.amqp_endpoint_link_calls.specs.Refusing.{BarsDisposing, refusal_of};
+ghost use Rattle.amqp_endpoint_link_calls.specs.Refusing.{AreTooLong, BarsDisposing, BarsDisposingOne, BarsTelling};
+ghost use Rattle.amqp_endpoint_link_calls.specs.Refusing.{BarsTellingOne, message_fits, refusal_of};
 
 use crate::keeping::{tag_in, tags_in};
-use crate::refusing::refusal_of;
+use crate::refusing::{fits_in, refusal_of, too_large_or_memory};
 use crate::{LinkTalk, holder};
 use amqp_endpoint_messages as disposing;
 use amqp_endpoint_model::{Disposal, EndpointError};
@@ -38,8 +40,8 @@ use std::collections::VecDeque;
 /// exactly where the link doesn't keep it, and its number was never given or another link keeps it; with
 /// `AlreadyDisposed` exactly where no link keeps it though its number was given, its outcome was told, or it was named
 /// before; and with `NotAssociated` exactly where it has no number in the present attachment, as none has that a link
-/// keeps which isn't attached. Then it is refused with `FrameTooLarge` exactly where the longest Disposition that tells
-/// the state doesn't fit the limit, and with `Memory`. Nothing changes then.
+/// keeps which isn't attached. Then it is refused with `FrameTooLarge` exactly where one of those Dispositions doesn't
+/// fit the limit, and with `Memory`, which may stand in place of `FrameTooLarge`. Nothing changes then.
 pub fn dispose_all(
     talk: &mut LinkTalk,
     alloc: Global,
@@ -54,7 +56,7 @@ pub fn dispose_all(
     ensures ok { OnOk result (DisposedAt limit (place_at links.now link) messages.now disposal.now talk.old
         out.old.items talk.new out.new.items) }
     ensures allowed { OnOk result
-        (refusal_of limit talk.old links.now given link messages.now disposal.now ≡ None) }
+        (refusal_of talk.old links.now given link messages.now ≡ None) }
     ensures err { IfErr result (BarsDisposing limit talk.old links.now given link messages.now
         disposal.now) }
     ensures kept { OnErr result ((talk.new ≡ talk.old) × (out.new.items ≡ out.old.items)) }
@@ -62,7 +64,7 @@ pub fn dispose_all(
     ensures waits { (most : ℕ) → Within most talk.old → Within most talk.new }
     ensures rests { Rests talk.old talk.new out.old.items out.new.items }
 {
-    if let Some(why) = refusal_of(talk, links, given, limit, link, messages, disposal) {
+    if let Some(why) = refusal_of(talk, links, given, link, messages) {
         return Err(why);
     }
     let Some(_) = messages.split_first() else {
@@ -79,7 +81,8 @@ pub fn dispose_all(
 /// nothing, it is by the mode of its transfer, or else the link's (part 2, 2.8.3). So many numbers were given to
 /// messages before: 0 to `given` less 1.
 ///
-/// It is refused as `dispose_all` refuses this message alone. Nothing changes then.
+/// It is refused as `dispose_all` refuses this message alone, but with `FrameTooLarge` exactly where that Disposition
+/// doesn't fit the limit, and with `Memory` only where nothing else refuses it. Nothing changes then.
 pub fn dispose(
     talk: &mut LinkTalk,
     alloc: Global,
@@ -94,15 +97,15 @@ pub fn dispose(
     ensures ok { OnOk result (DisposedOneAt limit (place_at links.now link) message disposal.now talk.old
         out.old.items talk.new out.new.items) }
     ensures allowed { OnOk result
-        (refusal_of limit talk.old links.now given link (message ∷ []) disposal.now ≡ None) }
-    ensures err { IfErr result (BarsDisposing limit talk.old links.now given link (message ∷ [])
+        (refusal_of talk.old links.now given link (message ∷ []) ≡ None) }
+    ensures err { IfErr result (BarsDisposingOne limit talk.old links.now given link message
         disposal.now) }
     ensures kept { OnErr result ((talk.new ≡ talk.old) × (out.new.items ≡ out.old.items)) }
     ensures goes { Goes limit talk.old talk.new out.old.items out.new.items }
     ensures waits { (most : ℕ) → Within most talk.old → Within most talk.new }
     ensures rests { Rests talk.old talk.new out.old.items out.new.items }
 {
-    if let Some(why) = refusal_of(talk, links, given, limit, link, &[message], disposal) {
+    if let Some(why) = refusal_of(talk, links, given, link, &[message]) {
         return Err(why);
     }
     let Ok((session, handle)) = holder(links, link) else {
@@ -126,7 +129,8 @@ fn dispose_kept(
     requires { is_receiving (end_live (live_at talk.old.sessions session) handle) ≡ true }
     ensures ok { OnOk result (DoneIn (disposes_of_all limit messages.now disposal.now) session handle talk.old
         out.old.items talk.new out.new.items) }
-    ensures err { IfErr result (λ e. e ≡ Memory) }
+    ensures err { IfErr result (BarsTelling
+        (AreTooLong limit (end_live (live_at talk.old.sessions session) handle) messages.now disposal.now)) }
     ensures kept { OnErr result ((talk.new ≡ talk.old) × (out.new.items ≡ out.old.items)) }
     ensures goes { Goes limit talk.old talk.new out.old.items out.new.items }
     ensures waits { (most : ℕ) → Within most talk.old → Within most talk.new }
@@ -163,11 +167,16 @@ fn dispose_kept_one(
         message) }
     ensures ok { OnOk result (DoneIn (disposes_of_one limit message disposal.now) session handle talk.old
         out.old.items talk.new out.new.items) }
-    ensures err { IfErr result (λ e. e ≡ Memory) }
+    ensures err { IfErr result (BarsTellingOne
+        (message_fits limit (end_live (live_at talk.old.sessions session) handle) message disposal.now)) }
     ensures kept { OnErr result ((talk.new ≡ talk.old) × (out.new.items ≡ out.old.items)) }
     ensures goes { Goes limit talk.old talk.new out.old.items out.new.items }
     ensures waits { (most : ℕ) → Within most talk.old → Within most talk.new }
 {
+    let fit = fits_in(talk, limit, session, handle, message, disposal);
+    if !fit {
+        return Err(EndpointError::FrameTooLarge);
+    }
     let kept = tag_in(talk, session, handle, message)?;
     let Some(tag) = kept else { unreachable!() };
     let state = disposal.state.clone()?;
@@ -185,7 +194,8 @@ fn dispose_kept_one(
 }
 
 /// The attached receiving link with this own handle in the session with this number disposes of the deliveries with
-/// these tags. What is refused is told as want of memory: nothing else is refused any more.
+/// these tags. It is refused where one of the Dispositions that tell it doesn't fit the limit, and what else is refused
+/// is told as want of memory: nothing else is refused any more.
 fn dispose_tags(
     talk: &mut LinkTalk,
     alloc: Global,
@@ -201,7 +211,8 @@ fn dispose_tags(
     ensures ok { OnOk result
         (DoneIn (disposes_of_tags limit tags.now (record { state = state; settled = settled })) session handle talk.old
         out.old.items talk.new out.new.items) }
-    ensures err { IfErr result (λ e. e ≡ Memory) }
+    ensures err { IfErr result (BarsTelling
+        (IsTooLong limit (end_live (live_at talk.old.sessions session) handle) tags.now state settled)) }
     ensures kept { OnErr result ((talk.new ≡ talk.old) × (out.new.items ≡ out.old.items)) }
     ensures goes { Goes limit talk.old talk.new out.old.items out.new.items }
     ensures waits { (most : ℕ) → Within most talk.old → Within most talk.new }
@@ -211,11 +222,11 @@ fn dispose_tags(
     };
     match disposing::dispose_all(session, alloc, limit, handle, tags, state, settled, out) {
         Ok(()) => Ok(()),
-        Err(_) => Err(EndpointError::Memory),
+        Err(error) => Err(too_large_or_memory(error)),
     }
 }
 
-/// Likewise of the delivery with this tag.
+/// Likewise of the delivery with this tag, whose Disposition fits the limit: what is refused is told as want of memory.
 fn dispose_tag(
     talk: &mut LinkTalk,
     alloc: Global,

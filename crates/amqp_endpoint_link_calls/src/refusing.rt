@@ -1,50 +1,40 @@
 //! Why messages aren't disposed of, by their numbers (part 2, 2.6.12, 2.7.6).
 ghost use Rattle.std.specs.Prelude.{◌≡◌, [], length, Some, Ok};
+ghost use Rattle.amqp_link.specs.declared.end.End.TheVariants.{Receiver};
 ghost use Rattle.amqp_endpoint_tables.specs.LinkState.{place_at};
 ghost use Rattle.amqp_endpoint_tables.specs.State.{live_at};
 ghost use Rattle.amqp_endpoint_attached.specs.Receiving.{is_receiving};
 ghost use Rattle.amqp_endpoint_link_calls.specs.Places.{end_live};
 ghost use Rattle.amqp_endpoint_link_calls.specs.Keeping.{one_keeps};
 ghost use Rattle.amqp_endpoint_link_calls.specs.Refusing.{disposable_behind, error_of, first_refused, is_among};
-ghost use Rattle.amqp_endpoint_link_calls.specs.Refusing.{is_told};
-ghost use Rattle.amqp_endpoint_link_calls.specs.Refusing.{of_none_kept, refusal_by, refusal_of, said_at, said_of};
+ghost use Rattle.amqp_endpoint_link_calls.specs.Refusing.{message_fits, of_none_kept, refusal_by, refusal_of};
+ghost use Rattle.amqp_endpoint_link_calls.specs.Refusing.{said_at, said_of, tag_fits, too_large_or_memory};
 ghost use Rattle.amqp_endpoint_link_calls.specs.Refusing.{while_attached};
 
 use crate::LinkTalk;
 use crate::keeping::one_keeps;
-use amqp_endpoint_messages::{is_receiving, state_fits};
+use amqp_endpoint_messages::{delivery_fits, is_receiving};
 use amqp_endpoint_model::{Disposal, EndpointError};
 use amqp_endpoint_tables::{LinkPlace, Links};
 use amqp_link::{End, LinkEnd};
 use amqp_link_receiver::{Disposable, DisposeRefusal, ReceiverLink};
-use amqp_session_states::DeliveryState;
-use amqp_session_types::OutputHandle;
+use amqp_session_types::{DeliveryTag, OutputHandle};
 
-/// What these messages of the link with this number are refused with, if they are, where it isn't for want of memory.
-/// It takes no memory itself; it takes time by the number of messages, times that of the deliveries that the link keeps
-/// and that of the messages.
+/// What these messages of the link with this number are refused with for what they are, if they are. It takes no
+/// memory; it takes time by the number of messages, times that of the deliveries that the link keeps and that of the
+/// messages.
 pub(crate) fn refusal_of(
     talk: &LinkTalk,
     links: &Links<LinkEnd>,
     given: u64,
-    limit: u32,
     link: u64,
     messages: &[u64],
-    disposal: &Disposal,
 ) -> Option<EndpointError>
-    ensures { result ≡ refusal_of limit talk.now links.now given link messages.now disposal.now }
+    ensures { result ≡ refusal_of talk.now links.now given link messages.now }
 {
     match said_at(talk, links, link, messages) {
         Err(why) => Some(why),
-        Ok(refused) => refusal_by(
-            talk,
-            links,
-            given,
-            limit,
-            refused,
-            messages,
-            &disposal.state,
-        ),
+        Ok(refused) => refusal_by(talk, links, given, refused),
     }
 }
 
@@ -53,31 +43,83 @@ fn refusal_by(
     talk: &LinkTalk,
     links: &Links<LinkEnd>,
     given: u64,
-    limit: u32,
     refused: Option<(u64, DisposeRefusal)>,
-    messages: &[u64],
-    state: &DeliveryState,
 ) -> Option<EndpointError>
-    ensures { result ≡ refusal_by talk.now links.now given (is_told limit messages.now state.now)
-        (Ok refused) }
+    ensures { result ≡ refusal_by talk.now links.now given (Ok refused) }
 {
-    if let Some(refused) = refused {
-        return Some(error_of(talk, links, given, refused));
-    }
-    if !is_told(limit, messages, state) {
-        return Some(EndpointError::FrameTooLarge);
-    }
-    None
+    let Some(refused) = refused else {
+        return None;
+    };
+    Some(error_of(talk, links, given, refused))
 }
 
-/// Whether a frame holds the state, where any is sent.
-fn is_told(limit: u32, messages: &[u64], state: &DeliveryState) -> bool
-    ensures { result ≡ is_told limit messages.now state.now }
+/// Whether the Disposition that would tell the state of the message fits the limit, where the link with this own handle
+/// in the session with this number keeps the message (part 2, 2.4.1, 2.7.6). It takes no memory.
+pub(crate) fn fits_in(
+    talk: &LinkTalk,
+    limit: u32,
+    session: u64,
+    handle: OutputHandle,
+    message: u64,
+    disposal: &Disposal,
+) -> bool
+    ensures { result ≡ message_fits limit (end_live (live_at talk.now.sessions session) handle) message
+        disposal.now }
 {
-    let Some(_) = messages.split_first() else {
+    let Some(session) = talk.sessions.live(session) else {
         return true;
     };
-    state_fits(limit, state)
+    match session.session.link(handle) {
+        Some(link) => fits_by(&link.link, limit, message, disposal),
+        None => true,
+    }
+}
+
+/// Likewise of this link.
+fn fits_by(end: &LinkEnd, limit: u32, message: u64, disposal: &Disposal) -> bool
+    ensures { result ≡ message_fits limit (Some end.now) message disposal.now }
+{
+    match end.end() {
+        End::Receiver(receiver) => fits_of(receiver, limit, message, disposal),
+        End::Sender(_) => true,
+    }
+}
+
+/// Likewise of this receiving link.
+fn fits_of(receiver: &ReceiverLink, limit: u32, message: u64, disposal: &Disposal) -> bool
+    ensures { result ≡ message_fits limit (Some (Receiver receiver.now)) message disposal.now }
+{
+    let Some(tag) = receiver.tag_of(message) else {
+        return true;
+    };
+    tag_fits(receiver, limit, tag, disposal)
+}
+
+/// Whether the Disposition that would tell the state of the delivery with this tag fits the limit, where the receiving
+/// link can dispose of it. It takes no memory.
+fn tag_fits(receiver: &ReceiverLink, limit: u32, tag: &DeliveryTag, disposal: &Disposal) -> bool
+    ensures { result ≡ tag_fits limit (Some (Receiver receiver.now)) (Some tag.now) disposal.now }
+{
+    match receiver.disposable(tag) {
+        Ok(delivery) => delivery_fits(
+            limit,
+            receiver,
+            &delivery,
+            &disposal.state,
+            disposal.settled,
+        ),
+        Err(_) => true,
+    }
+}
+
+/// What is left to refuse messages that can be disposed of.
+pub(crate) fn too_large_or_memory(error: EndpointError) -> EndpointError
+    ensures { result ≡ too_large_or_memory error }
+{
+    match &error {
+        EndpointError::FrameTooLarge => EndpointError::FrameTooLarge,
+        _ => EndpointError::Memory,
+    }
 }
 
 /// What a message that can't be disposed of is refused with.

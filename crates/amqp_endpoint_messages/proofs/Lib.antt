@@ -1,10 +1,9 @@
-pub mod Naming
 pub mod Sizes
 pub mod Longer
 pub mod DispositionsSent
 pub mod StatesTold
-pub mod Ends
 pub mod Disposed
+pub mod TooLong
 pub mod Nothing
 pub mod Telling
 pub mod Firsts

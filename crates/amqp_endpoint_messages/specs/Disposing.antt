@@ -1,5 +1,5 @@
 -- How a receiving link of a session disposes of deliveries: part 2, 2.6.12, 2.7.6 and 2.8.3.
-use Rattle.std.specs.Prelude.{◌≡◌, ℕ, List, [], ◌∷◌, Bool, true, Option, Result, Ok, length, replicate}
+use Rattle.std.specs.Prelude.{◌≡◌, ℕ, List, [], ◌∷◌, Bool, true, Option, Some, Result, Ok, length, replicate}
 use Rattle.amqp_session_types.specs.declared.handles.OutputHandle.{OutputHandle}
 use Rattle.amqp_session_states.specs.declared.delivery_state.DeliveryState.{DeliveryState}
 use Rattle.amqp_session_performatives.specs.declared.disposition.Disposition.{Disposition}
@@ -7,7 +7,8 @@ use Rattle.amqp_session_core.specs.Steps.{Step, Changes}
 use Rattle.amqp_link_base.specs.State.{is_attached}
 use Rattle.amqp_link_receiver.specs.declared.disposable.Disposable.{Disposable}
 use Rattle.amqp_link_receiver.specs.Disposing.{Disposes, disposable_now, disposed_of, disposition_of, is_settled}
-use Rattle.amqp_link_receiver.specs.DisposingAll.{AllDisposed, Named, TellsRuns, each_disposed, named_all}
+use Rattle.amqp_link_receiver.specs.DisposingAll.{AllPrepared, Named, Prepared, TellsRuns, committed, each_disposed}
+use Rattle.amqp_link_receiver.specs.DisposingAll.{named_all}
 use Rattle.amqp_link_receiver.specs.declared.disposing.DisposeError.{DisposeError}
 use Rattle.amqp_link_receiver.specs.State.{ReceiverState}
 use Rattle.amqp_link.specs.declared.end.End.{End}
@@ -15,13 +16,17 @@ use Rattle.amqp_link.specs.declared.end.End.TheVariants.{Receiver}
 use Rattle.amqp_endpoint_attached.specs.Linked.{LinksIn, gives}
 use Rattle.amqp_endpoint_attached.specs.Receiving.{receiving}
 
--- an end of a link disposes of all that are named, and tells it by these Dispositions
-abbrev pub EndDisposes : End → List (List ℕ) → DeliveryState → Option Bool → List Disposition → End → Type 0
-EndDisposes (Receiver r) tags state asked told (Receiver after) =
-    AllDisposed (named_all r tags) r state asked told after
-EndDisposes old tags state asked told new = ⊥
+-- an end of a link is ready to dispose of all that are named
+abbrev pub EndPrepares : Option End → List (List ℕ) → DeliveryState → Option Bool → Prepared → Type 0
+EndPrepares (Some (Receiver r)) tags state asked p = AllPrepared (named_all r tags) r state asked p
+EndPrepares link tags state asked p = ⊥
 
--- or of one, or refuses it
+-- it disposes of them as it was made ready
+abbrev pub EndCommits : End → Prepared → End → Type 0
+EndCommits (Receiver r) p (Receiver after) = after ≡ committed r p
+EndCommits old p new = ⊥
+
+-- it disposes of one, or refuses it
 abbrev pub EndDisposesOne : End → List ℕ → DeliveryState → Option Bool → Result Disposition DisposeError → End → Type 0
 EndDisposesOne (Receiver r) tag state asked answer (Receiver after) =
     Disposes (disposable_now r tag) r tag state asked answer after
@@ -44,6 +49,14 @@ pub record DisposesOfAll (handle : OutputHandle) (tags : List (List ℕ)) (state
   pub changed : Step gives old
       (Changes handle.0 (receiving number receiver)
       (receiving number (each_disposed receiver named (replicate (length named) state) asked))) new
+
+-- what was made ready is done by an attached receiving link of a session
+pub record Commits (handle : OutputHandle) (p : Prepared) (old new : LinksIn) : Type 0 where
+  pub number : ℕ
+  pub receiver : ReceiverState
+  pub attached : is_attached receiver.base.local_state ≡ true
+  pub changed : Step gives old
+      (Changes handle.0 (receiving number receiver) (receiving number (committed receiver p))) new
 
 -- one delivery, by an attached receiving link of a session: one Disposition tells it
 pub record DisposesOfOne (handle : OutputHandle) (tag : List ℕ) (state : DeliveryState) (asked : Option Bool)

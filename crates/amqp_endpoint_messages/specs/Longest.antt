@@ -1,5 +1,5 @@
 -- Whether the peer takes a frame that tells a state: part 2, 2.4.1, 2.7.6.
-use Rattle.std.specs.Prelude.{ℕ, ◌-◌, ◌^◌, Bool, true, false, Some}
+use Rattle.std.specs.Prelude.{ℕ, ◌-◌, ◌^◌, ◌&&◌, Bool, true, false, List, [], ◌∷◌, Some}
 use Rattle.amqp_session_types.specs.declared.modes.Role.TheVariants.{Receiver}
 use Rattle.amqp_session_states.specs.declared.delivery_state.DeliveryState.{DeliveryState}
 use Rattle.amqp_session_performatives.specs.declared.disposition.Disposition.{Disposition}
@@ -26,3 +26,12 @@ disposition_frame channel d = record { channel = channel; body = body.Dispositio
 -- whichever deliveries a state is told of, the Disposition fits the limit
 abbrev pub state_fits : ℕ → ℕ → DeliveryState → Bool
 state_fits limit channel state = fits limit (frame_of (disposition_frame channel (longest state)))
+
+-- the frame of a Disposition fits the limit, whatever its channel
+abbrev pub disposition_fits : ℕ → Disposition → Bool
+disposition_fits limit d = fits limit (frame_of (disposition_frame 0 d))
+
+-- each of these does
+abbrev pub all_fit : ℕ → List Disposition → Bool
+all_fit limit [] = true
+all_fit limit (d ∷ rest) = disposition_fits limit d && all_fit limit rest

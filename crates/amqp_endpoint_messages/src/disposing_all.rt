@@ -1,20 +1,20 @@
 //! How several deliveries are disposed of at once (part 2, 2.6.12, 2.7.6).
-ghost use Rattle.std.specs.Prelude.{◌≡◌, ◌≤◌, true, false, length, IfErr, IfOk, OnErr};
+ghost use Rattle.std.specs.Prelude.{◌≡◌, ◌≤◌, true, IfErr, IfOk, OnErr, Some};
 ghost use Rattle.std.specs.VecDeque.{deque_capacity};
 ghost use Rattle.amqp_link_receiver.specs.DisposingAll.{NotNamed};
 ghost use Rattle.amqp_endpoint_attached.specs.Linked.{end_in};
 ghost use Rattle.amqp_endpoint_attached.specs.Receiving.{is_receiving};
-ghost use Rattle.amqp_endpoint_messages.specs.Disposing.{DisposesOfAll, EndDisposes};
-ghost use Rattle.amqp_endpoint_messages.specs.Refusals.{AllAnswered, RefusesAll, named_at};
+ghost use Rattle.amqp_endpoint_messages.specs.Disposing.{Commits, EndCommits, EndPrepares};
+ghost use Rattle.amqp_endpoint_messages.specs.Refusals.{AllAnswered, named_at};
 
-use crate::dispositions::{are_read, send_each};
-use crate::looking::{answer, is_receiving, look_at};
-use crate::measuring::state_fits;
+use crate::dispositions::send_each;
+use crate::looking::{answer, is_receiving};
+use crate::measuring::all_fit;
 use amqp_endpoint_attached::LinkSession;
 use amqp_endpoint_links::Numbered;
 use amqp_endpoint_model::EndpointError;
 use amqp_link::{End, LinkEnd};
-use amqp_link_receiver::DisposeError;
+use amqp_link_receiver::{DisposeError, PreparedDisposal};
 use amqp_session_core::Session;
 use amqp_session_performatives::{Disposition, SessionFrame};
 use amqp_session_states::DeliveryState;
@@ -31,8 +31,8 @@ use std::collections::VecDeque;
 /// It is refused, in this order, with `IllegalState` exactly where no attached receiving link has the handle; as the
 /// link refuses the first of the tags that it refuses, with `AlreadyDisposed` exactly where nothing is kept of it, its
 /// outcome was told or it was named before, and with `NotAssociated` exactly where it has no number in the present
-/// attachment; with `FrameTooLarge` exactly where the longest Disposition that tells the state doesn't fit the limit;
-/// and with `Memory`, which the tags are looked at with, too. Nothing changes then.
+/// attachment; with `FrameTooLarge` exactly where one of those Dispositions doesn't fit the limit; and with `Memory`,
+/// which the tags and the Dispositions are looked at with, too. Nothing changes then.
 pub fn dispose_all(
     session: &mut LinkSession,
     alloc: Global,
@@ -53,79 +53,87 @@ pub fn dispose_all(
     if !is_receiving(&session.session, handle) {
         return Err(EndpointError::IllegalState);
     }
-    let fits = state_fits(limit, &state);
-    if !fits {
-        return Err(too_large(&session.session, alloc, handle, tags));
-    }
-    if out.reserve(tags.len()).is_err() {
-        return Err(EndpointError::Memory);
-    }
-    let told = match dispose_in(&mut session.session, alloc, handle, tags, state, settled) {
-        Ok(told) => told,
+    let prepared = match prepare_in(&session.session, alloc, handle, tags, state, settled) {
+        Ok(prepared) => prepared,
         Err(error) => return Err(answer(error)),
     };
-    are_read(&told);
+    let going = prepared.told();
+    let fit = all_fit(limit, going);
+    if !fit {
+        return Err(EndpointError::FrameTooLarge);
+    }
+    if out.reserve(going.len()).is_err() {
+        return Err(EndpointError::Memory);
+    }
+    let told = commit_in(&mut session.session, alloc, handle, prepared);
     send_each(&mut session.session, told, out);
     Ok(())
 }
 
-/// What is answered where no frame holds the state: as the link refuses the first of the tags that it refuses, and else
-/// with `FrameTooLarge`; or with `Memory`.
-fn too_large(
+/// The attached receiving link with this own handle makes ready what disposes of the deliveries with these tags.
+fn prepare_in(
     session: &Session<Numbered<LinkEnd>>,
     alloc: Global,
     handle: OutputHandle,
     tags: &[DeliveryTag],
-) -> EndpointError
+    state: DeliveryState,
+    settled: Option<bool>,
+) -> Result<PreparedDisposal, DisposeError>
     requires { is_receiving (end_in session.now handle) ≡ true }
-    ensures { RefusesAll (end_in session.now handle) (named_at (end_in session.now handle) tags.now)
-        false result }
+    ensures ready { IfOk result (λ prepared.
+        EndPrepares (end_in session.now handle) tags.now state settled prepared) }
+    ensures refused { IfErr result (λ error.
+        NotNamed (named_at (end_in session.now handle) tags.now) error) }
 {
-    match look_at(session, alloc, handle, tags) {
-        Ok(()) => EndpointError::FrameTooLarge,
-        Err(error) => answer(error),
-    }
+    let Some(link) = session.link(handle) else {
+        unreachable!()
+    };
+    prepare_by(&link.link, alloc, tags, state, settled)
 }
 
-/// The attached receiving link with this own handle disposes of the deliveries with these tags.
-fn dispose_in(
-    session: &mut Session<Numbered<LinkEnd>>,
+/// An attached receiving link makes it ready.
+fn prepare_by(
+    link: &LinkEnd,
     alloc: Global,
-    handle: OutputHandle,
     tags: &[DeliveryTag],
     state: DeliveryState,
     settled: Option<bool>,
-) -> Result<Vec<Disposition>, DisposeError>
+) -> Result<PreparedDisposal, DisposeError>
+    requires { is_receiving (Some link.now) ≡ true }
+    ensures ready { IfOk result (λ prepared. EndPrepares (Some link.now) tags.now state settled prepared) }
+    ensures refused { IfErr result (λ error. NotNamed (named_at (Some link.now) tags.now) error) }
+{
+    match link.end() {
+        End::Receiver(receiver) => receiver.prepare_dispose_all(alloc, tags, state, settled),
+        End::Sender(_) => unreachable!(),
+    }
+}
+
+/// The attached receiving link with this own handle disposes of deliveries as it was made ready.
+fn commit_in(
+    session: &mut Session<Numbered<LinkEnd>>,
+    alloc: Global,
+    handle: OutputHandle,
+    prepared: PreparedDisposal,
+) -> Vec<Disposition>
     requires { is_receiving (end_in session.old handle) ≡ true }
-    ensures disposes { IfOk result (λ told.
-        DisposesOfAll handle tags.now state settled session.old told.items session.new) }
-    ensures few { IfOk result (λ told. length told.items ≤ length tags.now) }
-    ensures refused { IfErr result (λ error.
-        NotNamed (named_at (end_in session.old handle) tags.now) error) }
-    ensures kept { OnErr result (session.new ≡ session.old) }
+    ensures told { result.items ≡ prepared.told }
+    ensures commits { Commits handle prepared session.old session.new }
 {
     let Some(link) = session.link_mut(handle) else {
         unreachable!()
     };
-    dispose_by(&mut link.link, alloc, tags, state, settled)
+    commit_by(&mut link.link, alloc, prepared)
 }
 
-/// An attached receiving link disposes of the deliveries with these tags.
-fn dispose_by(
-    link: &mut LinkEnd,
-    alloc: Global,
-    tags: &[DeliveryTag],
-    state: DeliveryState,
-    settled: Option<bool>,
-) -> Result<Vec<Disposition>, DisposeError>
+/// An attached receiving link does so.
+fn commit_by(link: &mut LinkEnd, alloc: Global, prepared: PreparedDisposal) -> Vec<Disposition>
     requires { is_receiving (Some link.old) ≡ true }
-    ensures disposes { IfOk result (λ told.
-        EndDisposes link.old tags.now state settled told.items link.new) }
-    ensures refused { IfErr result (λ error. NotNamed (named_at (Some link.old) tags.now) error) }
-    ensures kept { OnErr result (link.new ≡ link.old) }
+    ensures told { result.items ≡ prepared.told }
+    ensures commits { EndCommits link.old prepared link.new }
 {
     match link.end_mut() {
-        End::Receiver(receiver) => receiver.dispose_all(alloc, tags, state, settled),
+        End::Receiver(receiver) => receiver.commit_dispose_all(alloc, prepared),
         End::Sender(_) => unreachable!(),
     }
 }

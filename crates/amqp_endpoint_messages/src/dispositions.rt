@@ -1,5 +1,5 @@
 //! How Dispositions are sent in a session (part 2, 2.7.6).
-ghost use Rattle.std.specs.Prelude.{◌≡◌, ◌+◌, ◌≤◌, ◌<◌, ◌++◌, ◌∷◌, [], All, length};
+ghost use Rattle.std.specs.Prelude.{◌≡◌, ◌+◌, ◌≤◌, ◌<◌, ◌++◌, ◌∷◌, [], length};
 ghost use Rattle.std.specs.VecDeque.{deque_len, deque_capacity};
 ghost use Rattle.amqp_endpoint_fitting.specs.Read.{IsReadDisposition};
 ghost use Rattle.amqp_endpoint_messages.specs.Dispositions.{SendsEach, SendsOne, frames_of, said_by};
@@ -42,16 +42,7 @@ pub(crate) fn send_one<R: LinkRelay>(
     out.push_back_reserved(frame);
 }
 
-/// The numbers of Dispositions are read, and so lie in the ranges of their fields (part 2, 2.7.6).
-pub(crate) fn are_read(told: &[Disposition])
-    ensures { All IsReadDisposition told.now }
-{
-    for disposition in told {
-        is_read(disposition);
-    }
-}
-
-/// The numbers of a Disposition are read (part 2, 2.7.6).
+/// The numbers of a Disposition are read, and so lie in the ranges of their fields (part 2, 2.7.6).
 pub(crate) fn is_read(disposition: &Disposition)
     ensures { IsReadDisposition disposition.now }
 {

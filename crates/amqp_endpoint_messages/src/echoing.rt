@@ -1,19 +1,16 @@
 //! What goes back to a receiver that settles once the sender did (part 2, 2.6.12, 2.7.6, 2.8.3).
-ghost use Rattle.std.specs.Prelude.{◌≡◌, ◌+◌, ◌≤◌, ◌<◌, ◌++◌, ◌∷◌, [], ℕ, All, IfOk, false, true, if◌then◌else◌};
+ghost use Rattle.std.specs.Prelude.{◌≡◌, ◌+◌, ◌≤◌, ◌<◌, ◌++◌, ◌∷◌, [], All, IfOk, false, true, if◌then◌else◌};
 ghost use Rattle.std.specs.Prelude.{length};
 ghost use Rattle.std.specs.Vec.{vec_capacity, vec_len};
 ghost use Rattle.std.specs.VecDeque.{deque_capacity, deque_len};
 ghost use Rattle.amqp_session_core.specs.Disposing.{AreCopies};
-ghost use Rattle.amqp_endpoint_model.specs.State.{fits, frame_of};
-ghost use Rattle.amqp_endpoint_messages.specs.Longest.{disposition_frame};
 ghost use Rattle.amqp_endpoint_messages.specs.Dispositions.{SendsEach, frames_of};
 ghost use Rattle.amqp_endpoint_attached.specs.Linked.{gives};
 ghost use Rattle.amqp_endpoint_messages.specs.Echoing.{ServesFor, barred, each_fits, echo, echoes_of, going};
 
 use crate::dispositions::{is_read, send_one};
-use crate::measuring::state_fits;
+use crate::measuring::{fits, state_fits};
 use amqp_endpoint_attached::LinkSession;
-use amqp_link_unsettled::fits_text;
 use amqp_session_core::{LinkRelay, Session};
 use amqp_session_performatives::{Disposition, SessionFrame};
 use amqp_session_states::DeliveryState;
@@ -97,14 +94,6 @@ fn echo(run: (u32, u32), state: Option<DeliveryState>) -> Disposition
         state,
         batchable: false,
     }
-}
-
-/// Whether a Disposition fits the limit, whatever its channel.
-fn fits(limit: u32, disposition: &Disposition) -> bool
-    ensures { (channel : ℕ) → result ≡ fits limit
-        (frame_of (disposition_frame channel disposition.now)) }
-{
-    fits_text(disposition, limit)
 }
 
 /// So many copies of a state.

@@ -3,8 +3,8 @@
 //! of its own (part 3, 3.4).
 //!
 //! What is sent says specs/Sending.antt. Messages that came are disposed of several at once, all or none, or one: what
-//! each call does say specs/: Disposing and Dispositions, with what it is refused for in Refusals, and which states a
-//! frame holds in Longest. Outcomes are told of the messages that a disposition of the peer reaches, and of those that
+//! each call does say specs/: Disposing and Dispositions, with what it is refused for in Refusals, and what a frame
+//! holds in Longest. Outcomes are told of the messages that a disposition of the peer reaches, and of those that
 //! a link has as it ends: specs/ Reached and All; what is echoed to the peer (part 2, 2.8.3), Echoing.
 #![tactic(auto)]
 
@@ -26,7 +26,7 @@ pub use disposing_all::dispose_all;
 pub use echoing::{Echoes, make_echoes, send_echoes};
 pub use ending::{open_count, tell_by, tell_first};
 pub use looking::is_receiving;
-pub use measuring::state_fits;
+pub use measuring::delivery_fits;
 pub use one::dispose;
 pub use preparing::send_refusal;
 pub use reached::{reached_by, tell_reached};

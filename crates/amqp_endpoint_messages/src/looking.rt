@@ -1,18 +1,17 @@
 //! What a receiving link of a session says of deliveries before they are disposed of (part 2, 2.6.12, 2.7.6).
-ghost use Rattle.std.specs.Prelude.{◌≡◌, true};
-ghost use Rattle.amqp_link_receiver.specs.DisposingAll.{named_all};
+ghost use Rattle.std.specs.Prelude.{◌≡◌, Ok, Some, true};
 ghost use Rattle.amqp_endpoint_attached.specs.Linked.{end_in};
 ghost use Rattle.amqp_endpoint_attached.specs.Receiving.{is_receiving};
-ghost use Rattle.amqp_endpoint_messages.specs.Refusals.{IsErrorOf, IsLookedAt, error_of, kept_at, named_at};
+ghost use Rattle.amqp_endpoint_messages.specs.Refusals.{IsErrorOf, error_of, kept_at, one_fits};
 
+use crate::measuring::delivery_fits;
 use amqp_endpoint_links::Numbered;
 use amqp_endpoint_model::EndpointError;
 use amqp_link::{End, LinkEnd};
-use amqp_link_receiver::{Disposable, DisposeError, DisposeRefusal, ReceiverLink};
-use amqp_link_unsettled::UnsettledMap;
+use amqp_link_receiver::{Disposable, DisposeError, DisposeRefusal};
 use amqp_session_core::Session;
+use amqp_session_states::DeliveryState;
 use amqp_session_types::{DeliveryTag, OutputHandle};
-use std::alloc::Global;
 
 /// Whether an attached receiving link has this own handle.
 pub fn is_receiving(session: &Session<Numbered<LinkEnd>>, handle: OutputHandle) -> bool
@@ -60,55 +59,42 @@ fn kept_by(link: &LinkEnd, tag: &DeliveryTag) -> Result<Disposable, DisposeRefus
     }
 }
 
-/// Looks whether the deliveries with these tags can be disposed of, where an attached receiving link has the handle: as
-/// its first that can't is refused, or there is no memory.
-pub(crate) fn look_at(
+/// Whether the Disposition by which the link with this handle disposes of the delivery with this tag, which is disposed
+/// of by this, fits the limit.
+pub(crate) fn fits(
     session: &Session<Numbered<LinkEnd>>,
-    alloc: Global,
+    limit: u32,
     handle: OutputHandle,
-    tags: &[DeliveryTag],
-) -> Result<(), DisposeError>
-    requires { is_receiving (end_in session.now handle) ≡ true }
-    ensures { IsLookedAt (named_at (end_in session.now handle) tags.now) result }
+    tag: &DeliveryTag,
+    delivery: &Disposable,
+    state: &DeliveryState,
+    settled: Option<bool>,
+) -> bool
+    requires { Ok delivery.now ≡ kept_at (end_in session.now handle) tag.now }
+    ensures { result ≡ one_fits limit (end_in session.now handle) tag.now state.now settled }
 {
     let Some(link) = session.link(handle) else {
-        unreachable!()
+        return true;
     };
-    look_at_end(&link.link, alloc, tags)
+    fits_by(&link.link, limit, tag, delivery, state, settled)
 }
 
-/// Looks whether the deliveries with these tags can be disposed of.
-fn look_at_end(link: &LinkEnd, alloc: Global, tags: &[DeliveryTag]) -> Result<(), DisposeError>
-    requires { is_receiving (Some link.now) ≡ true }
-    ensures { IsLookedAt (named_at (Some link.now) tags.now) result }
+/// Whether the Disposition by which a link disposes of the delivery with this tag fits the limit.
+fn fits_by(
+    link: &LinkEnd,
+    limit: u32,
+    _tag: &DeliveryTag,
+    delivery: &Disposable,
+    state: &DeliveryState,
+    settled: Option<bool>,
+) -> bool
+    requires { Ok delivery.now ≡ kept_at (Some link.now) _tag.now }
+    ensures { result ≡ one_fits limit (Some link.now) _tag.now state.now settled }
 {
     match link.end() {
-        End::Receiver(receiver) => look_at_each(receiver, alloc, tags),
-        End::Sender(_) => unreachable!(),
+        End::Receiver(receiver) => delivery_fits(limit, receiver, delivery, state, settled),
+        End::Sender(_) => true,
     }
-}
-
-/// Looks whether the deliveries with these tags can be disposed of: none is named twice.
-#[tactic(auto, using(crate::proofs::Naming::rules))]
-fn look_at_each(
-    receiver: &ReceiverLink,
-    alloc: Global,
-    tags: &[DeliveryTag],
-) -> Result<(), DisposeError>
-    ensures { IsLookedAt (named_all receiver.now tags.now) result }
-{
-    let mut named = UnsettledMap::new(alloc);
-    named.reserve(tags.len())?;
-    let mut rest = tags;
-    while let Some((tag, others)) = rest.split_first() {
-        if named.contains(tag) {
-            return Err(DisposeError::Refused(DisposeRefusal::AlreadyDisposed));
-        }
-        let delivery = receiver.disposable(tag)?;
-        named.insert_reserved(tag.clone()?, delivery);
-        rest = others;
-    }
-    Ok(())
 }
 
 /// What is answered where a link refuses a delivery.

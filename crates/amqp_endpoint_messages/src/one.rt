@@ -6,9 +6,8 @@ ghost use Rattle.amqp_endpoint_attached.specs.Receiving.{is_receiving};
 ghost use Rattle.amqp_endpoint_messages.specs.Disposing.{DisposesOfOne, EndDisposesOne};
 ghost use Rattle.amqp_endpoint_messages.specs.Refusals.{OneAnswered, kept_at};
 
-use crate::dispositions::{is_read, send_one};
-use crate::looking::{is_receiving, kept, refusal};
-use crate::measuring::state_fits;
+use crate::dispositions::send_one;
+use crate::looking::{fits, is_receiving, kept, refusal};
 use amqp_endpoint_attached::LinkSession;
 use amqp_endpoint_links::Numbered;
 use amqp_endpoint_model::EndpointError;
@@ -27,8 +26,8 @@ use std::collections::VecDeque;
 ///
 /// It is refused, in this order, with `IllegalState` exactly where no attached receiving link has the handle; with
 /// `AlreadyDisposed` exactly where nothing is kept of the delivery or its outcome was told; with `NotAssociated`
-/// exactly where it has no number in the present attachment; with `FrameTooLarge` exactly where the longest Disposition
-/// that tells the state doesn't fit the limit; and with `Memory`. Nothing changes then.
+/// exactly where it has no number in the present attachment; with `FrameTooLarge` exactly where that Disposition
+/// doesn't fit the limit; and with `Memory`. Nothing changes then.
 pub fn dispose(
     session: &mut LinkSession,
     alloc: Global,
@@ -49,11 +48,20 @@ pub fn dispose(
     if !is_receiving(&session.session, handle) {
         return Err(EndpointError::IllegalState);
     }
-    if let Err(why) = kept(&session.session, handle, tag) {
-        return Err(refusal(why));
-    }
-    let fits = state_fits(limit, &state);
-    if !fits {
+    let delivery = match kept(&session.session, handle, tag) {
+        Ok(delivery) => delivery,
+        Err(why) => return Err(refusal(why)),
+    };
+    let fit = fits(
+        &session.session,
+        limit,
+        handle,
+        tag,
+        &delivery,
+        &state,
+        settled,
+    );
+    if !fit {
         return Err(EndpointError::FrameTooLarge);
     }
     if out.reserve(1).is_err() {
@@ -62,7 +70,6 @@ pub fn dispose(
     let Ok(told) = dispose_in(&mut session.session, alloc, handle, tag, state, settled) else {
         return Err(EndpointError::Memory);
     };
-    is_read(&told);
     send_one(&mut session.session, told, out);
     Ok(())
 }

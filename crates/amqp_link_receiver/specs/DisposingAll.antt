@@ -106,6 +106,31 @@ each_disposed s (one ∷ rest) [] asked = s
 each_disposed s (one ∷ rest) (state ∷ states) asked =
     each_disposed (one_disposed s one state asked) rest states asked
 
+-- what is made ready to dispose of deliveries: those that are named, a state for each, what is told, and whether they
+-- are to be settled
+pub record Prepared : Type 0 where
+  pub named : Named
+  pub states : List DeliveryState
+  pub told : List Disposition
+  pub asked : Option Bool
+
+-- these deliveries, by a copy of this state for each, which is what is told
+pub record Prepares (link : ReceiverSettleMode) (named : Named) (state : DeliveryState) (asked : Option Bool)
+    (p : Prepared) : Type 0 where
+  pub tells : TellsRuns link named state asked p.told
+  pub are_named : p.named ≡ named
+  pub are_copies : p.states ≡ replicate (length named) state
+  pub is_asked : p.asked ≡ asked
+
+-- all that are named are made ready to be disposed of
+abbrev pub AllPrepared : Result Named DisposeRefusal → ReceiverState → DeliveryState → Option Bool → Prepared → Type 0
+AllPrepared (Err why) s state asked p = ⊥
+AllPrepared (Ok named) s state asked p = Prepares s.base.terms.rcv_settle_mode named state asked p
+
+-- deliveries are disposed of as it was made ready
+abbrev pub committed : ReceiverState → Prepared → ReceiverState
+committed s p = each_disposed s p.named p.states p.asked
+
 -- all that are named are disposed of
 abbrev pub AllDisposed : Result Named DisposeRefusal → ReceiverState → DeliveryState → Option Bool
     → List Disposition → ReceiverState → Type 0

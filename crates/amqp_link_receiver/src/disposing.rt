@@ -55,6 +55,15 @@ impl ReceiverLink {
         self.end.disposable(self.attachment(), tag)
     }
 
+    /// Whether a delivery that is disposed of by this is settled as its state is told: as is asked, or by the mode of
+    /// its transfer, or else the link's (part 2, 2.8.3).
+    pub fn settles(&self, delivery: &Disposable, asked: Option<bool>) -> bool
+        ensures { result ≡ is_settled self.now.base.terms.rcv_settle_mode delivery.now.rcv_settle_mode asked }
+    {
+        let mode = self.base.terms.rcv_settle_mode;
+        is_settled(mode, delivery.rcv_settle_mode, asked)
+    }
+
     /// Disposes of the delivery with this tag, and answers the Disposition that is to be sent (part 2, 2.7.6). The
     /// delivery is settled as is asked; where that says nothing, it is by the mode of its transfer, or else the
     /// link's: `First` settles, and `Second` doesn't (part 2, 2.8.3). Where it is settled nothing of it is kept, and

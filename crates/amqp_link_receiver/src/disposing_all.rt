@@ -1,8 +1,8 @@
 //! How a receiving link disposes of several deliveries at once (part 2, 2.6.12, 2.7.6 and 2.8.3).
 ghost use Rattle.std.specs.Prelude.{◌≡◌, map, Ok, IfOk, IfErr, OnErr};
-ghost use Rattle.amqp_link_receiver.specs.DisposingAll.{AllDisposed, InOrder, NotNamed, each_disposed, goes_on};
-ghost use Rattle.amqp_link_receiver.specs.DisposingAll.{named_all, one_disposed, run_disposition, run_of, runs_of};
-ghost use Rattle.amqp_link_receiver.specs.DisposingAll.{same_mode};
+ghost use Rattle.amqp_link_receiver.specs.DisposingAll.{AllDisposed, AllPrepared, InOrder, NotNamed, committed};
+ghost use Rattle.amqp_link_receiver.specs.DisposingAll.{each_disposed, goes_on, named_all, one_disposed};
+ghost use Rattle.amqp_link_receiver.specs.DisposingAll.{run_disposition, run_of, runs_of, same_mode};
 
 use crate::disposing::{DisposeError, is_settled};
 use crate::link::ReceiverLink;
@@ -12,6 +12,7 @@ use amqp_session_performatives::Disposition;
 use amqp_session_states::DeliveryState;
 use amqp_session_types::{DeliveryTag, ReceiverSettleMode, Role};
 use std::alloc::{AllocError, Global};
+use std::marker::Model;
 
 /// How many deliveries a disposition reaches at most (part 2, 2.8.10).
 const LONGEST_RUN: u32 = 1 << 31;
@@ -66,6 +67,37 @@ impl Run {
     }
 }
 
+/// Deliveries that are to be disposed of at once, with all that this takes. A clause sees all of it.
+#[derive(Drop)]
+pub struct PreparedDisposal {
+    named: UnsettledMap<Disposable>,
+    states: Vec<DeliveryState>,
+    told: Vec<Disposition>,
+    settled: Option<bool>,
+}
+
+impl Model for PreparedDisposal {
+    ghost use Rattle.amqp_link_receiver.specs.DisposingAll.{Prepared};
+
+    ghost Value = { Prepared };
+
+    ghost view = { λ p. record {
+      named = p.named.entries;
+      states = p.states.items;
+      told = p.told.items;
+      asked = p.settled;
+    } };
+}
+
+impl PreparedDisposal {
+    /// The Dispositions that are to be sent, in the order of the numbers of the deliveries (part 2, 2.7.6).
+    pub fn told(&self) -> &[Disposition]
+        ensures { result.now ≡ self.now.told }
+    {
+        &self.told
+    }
+}
+
 impl ReceiverLink {
     /// Disposes of the deliveries with these tags, all of them or none, and answers the Dispositions that are to be
     /// sent, in the order of the numbers of the deliveries (part 2, 2.7.6): one for each run of numbers that follow
@@ -90,13 +122,55 @@ impl ReceiverLink {
         ensures refused { IfErr result (λ error. NotNamed (named_all self.old tags.now) error) }
         ensures err { OnErr result (self.new ≡ self.old) }
     {
+        let prepared = self.prepare_dispose_all(alloc, tags, state, settled)?;
+        Ok(self.commit_dispose_all(alloc, prepared))
+    }
+
+    /// Makes ready what `dispose_all` does, with the Dispositions that it answers. Nothing changes yet.
+    ///
+    /// Errors: those of `dispose_all`.
+    pub fn prepare_dispose_all(
+        &self,
+        alloc: Global,
+        tags: &[DeliveryTag],
+        state: DeliveryState,
+        settled: Option<bool>,
+    ) -> Result<PreparedDisposal, DisposeError>
+        ensures ok { IfOk result (λ prepared.
+            AllPrepared (named_all self.now tags.now) self.now state settled prepared) }
+        ensures refused { IfErr result (λ error. NotNamed (named_all self.now tags.now) error) }
+    {
         let named = self.name_all(alloc, tags)?;
         let link = self.base.terms.rcv_settle_mode;
         let runs = runs_of(alloc, &in_order(alloc, named.iter())?)?;
         let told = dispositions(alloc, &runs, link, &state, settled)?;
         let states = vec![in alloc; state; named.len()]?;
+        Ok(PreparedDisposal {
+            named,
+            states,
+            told,
+            settled,
+        })
+    }
+
+    /// Disposes of the deliveries as it was made ready by this link, and answers the Dispositions that are to be sent.
+    /// It takes no memory.
+    pub fn commit_dispose_all(
+        &mut self,
+        alloc: Global,
+        prepared: PreparedDisposal,
+    ) -> Vec<Disposition>
+        ensures told { result.items ≡ prepared.told }
+        ensures link { self.new ≡ committed self.old prepared }
+    {
+        let PreparedDisposal {
+            named,
+            states,
+            told,
+            settled,
+        } = prepared;
         self.dispose_each(alloc, &named, states, settled);
-        Ok(told)
+        told
     }
 
     /// What each delivery is disposed of by, in the order in which they are named.

@@ -34,6 +34,7 @@ pub use attaching::{Attached, PreparedAttach};
 pub use attachment::Attachment;
 pub use disposable::{Disposable, DisposeRefusal};
 pub use disposing::DisposeError;
+pub use disposing_all::PreparedDisposal;
 pub use entry::{Entry, Note, WholeMessage};
 pub use flowing::{FlowRefusal, GrantRefusal, Granted};
 pub use head::{Head, Start};

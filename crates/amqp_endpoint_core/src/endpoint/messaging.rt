@@ -99,7 +99,8 @@ impl<S: SessionRelay> Endpoint<S> {
     /// `UnknownLink` where no link has the number, then `IllegalState` where it sends, then `UnknownMessage` where no
     /// message has the number, or another link keeps it, then `AlreadyDisposed` where it was disposed of for good, or
     /// settled, then `NotAssociated` where it has no delivery number in the present attachment, then `FrameTooLarge`
-    /// where the state is longer than the peer takes. `Memory` where there is no memory. A refusal changes nothing.
+    /// where that Disposition is longer than the peer takes. `Memory` where there is no memory. A refusal changes
+    /// nothing.
     pub fn dispose(
         &mut self,
         link: u64,
@@ -122,7 +123,8 @@ impl<S: SessionRelay> Endpoint<S> {
     /// no messages there is none.
     ///
     /// It is refused as `dispose` is, for the first message that is, and with `AlreadyDisposed` for one that is named
-    /// twice. A refusal changes nothing.
+    /// twice; with `FrameTooLarge` where one of the Dispositions is longer than the peer takes, in place of which
+    /// `Memory` may come. A refusal changes nothing.
     pub fn dispose_all(
         &mut self,
         link: u64,

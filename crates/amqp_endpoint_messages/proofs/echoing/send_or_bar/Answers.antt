@@ -39,7 +39,7 @@ returns-then-fits-clause-sent g c =
     one-sent c.args.limit c.args.state c.args.run c.args.out.now.items c.send_one-then-fits.new.out.items c.args.session.now.fields
     c.args.bars.now.items c.args.bars.now.items
     (subst (λ (d : Disposition). fits c.args.limit (frame_of (disposition_frame 0 d)) ≡ true) c.echo-told.ensures
-    (sym (c.fits.ensures 0) ∙ c.if-fits.true)) g.R.LinkRelay.gives c.args.session.now c.send_one-then-fits.new.session
+    (sym c.fits.ensures ∙ c.if-fits.true)) g.R.LinkRelay.gives c.args.session.now c.send_one-then-fits.new.session
     (subst (λ (d : Disposition). SendsOne g.R.LinkRelay.gives c.args.session.now d c.send_one-then-fits.new.session) c.echo-told.ensures
     c.send_one-then-fits.ensures.sent)
 
@@ -48,7 +48,7 @@ returns-then-fits-clause-added g c =
     one-added c.args.limit c.args.state c.args.run c.args.out.now.items c.send_one-then-fits.new.out.items c.args.session.now.fields
     c.args.bars.now.items c.args.bars.now.items
     (subst (λ (d : Disposition). fits c.args.limit (frame_of (disposition_frame 0 d)) ≡ true) c.echo-told.ensures
-    (sym (c.fits.ensures 0) ∙ c.if-fits.true))
+    (sym c.fits.ensures ∙ c.if-fits.true))
     (c.send_one-then-fits.ensures.added
     ∙ ap (λ (d : Disposition). c.args.out.now.items ++ said_by c.args.session.now.fields d ∷ []) c.echo-told.ensures)
 
@@ -57,28 +57,28 @@ returns-then-fits-clause-barred g c =
     none-barred c.args.limit c.args.state c.args.run c.args.out.now.items c.send_one-then-fits.new.out.items c.args.session.now.fields
     c.args.bars.now.items c.args.bars.now.items
     (subst (λ (d : Disposition). fits c.args.limit (frame_of (disposition_frame 0 d)) ≡ true) c.echo-told.ensures
-    (sym (c.fits.ensures 0) ∙ c.if-fits.true)) refl
+    (sym c.fits.ensures ∙ c.if-fits.true)) refl
 
 pub returns-clause-sent : goal.returns-clause-sent
 returns-clause-sent g c =
     none-sent c.args.limit c.args.state c.args.run c.args.out.now.items c.args.out.now.items c.args.session.now.fields
     c.args.bars.now.items c.push_reserved.new.self.items
     (subst (λ (d : Disposition). fits c.args.limit (frame_of (disposition_frame 0 d)) ≡ false) c.echo-told.ensures
-    (sym (c.fits.ensures 0) ∙ c.if-fits.false)) g.R.LinkRelay.gives c.args.session.now
+    (sym c.fits.ensures ∙ c.if-fits.false)) g.R.LinkRelay.gives c.args.session.now
 
 pub returns-clause-added : goal.returns-clause-added
 returns-clause-added g c =
     none-added c.args.limit c.args.state c.args.run c.args.out.now.items c.args.out.now.items c.args.session.now.fields
     c.args.bars.now.items c.push_reserved.new.self.items
     (subst (λ (d : Disposition). fits c.args.limit (frame_of (disposition_frame 0 d)) ≡ false) c.echo-told.ensures
-    (sym (c.fits.ensures 0) ∙ c.if-fits.false)) refl
+    (sym c.fits.ensures ∙ c.if-fits.false)) refl
 
 pub returns-clause-barred : goal.returns-clause-barred
 returns-clause-barred g c =
     one-barred c.args.limit c.args.state c.args.run c.args.out.now.items c.args.out.now.items c.args.session.now.fields
     c.args.bars.now.items c.push_reserved.new.self.items
     (subst (λ (d : Disposition). fits c.args.limit (frame_of (disposition_frame 0 d)) ≡ false) c.echo-told.ensures
-    (sym (c.fits.ensures 0) ∙ c.if-fits.false)) c.push_reserved.ensures.items
+    (sym c.fits.ensures ∙ c.if-fits.false)) c.push_reserved.ensures.items
 
 pub push_reserved-requires : goal.push_reserved-requires
 push_reserved-requires g c = c.requires.room c.if-fit.false
