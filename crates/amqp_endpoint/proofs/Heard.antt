@@ -1,9 +1,8 @@
 -- What the peer's frames do is what they are related by, and what is handed out fits the limit.
-use Rattle.std.proofs.Common.{◌≡◌, ◌≤◌, ℕ, List, Option, Result, Ok, Err, sym, subst, ◌∙◌}
+use Rattle.std.proofs.Common.{◌≡◌, ◌≤◌, ℕ, List, Result, Ok, Err, sym, subst, ◌∙◌}
 use Rattle.std.specs.Prelude.{⊤, IfErr, OnErr, OnOk}
 use Rattle.std.proofs.lemmas.List.{append_cancel_left}
 use Rattle.amqp_session_types.specs.declared.channels.IncomingChannel.{IncomingChannel}
-use Rattle.amqp_session_performatives.specs.declared.attach.Attach.{Attach}
 use Rattle.amqp_session_performatives.specs.declared.session_frame.SessionFrame.{SessionFrame}
 use Rattle.amqp_session_frames.specs.declared.frame.FrameBody.{FrameBody}
 use Rattle.amqp_endpoint_model.specs.declared.error.EndpointError.{EndpointError}
@@ -12,27 +11,9 @@ use Rattle.amqp_endpoint_model.specs.Relay.{IsSessionFault, Refused, Taken}
 use Rattle.amqp_endpoint_conversation.specs.Going.{AllFit, Goes, Within}
 use Rattle.amqp_endpoint_linking.specs.Handed.{Tells}
 use Rattle.amqp_endpoint_linking.specs.Linking.{Links, Talk}
-use Rattle.amqp_endpoint_link_hearing.specs.Attaching.{HearsAttach}
-use Rattle.amqp_endpoint_link_hearing.specs.declared.attaching.LinkAttached.{LinkAttached}
 use Rattle.amqp_endpoint.specs.declared.linked.LinkedSessions.{LinkedSessions}
 use Rattle.amqp_endpoint.specs.Does.{linked}
-use Rattle.amqp_endpoint.specs.Hearing.{AttachHeard, Hears, Refuses, RefusesBody}
-
--- what a link gives up by the peer's Attach is left aside
-pub attach-heard : (old new : Talk) (links links_new : Links) (channel : IncomingChannel) (attach : Attach)
-    (left : Option LinkAttached) (out out_new : List SessionFrame) (told told_new : List Event)
-    → Tells (λ (frames : List SessionFrame) (events : List Event).
-    HearsAttach old links channel attach left frames events new links_new) out told out_new told_new
-    → Tells (λ (frames : List SessionFrame) (events : List Event).
-    AttachHeard old links channel attach frames events new links_new) out told out_new told_new
-attach-heard old new links links_new channel attach left out out_new told told_new h =
-    record {
-      frames = h.frames;
-      events = h.events;
-      is_so = record { left = left; hears = h.is_so };
-      queued = h.queued;
-      are_told = h.are_told;
-    }
+use Rattle.amqp_endpoint.specs.Hearing.{Hears, Refuses, RefusesBody}
 
 module _ (old new : Talk) (links links_new : Links) (given given_new limit : ℕ) (channel : IncomingChannel) where
   -- a frame that is this performative

@@ -16,13 +16,6 @@ use Rattle.amqp_endpoint_link_hearing.specs.Disposing.{HearsDisposition}
 use Rattle.amqp_endpoint_link_hearing.specs.Flowing.{HearsFlow}
 use Rattle.amqp_endpoint_link_hearing.specs.Saying.{RefusesSaid}
 use Rattle.amqp_endpoint_link_hearing.specs.Transferring.{HearsTransfer, RefusesTransfer}
-use Rattle.amqp_endpoint_link_hearing.specs.declared.attaching.LinkAttached.{LinkAttached}
-
--- the peer's Attach is heard; the deliveries that a link gives up by it, if one attaches, are left aside
-pub record AttachHeard (old : Talk) (links : Links) (channel : IncomingChannel) (attach : Attach)
-    (frames : List SessionFrame) (events : List Event) (new : Talk) (links_new : Links) : Type 0 where
-  pub left : Option LinkAttached
-  pub hears : HearsAttach old links channel attach left frames events new links_new
 
 -- a frame of a session is heard, where so many messages were handed out before: these frames are to be sent then, and
 -- this is told
@@ -31,7 +24,7 @@ abbrev pub Hears : Talk → Links → ℕ → ℕ → IncomingChannel → FrameB
 Hears old links given limit channel (body.Begin begin) frames events new links_new given_new =
     HearsBegin old links channel begin frames events new links_new × (given_new ≡ given)
 Hears old links given limit channel (body.Attach attach) frames events new links_new given_new =
-    AttachHeard old links channel attach frames events new links_new × (given_new ≡ given)
+    HearsAttach old links limit channel attach frames events new links_new × (given_new ≡ given)
 Hears old links given limit channel (body.Flow flow) frames events new links_new given_new =
     HearsFlow old links channel flow frames events new links_new × (given_new ≡ given)
 Hears old links given limit channel (body.Transfer transfer payload) frames events new links_new given_new =

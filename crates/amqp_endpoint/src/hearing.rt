@@ -3,8 +3,7 @@ ghost use Rattle.std.specs.Prelude.{◌≡◌, ◌≤◌, ℕ, IfErr, OnErr, OnO
 ghost use Rattle.amqp_endpoint_model.specs.Relay.{IsOfSession, IsSessionFault};
 ghost use Rattle.amqp_endpoint_conversation.specs.Going.{Goes, Rests};
 ghost use Rattle.amqp_endpoint_linking.specs.Handed.{Tells};
-ghost use Rattle.amqp_endpoint_link_hearing.specs.Attaching.{RefusesAttach};
-ghost use Rattle.amqp_endpoint.specs.Hearing.{AttachHeard, Hears, Refuses};
+ghost use Rattle.amqp_endpoint.specs.Hearing.{Hears, Refuses};
 
 use amqp_endpoint_conversation::Conversation;
 use amqp_endpoint_link_hearing::{
@@ -16,8 +15,8 @@ use amqp_endpoint_model::{EndpointError, Event};
 use amqp_endpoint_tables::Links;
 use amqp_link::LinkEnd;
 use amqp_session_frames::FrameBody;
-use amqp_session_performatives::{Attach, SessionFrame};
-use amqp_session_types::{Boxed, IncomingChannel};
+use amqp_session_performatives::SessionFrame;
+use amqp_session_types::IncomingChannel;
 use std::alloc::Global;
 use std::collections::VecDeque;
 
@@ -51,7 +50,9 @@ pub(crate) fn hear(
 {
     match body {
         FrameBody::Begin(begin) => hear_begin(talk, links, alloc, channel, begin, out, events),
-        FrameBody::Attach(attach) => take_attach(talk, links, alloc, channel, attach, out, events),
+        FrameBody::Attach(attach) => {
+            hear_attach(talk, links, alloc, limit, channel, attach, out, events)
+        }
         FrameBody::Flow(flow) => hear_flow(talk, links, alloc, channel, flow, out, events),
         FrameBody::Transfer {
             performative,
@@ -75,35 +76,5 @@ pub(crate) fn hear(
         }
         FrameBody::End(end) => hear_end(talk, links, channel, end, out, events),
         FrameBody::Empty | FrameBody::Open(_) | FrameBody::Close(_) => unreachable!(),
-    }
-}
-
-/// Takes the peer's Attach (part 2, 2.6.3). A link that attaches by it gives no delivery up, as no message is sent
-/// here.
-///
-/// It ends the connection as `hear_attach` says. Nothing is handed out or told then, and no link changes.
-fn take_attach(
-    talk: &mut Conversation<Numbered<LinkEnd>>,
-    links: &mut Links<LinkEnd>,
-    alloc: Global,
-    channel: IncomingChannel,
-    attach: Boxed<Attach>,
-    out: &mut VecDeque<SessionFrame>,
-    events: &mut Vec<Event>,
-) -> Result<(), EndpointError>
-    ensures ok { OnOk result
-        (Tells (λ frames told. AttachHeard talk.old links.old channel attach frames told talk.new links.new)
-        out.old.items events.old.items out.new.items events.new.items) }
-    ensures err { IfErr result (λ e.
-        IsSessionFault e × RefusesAttach talk.old links.old channel attach e talk.new) }
-    ensures kept { OnErr result ((links.new ≡ links.old) × (out.new.items ≡ out.old.items)
-        × (events.new.items ≡ events.old.items)) }
-    ensures goes { (limit : ℕ) → 512 ≤ limit →
-        Goes limit talk.old talk.new out.old.items out.new.items }
-    ensures rests { Rests talk.old talk.new out.old.items out.new.items }
-{
-    match hear_attach(talk, links, alloc, channel, attach, out, events) {
-        Ok(_) => Ok(()),
-        Err(error) => Err(error),
     }
 }

@@ -184,7 +184,7 @@ asked-accepts first window incoming channel asked outgoing session frame a =
 asked-keep : Keeping (λ accepted. Unit {0}) StaysAsked
 asked-keep =
     record {
-      quiet = tt;
+      quiet = λ accepted up. tt;
       still = asked-still;
       on = asked-on;
       gone = λ first old new ps gone none. asked-gone first old new ps gone;

@@ -32,7 +32,7 @@ use Rattle.amqp_endpoint_attached.specs.TakenOut.{TakenOut}
 use Rattle.amqp_endpoint_link_calls.specs.Attaching.{AttachedBy}
 use Rattle.amqp_endpoint_link_calls.specs.declared.placed.Placed.{Placed}
 use Rattle.amqp_endpoint_link_calls.specs.Calling.{Does, detaches, gives_credit, wants_drain}
-use Rattle.amqp_endpoint_link_calls.specs.Closing.{closed_end, closes, fails}
+use Rattle.amqp_endpoint_link_calls.specs.Closing.{closes, fails}
 use Rattle.amqp_endpoint_link_hearing.specs.Detaching.{TellsAndParts}
 use Rattle.amqp_endpoint_link_hearing.specs.Disposing.{TellsAndEchoes}
 use Rattle.amqp_endpoint_link_hearing.specs.Flowing.{LeaveWith, LeavesOnce, LeavesWith, ended_link}
@@ -47,8 +47,9 @@ use Rattle.amqp_endpoint_links.proofs.Routing.{none-stays}
 use Rattle.amqp_endpoint_model.specs.declared.call.Disposal.{Disposal}
 use Rattle.amqp_endpoint_model.specs.declared.call.Sending.{Sending}
 use Rattle.amqp_endpoint_model.specs.declared.event.Event.{Event}
-use Rattle.amqp_endpoint_laws.proofs.HoldingDone.{closes-stays, closing-stays, detaches-stay, disposes-all, failing-stays}
-use Rattle.amqp_endpoint_laws.proofs.HoldingDone.{disposes-one, drains-stays, echoes-stay, gives-stays, leave-stay}
+use Rattle.amqp_endpoint_laws.proofs.BehindAttach.{Behind, behind-rests}
+use Rattle.amqp_endpoint_laws.proofs.HoldingDone.{closes-stays, closing-stays, detaches-stay, disposes-all, disposes-one}
+use Rattle.amqp_endpoint_laws.proofs.HoldingDone.{drains-stays, echoes-stay, failing-stays, gives-stays, leave-stay}
 use Rattle.amqp_endpoint_laws.proofs.HoldingDone.{parts-stay, remembers-stays, sends-stays, tells-stays}
 use Rattle.amqp_endpoint_laws.proofs.HoldingInside.{LeadsLess, behind-stays, less}
 use Rattle.amqp_endpoint_laws.proofs.PassedPlaces.{KeepsAsked, WasAsked}
@@ -115,6 +116,11 @@ pub told-keeps : (count : ℕ) (handle : OutputHandle) (old new : Linked) → Te
 told-keeps count handle old new t =
     less-keeps old new (ap (λ (x : Linked). x.asked) t.rest)
     (tells-stays count handle (link_at old.session handle.0) old.session new.session t.tells).leads
+
+-- as it goes on behind an Attach
+pub behind-keeps : (frames : List SessionFrame) (old new : Linked) → Behind frames old new → KeepsAsked old new
+behind-keeps frames old new b =
+    less-keeps old new (ap (λ (x : Linked). x.asked) b.rest) (behind-rests frames old new b).leads
 
 -- as one parts from its session
 out-same : (handle : OutputHandle) (left : Option Link) (old new : Linked) → TakenOut old handle left new

@@ -145,7 +145,7 @@ NoneAt o ws old new = NoneAttach ws
 attaching-none : Walk (λ accepted. Unit {0}) NoneIn NoneAt
 attaching-none =
     record {
-      quiet = tt;
+      quiet = λ accepted up. tt;
       none = λ m old new same. tt;
       on = λ m ws more old mid new p q. both-none ws more p q;
       at = λ m ws old new p. p;

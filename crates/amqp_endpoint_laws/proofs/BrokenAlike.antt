@@ -1,5 +1,5 @@
 -- What is left of links once their connection is over, by the links that its sessions had.
-use Rattle.std.proofs.Common.{◌≡◌, inl, inr, ℕ, zero, suc, Bool, true, false, List, [], ◌∷◌, Option, Some, None}
+use Rattle.std.proofs.Common.{◌≡◌, ℕ, zero, suc, Bool, true, false, List, [], ◌∷◌, Option, Some, None}
 use Rattle.std.proofs.Common.{Result, Ok, Err, IsSome, length, refl, sym, ap, subst, ◌∙◌, slice_get, slice_set}
 use Rattle.std.proofs.Common.{slice_index_or}
 use Rattle.std.specs.Prelude.{⊤}
@@ -7,7 +7,6 @@ use Rattle.std.proofs.lemmas.Option.{none-some}
 use Rattle.amqp_session_types.specs.declared.handles.OutputHandle.{OutputHandle}
 use Rattle.amqp_link.specs.declared.end.End.{End}
 use Rattle.amqp_endpoint_tables.specs.declared.link_place.LinkPlace.{LinkPlace}
-use Rattle.amqp_endpoint_tables.specs.declared.place.PeerEnd.TheVariants.{Missing}
 use Rattle.amqp_endpoint_tables.specs.declared.place.Place.TheVariants.{Asked, Live, Ending, Over}
 use Rattle.amqp_endpoint_tables.specs.LinkState.{held_at}
 use Rattle.amqp_endpoint_tables.specs.LinkSteps.{Closed, Rested}
@@ -15,7 +14,7 @@ use Rattle.amqp_endpoint_tables.specs.State.{finished_place, live_of, place_at, 
 use Rattle.amqp_endpoint_tables.specs.Steps.{Finished}
 use Rattle.amqp_endpoint_attached.specs.Ends.{broken, is_closed_end}
 use Rattle.amqp_endpoint_linking.specs.Ending.{Finishes, FinishesFirst, FinishesOne}
-use Rattle.amqp_endpoint_linking.specs.GivingBack.{AllGivenBack, GivenBack, IsAtRest, IsClosed, SessionGivenBack}
+use Rattle.amqp_endpoint_linking.specs.GivingBack.{AllGivenBack, SessionGivenBack}
 use Rattle.amqp_endpoint_linking.specs.GivingBack.{StandsAs}
 use Rattle.amqp_endpoint_linking.specs.Linking.{Link, Links, Session, Sessions, Stood, Talk, links_of}
 

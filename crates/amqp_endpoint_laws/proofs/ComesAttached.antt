@@ -15,9 +15,9 @@ use Rattle.amqp_link.specs.Gives.{attaches}
 use Rattle.amqp_link_receiver.specs.Deliveries.{Delivery}
 use Rattle.amqp_endpoint_attached.specs.Ends.{role_of}
 use Rattle.amqp_endpoint_laws.specs.Deeds.{IsDeed, Takes}
-use Rattle.amqp_endpoint_link_hearing.specs.Attaching.{HearsAttach}
+use Rattle.amqp_endpoint_link_hearing.specs.Attaching.{HearsReady, opened_in}
+use Rattle.amqp_endpoint_link_hearing.specs.Heard.{attach_of}
 use Rattle.amqp_endpoint_link_hearing.specs.Naming.{IsNamedIn, is_other, link_in}
-use Rattle.amqp_endpoint_link_hearing.specs.declared.attaching.LinkAttached.{LinkAttached as Left}
 use Rattle.amqp_endpoint.specs.Does.{linked}
 use Rattle.amqp_endpoint.specs.Hearing.{Hears as HearsFrame}
 use Rattle.amqp_endpoint.specs.declared.linked.LinkedSessions.{LinkedSessions}
@@ -32,14 +32,17 @@ use Rattle.amqp_endpoint_laws.specs.Agreeing.{Agree}
 use Rattle.amqp_endpoint_laws.specs.Handed.{IsReceiving, leads_there}
 use Rattle.amqp_endpoint_laws.specs.Held.{number_live, number_of}
 use Rattle.amqp_endpoint_laws.specs.Passed.{session_taking}
+use Rattle.amqp_endpoint_laws.proofs.BehindAttach.{becomes-behind}
 use Rattle.amqp_endpoint_laws.proofs.ComesAttachedHeard.{TakesHere, heard-here, others-stay, takes-leads, took-held}
 use Rattle.amqp_endpoint_laws.proofs.ComesAttachedHeld.{IsHeld, holding-receives, received-before, receiving-holds}
 use Rattle.amqp_endpoint_laws.proofs.ComesAttachedNamed.{IsNamedSo, named-so, peer-sends, still-receiver}
 use Rattle.amqp_endpoint_laws.proofs.HandedBy.{frame-leads}
 use Rattle.amqp_endpoint_laws.proofs.HandedOut.{HearsOne}
 use Rattle.amqp_endpoint_laws.proofs.HoldingDeeds.{deed-rests}
-use Rattle.amqp_endpoint_laws.proofs.HoldingEnds.{Part, Stays}
+use Rattle.amqp_endpoint_laws.proofs.HoldingEnds.{Holding, Part, Stays}
 use Rattle.amqp_endpoint_laws.proofs.HoldingTalk.{fails-stay, held_in}
+use Rattle.amqp_endpoint_laws.proofs.RoomMade.{RoomMade, room-holds, room-made, room-named, room-numbers}
+use Rattle.amqp_endpoint_laws.proofs.RoomMade.{room-reached}
 
 -- a link came to be attached by an Attach of the peer's: that came in its session, its handle leads to the link, and it
 -- says the link's name; and the peer sends
@@ -64,9 +67,10 @@ module _ (old new : LinkedSessions) (limit channel : ℕ) (frames : List Session
       → ⊥
   moved stays = unattached held (received-before old new link session own held stays r)
 
-  module _ (attach : Attach) (named : NamedLink) (mid : Talk) (left : Option Left)
-      (here : TakesHere old.talk (record { 0 = channel }) attach named mid left frames events new.talk session)
-      (is_named : IsNamedIn (reached old.talk.sessions channel) old.talk old.links attach named)
+  module _ (attach : Attach) (named : NamedLink) (ready mid : Talk)
+      (made : RoomMade old.talk (record { 0 = channel }) ready)
+      (here : TakesHere ready (record { 0 = channel }) attach named mid new.talk session)
+      (is_named : IsNamedIn (reached ready.sessions channel) ready old.links attach named)
       (e : (own.0 == here.handle.0) ≡ true) where
     here-held : held_in (live_at new.talk.sessions session) here.handle.0 ≡ Some (link, (true, held))
     here-held =
@@ -74,14 +78,12 @@ module _ (old new : LinkedSessions) (limit channel : ℕ) (frames : List Session
         ∙ is-held
 
     its : IsHeld here.took.stepped.after.number here.took.stepped.after.link link held
-    its =
-        took-held old.talk (record { 0 = channel }) attach mid left frames events new.talk named session here link held
-        here-held
+    its = took-held ready (record { 0 = channel }) attach mid new.talk named session here link held here-held
 
-    so : IsNamedSo old.talk old.links session attach here.handle
+    so : IsNamedSo ready old.links session attach here.handle
     so =
-        named-so old.talk old.links session attach named here.handle
-        (subst (λ (o : Option ℕ). IsNamedIn o old.talk old.links attach named) here.reaches is_named) here.waits
+        named-so ready old.links session attach named here.handle
+        (subst (λ (o : Option ℕ). IsNamedIn o ready old.links attach named) here.reaches is_named) here.waits
 
     abbrev before : Link
     before = here.took.stepped.before
@@ -91,6 +93,7 @@ module _ (old new : LinkedSessions) (limit channel : ℕ) (frames : List Session
     its-number =
         same_Some so.number link
         (sym (agree.held so.number session here.handle so.waits.held)
+        ∙ sym (room-numbers old.talk (record { 0 = channel }) ready made session here.handle.0)
         ∙ ap (λ (o : Option Session). number_live o here.handle.0) here.live ∙ ap number_of here.took.stepped.had
         ∙ ap (λ (k : ℕ). Some k) (sym here.took.stepped.stepped.1 ∙ its.numbered))
 
@@ -107,10 +110,10 @@ module _ (old new : LinkedSessions) (limit channel : ℕ) (frames : List Session
         record {
           attach = attach;
           is = refl;
-          taken = here.reaches;
+          taken = sym (room-reached old.talk (record { 0 = channel }) ready made channel) ∙ here.reaches;
           leads =
-              takes-leads old.talk (record { 0 = channel }) attach mid left frames events new.talk named session here
-              own (link, (true, held)) e here-held;
+              takes-leads ready (record { 0 = channel }) attach mid new.talk named session here own
+              (link, (true, held)) e here-held;
           named = ap (λ (k : ℕ). name_at old.links k) (sym its-number) ∙ so.named;
           sends =
               peer-sends attach.role (sym (ap (λ (x : Role). is_other x attach.role) its-role) ∙ so.waits.other);
@@ -122,31 +125,43 @@ module _ (old new : LinkedSessions) (limit channel : ℕ) (frames : List Session
       → ComesBy old channel (body.Attach attach) new link session own
   attach-comes attach (a, g) = by a.hears
     where
-      by : HearsAttach old.talk old.links (record { 0 = channel }) attach a.left frames events new.talk new.links
+      made : RoomMade old.talk (record { 0 = channel }) a.ready
+      made = room-made a.named old.talk (record { 0 = channel }) a.ready a.makes_room
+
+      moved-since : Stays (held_in (live_at a.ready.sessions session) own.0)
+          (held_in (live_at new.talk.sessions session) own.0)
+          → ⊥
+      moved-since stays =
+          moved
+          (subst (λ (x : Holding). Stays x (held_in (live_at new.talk.sessions session) own.0))
+          (room-holds old.talk (record { 0 = channel }) a.ready made session own.0) stays)
+
+      at-handle : (mid : Talk) (here : TakesHere a.ready (record { 0 = channel }) attach a.named mid new.talk session)
+          (b : Bool) → (own.0 == here.handle.0) ≡ b → ComesBy old channel (body.Attach attach) new link session own
+      at-handle mid here false e =
+          absurd
+          (moved-since
+          (others-stay a.ready (record { 0 = channel }) attach mid new.talk a.named session here own.0 e))
+      at-handle mid here true e =
+          comes-here attach a.named a.ready mid made here
+          (room-named old.talk (record { 0 = channel }) a.ready made old.links attach a.named a.is_named) e
+
+      by : HearsReady a.named a.ready old.links limit (record { 0 = channel }) attach frames events new.talk new.links
           → ComesBy old channel (body.Attach attach) new link session own
       by (inr f) =
           absurd
-          (moved
-          ((fails-stay (said.Attach attach f.named) old.talk new.talk f.fails.number f.fails.fault f.fails.session
-          frames (record { 0 = channel }) f.fails.answered session).holds own.0))
+          (moved-since
+          ((fails-stay (said.Attach attach a.named) a.ready new.talk f.number f.fault f.session frames
+          (record { 0 = channel }) f.answered session).holds own.0))
       by (inl t) =
           elim
-          (heard-here old.talk (record { 0 = channel }) attach t.mid a.left frames events new.talk t.named t.heard
-          t.answered t.becomes session) [
-            | inl keeps ↦ absurd (moved (keeps own.0))
-            | inr here ↦ at-handle here (own.0 == here.handle.0) refl
+          (heard-here a.ready (record { 0 = channel }) attach t.mid frames new.talk a.named t.heard t.answered
+          (becomes-behind limit (opened_in a.ready (attach_of t.heard) a.named) t.heard a.named t.mid attach frames
+          events new.talk t.becomes)
+          session) [
+            | inl keeps ↦ absurd (moved-since (keeps own.0))
+            | inr here ↦ at-handle t.mid here (own.0 == here.handle.0) refl
           ]
-        where
-          at-handle :
-              (here : TakesHere old.talk (record { 0 = channel }) attach t.named t.mid a.left frames events new.talk
-              session) (b : Bool)
-              → (own.0 == here.handle.0) ≡ b → ComesBy old channel (body.Attach attach) new link session own
-          at-handle here false e =
-              absurd
-              (moved
-              (others-stay old.talk (record { 0 = channel }) attach t.mid a.left frames events new.talk t.named session
-              here own.0 e))
-          at-handle here true e = comes-here attach t.named t.mid a.left here t.is_named e
 
   frame-comes : (it : FrameBody)
       → IsDeed linked old (Takes limit (record { channel = channel; body = it }) frames events) new

@@ -6,27 +6,20 @@ use Rattle.std.proofs.lemmas.Option.{none-some, same_Some}
 use Rattle.std.specs.FinMap as map
 use Rattle.std.specs.Prelude.{Result, is_some, slice_index_or}
 use Rattle.amqp_session_types.specs.declared.channels.IncomingChannel.{IncomingChannel}
-use Rattle.amqp_session_types.specs.declared.error.Error.{Error}
 use Rattle.amqp_session_types.specs.declared.handles.OutputHandle.{OutputHandle}
 use Rattle.amqp_session_types.specs.declared.refusals.SessionError.{SessionError}
 use Rattle.amqp_session_performatives.specs.declared.attach.Attach.{Attach}
 use Rattle.amqp_session_performatives.specs.declared.session_frame.SessionFrame.{SessionFrame}
 use Rattle.amqp_session_core.specs.State.{StepsAt, link_at, live_in, reached as link_reached}
+use Rattle.amqp_session_core.specs.Tables.{RouteTable}
 use Rattle.amqp_session_core.specs.Told.{AttachTaken as SessionAttached}
 use Rattle.amqp_link.specs.declared.relay.AttachTold.{AttachTold}
 use Rattle.amqp_link_receiver.specs.Deliveries.{Delivery}
-use Rattle.amqp_link_sender.specs.declared.attaching.Attaching.{Attaching}
-use Rattle.amqp_link_types.specs.declared.link_error.LinkError.{LinkError}
 use Rattle.amqp_session_types.proofs.Tables.{get-put}
-use Rattle.amqp_endpoint_attached.specs.Detaching.{is_there}
-use Rattle.amqp_endpoint_attached.specs.Linked.{Linked, LinksIn, end_at, gives}
+use Rattle.amqp_endpoint_attached.specs.Linked.{Linked, LinksIn, gives}
 use Rattle.amqp_endpoint_conversation.specs.Hearing.{Answered, AnsweredAt, AnsweredIn}
 use Rattle.amqp_endpoint_conversation.specs.declared.hearing.Heard.TheVariants as heard_as
-use Rattle.amqp_endpoint_link_hearing.specs.Attaching.{Becomes, LinkTakes, outcome_of}
-use Rattle.amqp_endpoint_link_hearing.specs.Heard.{attach_of}
-use Rattle.amqp_endpoint_link_hearing.specs.InSession.{Closes, ClosesIf}
 use Rattle.amqp_endpoint_link_hearing.specs.Saying.{LinkHeard}
-use Rattle.amqp_endpoint_link_hearing.specs.declared.attaching.LinkAttached.{LinkAttached as Left}
 use Rattle.amqp_endpoint_link_hearing.proofs.Heard.{IsTaken as IsHeard, stepped-there, taken-in}
 use Rattle.amqp_endpoint_linking.specs.Linking.{Link, Session, Stood, Talk}
 use Rattle.amqp_endpoint_links.specs.Asking.{AttachAt, ByLink, by_link, in_use}
@@ -37,21 +30,21 @@ use Rattle.amqp_endpoint_links.specs.declared.asking.NamedLink.TheVariants.{Abse
 use Rattle.amqp_endpoint_links.specs.declared.hearing.LinkPerformative.{LinkPerformative}
 use Rattle.amqp_endpoint_links.specs.declared.hearing.LinkPerformative.TheVariants as said
 use Rattle.amqp_endpoint_links.specs.declared.hearing.PerformativeTaken.TheVariants as taken
-use Rattle.amqp_endpoint_model.specs.declared.event.Event.{Event}
 use Rattle.amqp_endpoint_tables.specs.State.{asked_of, live_at, live_of, place_at, reached, with_asked}
 use Rattle.amqp_endpoint_tables.specs.Steps.{ChangesAsked, ChangesLive}
 use Rattle.amqp_endpoint_tables.specs.declared.place.Place.TheVariants.{Asked, Live, Ending, Over}
 use Rattle.amqp_endpoint_tables.proofs.Owning.{at, other_number, same_number}
 use Rattle.amqp_endpoint_laws.specs.Handed.{leads_there}
 use Rattle.amqp_endpoint_laws.specs.Passed.{is_it}
+use Rattle.amqp_endpoint_laws.proofs.BehindAttach.{Follows, behind-rests, behind-routes, number_of}
 use Rattle.amqp_endpoint_laws.proofs.ComesAttachedHeld.{IsHeld, end-held}
 use Rattle.amqp_endpoint_laws.proofs.HoldingDeeds.{talk-same}
-use Rattle.amqp_endpoint_laws.proofs.HoldingDone.{closes-none, closes-stays}
 use Rattle.amqp_endpoint_laws.proofs.HoldingEnds.{Part, Stays, held_link, stays-on, stays-still}
 use Rattle.amqp_endpoint_laws.proofs.HoldingInside.{was-so}
-use Rattle.amqp_endpoint_laws.proofs.HoldingTalk.{AllRest, EachAt, EachOf, changed-live, dead-stays, each-same}
-use Rattle.amqp_endpoint_laws.proofs.HoldingTalk.{goes-on-stays, held_in, live-changes}
+use Rattle.amqp_endpoint_laws.proofs.HoldingTalk.{AllRest, EachAt, EachOf, dead-stays, each-same}
+use Rattle.amqp_endpoint_laws.proofs.HoldingTalk.{goes-on-stays, held_in, leads_in, live-changes}
 use Rattle.amqp_endpoint_laws.proofs.PassedPlaces.{eq-same}
+use Rattle.amqp_endpoint_laws.proofs.RoomMade.{live-alike}
 
 -- what comes of an Attach in a session that goes on: no link of it changes, or the one that waits takes it
 abbrev Answers : Linked → Attach → NamedLink → Result (AttachTaken AttachTold) SessionError → Linked → Type 0
@@ -74,11 +67,11 @@ reaches-link s input handle link leads there =
     ap (λ (o : Option ℕ). live_in s.links o) leads
     ∙ ap (λ (o : Option Link). if is_some o then Some handle else None) there
 
--- the link under this handle took the Attach, whose handle reaches it from then on
+-- the link under this handle took the Attach, whose handle leads to it from then on
 pub record Took (attach : Attach) (handle : ℕ) (before after : LinksIn) : Type 0 where
   pub told : AttachTold
   pub stepped : StepsAt (λ (a b : Link). gives.attaches a attach (Ok told) b) before.links handle after.links
-  pub reaches : link_reached after attach.handle.0 ≡ Some handle
+  pub leads : map.get after.routes attach.handle.0 ≡ Some handle
 
 took : (attach : Attach) (handle : ℕ) (before after : LinksIn) (by : AttachTold) (r : Result AttachTold SessionError)
     → Ok (answer.ByLink by) ≡ by_link r → SessionAttached gives before handle attach r after
@@ -87,12 +80,10 @@ took attach handle before after by (Ok told) is (free, st, rest) =
     record {
       told = told;
       stepped = st;
-      reaches =
-          reaches-link after attach.handle.0 handle st.after
-          (ap (λ (x : LinksIn). map.get x.routes attach.handle.0) rest
+      leads =
+          ap (λ (x : LinksIn). map.get x.routes attach.handle.0) rest
           ∙ get-put before.routes attach.handle.0 attach.handle.0 handle
-          ∙ ap (λ (b : Bool). cond b (Some handle) (map.get before.routes attach.handle.0)) (eq-same attach.handle.0))
-          (stepped-there (λ (a b : Link). gives.attaches a attach (Ok told) b) before handle after st);
+          ∙ ap (λ (b : Bool). cond b (Some handle) (map.get before.routes attach.handle.0)) (eq-same attach.handle.0);
     }
 took attach handle before after by (Err e) is t = absurd cc
 
@@ -129,9 +120,10 @@ module _ (old : Talk) (it : LinkPerformative) (new : Talk) where
   untaken-in None h untaken (wrong, same, none) = let clash = wrong in absurd cc
   untaken-in (Some number) h untaken t = untaken-at number (place_at old.sessions number) refl h untaken t
 
--- the session with this number took it by the link that waited under this handle, which is attached then or closed
-pub record TakesHere (old : Talk) (channel : IncomingChannel) (attach : Attach) (named : NamedLink) (mid : Talk)
-    (left : Option Left) (frames : List SessionFrame) (events : List Event) (new : Talk) (n : ℕ) : Type 0 where
+-- the session with this number took it by the link that waited under this handle; behind that what is held stays, or is
+-- given up with its link, and the peer's handles lead where they led
+pub record TakesHere (old : Talk) (channel : IncomingChannel) (attach : Attach) (named : NamedLink) (mid new : Talk)
+    (n : ℕ) : Type 0 where
   pub handle : OutputHandle
   pub waits : named ≡ Waiting handle
   pub reaches : reached old.sessions channel.0 ≡ Some n
@@ -140,36 +132,43 @@ pub record TakesHere (old : Talk) (channel : IncomingChannel) (attach : Attach) 
   pub after : Session
   pub stands : live_at mid.sessions n ≡ Some after
   pub took : Took attach handle.0 before.value.session after.value.session
-  pub outcome : Result Attaching LinkError
-  pub link : Link
-  pub takes : LinkTakes outcome mid n handle link left frames events new
+  pub later : EachOf Stays mid.sessions new.sessions
+  pub leads : (input : ℕ) → leads_in (live_at new.sessions n) input ≡ leads_in (live_at mid.sessions n) input
 
--- a link that refuses it and is attached still is so as it was
-refused-same : (there : Bool) (why : Option Error) (handle : OutputHandle) (frames : List SessionFrame)
-    (old new : Linked) (x : ℕ × Part) → is_there (end_at old handle) ≡ there → Closes why handle frames old new
-    → held_link (link_at new.session handle.0) ≡ Some x → new ≡ old
-refused-same true why handle frames old new x is c held =
-    absurd (none-some x (sym (closes-none why handle frames old new is c) ∙ held))
-refused-same false why handle frames old new x is c held =
-    (subst (λ (b : Bool). ClosesIf b why old handle frames new) is c).0
+-- a handle that leads to a link that is there reaches it
+link-there : (o : Option Link) (x : ℕ × Part) → held_link o ≡ Some x → (link : Link) × (o ≡ Some link)
+link-there None x held = absurd (none-some x held)
+link-there (Some link) x held = (link, refl)
 
-module _ (old : Talk) (channel : IncomingChannel) (attach : Attach) (mid : Talk) (left : Option Left)
-    (frames : List SessionFrame) (events : List Event) (new : Talk) where
+held-leads : (o : Option Session) (theirs : ℕ) (handle own : OutputHandle) (x : ℕ × Part)
+    → (own.0 == handle.0) ≡ true → held_in o handle.0 ≡ Some x → leads_in o theirs ≡ Some handle.0
+    → leads_there o theirs own ≡ true
+held-leads None theirs handle own x e held leads = absurd (none-some x held)
+held-leads (Some s) theirs handle own x e held leads =
+    let (link, there) = link-there (link_at s.value.session handle.0) x held in
+    ap (λ (o : Option ℕ). is_it o own.0) (reaches-link s.value.session theirs handle.0 link leads there) ∙ e
+
+module _ (old : Talk) (channel : IncomingChannel) (attach : Attach) (mid : Talk) (frames : List SessionFrame)
+    (new : Talk) where
   -- all that is held in a session stays, or the session takes it
   abbrev Keeps : ℕ → Type 0
   Keeps n = EachAt Stays (live_at old.sessions n) (live_at new.sessions n)
 
   abbrev Outcome : NamedLink → ℕ → Type 0
-  Outcome named n = Keeps n ⊎ TakesHere old channel attach named mid left frames events new n
+  Outcome named n = Keeps n ⊎ TakesHere old channel attach named mid new n
 
-  behind-same : new ≡ mid → EachOf Stays mid.sessions new.sessions
-  behind-same same n h = inl (ap (λ (t : Talk). held_in (live_at t.sessions n) h) same)
+  follows-stays : (it : LinkHeard) → Follows it frames mid new → EachOf Stays mid.sessions new.sessions
+  follows-stays it (inl (none, same)) n h = inl (ap (λ (t : Talk). held_in (live_at t.sessions n) h) same)
+  follows-stays it (inr g) n h =
+      (goes-on-stays _ mid (number_of it) new (λ a b d. behind-rests frames a b d) g n).holds h
 
-  behind-takes : (outcome : Result Attaching LinkError) (session : ℕ) (handle : OutputHandle) (link : Link)
-      → LinkTakes outcome mid session handle link left frames events new → EachOf Stays mid.sessions new.sessions
-  behind-takes (Ok made) session handle link t n h = behind-same t.3 n h
-  behind-takes (Err error) session handle link t n h =
-      (goes-on-stays _ mid session new (λ a b c. closes-stays _ handle frames a b c) t.1 n).holds h
+  follows-leads : (it : LinkHeard) → Follows it frames mid new → (n input : ℕ)
+      → leads_in (live_at new.sessions n) input ≡ leads_in (live_at mid.sessions n) input
+  follows-leads it (inl (none, same)) n input = ap (λ (t : Talk). leads_in (live_at t.sessions n) input) same
+  follows-leads it (inr g) n input =
+      live-alike (number_of it) g.before g.after mid.sessions new.sessions g.stepped
+      (λ (o : Option Session). leads_in o input)
+      (ap (λ (t : RouteTable). map.get t input) (behind-routes frames g.before.value g.after.value g.done)) n
 
   keeps-on : (n : ℕ) → EachAt Stays (live_at old.sessions n) (live_at mid.sessions n)
       → EachOf Stays mid.sessions new.sessions → Keeps n
@@ -208,153 +207,109 @@ module _ (old : Talk) (channel : IncomingChannel) (attach : Attach) (mid : Talk)
         (ap live_of
         ((at n old.sessions (ChangesLive k s.before s.takes.after) mid.sessions s.takes.hears.stepped).other apart)) h
 
-  by-waiting : (handle : OutputHandle) (k : ℕ) (by_told : AttachTold)
-      → IsHeard old channel [] (said.Attach attach (Waiting handle)) k (taken.Attach (answer.ByLink by_told)) mid []
-      → Becomes (attach_of (heard_as.Live k (taken.Attach (answer.ByLink by_told)))) (Waiting handle) mid attach left
-      frames events new
-      → (n : ℕ) → Outcome (Waiting handle) n
-  by-waiting handle k by_told s b n =
-      by (answers-so (Waiting handle) k (answer.ByLink by_told) s)
+  by-link : (named : NamedLink) (k : ℕ) (by_told : AttachTold)
+      → IsHeard old channel [] (said.Attach attach named) k (taken.Attach (answer.ByLink by_told)) mid []
+      → Follows (heard_as.Live k (taken.Attach (answer.ByLink by_told))) frames mid new
+      → (n : ℕ) → Outcome named n
+  by-link named k by_told s f n = by (answers-so named k (answer.ByLink by_told) s)
     where
-      later : EachOf Stays mid.sessions new.sessions
-      later = behind-takes (outcome_of by_told) k handle b.link b.takes
+      it : LinkHeard
+      it = heard_as.Live k (taken.Attach (answer.ByLink by_told))
 
-      at-session : (h : OutputHandle) → Waiting handle ≡ Waiting h
-          → ByLink gives s.before.value h.0 attach (Ok (answer.ByLink by_told)) s.takes.after.value → (c : Bool)
-          → (n == k) ≡ c → Outcome (Waiting handle) n
-      at-session h waits t false e =
-          inl (keeps-on n (elsewhere (Waiting handle) k (answer.ByLink by_told) s n e) later)
-      at-session h waits t true e =
-          let same : h ≡ handle = cc in
-          inr (subst (λ (m : ℕ). TakesHere old channel attach (Waiting handle) mid left frames events new m)
-          (sym (same_number n k e))
+      later : EachOf Stays mid.sessions new.sessions
+      later = follows-stays it f
+
+      at-session : (handle : OutputHandle) → named ≡ Waiting handle
+          → ByLink gives s.before.value handle.0 attach (Ok (answer.ByLink by_told)) s.takes.after.value → (c : Bool)
+          → (n == k) ≡ c → Outcome named n
+      at-session handle waits t false e =
+          inl (keeps-on n (elsewhere named k (answer.ByLink by_told) s n e) later)
+      at-session handle waits t true e =
+          inr (subst (λ (m : ℕ). TakesHere old channel attach named mid new m) (sym (same_number n k e))
           (record {
             handle = handle;
-            waits = refl;
+            waits = waits;
             reaches = s.reaches;
             before = s.before;
             live = s.live;
             after = s.takes.after;
             stands = s.stands;
             took =
-                subst
-                (λ (g : OutputHandle).
-                Took attach g.0 s.before.value.session s.takes.after.value.session)
-                same
-                (took attach h.0 s.before.value.session s.takes.after.value.session by_told t.told t.answer
-                t.taken);
-            outcome = outcome_of by_told;
-            link = b.link;
-            takes = b.takes;
+                took attach handle.0 s.before.value.session s.takes.after.value.session by_told t.told t.answer t.taken;
+            later = later;
+            leads = λ input. follows-leads it f k input;
           }))
 
-      by : Answers s.before.value attach (Waiting handle) (Ok (answer.ByLink by_told)) s.takes.after.value
-          → Outcome (Waiting handle) n
-      by (inl same) =
-          inl (keeps-on n (unmoved (Waiting handle) k (answer.ByLink by_told) s same n) later)
-      by (inr (h, waits, t)) = at-session h waits t (n == k) refl
-
-  by-named : (named : NamedLink) (k : ℕ) (by_told : AttachTold)
-      → IsHeard old channel [] (said.Attach attach named) k (taken.Attach (answer.ByLink by_told)) mid []
-      → Becomes (attach_of (heard_as.Live k (taken.Attach (answer.ByLink by_told)))) named mid attach left frames events
-      new
-      → (n : ℕ) → Outcome named n
-  by-named (Waiting handle) k by_told s b n = by-waiting handle k by_told s b n
-  by-named Absent k by_told s b n =
-      inl (keeps-on n
-      (unwaiting Absent k (answer.ByLink by_told) s (λ handle waits t. let clash = waits in absurd cc) n)
-      (behind-same b.3))
-  by-named Attached k by_told s b n =
-      inl (keeps-on n
-      (unwaiting Attached k (answer.ByLink by_told) s (λ handle waits t. let clash = waits in absurd cc) n)
-      (behind-same b.3))
+      by : Answers s.before.value attach named (Ok (answer.ByLink by_told)) s.takes.after.value → Outcome named n
+      by (inl same) = inl (keeps-on n (unmoved named k (answer.ByLink by_told) s same n) later)
+      by (inr (handle, waits, t)) = at-session handle waits t (n == k) refl
 
   pub heard-here : (named : NamedLink) (h : LinkHeard)
       → Answered gives old [] channel (said.Attach attach named) (Ok h) mid []
-      → Becomes (attach_of h) named mid attach left frames events new → (n : ℕ) → Outcome named n
-  heard-here named (heard_as.Asked k) t b n =
+      → Follows h frames mid new → (n : ℕ) → Outcome named n
+  heard-here named (heard_as.Asked k) t f n =
       inl (keeps-on n
       (untaken-in old (said.Attach attach named) mid (reached old.sessions channel.0) (heard_as.Asked k) tt t n).holds
-      (behind-same b.3))
-  heard-here named (heard_as.Dropped k) t b n =
+      (follows-stays (heard_as.Asked k) f))
+  heard-here named (heard_as.Dropped k) t f n =
       inl (keeps-on n
       (untaken-in old (said.Attach attach named) mid (reached old.sessions channel.0) (heard_as.Dropped k) tt t n).holds
-      (behind-same b.3))
-  heard-here named (heard_as.Live k (taken.Attach answer.Asked)) t b n =
+      (follows-stays (heard_as.Dropped k) f))
+  heard-here named (heard_as.Live k (taken.Attach answer.Asked)) t f n =
       inl (keeps-on n
       (unwaiting named k answer.Asked
       (taken-in old channel [] (said.Attach attach named) k (taken.Attach answer.Asked) mid [] t)
       (λ handle waits l. not-asked l.told l.answer) n)
-      (behind-same b.3))
-  heard-here named (heard_as.Live k (taken.Attach (answer.ByLink told))) t b n =
-      by-named named k told
-      (taken-in old channel [] (said.Attach attach named) k (taken.Attach (answer.ByLink told)) mid [] t) b n
-  heard-here named (heard_as.Live k taken.Flow) t b n =
+      (follows-stays (heard_as.Live k (taken.Attach answer.Asked)) f))
+  heard-here named (heard_as.Live k (taken.Attach (answer.ByLink told))) t f n =
+      by-link named k told
+      (taken-in old channel [] (said.Attach attach named) k (taken.Attach (answer.ByLink told)) mid [] t) f n
+  heard-here named (heard_as.Live k taken.Flow) t f n =
       absurd (taken-in old channel [] (said.Attach attach named) k taken.Flow mid [] t).takes.hears.heard.0
-  heard-here named (heard_as.Live k (taken.Transfer x)) t b n =
+  heard-here named (heard_as.Live k (taken.Transfer x)) t f n =
       absurd (taken-in old channel [] (said.Attach attach named) k (taken.Transfer x) mid [] t).takes.hears.heard.0
-  heard-here named (heard_as.Live k (taken.Disposition back runs)) t b n =
+  heard-here named (heard_as.Live k (taken.Disposition back runs)) t f n =
       absurd
       (taken-in old channel [] (said.Attach attach named) k (taken.Disposition back runs) mid []
       t).takes.hears.heard.0
-  heard-here named (heard_as.Live k (taken.Detach x)) t b n =
+  heard-here named (heard_as.Live k (taken.Detach x)) t f n =
       absurd (taken-in old channel [] (said.Attach attach named) k (taken.Detach x) mid [] t).takes.hears.heard.0
 
-  -- the session that took it, behind all that comes of it
-  module _ (named : NamedLink) (n : ℕ) (here : TakesHere old channel attach named mid left frames events new n) where
-    later-stays : EachOf Stays mid.sessions new.sessions
-    later-stays = behind-takes here.outcome n here.handle here.link here.takes
+-- the session that took it, behind all that comes of it
+module _ (old : Talk) (channel : IncomingChannel) (attach : Attach) (mid new : Talk) (named : NamedLink) (n : ℕ)
+    (here : TakesHere old channel attach named mid new n) where
+  -- the other links stay
+  pub others-stay : (h : ℕ) → (h == here.handle.0) ≡ false
+      → Stays (held_in (live_at old.sessions n) h) (held_in (live_at new.sessions n) h)
+  others-stay h apart =
+      stays-on (held_in (live_at old.sessions n) h) (held_in (live_at mid.sessions n) h)
+      (held_in (live_at new.sessions n) h)
+      (inl (ap (λ (o : Option Session). held_in o h) here.stands
+      ∙ ap (λ (ls : List (Option Link)). held_link (slice_index_or ls h None)) here.took.stepped.others
+      ∙ ap held_link
+      (get_or-set_other here.before.value.session.links here.handle.0 h (Some here.took.stepped.after) None
+      (other_number h here.handle.0 apart))
+      ∙ sym (ap (λ (o : Option Session). held_in o h) here.live)))
+      (here.later n h)
 
-    -- the other links stay
-    pub others-stay : (h : ℕ) → (h == here.handle.0) ≡ false
-        → Stays (held_in (live_at old.sessions n) h) (held_in (live_at new.sessions n) h)
-    others-stay h apart =
-        stays-on (held_in (live_at old.sessions n) h) (held_in (live_at mid.sessions n) h)
-        (held_in (live_at new.sessions n) h)
-        (inl (ap (λ (o : Option Session). held_in o h) here.stands
-        ∙ ap (λ (ls : List (Option Link)). held_link (slice_index_or ls h None)) here.took.stepped.others
-        ∙ ap held_link
-        (get_or-set_other here.before.value.session.links here.handle.0 h (Some here.took.stepped.after) None
-        (other_number h here.handle.0 apart))
-        ∙ sym (ap (λ (o : Option Session). held_in o h) here.live)))
-        (later-stays n h)
+  -- what the link holds that took it
+  pub took-held : (link : ℕ) (held : Option Delivery)
+      → held_in (live_at new.sessions n) here.handle.0 ≡ Some (link, (true, held))
+      → IsHeld here.took.stepped.after.number here.took.stepped.after.link link held
+  took-held link held is =
+      end-held here.took.stepped.after.number here.took.stepped.after.link link held
+      (sym (ap (λ (o : Option Session). held_in o here.handle.0) here.stands
+      ∙ ap held_link
+      (stepped-there (λ (a b : Link). gives.attaches a attach (Ok here.took.told) b) here.before.value.session
+      here.handle.0 here.after.value.session here.took.stepped))
+      ∙ was-so (held_in (live_at mid.sessions n) here.handle.0) (held_in (live_at new.sessions n) here.handle.0)
+      (link, (true, held)) (here.later n here.handle.0) is)
 
-    -- what the link holds that took it
-    pub took-held : (link : ℕ) (held : Option Delivery)
-        → held_in (live_at new.sessions n) here.handle.0 ≡ Some (link, (true, held))
-        → IsHeld here.took.stepped.after.number here.took.stepped.after.link link held
-    took-held link held is =
-        end-held here.took.stepped.after.number here.took.stepped.after.link link held
-        (sym (ap (λ (o : Option Session). held_in o here.handle.0) here.stands
-        ∙ ap held_link
-        (stepped-there (λ (a b : Link). gives.attaches a attach (Ok here.took.told) b) here.before.value.session
-        here.handle.0 here.after.value.session here.took.stepped))
-        ∙ was-so (held_in (live_at mid.sessions n) here.handle.0) (held_in (live_at new.sessions n) here.handle.0)
-        (link, (true, held)) (later-stays n here.handle.0) is)
-
-    -- the handle of the Attach leads to it, where it is attached
-    behind-leads : (outcome : Result Attaching LinkError)
-        → LinkTakes outcome mid n here.handle here.link left frames events new → (own : OutputHandle) (x : ℕ × Part)
-        → held_in (live_at new.sessions n) here.handle.0 ≡ Some x
-        → leads_there (live_at mid.sessions n) attach.handle.0 own ≡ true
-        → leads_there (live_at new.sessions n) attach.handle.0 own ≡ true
-    behind-leads (Ok made) t own x held leads =
-        ap (λ (y : Talk). leads_there (live_at y.sessions n) attach.handle.0 own) t.3 ∙ leads
-    behind-leads (Err error) t own x held leads =
-        let g = t.1 in
-        let stands = changed-live n g.before g.after mid.sessions new.sessions g.stepped in
-        let same : g.after.value ≡ g.before.value =
-        refused-same (is_there (end_at g.before.value here.handle)) _ here.handle frames g.before.value g.after.value x
-        refl g.done (sym (ap (λ (o : Option Session). held_in o here.handle.0) stands) ∙ held) in
-        ap (λ (o : Option Session). leads_there o attach.handle.0 own) stands
-        ∙ ap (λ (s : Linked). is_it (link_reached s.session attach.handle.0) own.0) same
-        ∙ sym (ap (λ (o : Option Session). leads_there o attach.handle.0 own) g.stepped.0)
-        ∙ leads
-
-    pub takes-leads : (own : OutputHandle) (x : ℕ × Part) → (own.0 == here.handle.0) ≡ true
-        → held_in (live_at new.sessions n) here.handle.0 ≡ Some x
-        → leads_there (live_at new.sessions n) attach.handle.0 own ≡ true
-    takes-leads own x e held =
-        behind-leads here.outcome here.takes own x held
-        (ap (λ (o : Option Session). leads_there o attach.handle.0 own) here.stands
-        ∙ ap (λ (o : Option ℕ). is_it o own.0) here.took.reaches ∙ e)
+  -- the handle of the Attach leads to it, where it is attached
+  pub takes-leads : (own : OutputHandle) (x : ℕ × Part) → (own.0 == here.handle.0) ≡ true
+      → held_in (live_at new.sessions n) here.handle.0 ≡ Some x
+      → leads_there (live_at new.sessions n) attach.handle.0 own ≡ true
+  takes-leads own x e held =
+      held-leads (live_at new.sessions n) attach.handle.0 here.handle own x e held
+      (here.leads attach.handle.0 ∙ ap (λ (o : Option Session). leads_in o attach.handle.0) here.stands
+      ∙ here.took.leads)

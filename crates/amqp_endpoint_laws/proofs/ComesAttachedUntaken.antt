@@ -21,9 +21,8 @@ use Rattle.amqp_endpoint_conversation.specs.Hearing.{Answered, AnsweredAt, Answe
 use Rattle.amqp_endpoint_conversation.specs.declared.hearing.HearRefusal.TheVariants as refused
 use Rattle.amqp_endpoint_conversation.specs.declared.hearing.Heard.TheVariants as heard_as
 use Rattle.amqp_endpoint_laws.specs.Deeds.{IsDeed, Takes}
-use Rattle.amqp_endpoint_link_hearing.specs.Attaching.{HearsAttach}
+use Rattle.amqp_endpoint_link_hearing.specs.Attaching.{HearsReady}
 use Rattle.amqp_endpoint_link_hearing.specs.Saying.{LinkHeard, LinkRefusal}
-use Rattle.amqp_endpoint_link_hearing.specs.declared.attaching.LinkAttached.{LinkAttached as Left}
 use Rattle.amqp_endpoint.specs.Does.{linked}
 use Rattle.amqp_endpoint.specs.Hearing.{Hears as HearsFrame}
 use Rattle.amqp_endpoint.specs.declared.linked.LinkedSessions.{LinkedSessions}
@@ -45,6 +44,7 @@ use Rattle.amqp_endpoint_laws.specs.Taken.{IsOther}
 use Rattle.amqp_endpoint_laws.proofs.ComesAttachedHeld.{receiving-holds}
 use Rattle.amqp_endpoint_laws.proofs.HoldingTalk.{held_in}
 use Rattle.amqp_endpoint_laws.proofs.PassedPlaces.{eq-same}
+use Rattle.amqp_endpoint_laws.proofs.RoomMade.{RoomMade, room-holds, room-leads-there, room-made, room-reached}
 
 -- a session that goes on answers what is said on a channel that reaches it
 live-answers : (o : Option Stood) (session : Session) → live_of o ≡ Some session → (old : Talk) (n : ℕ)
@@ -115,28 +115,38 @@ module _ (old new : LinkedSessions) (limit channel : ℕ) (frames : List Session
       none-some (link, (true, held_so))
       (sym (ap (λ (o : Option Session). held_in o own.0) dead) ∙ receiving-holds s link session own held_so receives)
 
-  used : (s : Session) → live_at old.talk.sessions session ≡ Some s → (attach : Attach) → attach.handle.0 ≡ theirs
-      → in_use s.value attach.handle.0 ≡ true
-  used s live attach same =
-      either-so (is_some (map.get s.value.asked attach.handle.0))
-      (is_some (link_reached s.value.session attach.handle.0))
-      (reached-some (link_reached s.value.session attach.handle.0) own.0
-      (ap (λ (k : ℕ). is_it (link_reached s.value.session k) own.0) same
-      ∙ sym (ap (λ (o : Option Session). leads_there o theirs own) live) ∙ leads))
+  module _ (ready : Talk) (made : RoomMade old.talk (record { 0 = channel }) ready) where
+    ready-leads : leads_there (live_at ready.sessions session) theirs own ≡ true
+    ready-leads = room-leads-there old.talk (record { 0 = channel }) ready made session theirs own ∙ leads
 
-  not-taken : (s : Session) → live_at old.talk.sessions session ≡ Some s → (attach : Attach)
-      → attach.handle.0 ≡ theirs → reached old.talk.sessions channel ≡ Some session → (left : Option Left)
-      → HearsAttach old.talk old.links (record { 0 = channel }) attach left frames events new.talk new.links → ⊥
-  not-taken s live attach same reaches left (inl t) =
-      not-heard session s attach t.named t.heard old.talk t.mid (used s live attach same)
-      (answered-live old.talk (record { 0 = channel }) session s reaches live (said.Attach attach t.named) (Ok t.heard)
-      t.mid [] t.answered)
-  not-taken s live attach same reaches left (inr f) =
-      goes-on new later q
-      (fails-dead session f.fails.number s f.fails.session (said.Attach attach f.named) f.fails.fault old.talk new.talk
-      frames
-      (answered-live old.talk (record { 0 = channel }) session s reaches live (said.Attach attach f.named)
-      (Err (refused.Session f.fails.number f.fails.fault f.fails.session)) new.talk frames f.fails.answered))
+    used : (s : Session) → live_at ready.sessions session ≡ Some s → (attach : Attach) → attach.handle.0 ≡ theirs
+        → in_use s.value attach.handle.0 ≡ true
+    used s live attach same =
+        either-so (is_some (map.get s.value.asked attach.handle.0))
+        (is_some (link_reached s.value.session attach.handle.0))
+        (reached-some (link_reached s.value.session attach.handle.0) own.0
+        (ap (λ (k : ℕ). is_it (link_reached s.value.session k) own.0) same
+        ∙ sym (ap (λ (o : Option Session). leads_there o theirs own) live) ∙ ready-leads))
+
+    not-taken : (s : Session) → live_at ready.sessions session ≡ Some s → (attach : Attach) (named : NamedLink)
+        → attach.handle.0 ≡ theirs → reached ready.sessions channel ≡ Some session
+        → HearsReady named ready old.links limit (record { 0 = channel }) attach frames events new.talk new.links → ⊥
+    not-taken s live attach named same reaches (inl t) =
+        not-heard session s attach named t.heard ready t.mid (used s live attach same)
+        (answered-live ready (record { 0 = channel }) session s reaches live (said.Attach attach named) (Ok t.heard)
+        t.mid [] t.answered)
+    not-taken s live attach named same reaches (inr f) =
+        goes-on new later q
+        (fails-dead session f.number s f.session (said.Attach attach named) f.fault ready new.talk frames
+        (answered-live ready (record { 0 = channel }) session s reaches live (said.Attach attach named)
+        (Err (refused.Session f.number f.fault f.session)) new.talk frames f.answered))
+
+    goes-on-ready : live_at ready.sessions session ≡ None → ⊥
+    goes-on-ready dead =
+        none-some (link, (true, held))
+        (sym (ap (λ (o : Option Session). held_in o own.0) dead)
+        ∙ room-holds old.talk (record { 0 = channel }) ready made session own.0
+        ∙ receiving-holds old link session own held r)
 
   other-handle : (attach : Attach)
       → HearsFrame old.talk old.links old.given limit (record { 0 = channel }) (body.Attach attach) frames events
@@ -144,14 +154,19 @@ module _ (old new : LinkedSessions) (limit channel : ℕ) (frames : List Session
       → reached old.talk.sessions channel ≡ Some session → (attach.handle.0 == theirs) ≡ false
   other-handle attach (a, g) reaches = by (attach.handle.0 == theirs) refl
     where
-      at-session : attach.handle.0 ≡ theirs → (o : Option Session) → live_at old.talk.sessions session ≡ o → ⊥
-      at-session same None dead = goes-on old held r dead
-      at-session same (Some s) live = not-taken s live attach same reaches a.left a.hears
+      made : RoomMade old.talk (record { 0 = channel }) a.ready
+      made = room-made a.named old.talk (record { 0 = channel }) a.ready a.makes_room
+
+      at-session : attach.handle.0 ≡ theirs → (o : Option Session) → live_at a.ready.sessions session ≡ o → ⊥
+      at-session same None dead = goes-on-ready a.ready made dead
+      at-session same (Some s) live =
+          not-taken a.ready made s live attach a.named same
+          (room-reached old.talk (record { 0 = channel }) a.ready made channel ∙ reaches) a.hears
 
       by : (b : Bool) → (attach.handle.0 == theirs) ≡ b → (attach.handle.0 == theirs) ≡ false
       by false e = e
       by true e =
-          absurd (at-session (same_number attach.handle.0 theirs e) (live_at old.talk.sessions session) refl)
+          absurd (at-session (same_number attach.handle.0 theirs e) (live_at a.ready.sessions session) refl)
 
   frame-other : (it : FrameBody)
       → IsDeed linked old (Takes limit (record { channel = channel; body = it }) frames events) new

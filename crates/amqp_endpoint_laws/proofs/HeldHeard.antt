@@ -34,11 +34,7 @@ use Rattle.amqp_link.specs.Ends.{state_of}
 use Rattle.amqp_link.specs.declared.relay.AttachTold.{AttachTold}
 use Rattle.amqp_link_receiver.specs.declared.answer.Told.{Told}
 use Rattle.amqp_link_receiver.specs.declared.answer.Told.TheVariants as told
-use Rattle.amqp_link_sender.specs.declared.attaching.Attaching.{Attaching}
-use Rattle.amqp_link_types.specs.declared.link_error.LinkError.{LinkError}
 use Rattle.amqp_endpoint_links.specs.declared.session.AskedSession.{AskedSession}
-use Rattle.amqp_endpoint_links.specs.declared.asking.NamedLink.{NamedLink}
-use Rattle.amqp_endpoint_links.specs.declared.asking.NamedLink.TheVariants.{Waiting}
 use Rattle.amqp_endpoint_links.specs.declared.hearing.LinkPerformative.{LinkPerformative}
 use Rattle.amqp_endpoint_links.specs.declared.hearing.PerformativeTaken.{PerformativeTaken}
 use Rattle.amqp_endpoint_tables.specs.State.{asked_at, asked_of, ended_place, live_at, reached, with_asked}
@@ -61,12 +57,8 @@ use Rattle.amqp_endpoint_model.specs.declared.event.Event.{Event}
 use Rattle.amqp_endpoint_linking.specs.GivingBack.{AllGivenBack, SessionGivenBack}
 use Rattle.amqp_endpoint_linking.specs.Hearing.{HearsBegin, RefusesBegin}
 use Rattle.amqp_endpoint_linking.specs.Linking.{Link, Links, Session, Sessions, Stood, Talk, links_of}
-use Rattle.amqp_endpoint_link_hearing.specs.declared.attaching.LinkAttached.{LinkAttached}
-use Rattle.amqp_endpoint_links.specs.declared.asking.AttachTaken.TheVariants as answer
-use Rattle.amqp_endpoint_links.specs.declared.hearing.PerformativeTaken.TheVariants as taken
 use Rattle.amqp_endpoint_link_hearing.specs.Heard.{attach_of, session_of}
-use Rattle.amqp_endpoint_link_hearing.specs.Attaching as attaching
-use Rattle.amqp_endpoint_link_hearing.specs.Attaching.{LinkTakes}
+use Rattle.amqp_endpoint_link_hearing.specs.Attaching.{HearsAttach, HearsReady, opened_in}
 use Rattle.amqp_endpoint_link_hearing.specs.Detaching as detaching
 use Rattle.amqp_endpoint_link_hearing.specs.Disposing as disposing
 use Rattle.amqp_endpoint_link_hearing.specs.Flowing.{LeaveWith, LeavesOnce, LeavesWith, LetsGo, ended, ended_link}
@@ -80,12 +72,15 @@ use Rattle.amqp_endpoint_link_hearing.proofs.Barrings.{refuses-by}
 use Rattle.amqp_endpoint_laws.specs.Conversing.{SessionsAct}
 use Rattle.amqp_endpoint_laws.specs.Held.{Agrees, Numbers, number_at, number_in, number_live, number_of}
 use Rattle.amqp_endpoint_laws.proofs.Agreeing.{Same, stay}
+use Rattle.amqp_endpoint_laws.proofs.BehindAttach.{Follows, becomes-behind, behind-numbers, number_of as session_heard}
+use Rattle.amqp_endpoint_laws.proofs.BehindAttach.{room-behind}
 use Rattle.amqp_endpoint_laws.proofs.HeldCalled.{Stands, TalkSame, live-same, stays-held, talk-on, talk-same}
 use Rattle.amqp_endpoint_laws.proofs.HeldParting.{left-held, session-back}
 use Rattle.amqp_endpoint_laws.proofs.HeldSessions.{Gone, about-same, ends-gone, inside, keep-in, live-changed, within}
 use Rattle.amqp_endpoint_laws.proofs.Numbers.{KeepNumbers, heard-kept, kept-on, same-kept, step-kept}
-use Rattle.amqp_endpoint_laws.proofs.NumbersInside.{again-kept, answers-kept, echoes-kept, refuses-kept}
-use Rattle.amqp_endpoint_laws.proofs.NumbersInside.{remembers-kept, told-kept}
+use Rattle.amqp_endpoint_laws.proofs.NumbersInside.{again-kept, answers-kept, echoes-kept, refuses-kept, remembers-kept}
+use Rattle.amqp_endpoint_laws.proofs.NumbersInside.{told-kept}
+use Rattle.amqp_endpoint_laws.proofs.RoomMade.{RoomMade, room-made}
 
 -- a session that the peer's channel reaches answers, and doesn't end by its fault
 abbrev NoFault : Result LinkHeard LinkRefusal → Type 0
@@ -287,24 +282,38 @@ begin-heard old links channel begin frames events new links_new (inr f) a =
     (here-gone f.number _ f.fails.session f.mid new [] frames f.fails.ends))
     f.fails.back a
 
--- the peer's Attach
-attach-taken : (outcome : Result Attaching LinkError) (old new : Talk) (session : ℕ) (handle : OutputHandle)
-    (link : Link) (left : Option LinkAttached) (frames : List SessionFrame) (events : List Event)
-    → LinkTakes outcome old session handle link left frames events new → TalkSame old new
-attach-taken (Ok made) old new session handle link left frames events t = talk-same old new t.3
-attach-taken (Err error) old new session handle link left frames events t =
-    in-session _ old session new (λ before after d. refuses-kept _ handle frames before after d) t.1
+-- the peer's Attach, before which room may be made
+room-same : (old : Talk) (channel : IncomingChannel) (new : Talk) → RoomMade old channel new → TalkSame old new
+room-same old channel new (inl same) = talk-same old new same
+room-same old channel new (inr m) =
+    in-session _ old m.number new
+    (λ before after r. behind-numbers [] before after (room-behind before after r)) m.made
 
-attach-becomes : (it : LinkHeard) (named : NamedLink) (old new : Talk) (attach : Attach) (left : Option LinkAttached)
-    (frames : List SessionFrame) (events : List Event)
-    → attaching.Becomes (attach_of it) named old attach left frames events new → TalkSame old new
-attach-becomes (heard.Asked session) named old new attach left frames events b = talk-same old new b.3
-attach-becomes (heard.Live session (taken.Attach answer.Asked)) named old new attach left frames events b =
-    talk-same old new b.3
-attach-becomes (heard.Live session (taken.Attach (answer.ByLink by_link))) (Waiting handle) old new attach left frames
-    events b =
-    attach-taken (attaching.outcome_of by_link) old new session handle b.link left frames events b.takes
-attach-becomes it named old new attach left frames events b = talk-same old new b.3
+attach-follows : (it : LinkHeard) (frames : List SessionFrame) (old new : Talk) → Follows it frames old new
+    → TalkSame old new
+attach-follows it frames old new (inl (none, same)) = talk-same old new same
+attach-follows it frames old new (inr g) =
+    in-session _ old (session_heard it) new (λ before after b. behind-numbers frames before after b) g
+
+attach-heard : (old : Talk) (links : Links) (limit : ℕ) (channel : IncomingChannel) (attach : Attach)
+    (frames : List SessionFrame) (events : List Event) (new : Talk) (links_new : Links)
+    → HearsAttach old links limit channel attach frames events new links_new → Agrees (number_at old.sessions) links
+    → Agrees (number_at new.sessions) links_new
+attach-heard old links limit channel attach frames events new links_new h a =
+    by h.hears
+    (stays-held old h.ready links links
+    (room-same old channel h.ready (room-made h.named old channel h.ready h.makes_room)) refl a)
+  where
+    by : HearsReady h.named h.ready links limit channel attach frames events new links_new
+        → Agrees (number_at h.ready.sessions) links → Agrees (number_at new.sessions) links_new
+    by (inl t) agrees =
+        stays-held h.ready new links links_new
+        (talk-on h.ready t.mid new (answered h.ready [] channel _ (Ok t.heard) t.mid [] tt t.answered)
+        (attach-follows t.heard frames t.mid new
+        (becomes-behind limit (opened_in h.ready (attach_of t.heard) h.named) t.heard h.named t.mid attach frames events
+        new t.becomes)))
+        t.same agrees
+    by (inr f) agrees = fails h.ready links channel _ frames events new links_new f agrees
 
 -- the peer's Transfer
 remembered : (settled : Bool) (handle : OutputHandle) (tag : List ℕ) (number : ℕ) (old : Talk) (session : ℕ)
@@ -483,13 +492,7 @@ pub frame-held : (it : FrameBody) (old new : Talk) (links links_new : Links) (gi
 frame-held (body.Begin begin) old new links links_new given given_new limit channel frames events (b, g) a =
     begin-heard old links channel begin frames events new links_new b a
 frame-held (body.Attach attach) old new links links_new given given_new limit channel frames events (h, g) a =
-    elim h.hears [
-      | inl t ↦ stays-held old new links links_new
-          (talk-on old t.mid new (answered old [] channel _ (Ok t.heard) t.mid [] tt t.answered)
-          (attach-becomes t.heard t.named t.mid new attach h.left frames events t.becomes))
-          t.same a
-      | inr f ↦ fails old links channel _ frames events new links_new f.fails a
-    ]
+    attach-heard old links limit channel attach frames events new links_new h a
 frame-held (body.Flow flow) old new links links_new given given_new limit channel frames events (inl t, g) a =
     flow-lets-go (session_of t.heard) frames t.mid new links links_new t.leave
     (stays-held old t.mid links links (answered old [] channel _ (Ok t.heard) t.mid frames tt t.answered) refl a)
@@ -557,7 +560,8 @@ pub refused-same : (it : FrameBody) (old new : Talk) (links : Links) (given limi
     (e : EndpointError) → RefusesBody old links given limit channel it e new → TalkSame old new
 refused-same (body.Begin begin) old new links given limit channel e r = begin-refused old channel begin e new r
 refused-same (body.Attach attach) old new links given limit channel e (inl b) =
-    said-barred old channel _ e new b.bars
+    talk-on old b.ready new (room-same old channel b.ready (room-made b.named old channel b.ready b.makes_room))
+    (said-barred b.ready channel _ e new b.bars)
 refused-same (body.Attach attach) old new links given limit channel e (inr u) = talk-same old new u.1
 refused-same (body.Flow flow) old new links given limit channel e r = said-refused old channel _ e new r
 refused-same (body.Transfer transfer payload) old new links given limit channel e (inl u) = talk-same old new u.stays

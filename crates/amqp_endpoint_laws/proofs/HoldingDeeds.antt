@@ -25,8 +25,6 @@ use Rattle.amqp_session_core.specs.Steps.{TakesBegin as SessionTakesBegin}
 use Rattle.amqp_session_core.specs.Tables.{RouteTable}
 use Rattle.amqp_link_base.specs.declared.detached.Detached.{Detached}
 use Rattle.amqp_link.specs.declared.end.End.{End}
-use Rattle.amqp_link_sender.specs.declared.attaching.Attaching.{Attaching}
-use Rattle.amqp_link_types.specs.declared.link_error.LinkError.{LinkError}
 use Rattle.smallvec.specs.SmallVec.{SmallVec}
 use Rattle.amqp_endpoint_attached.specs.Linked.{gives}
 use Rattle.amqp_endpoint_attached.specs.Links.{receiver_by, sender_by}
@@ -34,22 +32,19 @@ use Rattle.amqp_endpoint_conversation.specs.Beginning.{AcceptsHere, BeginAnswere
 use Rattle.amqp_endpoint_conversation.specs.declared.beginning.BeginHeard.{BeginHeard}
 use Rattle.amqp_endpoint_conversation.specs.declared.beginning.BeginHeard.TheVariants as begin_heard
 use Rattle.amqp_endpoint_conversation.specs.declared.beginning.BeginRefusal.TheVariants as begin_refused
-use Rattle.amqp_endpoint_conversation.specs.declared.hearing.Heard.TheVariants as heard
 use Rattle.amqp_endpoint_laws.specs.Deeds.{Closes, Deed, Does, EndsBy, Finishes, Hears, IsDeed, Moves, Queues}
 use Rattle.amqp_endpoint_laws.specs.Deeds.{Refuses, Renews, Takes}
 use Rattle.amqp_endpoint_link_calls.specs.Attaching.{with_room}
 use Rattle.amqp_endpoint_link_calls.specs.Calling.{Does as DoesTo, DoneAt, DoneIn, detaches, gives_credit, wants_drain}
 use Rattle.amqp_endpoint_link_calls.specs.Closing.{ClosedAt, ClosedHeld, closes, fails, parted_at}
 use Rattle.amqp_endpoint_link_calls.specs.Places.{LinksBy, Where}
-use Rattle.amqp_endpoint_link_hearing.specs.Attaching as link_attaching
-use Rattle.amqp_endpoint_link_hearing.specs.Attaching.{HearsAttach, LinkTakes}
+use Rattle.amqp_endpoint_link_hearing.specs.Attaching.{HearsReady, opened_in}
 use Rattle.amqp_endpoint_link_hearing.specs.Detaching as detaching
 use Rattle.amqp_endpoint_link_hearing.specs.Disposing as disposing
 use Rattle.amqp_endpoint_link_hearing.specs.Disposing.{runs_of}
 use Rattle.amqp_endpoint_link_hearing.specs.Flowing.{LetsGo}
 use Rattle.amqp_endpoint_link_hearing.specs.Heard.{attach_of, detach_of, session_of}
 use Rattle.amqp_endpoint_link_hearing.specs.Saying.{LinkHeard}
-use Rattle.amqp_endpoint_link_hearing.specs.declared.attaching.LinkAttached.{LinkAttached as Left}
 use Rattle.amqp_endpoint_link_calls.specs.Disposing.{DisposedAt, disposes_of_all, disposes_of_one}
 use Rattle.amqp_endpoint_link_calls.specs.Sending.{sends}
 use Rattle.amqp_endpoint.specs.Attaching.{LinkAttached}
@@ -61,11 +56,7 @@ use Rattle.amqp_endpoint.specs.declared.linked.LinkedSessions.{LinkedSessions}
 use Rattle.amqp_endpoint_linking.specs.Hearing.{HearsBegin, TakesEnd as EndTaken}
 use Rattle.amqp_endpoint_linking.specs.Linking.{Link, Links, Session, Sessions, Stood, Talk}
 use Rattle.amqp_endpoint_links.proofs.Calls.{accepted-routes, begun-routes}
-use Rattle.amqp_endpoint_links.specs.declared.asking.AttachTaken.TheVariants as answer
-use Rattle.amqp_endpoint_links.specs.declared.asking.NamedLink.{NamedLink}
-use Rattle.amqp_endpoint_links.specs.declared.asking.NamedLink.TheVariants.{Waiting}
 use Rattle.amqp_endpoint_links.specs.declared.hearing.LinkPerformative.TheVariants as said
-use Rattle.amqp_endpoint_links.specs.declared.hearing.PerformativeTaken.TheVariants as taken
 use Rattle.amqp_endpoint_model.specs.Said.{Said, attaching, count, credit_is, done, link_closed, message_sent}
 use Rattle.amqp_endpoint_model.specs.Said.{session_begun, tried_end, truth, waiting}
 use Rattle.amqp_endpoint_model.specs.declared.call.Call.{Call}
@@ -84,6 +75,7 @@ use Rattle.amqp_endpoint_tables.specs.declared.place.Place.TheVariants.{Asked, L
 use Rattle.amqp_endpoint_tables.proofs.Owning.{at}
 use Rattle.amqp_endpoint_link_hearing.proofs.Barrings.{refuses-by}
 use Rattle.amqp_endpoint_laws.specs.Held.{number_of}
+use Rattle.amqp_endpoint_laws.proofs.BehindAttach.{Follows, becomes-behind, behind-rests, number_of as session_heard}
 use Rattle.amqp_endpoint_laws.proofs.HeldCalled.{accepted-none, begun-none}
 use Rattle.amqp_endpoint_laws.proofs.HoldingDone.{StaysBy, attached-comes, attached-first, closes-stays, closing-stays}
 use Rattle.amqp_endpoint_laws.proofs.HoldingDone.{detaches-stay, disposes-all, disposes-one, drains-stays, echoes-stay}
@@ -93,6 +85,7 @@ use Rattle.amqp_endpoint_laws.proofs.HoldingEnds.{Comes, Goes, Holding, IsEmpty,
 use Rattle.amqp_endpoint_laws.proofs.HoldingEnds.{held_link}
 use Rattle.amqp_endpoint_laws.proofs.HoldingInside.{all-same, calm-stays}
 use Rattle.amqp_endpoint_laws.proofs.HoldingTalk.{AllRest, AttachesAt, EachAt, EachOf, EntersAt, RestsAt, all-on}
+use Rattle.amqp_endpoint_laws.proofs.HoldingTalk.{attaches-behind}
 use Rattle.amqp_endpoint_laws.proofs.HoldingTalk.{attaches-go, attaches-on, born-stays, dead-stays, each-same}
 use Rattle.amqp_endpoint_laws.proofs.HoldingTalk.{ends-stays, fails-stay, first-at, goes-on-stays, heard-attaches}
 use Rattle.amqp_endpoint_laws.proofs.HoldingTalk.{heard-rests, held_in, inside-stays, leads_in, live-changes}
@@ -102,6 +95,7 @@ use Rattle.amqp_endpoint_laws.proofs.HoldingWaits.{IsUnattached}
 use Rattle.amqp_endpoint_laws.proofs.PassedKept.{IsOver, Wanes, by-frame-still, finished-first, left-first, over-at}
 use Rattle.amqp_endpoint_laws.proofs.Parted.{entered, holder}
 use Rattle.amqp_endpoint_laws.proofs.PassedPlaces.{IsGone, eq-same}
+use Rattle.amqp_endpoint_laws.proofs.RoomMade.{RoomMade, room-holds, room-leads, room-made, room-named}
 
 pub talk-same : (old new : Talk) → new ≡ old → AllRest old.sessions new.sessions
 talk-same old new same = sessions-same old.sessions new.sessions (ap (λ (t : Talk). t.sessions) same)
@@ -145,24 +139,11 @@ begin-goes old links channel begin frames events new links_new (inr f) = by f.fa
     by e r = absurd r
 
 -- what comes of an Attach, a Flow, a Disposition and a Detach
-attach-taken : (outcome : Result Attaching LinkError) (old new : Talk) (session : ℕ) (handle : OutputHandle)
-    (link : Link) (left : Option Left) (frames : List SessionFrame) (events : List Event)
-    → LinkTakes outcome old session handle link left frames events new → AllRest old.sessions new.sessions
-attach-taken (Ok made) old new session handle link left frames events t = talk-same old new t.3
-attach-taken (Err error) old new session handle link left frames events t =
-    goes-on-stays _ old session new (λ a b c. closes-stays _ handle frames a b c) t.1
-
-attach-comes : (it : LinkHeard) (named : NamedLink) (old new : Talk) (attach : Attach) (left : Option Left)
-    (frames : List SessionFrame) (events : List Event)
-    → link_attaching.Becomes (attach_of it) named old attach left frames events new
+attach-follows : (it : LinkHeard) (frames : List SessionFrame) (old new : Talk) → Follows it frames old new
     → AllRest old.sessions new.sessions
-attach-comes (heard.Asked session) named old new attach left frames events b = talk-same old new b.3
-attach-comes (heard.Live session (taken.Attach answer.Asked)) named old new attach left frames events b =
-    talk-same old new b.3
-attach-comes (heard.Live session (taken.Attach (answer.ByLink by_link))) (Waiting handle) old new attach left frames
-    events b =
-    attach-taken (link_attaching.outcome_of by_link) old new session handle b.link left frames events b.takes
-attach-comes it named old new attach left frames events b = talk-same old new b.3
+attach-follows it frames old new (inl (none, same)) = talk-same old new same
+attach-follows it frames old new (inr g) =
+    goes-on-stays _ old (session_heard it) new (λ a b d. behind-rests frames a b d) g
 
 flow-comes : (o : Option ℕ) (frames : List SessionFrame) (old new : Talk) (links links_new : Links)
     → LetsGo o frames old links new links_new → AllRest old.sessions new.sessions
@@ -259,22 +240,27 @@ pub attach-goes : (attach : Attach) (old new : LinkedSessions) (limit : ℕ) (ch
     → HearsFrame old.talk old.links old.given limit channel (body.Attach attach) frames events new.talk new.links
     new.given
     → (n : ℕ) → AttachesAt attach (live_at old.talk.sessions n) (live_at new.talk.sessions n)
-attach-goes attach old new limit channel frames events (a, g) n = by a.hears
+attach-goes attach old new limit channel frames events (a, g) n =
+    attaches-behind attach (live_at old.talk.sessions n) (live_at a.ready.sessions n) (live_at new.talk.sessions n)
+    (λ h. room-holds old.talk channel a.ready made n h) (λ input. room-leads old.talk channel a.ready made n input)
+    (by a.hears)
   where
-    on : (mid : Option Session) → AttachesAt attach (live_at old.talk.sessions n) mid
-        → RestsAt mid (live_at new.talk.sessions n)
-        → AttachesAt attach (live_at old.talk.sessions n) (live_at new.talk.sessions n)
-    on mid first later = attaches-on attach (live_at old.talk.sessions n) mid (live_at new.talk.sessions n) first later
+    made : RoomMade old.talk channel a.ready
+    made = room-made a.named old.talk channel a.ready a.makes_room
 
-    by : HearsAttach old.talk old.links channel attach a.left frames events new.talk new.links
-        → AttachesAt attach (live_at old.talk.sessions n) (live_at new.talk.sessions n)
+    by : HearsReady a.named a.ready old.links limit channel attach frames events new.talk new.links
+        → AttachesAt attach (live_at a.ready.sessions n) (live_at new.talk.sessions n)
     by (inl t) =
-        on (live_at t.mid.sessions n)
-        (heard-attaches attach t.named old.talk old.links channel t.heard [] t.mid t.is_named t.answered n)
-        (attach-comes t.heard t.named t.mid new.talk attach a.left frames events t.becomes n)
+        attaches-on attach (live_at a.ready.sessions n) (live_at t.mid.sessions n) (live_at new.talk.sessions n)
+        (heard-attaches attach a.named a.ready old.links channel t.heard [] t.mid
+        (room-named old.talk channel a.ready made old.links attach a.named a.is_named) t.answered n)
+        (attach-follows t.heard frames t.mid new.talk
+        (becomes-behind limit (opened_in a.ready (attach_of t.heard) a.named) t.heard a.named t.mid attach frames events
+        new.talk t.becomes)
+        n)
     by (inr f) =
-        inl (fails-stay (said.Attach attach f.named) old.talk new.talk f.fails.number f.fails.fault f.fails.session
-        frames channel f.fails.answered n)
+        inl (fails-stay (said.Attach attach a.named) a.ready new.talk f.number f.fault f.session frames channel
+        f.answered n)
 
 -- what a call does in the session that holds its link
 done-in : (does : DoesTo) (session : ℕ) (handle : OutputHandle) (old new : Talk) (frames : List SessionFrame)

@@ -124,7 +124,7 @@ pub closes-none : (why : Option Error) (handle : OutputHandle) (frames : List Se
 closes-none why handle frames old new is c = closed-none (is_there (end_at old handle)) why handle frames old new is c
 
 -- a link tells of messages that it sent
-told-holds : (k count : ℕ) (end : End) → held_end k (behind_told count end) ≡ held_end k end
+pub told-holds : (k count : ℕ) (end : End) → held_end k (behind_told count end) ≡ held_end k end
 told-holds k count (Sender s) = refl
 told-holds k count (Receiver r) = refl
 

@@ -20,7 +20,8 @@ use Rattle.amqp_session_performatives.specs.declared.session_frame.SessionFrame.
 use Rattle.amqp_session_outgoing.specs.Table.{Table}
 use Rattle.amqp_session_core.specs.Echoes.{Reach, ReachesAt, Walks, opposite}
 use Rattle.amqp_session_core.specs.State.{StepsAt, link_at}
-use Rattle.amqp_session_core.specs.Steps.{Allocates, Changes, Deallocates, FlowAt, SendsBehind, SendsDisposition}
+use Rattle.amqp_session_core.specs.Steps.{Allocates, Changes, Deallocates, FlowAt, Reserves, SendsBehind}
+use Rattle.amqp_session_core.specs.Steps.{SendsDisposition}
 use Rattle.amqp_session_core.specs.Steps.{SendsDispositionStep, SendsTransfers, SetsWindow, Act, Step, TakesAttach}
 use Rattle.amqp_session_core.specs.Steps.{TakesBegin, TakesDetach, TakesDisposition, TakesFlow, told_to_link}
 use Rattle.amqp_session_core.specs.Steps.{with_table}
@@ -196,6 +197,11 @@ pub batch-stays : (old new : LinksIn) (handle : OutputHandle) (batch : Transfers
     (frames : List SessionFrame) → Step gives old (SendsTransfers handle batch left frames) new → Rests old new
 batch-stays old new handle batch left frames s =
     routes-rest old new (links-same old new (ap (λ (x : LinksIn). x.links) s.2)) (ap (λ (x : LinksIn). x.routes) s.2)
+
+-- room is made for transfers
+pub reserves-stays : (old new : LinksIn) (count : ℕ) → Step gives old (Reserves count) new → Rests old new
+reserves-stays old new count s =
+    routes-rest old new (links-same old new (ap (λ (x : LinksIn). x.links) s.1)) (ap (λ (x : LinksIn). x.routes) s.1)
 
 table-same : (by : Role) (table : Table) (s : LinksIn) → (with_table by table s).links ≡ s.links
 table-same role.Sender table s = refl

@@ -515,6 +515,31 @@ attaches-on attach old mid new (inr m) later =
           input h (later.leads input h there);
     })
 
+-- where before that nothing changes of what is held, nor where the peer's handles lead
+pub attaches-behind : (attach : Attach) (old mid new : Option Session) → ((h : ℕ) → held_in mid h ≡ held_in old h)
+    → ((input : ℕ) → leads_in mid input ≡ leads_in old input) → AttachesAt attach mid new → AttachesAt attach old new
+attaches-behind attach old mid new holds leads (inl r) =
+    inl
+    (rests-on old mid new
+    (record {
+      holds = λ h. inl (holds h);
+      leads = λ input h there. sym (leads input) ∙ there;
+      keeps = λ input h k held there is. leads input ∙ there;
+    })
+    r)
+attaches-behind attach old mid new holds leads (inr m) =
+    inr (record {
+      handle = m.handle;
+      unattached = λ k held is. m.unattached k held (holds m.handle.0 ∙ is);
+      holds = λ h. subst (λ (x : Holding). Goes x (held_in new h)) (holds h) (m.holds h);
+      keeps = λ input h k held there is. m.keeps input h k held (leads input ∙ there) is;
+      there = λ h t.
+          m.there h (record { number = t.number; held = t.held; was = holds h ∙ t.was; is = t.is });
+      leads = λ input h there.
+          elim (m.leads input h there) [ inl same ↦ inl (sym (leads input) ∙ same) | inr its ↦ inr its ];
+      waits = λ k held is input h there. sym (leads input) ∙ m.waits k held is input h there;
+    })
+
 pub attaches-go : (attach : Attach) (old new : Sessions)
     → ((n : ℕ) → AttachesAt attach (live_at old n) (live_at new n)) → EachOf Goes old new
 attaches-go attach old new each n h = by (each n)

@@ -82,7 +82,7 @@ some-none x xs none = absurd cc
 out-keeps : Keeping (λ accepted. Unit {0}) StaysOut
 out-keeps =
     record {
-      quiet = tt;
+      quiet = λ accepted up. tt;
       still = λ first old new same none out. subst IsOut (sym same) out;
       on = λ first a b d ps qs before behind none out.
           let (ps_none, qs_none) = both-none ps qs none in

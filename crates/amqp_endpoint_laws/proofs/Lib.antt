@@ -11,6 +11,7 @@ mod SessionsApart
 mod SessionsGoing
 mod SessionsHeard
 mod SessionsKept
+mod GivenUp
 mod PassedPlaces
 mod AskedCameInside
 mod AskedCameHeard
@@ -37,6 +38,8 @@ mod HoldingWaits
 mod LeadingStill
 mod HoldingInside
 mod HoldingDone
+mod BehindAttach
+mod RoomMade
 mod HoldingTalk
 mod HoldingDeeds
 mod HandedOut

@@ -192,7 +192,7 @@ module _ (P : Links → Type 0)
       back links links_new came _ f.fails.back
   heard (body.Attach attach) old new links links_new given given_new limit channel frames events (a, g) came =
       elim a.hears
-      [ inl t ↦ same links links_new came t.same | inr f ↦ back links links_new came _ f.fails.back ]
+      [ inl t ↦ same links links_new came t.same | inr f ↦ back links links_new came _ f.back ]
   heard (body.Flow flow) old new links links_new given given_new limit channel frames events (inl t, g) came =
       heard-flow (session_of t.heard) frames t.mid new links links_new t.leave came
   heard (body.Flow flow) old new links links_new given given_new limit channel frames events (inr f, g) came =

@@ -13,6 +13,7 @@ use Rattle.amqp_session_performatives.specs.declared.disposition.Disposition.{Di
 use Rattle.amqp_session_performatives.specs.declared.session_frame.SessionFrame.{SessionFrame}
 use Rattle.amqp_session_performatives.specs.declared.transfer.Transfer.{Transfer}
 use Rattle.amqp_session_core.specs.declared.dispositions.Touched.{Touched}
+use Rattle.amqp_session_core.specs.State.{link_at}
 use Rattle.amqp_session_core.specs.declared.incoming.TransferTaken.{TransferTaken}
 use Rattle.amqp_session_frames.specs.declared.frame.FrameBody.{FrameBody}
 use Rattle.amqp_session_frames.specs.declared.frame.FrameBody.TheVariants as body
@@ -21,16 +22,18 @@ use Rattle.amqp_link_receiver.specs.declared.answer.Told.{Told}
 use Rattle.amqp_link_receiver.specs.declared.answer.Told.TheVariants as told
 use Rattle.amqp_link_sender.specs.declared.attaching.Attaching.{Attaching}
 use Rattle.amqp_link_types.specs.declared.link_error.LinkError.{LinkError}
+use Rattle.amqp_link_unsettled.specs.declared.exchanging.Abort.{Abort}
 use Rattle.amqp_endpoint_links.specs.declared.asking.NamedLink.{NamedLink}
 use Rattle.amqp_endpoint_links.specs.declared.asking.NamedLink.TheVariants.{Waiting}
 use Rattle.amqp_endpoint_conversation.specs.declared.beginning.BeginHeard.{BeginHeard}
 use Rattle.amqp_endpoint_conversation.specs.declared.beginning.BeginHeard.TheVariants as begin_heard
-use Rattle.amqp_endpoint_attached.specs.Linked.{end_at}
+use Rattle.amqp_endpoint_attached.specs.Linked.{Linked, end_at}
+use Rattle.amqp_endpoint_model.specs.declared.error.EndpointError.{EndpointError}
 use Rattle.amqp_endpoint_model.specs.declared.event.Event.{Event}
 use Rattle.amqp_endpoint_linking.specs.Hearing.{begin_told, end_told}
 use Rattle.amqp_endpoint_linking.specs.Linking.{Link, Links, Talk}
 use Rattle.amqp_endpoint_messages.specs.All.{first_told, open_count, told_by}
-use Rattle.amqp_endpoint_link_hearing.specs.declared.attaching.LinkAttached.{LinkAttached}
+use Rattle.amqp_endpoint_messages.specs.GivingUp.{AttachedAt, ClosedFor, EndsIf, refused_told}
 use Rattle.amqp_endpoint_links.specs.declared.asking.AttachTaken.TheVariants as answer
 use Rattle.amqp_endpoint_links.specs.declared.hearing.PerformativeTaken.TheVariants as taken
 use Rattle.amqp_endpoint_conversation.specs.declared.hearing.Heard.TheVariants as heard
@@ -67,22 +70,53 @@ end-unnumbered : (is_told : Bool) (number : ℕ) (error : Option Error) → Unnu
 end-unnumbered true number error = refl
 end-unnumbered false number error = refl
 
-attach-taken : (outcome : Result Attaching LinkError) (old new : Talk) (session : ℕ) (handle : OutputHandle)
-    (link : Link) (left : Option LinkAttached) (frames : List SessionFrame) (events : List Event)
-    → LinkTakes outcome old session handle link left frames events new → Unnumbered events
-attach-taken (Ok made) old new session handle link left frames events t = told-unnumbered events _ t.2 refl
-attach-taken (Err error) old new session handle link left frames events t = told-unnumbered events _ t.2 refl
+-- what is told behind an Attach
+closed-unnumbered : (session : ℕ) (error : EndpointError) (count : ℕ) (handle : OutputHandle) (why : Error)
+    (frames : List SessionFrame) (events : List Event) (old new : Linked)
+    → ClosedFor session error count handle why frames events old new → Unnumbered events
+closed-unnumbered session error count handle why frames events old new c =
+    told-unnumbered events _ c.told
+    (both-unnumbered (refused_told session c.link.number error) (first_told count None (link_at c.mid.session handle.0))
+    refl (first-unnumbered count None (link_at c.mid.session handle.0)))
 
-attach-becomes : (it : LinkHeard) (named : NamedLink) (old new : Talk) (attach : Attach) (left : Option LinkAttached)
-    (frames : List SessionFrame) (events : List Event)
-    → attaching.Becomes (attach_of it) named old attach left frames events new → Unnumbered events
-attach-becomes (heard.Asked session) named old new attach left frames events b = told-unnumbered events _ b.2 refl
-attach-becomes (heard.Live session (taken.Attach answer.Asked)) named old new attach left frames events b =
-    told-unnumbered events _ b.2 refl
-attach-becomes (heard.Live session (taken.Attach (answer.ByLink by_link))) (Waiting handle) old new attach left frames
-    events b =
-    attach-taken (attaching.outcome_of by_link) old new session handle b.link left frames events b.takes
-attach-becomes it named old new attach left frames events b = told-unnumbered events [] b.2 refl
+ends-unnumbered : (stuck : Option EndpointError) (session count : ℕ) (handle : OutputHandle) (why : Error)
+    (frames : List SessionFrame) (events : List Event) (old new : Linked)
+    → EndsIf stuck session count handle why frames events old new → Unnumbered events
+ends-unnumbered None session count handle why frames events old new e = told-unnumbered events [] e.1 refl
+ends-unnumbered (Some error) session count handle why frames events old new c =
+    closed-unnumbered session error count handle why frames events old new c
+
+attached-unnumbered : (limit session count : ℕ) (handle : OutputHandle) (why : Error) (aborts : List Abort)
+    (frames : List SessionFrame) (events : List Event) (old new : Linked)
+    → AttachedAt limit session count handle why aborts frames events old new → Unnumbered events
+attached-unnumbered limit session count handle why aborts frames events old new a =
+    told-unnumbered events _ a.events_are
+    (both-unnumbered (first_told count None (link_at old.session handle.0)) a.failed
+    (first-unnumbered count None (link_at old.session handle.0))
+    (ends-unnumbered a.stuck session count handle why a.down a.failed a.given new a.ends))
+
+attach-taken : (outcome : Result Attaching LinkError) (limit session count : ℕ) (handle : OutputHandle) (link : Link)
+    (old : Talk) (frames : List SessionFrame) (events : List Event) (new : Talk)
+    → LinkTakes outcome limit session count handle link old frames events new → Unnumbered events
+attach-taken (Ok made) limit session count handle link old frames events new t =
+    told-unnumbered events _ t.told
+    (both-unnumbered (attaching.attached_told link.number made.exchange) t.behind refl
+    (attached-unnumbered limit session count handle _ made.aborts frames t.behind t.goes.before.value
+    t.goes.after.value t.goes.done))
+attach-taken (Err error) limit session count handle link old frames events new t =
+    closed-unnumbered session _ count handle _ frames events t.before.value t.after.value t.done
+
+attach-becomes : (limit count : ℕ) (it : LinkHeard) (named : NamedLink) (old : Talk) (attach : Attach)
+    (frames : List SessionFrame) (events : List Event) (new : Talk)
+    → attaching.BecomesBy limit count (attach_of it) named old attach frames events new → Unnumbered events
+attach-becomes limit count (heard.Asked session) named old attach frames events new b =
+    told-unnumbered events _ b.1 refl
+attach-becomes limit count (heard.Live session (taken.Attach answer.Asked)) named old attach frames events new b =
+    told-unnumbered events _ b.1 refl
+attach-becomes limit count (heard.Live session (taken.Attach (answer.ByLink by_link))) (Waiting handle) old attach
+    frames events new b =
+    attach-taken (attaching.outcome_of by_link) limit session count handle b.link old frames events new b.takes
+attach-becomes limit count it named old attach frames events new b = told-unnumbered events [] b.1 refl
 
 transfer-comes : (it_told : Told) (old mid new : Talk) (given session : ℕ) (it : Transfer)
     (frames : List SessionFrame) (events : List Event) (given_new : ℕ)
@@ -156,8 +190,12 @@ gives-next (body.Begin begin) old new links links_new given given_new limit chan
     inl (told-unnumbered events _ f.fails.told refl, g)
 gives-next (body.Attach attach) old new links links_new given given_new limit channel frames events (a, g) =
     elim a.hears [
-      | inl t ↦ inl (attach-becomes t.heard t.named t.mid new attach a.left frames events t.becomes, g)
-      | inr f ↦ inl (told-unnumbered events _ f.fails.told refl, g)
+      | inl t ↦ inl (
+        attach-becomes limit (attaching.opened_in a.ready (attach_of t.heard) a.named) t.heard a.named t.mid attach
+            frames events new t.becomes,
+        g,
+      )
+      | inr f ↦ inl (told-unnumbered events _ f.told refl, g)
     ]
 gives-next (body.Flow flow) old new links links_new given given_new limit channel frames events (inl t, g) =
     inl (told-unnumbered events [] t.told refl, g)

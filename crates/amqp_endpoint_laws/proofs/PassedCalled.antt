@@ -62,7 +62,7 @@ module _ {Allows : Batches → Type 0} (P : ℕ → List Wired → Talk → Talk
       → KeepsBy does → DoneIn does session handle old [] new frames → P session (goes frames) old new
   done-in does session handle old new frames inside keeps d =
       subst (λ (fs : List SessionFrame). P session (goes fs) old new) (sym d.queued)
-      (w.inside session [] d.frames d.before d.after old new w.quiet d.stepped d.rest
+      (w.inside session [] d.frames d.before d.after old new (w.quiet [] tt) d.stepped d.rest
       (inside handle d.before.value d.after.value d.frames d.did)
       (keeps handle d.before.value d.after.value d.frames d.did))
 
@@ -128,7 +128,7 @@ module _ {Allows : Batches → Type 0} (P : ℕ → List Wired → Talk → Talk
       (subst (λ (fs : List SessionFrame). P session (goes fs) old new) (sym (l.queued ∙ s.are))
       (w.on session (goes (attach_frame i.before.value.session s.attach ∷ [])) (goes s.later) old old new
       (first session s.attach i.before old (i.stepped).0)
-      (w.inside session [] s.later i.before i.after old new w.quiet i.stepped i.rest s.inside
+      (w.inside session [] s.later i.before i.after old new (w.quiet [] tt) i.stepped i.rest s.inside
       (attached-keeps i.before.value i.after.value limit link a.placed l.frames i.attached.input a.placed.exchange
       i.attached.attached))))
 

@@ -1,7 +1,7 @@
 -- What passes in a session as its peer says something in it.
 use Rattle.std.proofs.Common.{◌≡◌, inl, inr, ℕ, Bool, true, false, List, [], ◌∷◌, ◌++◌, Option, Some, None}
 use Rattle.std.proofs.Common.{Ok, Err, ap, append-nil, refl, sym, subst, ◌∙◌}
-use Rattle.std.specs.Prelude.{Result, if◌then◌else◌, option_to_list}
+use Rattle.std.specs.Prelude.{if◌then◌else◌, option_to_list}
 use Rattle.std.specs.Global.{Box}
 use Rattle.std.proofs.lemmas.List.{map-append}
 use Rattle.std.proofs.lemmas.Option.{none-some, same_Some}
@@ -25,13 +25,8 @@ use Rattle.amqp_session_core.specs.declared.fields.SessionFields.{SessionFields}
 use Rattle.amqp_session_core.specs.declared.incoming.TransferTaken.{TransferTaken}
 use Rattle.amqp_link_receiver.specs.declared.answer.Told.{Told}
 use Rattle.amqp_link_receiver.specs.declared.answer.Told.TheVariants as told
-use Rattle.amqp_link_sender.specs.declared.attaching.Attaching.{Attaching}
-use Rattle.amqp_link_types.specs.declared.link_error.LinkError.{LinkError}
 use Rattle.amqp_endpoint_links.specs.declared.session.AskedSession.{AskedSession}
 use Rattle.amqp_endpoint_attached.specs.Linked.{Linked, gives}
-use Rattle.amqp_endpoint_links.specs.declared.asking.NamedLink.{NamedLink}
-use Rattle.amqp_endpoint_links.specs.declared.asking.NamedLink.TheVariants.{Absent, Attached, Waiting}
-use Rattle.amqp_endpoint_links.specs.declared.asking.AttachTaken.TheVariants as attach_answer
 use Rattle.amqp_endpoint_links.specs.declared.asking.DetachTaken.TheVariants as detach_answer
 use Rattle.amqp_endpoint_links.specs.declared.hearing.LinkPerformative.{LinkPerformative}
 use Rattle.amqp_endpoint_links.specs.declared.hearing.LinkPerformative.TheVariants as said
@@ -50,9 +45,8 @@ use Rattle.amqp_endpoint_conversation.specs.Hearing.{Answered, AnsweredAt, Answe
 use Rattle.amqp_endpoint_conversation.specs.Hearing.{LiveFails}
 use Rattle.amqp_endpoint_model.specs.declared.event.Event.{Event}
 use Rattle.amqp_endpoint_linking.specs.Hearing.{HearsBegin, TakesEnd as EndTaken}
-use Rattle.amqp_endpoint_linking.specs.Linking.{Link, Links, Session, Sessions, Stood, Talk}
-use Rattle.amqp_endpoint_link_hearing.specs.Attaching as attaching
-use Rattle.amqp_endpoint_link_hearing.specs.Attaching.{LinkTakes}
+use Rattle.amqp_endpoint_linking.specs.Linking.{Links, Session, Sessions, Stood, Talk}
+use Rattle.amqp_endpoint_link_hearing.specs.Attaching.{HearsAttach, HearsReady, opened_in}
 use Rattle.amqp_endpoint_link_hearing.specs.Detaching as detaching
 use Rattle.amqp_endpoint_link_hearing.specs.Disposing as disposing
 use Rattle.amqp_endpoint_link_hearing.specs.Disposing.{runs_of}
@@ -60,9 +54,9 @@ use Rattle.amqp_endpoint_link_hearing.specs.Flowing.{LetsGo}
 use Rattle.amqp_endpoint_link_hearing.specs.Heard.{attach_of, detach_of, session_of}
 use Rattle.amqp_endpoint_link_hearing.specs.InSession.{GoesOn}
 use Rattle.amqp_endpoint_link_hearing.specs.Saying.{LinkHeard}
+use Rattle.amqp_endpoint_messages.specs.MadeReady.{MadeRoom}
 use Rattle.amqp_endpoint_link_hearing.specs.Transferring as transferring
 use Rattle.amqp_endpoint_link_hearing.specs.Transferring.{Comes, RemembersUnless, transfer_of}
-use Rattle.amqp_endpoint_link_hearing.specs.declared.attaching.LinkAttached.{LinkAttached}
 use Rattle.amqp_endpoint_link_hearing.proofs.Inside.{closes-inside, leave-inside, remembers-inside, tells-echoes-inside}
 use Rattle.amqp_endpoint_link_hearing.proofs.Inside.{tells-parts-inside, told-inside}
 use Rattle.amqp_endpoint_link_hearing.proofs.Barrings.{refuses-by}
@@ -70,20 +64,18 @@ use Rattle.amqp_endpoint.specs.Hearing.{Hears as HearsFrame}
 use Rattle.amqp_endpoint.specs.declared.linked.LinkedSessions.{LinkedSessions}
 use Rattle.amqp_endpoint_laws.specs.Following.{comes, goes}
 use Rattle.amqp_endpoint_laws.specs.Reading.{Goes, Wired}
-use Rattle.amqp_endpoint_conversation.specs.Inside.{AreOn, Batches, DoneInside, said_in}
+use Rattle.amqp_endpoint_conversation.specs.Inside.{AreOn, Batches, DoneInside, accepted_of, said_in}
 use Rattle.amqp_endpoint_conversation.specs.Windows.{body_said}
 use Rattle.amqp_endpoint_conversation.proofs.Inside.{alike-inside, both-on, said-both}
 use Rattle.amqp_endpoint_laws.specs.Passed.{begun_by, session_taking}
-use Rattle.amqp_endpoint_laws.proofs.AskedCameInside.{closes-keeps, echoes-keep, leave-keeps, parts-keep}
+use Rattle.amqp_endpoint_laws.proofs.AskedCameInside.{behind-keeps, closes-keeps, echoes-keep, leave-keeps, parts-keep}
 use Rattle.amqp_endpoint_laws.proofs.AskedCameInside.{remembers-keeps, told-keeps}
+use Rattle.amqp_endpoint_laws.proofs.BehindAttach.{Behind, Follows, becomes-behind, behind-gives-up, behind-inside}
+use Rattle.amqp_endpoint_laws.proofs.BehindAttach.{goes-so, number_of, room-behind}
 use Rattle.amqp_endpoint_laws.proofs.PassedJudged.{live-begun}
 use Rattle.amqp_endpoint_laws.proofs.PassedPlaces.{KeepsAsked, eq-same}
 use Rattle.amqp_endpoint_laws.proofs.PassedWalk.{Walk}
-
-abbrev pub number_of : LinkHeard → ℕ
-number_of (heard.Asked n) = n
-number_of (heard.Live n taken) = n
-number_of (heard.Dropped n) = n
+use Rattle.amqp_endpoint_laws.proofs.RoomMade.{RoomMade, room-made, room-reached}
 
 -- frames by which no link says anything are to go in a session that goes on, on its channel
 record Due (talk : Talk) (n : ℕ) (frames : List SessionFrame) : Type 0 where
@@ -292,7 +284,7 @@ module _ {Allows : Batches → Type 0} (P : ℕ → List Wired → Talk → Talk
       → ((before after : Linked) → Does before after → KeepsAsked before after)
       → GoesOn Does old session new → P session (goes frames) old new
   goes-passed Does old session new frames inside keeps g =
-      w.inside session [] frames g.before g.after old new w.quiet g.stepped g.rest
+      w.inside session [] frames g.before g.after old new (w.quiet [] tt) g.stepped g.rest
       (inside g.before.value g.after.value g.done) (keeps g.before.value g.after.value g.done)
 
   -- and what is due goes behind it
@@ -303,7 +295,7 @@ module _ {Allows : Batches → Type 0} (P : ℕ → List Wired → Talk → Talk
       → GoesOn Does old session new → P session (goes (frames ++ more)) old new
   due-passed Does old session new frames more due inside keeps g =
       let same : due.session ≡ g.before = same_Some due.session g.before (sym due.live ∙ (g.stepped).0) in
-      w.inside session [] (frames ++ more) g.before g.after old new w.quiet g.stepped g.rest
+      w.inside session [] (frames ++ more) g.before g.after old new (w.quiet [] tt) g.stepped g.rest
       (more-inside g.before.value g.after.value frames more due.free
       (subst (λ (s : Session). AreOn s.value.session.fields.channel.0 more) same due.on)
       (inside g.before.value g.after.value g.done))
@@ -325,40 +317,21 @@ module _ {Allows : Batches → Type 0} (P : ℕ → List Wired → Talk → Talk
       → P m (goes frames) old new
   nothing-passed m frames old new none same = silent-passed m frames old new none (w.none m old new same)
 
-  -- an Attach
-  attach-taken : (outcome : Result Attaching LinkError) (old new : Talk) (session : ℕ) (handle : OutputHandle)
-      (link : Link) (left : Option LinkAttached) (frames : List SessionFrame) (events : List Event)
-      → LinkTakes outcome old session handle link left frames events new → P session (goes frames) old new
-  attach-taken (Ok made) old new session handle link left frames events t =
-      nothing-passed session frames old new t.1 t.3
-  attach-taken (Err error) old new session handle link left frames events t =
-      goes-passed _ old session new frames (λ a b c. closes-inside _ handle frames a b c)
-      (λ a b c. closes-keeps _ handle frames a b c) t.1
+  -- an Attach, behind which a link goes on
+  behind-passed : (old : Talk) (session : ℕ) (new : Talk) (frames : List SessionFrame)
+      → GoesOn (Behind frames) old session new → P session (goes frames) old new
+  behind-passed old session new frames g =
+      let before : Linked = g.before.value in
+      let after : Linked = g.after.value in
+      let done = g.done.done in
+      w.inside session (accepted_of done.steps) frames g.before g.after old new
+      (w.quiet (accepted_of done.steps) (behind-gives-up before.session frames after.session done)) g.stepped g.rest
+      (behind-inside before.session frames after.session done) (behind-keeps frames before after g.done)
 
-  attach-comes : (h : LinkHeard) (named : NamedLink) (old new : Talk) (attach : Attach) (left : Option LinkAttached)
-      (frames : List SessionFrame) (events : List Event)
-      → attaching.Becomes (attach_of h) named old attach left frames events new
-      → P (number_of h) (goes frames) old new
-  attach-comes (heard.Asked n) named old new attach left frames events b = nothing-passed n frames old new b.1 b.3
-  attach-comes (heard.Live n (taken.Attach attach_answer.Asked)) named old new attach left frames events b =
-      nothing-passed n frames old new b.1 b.3
-  attach-comes (heard.Live n (taken.Attach (attach_answer.ByLink by_link))) (Waiting handle) old new attach left frames
-      events b =
-      attach-taken (attaching.outcome_of by_link) old new n handle b.link left frames events b.takes
-  attach-comes (heard.Live n (taken.Attach (attach_answer.ByLink by_link))) Absent old new attach left frames events b =
-      nothing-passed n frames old new b.1 b.3
-  attach-comes (heard.Live n (taken.Attach (attach_answer.ByLink by_link))) Attached old new attach left frames events
-      b =
-      nothing-passed n frames old new b.1 b.3
-  attach-comes (heard.Live n taken.Flow) named old new attach left frames events b =
-      nothing-passed n frames old new b.1 b.3
-  attach-comes (heard.Live n (taken.Transfer t)) named old new attach left frames events b =
-      nothing-passed n frames old new b.1 b.3
-  attach-comes (heard.Live n (taken.Disposition back runs)) named old new attach left frames events b =
-      nothing-passed n frames old new b.1 b.3
-  attach-comes (heard.Live n (taken.Detach t)) named old new attach left frames events b =
-      nothing-passed n frames old new b.1 b.3
-  attach-comes (heard.Dropped n) named old new attach left frames events b = nothing-passed n frames old new b.1 b.3
+  attach-follows : (it : LinkHeard) (frames : List SessionFrame) (old new : Talk) → Follows it frames old new
+      → P (number_of it) (goes frames) old new
+  attach-follows it frames old new (inl (none, same)) = nothing-passed (number_of it) frames old new none same
+  attach-follows it frames old new (inr g) = behind-passed old (number_of it) new frames g
 
   -- a Flow lets links leave
   flow-comes : (h : LinkHeard) (frames : List SessionFrame) (mid new : Talk) (links links_new : Links)
@@ -491,6 +464,56 @@ module _ {Allows : Batches → Type 0} (P : ℕ → List Wired → Talk → Talk
       subst (λ (o : Option ℕ). Q o (comes channel it ∷ goes frames) old new) (sym h.reaches)
       (w.at session (comes channel it ∷ goes frames) old new h.passed)
 
+  -- room is made before an Attach is heard
+  room-passed : (old : Talk) (channel : IncomingChannel) (ready : Talk) (session : ℕ) → RoomMade old channel ready
+      → reached old.sessions channel.0 ≡ Some session → P session [] old ready
+  room-passed old channel ready session (inl same) reaches = w.none session old ready same
+  room-passed old channel ready session (inr m) reaches =
+      subst (λ (n : ℕ). P n [] old ready) (same_Some m.number session (sym m.reaches ∙ reaches))
+      (behind-passed old m.number ready []
+      (goes-so MadeRoom (Behind []) (λ a b r. room-behind a b r) old m.number ready m.made))
+
+  room-there : (old : Talk) (channel : IncomingChannel) (ready : Talk) (it : FrameBody) (session : ℕ)
+      (frames : List SessionFrame) (new : Talk) → RoomMade old channel ready
+      → HeardThere ready channel.0 it session frames new → HeardThere old channel.0 it session frames new
+  room-there old channel ready it session frames new made h =
+      let reaches : reached old.sessions channel.0 ≡ Some session =
+      sym (room-reached old channel ready made channel.0) ∙ h.reaches in
+      record {
+        reaches = reaches;
+        passed =
+            w.on session [] (comes channel.0 it ∷ goes frames) old ready new
+            (room-passed old channel ready session made reaches) h.passed;
+      }
+
+  attach-heard : (old : Talk) (links : Links) (limit : ℕ) (channel : IncomingChannel) (attach : Attach)
+      (frames : List SessionFrame) (events : List Event) (new : Talk) (links_new : Links)
+      → HearsAttach old links limit channel attach frames events new links_new
+      → Q (reached old.sessions channel.0) (comes channel.0 (body.Attach attach) ∷ goes frames) old new
+  attach-heard old links limit channel attach frames events new links_new a = by a.hears
+    where
+      made : RoomMade old channel a.ready
+      made = room-made a.named old channel a.ready a.makes_room
+
+      so : (session : ℕ) → HeardThere a.ready channel.0 (body.Attach attach) session frames new
+          → Q (reached old.sessions channel.0) (comes channel.0 (body.Attach attach) ∷ goes frames) old new
+      so session h =
+          taken-there old channel.0 (body.Attach attach) session frames new
+          (room-there old channel a.ready (body.Attach attach) session frames new made h)
+
+      by : HearsReady a.named a.ready links limit channel attach frames events new links_new
+          → Q (reached old.sessions channel.0) (comes channel.0 (body.Attach attach) ∷ goes frames) old new
+      by (inl t) =
+          so (number_of t.heard)
+          (there-on a.ready channel.0 (body.Attach attach) (number_of t.heard) [] frames t.mid new
+          (heard-ok a.ready channel (said.Attach attach a.named) t.heard [] t.mid t.answered)
+          (attach-follows t.heard frames t.mid new
+          (becomes-behind limit (opened_in a.ready (attach_of t.heard) a.named) t.heard a.named t.mid attach frames
+          events new t.becomes)))
+      by (inr f) =
+          so f.number
+          (heard-fails a.ready channel (said.Attach attach a.named) f.number f.fault f.session frames new f.answered)
+
   -- the peer's Begin
   module _ (old : Talk) (channel : IncomingChannel) (begin : Begin) (frames : List SessionFrame) (new : Talk) where
     abbrev TakenBegin : Type 0
@@ -551,15 +574,7 @@ module _ {Allows : Batches → Type 0} (P : ℕ → List Wired → Talk → Talk
   frame-heard (body.Begin begin) old new limit channel frames events (b, g) =
       begin-heard old.talk channel begin frames new.talk old.links new.links events b
   frame-heard (body.Attach attach) old new limit channel frames events (a, g) =
-      elim a.hears [
-        | inl t ↦ taken-there old.talk channel.0 (body.Attach attach) (number_of t.heard) frames new.talk
-            (there-on old.talk channel.0 (body.Attach attach) (number_of t.heard) [] frames t.mid new.talk
-            (heard-ok old.talk channel (said.Attach attach t.named) t.heard [] t.mid t.answered)
-            (attach-comes t.heard t.named t.mid new.talk attach a.left frames events t.becomes))
-        | inr f ↦ taken-there old.talk channel.0 (body.Attach attach) f.fails.number frames new.talk
-            (heard-fails old.talk channel (said.Attach attach f.named) f.fails.number f.fails.fault f.fails.session
-            frames new.talk f.fails.answered)
-      ]
+      attach-heard old.talk old.links limit channel attach frames events new.talk new.links a
   frame-heard (body.Flow flow) old new limit channel frames events (inl t, g) =
       taken-there old.talk channel.0 (body.Flow flow) (number_of t.heard) frames new.talk
       (subst (λ (fs : List SessionFrame). HeardThere old.talk channel.0 (body.Flow flow) (number_of t.heard) fs

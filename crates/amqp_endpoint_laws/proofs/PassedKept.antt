@@ -58,6 +58,7 @@ use Rattle.amqp_endpoint_laws.proofs.PassedHeard.{frame-heard}
 use Rattle.amqp_endpoint_laws.proofs.PassedJudged.{AllPassedBy, PassedBy, attach-judged, coming-judged}
 use Rattle.amqp_endpoint_laws.proofs.PassedJudged.{going-judged, judging}
 use Rattle.amqp_endpoint_laws.proofs.PassedPlaces.{AllPassed, IsGone, Keeping, eq-same}
+use Rattle.amqp_endpoint_laws.proofs.RoomMade.{RoomMade, room-made}
 use Rattle.amqp_endpoint_laws.proofs.SessionsGoing.{Go}
 use Rattle.amqp_endpoint_laws.proofs.SessionsHeard.{refused-goes}
 
@@ -253,11 +254,16 @@ first-end old channel end connection.NotFound new a = first-same old new a.1
 first-end old channel end connection.Memory new a = first-same old new a.0
 first-end old channel end e new a = absurd a
 
+first-room : (old : Talk) (channel : IncomingChannel) (new : Talk) → RoomMade old channel new → Firsts old new
+first-room old channel new (inl same) = first-same old new same
+first-room old channel new (inr m) = first-rest old new m.made.rest
+
 first-body : (it : FrameBody) (old new : Talk) (links : Links) (given limit : ℕ) (channel : IncomingChannel)
     (e : EndpointError) → RefusesBody old links given limit channel it e new → Firsts old new
 first-body (body.Begin begin) old new links given limit channel e r = first-begins old channel begin e new r
 first-body (body.Attach attach) old new links given limit channel e (inl b) =
-    first-answered old channel _ (Err b.bars.refusal) new b.bars.frames b.bars.answered
+    first-answered b.ready channel _ (Err b.bars.refusal) new b.bars.frames b.bars.answered
+    ∙ first-room old channel b.ready (room-made b.named old channel b.ready b.makes_room)
 first-body (body.Attach attach) old new links given limit channel e (inr u) = first-same old new u.1
 first-body (body.Flow flow) old new links given limit channel e r = first-said old channel _ e new r
 first-body (body.Transfer transfer payload) old new links given limit channel e (inl u) = first-same old new u.stays

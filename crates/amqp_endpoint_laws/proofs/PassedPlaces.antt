@@ -42,6 +42,7 @@ use Rattle.amqp_endpoint_laws.specs.Conversing.{SessionsAct}
 use Rattle.amqp_endpoint_laws.specs.Passed.{came_in, is_it, sent_in}
 use Rattle.amqp_endpoint_laws.specs.Handed.{pieces_come}
 use Rattle.amqp_endpoint_laws.specs.Taken.{NoneAttaches}
+use Rattle.amqp_endpoint_laws.proofs.GivenUp.{GiveUp}
 
 -- a session that is ending, or over
 abbrev pub IsGone : Option Stood → Type 0
@@ -100,10 +101,10 @@ stays-by old new frames keeps =
     (λ theirs. subst (λ (came : List FrameBody). AreBeside theirs came) (sym (none-came frames)) (tt, refl))
 
 -- a relation of where a session stands, of what passes in it, and of where it stands then, which all that it does keeps
--- by which it accepts such transfers
+-- by which it accepts such transfers, those that give deliveries up among them
 pub record Keeping (Allows : Batches → Type 0) (J : ℕ → Option Stood → List Passing → Option Stood → Type 0)
     : Type 0 where
-  pub quiet : Allows []
+  pub quiet : (accepted : Batches) → GiveUp accepted → Allows accepted
   pub still : (first : ℕ) (old new : Option Stood) → new ≡ old → J first old [] new
   pub on : (first : ℕ) (a b d : Option Stood) (ps qs : List Passing) → J first a ps b → J first b qs d
       → J first a (ps ++ qs) d
@@ -220,7 +221,7 @@ module _ {Allows : Batches → Type 0} (J : ℕ → Option Stood → List Passin
       → GoesBy [] before.value.session after.value.session ps → AskedBy before.value after.value ps
       → Passed m ps old new
   live-passed m before after old new ps s rest g asked =
-      going-passed m [] before after old new ps k.quiet s rest g asked
+      going-passed m [] before after old new ps (k.quiet [] tt) s rest g asked
 
   pub asked-passed : (m : ℕ) (before after : Box AskedSession) (it : LinkPerformative) (old new : Talk)
       → SessionsStep old.sessions (ChangesAsked m before after) new.sessions

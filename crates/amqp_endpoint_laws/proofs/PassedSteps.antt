@@ -405,7 +405,7 @@ comes-accepts first window incoming channel asked outgoing session frame a =
 steps-keep : Keeping (λ accepted. Unit {0}) Comes
 steps-keep =
     record {
-      quiet = tt;
+      quiet = λ accepted up. tt;
       still = comes-still;
       on = comes-on;
       gone = comes-gone;

@@ -32,6 +32,7 @@ use Rattle.amqp_endpoint_laws.specs.Reading.{Wired}
 use Rattle.amqp_endpoint_conversation.specs.Inside.{AcceptsInside, AreOn, Batches, said_in}
 use Rattle.amqp_endpoint_conversation.specs.Windows.{body_said}
 use Rattle.amqp_endpoint_laws.specs.Passed.{begun_by}
+use Rattle.amqp_endpoint_laws.proofs.GivenUp.{GiveUp}
 use Rattle.amqp_endpoint_laws.proofs.PassedPlaces.{KeepsAsked}
 
 -- the same sessions with others in their place
@@ -48,7 +49,7 @@ AttachGoes P =
 -- belong to one, what is so of the sessions before and behind. It is so by each thing that is done
 pub record Walk (Allows : Batches → Type 0) (P : ℕ → List Wired → Talk → Talk → Type 0)
     (Q : Option ℕ → List Wired → Talk → Talk → Type 0) : Type 0 where
-  pub quiet : Allows []
+  pub quiet : (accepted : Batches) → GiveUp accepted → Allows accepted
   pub none : (m : ℕ) (old new : Talk) → new ≡ old → P m [] old new
   pub on : (m : ℕ) (ws more : List Wired) (old mid new : Talk) → P m ws old mid → P m more mid new
       → P m (ws ++ more) old new

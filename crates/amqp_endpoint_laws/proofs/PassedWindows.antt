@@ -269,7 +269,7 @@ judges-accepts first window incoming channel asked outgoing session frame a =
 windows-keep : Keeping (λ accepted. Unit {0}) Judges
 windows-keep =
     record {
-      quiet = tt;
+      quiet = λ accepted up. tt;
       still = judges-still;
       on = judges-on;
       gone = judges-gone;

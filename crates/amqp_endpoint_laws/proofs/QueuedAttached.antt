@@ -45,10 +45,10 @@ use Rattle.amqp_endpoint_laws.proofs.LinksStay.{held-since}
 use Rattle.amqp_endpoint_laws.proofs.PassedKept.{some-passes}
 use Rattle.amqp_endpoint_laws.proofs.PassedPlaces.{by-steps, eq-same}
 use Rattle.amqp_endpoint_laws.proofs.PassedSteps.{goes-did, sent-went, session-come}
-use Rattle.amqp_endpoint_laws.proofs.QueuedKept.{Queued, QueuedAt, more-queued, queued-here}
+use Rattle.amqp_endpoint_laws.proofs.QueuedKept.{Queued, QueuedAt, SaysAt, more-queued, queued-here}
 use Rattle.amqp_endpoint_laws.proofs.QueuedOrder.{behind-none, since-new}
 use Rattle.amqp_endpoint_laws.proofs.QueuedSaid.{bare, map-both, says-bare, says-none}
-use Rattle.amqp_endpoint_laws.proofs.QueuedSince.{SaysAt, done-of, held-same, since}
+use Rattle.amqp_endpoint_laws.proofs.QueuedSince.{done-of, held-same, since}
 
 module _ (before after : Linked) (limit : ℕ) (its : LinkSettings) (placed : Placed) (frames : List SessionFrame) where
   -- no link had its handle

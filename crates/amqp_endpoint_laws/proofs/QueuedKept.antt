@@ -1,5 +1,5 @@
 -- What was accepted of a handle is what passed of it and what waits, whatever else a session does.
-use Rattle.std.proofs.Common.{◌≡◌, ℕ, Bool, true, false, List, [], ◌∷◌, ◌++◌, Option, Some, None, Ok}
+use Rattle.std.proofs.Common.{◌≡◌, ◌==◌, ℕ, Bool, true, false, List, [], ◌∷◌, ◌++◌, Option, Some, None, Ok}
 use Rattle.std.proofs.Common.{ap, append-nil, append_assoc, refl, sym, subst, ◌∙◌}
 use Rattle.std.specs.Prelude.{if◌then◌else◌, is_some, map}
 use Rattle.std.specs.Global.{Box}
@@ -14,6 +14,7 @@ use Rattle.amqp_session_outgoing.specs.Queues.{Distinct}
 use Rattle.amqp_session_frames.specs.declared.frame.FrameBody.TheVariants as body
 use Rattle.amqp_session_core.specs.State.{State}
 use Rattle.amqp_link_base.specs.Readings.{Piece}
+use Rattle.amqp_link_sender.specs.Saying.{pieces_of}
 use Rattle.amqp_endpoint_links.specs.AskedSession.{asked_by}
 use Rattle.amqp_endpoint_links.specs.declared.session.AskedSession.{AskedSession}
 use Rattle.amqp_endpoint_attached.specs.Linked.{gives}
@@ -28,11 +29,12 @@ use Rattle.amqp_endpoint_tables.specs.declared.place.Place.TheVariants.{Asked, L
 use Rattle.amqp_endpoint_conversation.specs.Inside.{Batches, accepted_of, is_of_link, said_in}
 use Rattle.amqp_endpoint_conversation.specs.Windows.{Came, Passing, body_said, went}
 use Rattle.amqp_endpoint_laws.specs.Passed.{sent_in}
-use Rattle.amqp_endpoint_laws.specs.Queued.{piece_on, pieces_on, pieces_waiting}
+use Rattle.amqp_endpoint_laws.specs.Queued.{Message, SayMessages, piece_on, pieces_on, pieces_waiting}
+use Rattle.amqp_endpoint_laws.proofs.GivenUp.{AllAborted, GiveUp, aborted-both}
 use Rattle.amqp_endpoint_laws.proofs.PassedPlaces.{GoesBy, IsGone, Keeping}
 use Rattle.amqp_endpoint_laws.proofs.PassedSteps.{Did, goes-did, sent-append, sent-went}
 use Rattle.amqp_endpoint_laws.proofs.QueuedOrder.{pieces-both, pieces_by, steps-distinct, steps-in-order}
-use Rattle.amqp_endpoint_laws.proofs.QueuedSaid.{bare, map-both}
+use Rattle.amqp_endpoint_laws.proofs.QueuedSaid.{bare, map-both, says-aborted}
 
 -- all transfers are among what links say
 piece-said : (h : ℕ) (b : SessionFrameBody) (frame : SessionFrame) → frame.body ≡ b → (said all : List SessionFrame)
@@ -102,26 +104,55 @@ QueuedAt h w (Some (Live channel s)) qs = Queued h w s.value.session qs
 QueuedAt h w (Some (Ending channel own_end)) qs = Unit {0}
 QueuedAt h w (Some (Over peer_end complete)) qs = Unit {0}
 
--- nothing more is accepted
+-- so much was accepted of a handle, and says these messages
+pub record SaysAt (h : ℕ) (ms : List Message) (o : Option Stood) (qs : List Passing) : Type 0 where
+  pub accepted : List Piece
+  pub queued : QueuedAt h accepted o qs
+  pub says : SayMessages accepted ms
+
+-- nothing more is said
 pub record StaysQueued (h first : ℕ) (old : Option Stood) (ps : List Passing) (new : Option Stood) : Type 0 where
-  pub by : (w : List Piece) (qs : List Passing) → QueuedAt h w old qs → QueuedAt h w new (qs ++ ps)
+  pub by : (ms : List Message) (qs : List Passing) → SaysAt h ms old qs → SaysAt h ms new (qs ++ ps)
+
+-- as nothing more is accepted
+stays-queued : (h first : ℕ) (old : Option Stood) (ps : List Passing) (new : Option Stood)
+    → ((w : List Piece) (qs : List Passing) → QueuedAt h w old qs → QueuedAt h w new (qs ++ ps))
+    → StaysQueued h first old ps new
+stays-queued h first old ps new by =
+    record {
+      by = λ ms qs s. record { accepted = s.accepted; queued = by s.accepted qs s.queued; says = s.says };
+    }
+
+-- or as deliveries are given up
+if-aborted : (here : Bool) (ps : List Piece) → AllAborted ps → AllAborted (if here then ps else [])
+if-aborted true ps are = are
+if-aborted false ps are = tt
+
+pieces-aborted : (h : ℕ) (batches : Batches) → GiveUp batches → AllAborted (pieces_by h batches)
+pieces-aborted h [] none = tt
+pieces-aborted h ((k, batch) ∷ others) (one, rest) =
+    aborted-both (if k == h then pieces_of batch else []) (pieces_by h others)
+    (if-aborted (k == h) (pieces_of batch) one) (pieces-aborted h others rest)
+
+bare-aborted : (ps : List Piece) → AllAborted ps → AllAborted (map bare ps)
+bare-aborted [] none = tt
+bare-aborted (p ∷ ps) (one, others) = (one, bare-aborted ps others)
 
 module _ (h : ℕ) where
   queued-still : (first : ℕ) (old new : Option Stood) → new ≡ old → StaysQueued h first old [] new
   queued-still first old new same =
-      record {
-        by = λ w qs q.
-            subst (λ (rs : List Passing). QueuedAt h w new rs) (sym (append-nil qs))
-            (subst (λ (o : Option Stood). QueuedAt h w o qs) (sym same) q);
-      }
+      stays-queued h first old [] new
+      (λ w qs q.
+      subst (λ (rs : List Passing). QueuedAt h w new rs) (sym (append-nil qs))
+      (subst (λ (o : Option Stood). QueuedAt h w o qs) (sym same) q))
 
   queued-on : (first : ℕ) (a b d : Option Stood) (ps rs : List Passing) → StaysQueued h first a ps b
       → StaysQueued h first b rs d → StaysQueued h first a (ps ++ rs) d
   queued-on first a b d ps rs x y =
       record {
-        by = λ w qs q.
-            subst (λ (all : List Passing). QueuedAt h w d all) (append_assoc qs ps rs)
-            (y.by w (qs ++ ps) (x.by w qs q));
+        by = λ ms qs s.
+            subst (λ (all : List Passing). SaysAt h ms d all) (append_assoc qs ps rs)
+            (y.by ms (qs ++ ps) (x.by ms qs s));
       }
 
   gone-queued : (o : Option Stood) → IsGone o → (w : List Piece) (qs : List Passing) → QueuedAt h w o qs
@@ -133,7 +164,8 @@ module _ (h : ℕ) where
 
   queued-gone : (first : ℕ) (old new : Option Stood) (ps : List Passing) → IsGone new → said_in (sent_in ps) ≡ []
       → StaysQueued h first old ps new
-  queued-gone first old new ps gone none = record { by = λ w qs q. gone-queued new gone w (qs ++ ps) }
+  queued-gone first old new ps gone none =
+      stays-queued h first old ps new (λ w qs q. gone-queued new gone w (qs ++ ps))
 
   free-queued : (o : Option Stood) (w : List Piece) (qs ps : List Passing) → said_in (sent_in ps) ≡ []
       → QueuedAt h w o qs → QueuedAt h w o (qs ++ ps)
@@ -156,31 +188,37 @@ module _ (h : ℕ) where
   queued-free : (first : ℕ) (stood : Option Stood) (frames : List SessionFrame) → said_in frames ≡ []
       → StaysQueued h first stood (went frames) stood
   queued-free first stood frames none =
-      record {
-        by = λ w qs q. free-queued stood w qs (went frames) (ap said_in (sent-went frames) ∙ none) q;
-      }
+      stays-queued h first stood (went frames) stood
+      (λ w qs q. free-queued stood w qs (went frames) (ap said_in (sent-went frames) ∙ none) q)
 
   queued-live : (first : ℕ) (stood : Stood) (accepted : Batches) (before after : Session) (ps : List Passing)
-      → accepted ≡ [] → live_of (Some stood) ≡ Some before
+      → GiveUp accepted → live_of (Some stood) ≡ Some before
       → GoesBy accepted before.value.session after.value.session ps
       → StaysQueued h first (Some stood) ps (Some (with_live stood after))
-  queued-live first (Live channel s) accepted before after ps none is g =
+  queued-live first (Live channel s) accepted before after ps up is g =
       record {
-        by = λ w qs q.
-            subst (λ (xs : List Piece). Queued h xs after.value.session (qs ++ ps))
-            (ap (λ (bs : Batches). w ++ map bare (pieces_by h bs)) none ∙ append-nil w)
-            (more-queued h accepted w before.value.session after.value.session qs ps
-            (goes-did accepted before.value.session after.value.session ps g)
-            (subst (λ (x : Session). Queued h w x.value.session qs) (same_Some s before is) q));
+        by = λ ms qs said. record {
+          accepted = said.accepted ++ map bare (pieces_by h accepted);
+          queued =
+              more-queued h accepted said.accepted before.value.session after.value.session qs ps
+              (goes-did accepted before.value.session after.value.session ps g)
+              (subst (λ (x : Session). Queued h said.accepted x.value.session qs) (same_Some s before is) said.queued);
+          says =
+              says-aborted said.accepted (map bare (pieces_by h accepted)) ms
+              (bare-aborted (pieces_by h accepted) (pieces-aborted h accepted up)) said.says;
+        };
       }
-  queued-live first (Asked channel a) accepted before after ps none is g = absurd (none-some before is)
-  queued-live first (Ending channel own_end) accepted before after ps none is g = absurd (none-some before is)
-  queued-live first (Over peer_end complete) accepted before after ps none is g = absurd (none-some before is)
+  queued-live first (Asked channel a) accepted before after ps up is g = absurd (none-some before is)
+  queued-live first (Ending channel own_end) accepted before after ps up is g = absurd (none-some before is)
+  queued-live first (Over peer_end complete) accepted before after ps up is g = absurd (none-some before is)
 
   queued-told : (first : ℕ) (stood : Stood) (before after : Box AskedSession) (it : LinkPerformative)
       → asked_of (Some stood) ≡ Some before → HearsAsked before.value it (Ok tt) after.value
       → StaysQueued h first (Some stood) (Came (body_said it) ∷ []) (Some (with_asked stood after))
-  queued-told first (Asked channel a) before after it is told = record { by = λ w qs q. absurd q }
+  queued-told first (Asked channel a) before after it is told =
+      stays-queued h first (Some (Asked channel a)) (Came (body_said it) ∷ [])
+      (Some (with_asked (Asked channel a) after))
+      (λ w qs q. absurd q)
   queued-told first (Live channel s) before after it is told = absurd (none-some before is)
   queued-told first (Ending channel own_end) before after it is told = absurd (none-some before is)
   queued-told first (Over peer_end complete) before after it is told = absurd (none-some before is)
@@ -188,33 +226,40 @@ module _ (h : ℕ) where
   queued-asks : (first : ℕ) (channel : IncomingChannel) (asked : Box AskedSession) (begin : Begin)
       → asked.value ≡ asked_by begin
       → StaysQueued h first None (Came (body.Begin begin) ∷ []) (Some (Asked channel asked))
-  queued-asks first channel asked begin is = record { by = λ w qs q. absurd q }
+  queued-asks first channel asked begin is =
+      stays-queued h first None (Came (body.Begin begin) ∷ []) (Some (Asked channel asked))
+      (λ w qs q. absurd q)
 
   queued-begins : (first window : ℕ) (channel : OutgoingChannel) (session : Session) (frame : SessionFrame)
       → Begun gives channel first window frame session.value
       → StaysQueued h first None (went (frame ∷ [])) (Some (Live channel session))
-  queued-begins first window channel session frame b = record { by = λ w qs q. absurd q }
+  queued-begins first window channel session frame b =
+      stays-queued h first None (went (frame ∷ [])) (Some (Live channel session))
+      (λ w qs q. absurd q)
 
   queued-accepts : (first window : ℕ) (incoming channel : IncomingChannel) (asked : Box AskedSession)
       (outgoing : OutgoingChannel) (session : Session) (frame : SessionFrame)
       → Accepted gives asked.value outgoing channel first window frame session.value
       → StaysQueued h first (Some (Asked incoming asked)) (went (frame ∷ []))
       (Some (Live outgoing (with_links session asked.value.links)))
-  queued-accepts first window incoming channel asked outgoing session frame a = record { by = λ w qs q. absurd q }
+  queued-accepts first window incoming channel asked outgoing session frame a =
+      stays-queued h first (Some (Asked incoming asked)) (went (frame ∷ []))
+      (Some (Live outgoing (with_links session asked.value.links)))
+      (λ w qs q. absurd q)
 
-  pub queues-keep : Keeping (λ accepted. accepted ≡ []) (StaysQueued h)
+  pub queues-keep : Keeping GiveUp (StaysQueued h)
   queues-keep =
       record {
-        quiet = refl;
+        quiet = λ accepted up. up;
         still = queued-still;
         on = queued-on;
         gone = queued-gone;
         free = queued-free;
-        live = λ first stood accepted before after ps none is g asked.
-            queued-live first stood accepted before after ps none is g;
-        fails = λ first stood before after ps qs over is g none gone. record {
-          by = λ w rs q. gone-queued over gone w (rs ++ (ps ++ qs));
-        };
+        live = λ first stood accepted before after ps up is g asked.
+            queued-live first stood accepted before after ps up is g;
+        fails = λ first stood before after ps qs over is g none gone.
+            stays-queued h first (Some stood) (ps ++ qs) over
+            (λ w rs q. gone-queued over gone w (rs ++ (ps ++ qs)));
         told = queued-told;
         asks = queued-asks;
         begins = queued-begins;

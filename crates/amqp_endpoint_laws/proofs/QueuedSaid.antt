@@ -5,6 +5,7 @@ use Rattle.std.specs.Prelude.{map, option_map}
 use Rattle.amqp_link_base.specs.Readings.{Piece, Reading, brought, nothing, opened, read_on, readings}
 use Rattle.amqp_link_base.specs.Said.{Said, whole}
 use Rattle.amqp_endpoint_laws.specs.Queued.{Message, SayMessages, message_of}
+use Rattle.amqp_endpoint_laws.proofs.GivenUp.{AllAborted}
 
 -- a transfer without what its session writes into it
 abbrev pub bare : Piece → Piece
@@ -111,6 +112,25 @@ says-more ps qs ms d s one =
       says =
           ap (λ (x : Reading). map message_of x.messages) all ∙ map-both message_of r.messages (d ∷ [])
           ∙ ap (λ (xs : List Message). xs ++ message_of d ∷ []) s.says;
+    }
+
+-- transfers that give deliveries up say nothing
+aborted-read : (qs : List Piece) (r : Reading) → AllAborted qs → r.held ≡ None → readings r qs ≡ r
+aborted-read [] r are none = refl
+aborted-read (q ∷ qs) r (is, are) none =
+    let one : read_on r q ≡ r =
+    ap (λ (b : Bool). brought b q.performative.more r (opened r.held q)) is
+    ∙ ap (λ (o : Option Said). record { messages = r.messages; held = o }) (sym none) in
+    ap (λ (x : Reading). readings x qs) one ∙ aborted-read qs r are none
+
+pub says-aborted : (ps qs : List Piece) (ms : List Message) → AllAborted qs → SayMessages ps ms
+    → SayMessages (ps ++ qs) ms
+says-aborted ps qs ms are s =
+    let all : readings nothing (ps ++ qs) ≡ readings nothing ps =
+    readings-both ps qs nothing ∙ aborted-read qs (readings nothing ps) are s.whole in
+    record {
+      whole = ap (λ (x : Reading). x.held) all ∙ s.whole;
+      says = ap (λ (x : Reading). map message_of x.messages) all ∙ s.says;
     }
 
 pub says-none : SayMessages [] []

@@ -41,7 +41,7 @@ use Rattle.amqp_endpoint_laws.proofs.LinksStay.{entered-before, held-since}
 use Rattle.amqp_endpoint_laws.proofs.PassedKept.{IsSending, deed-judges}
 use Rattle.amqp_endpoint_laws.proofs.PassedPlaces.{by-steps, eq-same}
 use Rattle.amqp_endpoint_laws.proofs.PassedSteps.{goes-did}
-use Rattle.amqp_endpoint_laws.proofs.QueuedKept.{Queued, QueuedAt, StaysQueued, more-queued, queues-keep}
+use Rattle.amqp_endpoint_laws.proofs.QueuedKept.{Queued, QueuedAt, SaysAt, StaysQueued, more-queued, queues-keep}
 use Rattle.amqp_endpoint_laws.proofs.QueuedOrder.{pieces_by}
 use Rattle.amqp_endpoint_laws.proofs.QueuedSaid.{bare, bare-one, bare_said, says-more}
 
@@ -102,12 +102,6 @@ done-of number [] old new passings (same, none) = same
 done-of number (deed ∷ deeds) old new passings (mid, later, one, rest, is) =
     (mid, one, done-of number deeds mid new later rest)
 
--- so much was accepted of a handle, and says these messages
-pub record SaysAt (h : ℕ) (ms : List Message) (o : Option Stood) (qs : List Passing) : Type 0 where
-  pub accepted : List Piece
-  pub queued : QueuedAt h accepted o qs
-  pub says : SayMessages accepted ms
-
 module _ (Agree : LinkedSessions → Type 0)
     (agree-kept : (old new : LinkedSessions) (deed : Deed) → IsDeed linked old deed new → Agree old → Agree new)
     (agree-apart : (s : LinkedSessions) → Agree s → (a b n : ℕ) (h : OutputHandle)
@@ -125,14 +119,10 @@ module _ (Agree : LinkedSessions → Type 0)
       → (ms : List Message) (qs : List Passing) → Says ms (At old) qs
       → Says (ms ++ []) (At new) (qs ++ passes_in number old deed)
   quiet-deed deed old new silent d ms qs s =
-      record {
-        accepted = s.accepted;
-        queued =
-            (deed-judges (StaysQueued handle.0) (queues-keep handle.0) deed old new (λ sends. absurd (silent sends)) d
-            number).by
-            s.accepted qs s.queued;
-        says = subst (λ (x : List Message). SayMessages s.accepted x) (sym (append-nil ms)) s.says;
-      }
+      subst (λ (x : List Message). Says x (At new) (qs ++ passes_in number old deed)) (sym (append-nil ms))
+      ((deed-judges (StaysQueued handle.0) (queues-keep handle.0) deed old new (λ sends. absurd (silent sends)) d
+      number).by
+      ms qs s)
 
   -- a message is sent by a link of the session
   module _ (limit : ℕ) (message : Sending) (frames : List SessionFrame) (old new : LinkedSessions) (settled : Bool)

@@ -1,5 +1,5 @@
 -- What a Transfer that ends the connection leaves of the links of its session.
-use Rattle.std.proofs.Common.{◌≡◌, inl, inr, ℕ, zero, suc, List, [], ◌∷◌, Option, Some, None, Result, Ok, Err}
+use Rattle.std.proofs.Common.{◌≡◌, inl, inr, ℕ, zero, suc, List, [], ◌∷◌, Option, Some, None, Ok, Err}
 use Rattle.std.proofs.Common.{refl, sym, ap, subst, ◌∙◌, slice_set, false}
 use Rattle.std.specs.Prelude.{◌≢◌, slice_index_or}
 use Rattle.std.proofs.lemmas.List.{set-get_or}
@@ -41,7 +41,7 @@ use Rattle.amqp_endpoint_link_hearing.proofs.Heard.{IsTaken, taken-in}
 use Rattle.amqp_endpoint_link_hearing.specs.Naming.{link_in}
 use Rattle.amqp_endpoint_link_hearing.specs.Saying.{Answers, EndsBy, LinkHeard, LinkRefusal}
 use Rattle.amqp_endpoint_link_hearing.specs.Transferring.{IsPutBack, IsUnclosed, RefusesTransfer, transfer_of}
-use Rattle.amqp_endpoint_laws.proofs.BrokenAlike.{all_kept, at, given, given-at, kept-live, put, put-same, put-twice}
+use Rattle.amqp_endpoint_laws.proofs.BrokenAlike.{all_kept, given, given-at, kept-live, put, put-same, put-twice}
 
 abbrev pub Alike : Talk → Talk → Type 0
 Alike old new = all_kept new.sessions.places ≡ all_kept old.sessions.places

@@ -101,7 +101,7 @@ accepted-own channel incoming begin (Some flow) first window = refl
 pub own-channels : Keeping (λ accepted. Unit {0}) StaysOwn
 own-channels =
     record {
-      quiet = tt;
+      quiet = λ accepted up. tt;
       still = λ first old new same own. subst IsOwn (sym same) own;
       on = λ first a b d ps qs j k own. k (j own);
       gone = λ first old new ps gone said own. gone-own new gone;
@@ -338,7 +338,7 @@ attach-seen m attach s talk live =
 pub seeing : Walk (λ accepted. Unit {0}) SeenIn SeenAt
 seeing =
     record {
-      quiet = tt;
+      quiet = λ accepted up. tt;
       none = λ m old new same. record {
         kept = owning.none m old new same;
         sees = sees-none m old.sessions new.sessions (ap (λ (t : Talk). t.sessions) same);

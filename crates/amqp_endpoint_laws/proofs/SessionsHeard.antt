@@ -22,11 +22,7 @@ use Rattle.amqp_session_core.specs.declared.incoming.TransferTaken.{TransferTake
 use Rattle.amqp_link_base.specs.declared.detached.Detached.{Detached}
 use Rattle.amqp_link_receiver.specs.declared.answer.Told.{Told}
 use Rattle.amqp_link_receiver.specs.declared.answer.Told.TheVariants as told
-use Rattle.amqp_link_sender.specs.declared.attaching.Attaching.{Attaching}
-use Rattle.amqp_link_types.specs.declared.link_error.LinkError.{LinkError}
 use Rattle.amqp_endpoint_links.specs.declared.session.AskedSession.{AskedSession}
-use Rattle.amqp_endpoint_links.specs.declared.asking.NamedLink.{NamedLink}
-use Rattle.amqp_endpoint_links.specs.declared.asking.NamedLink.TheVariants.{Waiting}
 use Rattle.amqp_endpoint_links.specs.declared.hearing.LinkPerformative.{LinkPerformative}
 use Rattle.amqp_endpoint_tables.specs.State.{asked_at, live_at, reached}
 use Rattle.amqp_endpoint_tables.specs.Steps.{Asks, ChangesAsked, ChangesLive, Ends, Step, TakesBegin, TakesEnd}
@@ -45,12 +41,8 @@ use Rattle.amqp_endpoint_model.specs.declared.error.EndpointError.{EndpointError
 use Rattle.amqp_endpoint_model.specs.declared.event.Event.{Event}
 use Rattle.amqp_endpoint_linking.specs.Hearing.{HearsBegin, RefusesBegin, RefusesEnd}
 use Rattle.amqp_endpoint_linking.specs.Linking.{Link, Links, Session, Talk}
-use Rattle.amqp_endpoint_link_hearing.specs.declared.attaching.LinkAttached.{LinkAttached}
-use Rattle.amqp_endpoint_links.specs.declared.asking.AttachTaken.TheVariants as answer
-use Rattle.amqp_endpoint_links.specs.declared.hearing.PerformativeTaken.TheVariants as taken
 use Rattle.amqp_endpoint_link_hearing.specs.Heard.{attach_of, session_of}
-use Rattle.amqp_endpoint_link_hearing.specs.Attaching as attaching
-use Rattle.amqp_endpoint_link_hearing.specs.Attaching.{LinkTakes}
+use Rattle.amqp_endpoint_link_hearing.specs.Attaching.{HearsAttach, HearsReady, opened_in}
 use Rattle.amqp_endpoint_link_hearing.specs.Detaching as detaching
 use Rattle.amqp_endpoint_link_hearing.specs.Disposing as disposing
 use Rattle.amqp_endpoint_link_hearing.specs.Flowing.{LetsGo}
@@ -60,6 +52,8 @@ use Rattle.amqp_endpoint_link_hearing.specs.Transferring as transferring
 use Rattle.amqp_endpoint_link_hearing.specs.Transferring.{Comes, RemembersUnless}
 use Rattle.amqp_endpoint_link_hearing.proofs.Barrings.{refuses-by}
 use Rattle.amqp_endpoint.specs.Hearing.{Hears, RefusesBody}
+use Rattle.amqp_endpoint_laws.proofs.BehindAttach.{Follows, becomes-behind, number_of}
+use Rattle.amqp_endpoint_laws.proofs.RoomMade.{RoomMade, room-made}
 use Rattle.amqp_endpoint_laws.proofs.SessionsGoing.{Go, goes-by, goes-on, stays}
 
 abbrev pub TalkGoes : Talk → Talk → Type 0
@@ -162,23 +156,32 @@ begin-heard old links channel begin frames events new links_new (inr f) =
     (goes-by (Ends f.number f.fails.ends.channel f.fails.session true) f.mid.sessions new.sessions tt
     f.fails.ends.stepped)
 
--- the peer's Attach
-attach-taken : (outcome : Result Attaching LinkError) (old new : Talk) (session : ℕ) (handle : OutputHandle)
-    (link : Link) (left : Option LinkAttached) (frames : List SessionFrame) (events : List Event)
-    → LinkTakes outcome old session handle link left frames events new → TalkGoes old new
-attach-taken (Ok made) old new session handle link left frames events t = talk-stays old new t.3
-attach-taken (Err error) old new session handle link left frames events t = in-session _ old session new t.1
+-- the peer's Attach, before which room may be made
+room-goes : (old : Talk) (channel : IncomingChannel) (new : Talk) → RoomMade old channel new → TalkGoes old new
+room-goes old channel new (inl same) = talk-stays old new same
+room-goes old channel new (inr m) = in-session _ old m.number new m.made
 
-attach-becomes : (it : LinkHeard) (named : NamedLink) (old new : Talk) (attach : Attach) (left : Option LinkAttached)
-    (frames : List SessionFrame) (events : List Event)
-    → attaching.Becomes (attach_of it) named old attach left frames events new → TalkGoes old new
-attach-becomes (heard.Asked session) named old new attach left frames events b = talk-stays old new b.3
-attach-becomes (heard.Live session (taken.Attach answer.Asked)) named old new attach left frames events b =
-    talk-stays old new b.3
-attach-becomes (heard.Live session (taken.Attach (answer.ByLink by_link))) (Waiting handle) old new attach left frames
-    events b =
-    attach-taken (attaching.outcome_of by_link) old new session handle b.link left frames events b.takes
-attach-becomes it named old new attach left frames events b = talk-stays old new b.3
+attach-follows : (it : LinkHeard) (frames : List SessionFrame) (old new : Talk) → Follows it frames old new
+    → TalkGoes old new
+attach-follows it frames old new (inl (none, same)) = talk-stays old new same
+attach-follows it frames old new (inr g) = in-session _ old (number_of it) new g
+
+attach-heard : (old : Talk) (links : Links) (limit : ℕ) (channel : IncomingChannel) (attach : Attach)
+    (frames : List SessionFrame) (events : List Event) (new : Talk) (links_new : Links)
+    → HearsAttach old links limit channel attach frames events new links_new → TalkGoes old new
+attach-heard old links limit channel attach frames events new links_new a =
+    goes-on old.sessions a.ready.sessions new.sessions
+    (room-goes old channel a.ready (room-made a.named old channel a.ready a.makes_room))
+    (by a.hears)
+  where
+    by : HearsReady a.named a.ready links limit channel attach frames events new links_new → TalkGoes a.ready new
+    by (inl t) =
+        goes-on a.ready.sessions t.mid.sessions new.sessions
+        (answered a.ready [] channel _ (Ok t.heard) t.mid [] t.answered)
+        (attach-follows t.heard frames t.mid new
+        (becomes-behind limit (opened_in a.ready (attach_of t.heard) a.named) t.heard a.named t.mid attach frames events
+        new t.becomes))
+    by (inr f) = answered a.ready [] channel _ _ new frames f.answered
 
 -- the peer's Transfer
 remembered : (settled : Bool) (handle : OutputHandle) (tag : List ℕ) (number : ℕ) (old : Talk) (session : ℕ)
@@ -245,12 +248,7 @@ pub heard-goes : (it : FrameBody) (old new : Talk) (links links_new : Links) (gi
 heard-goes (body.Begin begin) old new links links_new given given_new limit channel frames events (b, g) =
     begin-heard old links channel begin frames events new links_new b
 heard-goes (body.Attach attach) old new links links_new given given_new limit channel frames events (a, g) =
-    elim a.hears [
-      | inl t ↦ goes-on old.sessions t.mid.sessions new.sessions
-          (answered old [] channel _ (Ok t.heard) t.mid [] t.answered)
-          (attach-becomes t.heard t.named t.mid new attach a.left frames events t.becomes)
-      | inr f ↦ answered old [] channel _ _ new frames f.fails.answered
-    ]
+    attach-heard old links limit channel attach frames events new links_new a
 heard-goes (body.Flow flow) old new links links_new given given_new limit channel frames events (inl t, g) =
     goes-on old.sessions t.mid.sessions new.sessions (answered old [] channel _ (Ok t.heard) t.mid frames t.answered)
     (flow-lets-go (session_of t.heard) frames t.mid new links links_new t.leave)
@@ -302,7 +300,9 @@ pub refused-goes : (it : FrameBody) (old new : Talk) (links : Links) (given limi
     (e : EndpointError) → RefusesBody old links given limit channel it e new → TalkGoes old new
 refused-goes (body.Begin begin) old new links given limit channel e r = begin-refused old channel begin e new r
 refused-goes (body.Attach attach) old new links given limit channel e (inl b) =
-    answered old [] channel _ (Err b.bars.refusal) new b.bars.frames b.bars.answered
+    goes-on old.sessions b.ready.sessions new.sessions
+    (room-goes old channel b.ready (room-made b.named old channel b.ready b.makes_room))
+    (answered b.ready [] channel _ (Err b.bars.refusal) new b.bars.frames b.bars.answered)
 refused-goes (body.Attach attach) old new links given limit channel e (inr u) = talk-stays old new u.1
 refused-goes (body.Flow flow) old new links given limit channel e r = said-refused old channel _ e new r
 refused-goes (body.Transfer transfer payload) old new links given limit channel e (inl u) = talk-stays old new u.stays

@@ -1,5 +1,5 @@
 -- Links that are closed since nothing goes back of their deliveries.
-use Rattle.std.proofs.Common.{◌≡◌, ◌≢◌, ◌≤◌, ◌<◌, ◌+◌, ◌⊎◌, inl, inr, ℕ, Bool, true, false, List, [], ◌∷◌, ◌++◌, Option}
+use Rattle.std.proofs.Common.{◌≡◌, ◌≢◌, ◌≤◌, ◌+◌, ◌⊎◌, inl, inr, ℕ, Bool, true, false, List, [], ◌∷◌, ◌++◌, Option}
 use Rattle.std.proofs.Common.{Some, None, IsSome, All, map, length, drop, arith, refl, sym, ap, subst, ◌∙◌, append-nil}
 use Rattle.std.proofs.Common.{append_assoc}
 use Rattle.std.specs.Prelude.{◌==◌, ◌&&◌, ◌||◌, if◌then◌else◌, option_map, slice_index_or, slice_set, is_some}
@@ -15,7 +15,7 @@ use Rattle.amqp_session_types.specs.declared.handles.OutputHandle.{OutputHandle}
 use Rattle.amqp_session_performatives.specs.declared.session_frame.SessionFrame.{SessionFrame}
 use Rattle.amqp_session_states.specs.declared.delivery_state.DeliveryState.{DeliveryState}
 use Rattle.amqp_session_outgoing.specs.Frames.{last_room}
-use Rattle.amqp_session_outgoing.specs.Queues.{FollowsIn, Queues, followed, room_behind, trailed, units_of}
+use Rattle.amqp_session_outgoing.specs.Queues.{FollowsIn, Queues, trailed, units_of}
 use Rattle.amqp_session_outgoing.proofs.Order.{followed-units}
 use Rattle.amqp_session_core.specs.declared.batch.BehindFrame.{BehindFrame}
 use Rattle.amqp_session_core.specs.declared.batch.TransferFrame.{TransferFrame}
@@ -28,13 +28,11 @@ use Rattle.amqp_link_base.specs.declared.state.LinkState.{LinkState}
 use Rattle.amqp_link_base.specs.declared.state.LinkState.TheVariants as state
 use Rattle.amqp_link_unsettled.specs.declared.open.Open.{Open}
 use Rattle.amqp_link_unsettled.specs.declared.resolution.Failure.TheVariants as failure
-use Rattle.amqp_link_unsettled.specs.declared.resolution.Resolution.{Resolution}
 use Rattle.amqp_link_unsettled.specs.declared.resolution.Resolution.TheVariants.{Failed}
 use Rattle.amqp_link_receiver.specs.Ending as receiver
 use Rattle.amqp_link_receiver.specs.State.{ReceiverState}
 use Rattle.amqp_link_sender.specs.Ending.{ended}
 use Rattle.amqp_link_sender.specs.Sending.{Sending}
-use Rattle.amqp_link.specs.Ends.{state_of}
 use Rattle.amqp_link.specs.declared.end.End.{End}
 use Rattle.amqp_link.specs.declared.end.End.TheVariants.{Sender, Receiver}
 use Rattle.amqp_endpoint_tables.specs.State.{live_at}
@@ -47,7 +45,7 @@ use Rattle.amqp_endpoint_conversation.specs.Going.{Goes, Rests}
 use Rattle.amqp_endpoint_conversation.proofs.Calls.{changed-goes, changed-rests}
 use Rattle.amqp_endpoint_attached.specs.Detaching.{DetachGiven, detach_sent, is_there, own_detach}
 use Rattle.amqp_endpoint_attached.specs.Linked.{Linked, LinksIn, end_at, gives}
-use Rattle.amqp_endpoint_messages.specs.All.{TellsFirst, TellsIn, behind_told, first_told, open_count}
+use Rattle.amqp_endpoint_messages.specs.All.{TellsIn, behind_told, first_told, open_count}
 use Rattle.amqp_endpoint_messages.specs.Echoing.{echoes_of}
 use Rattle.amqp_endpoint_messages.specs.Outcomes.{NoneUntold, end_untold, link_untold}
 use Rattle.amqp_endpoint_messages.specs.Reached.{behind_reached}

@@ -54,7 +54,7 @@ Fits limit old handle closed error =
     fits limit (frame_of (detach_frame old.session.fields.channel (own_detach handle closed error))) ≡ true
 
 -- a link sends its Detach, as it is changed
-given : (limit : ℕ) (old : Linked) (handle : OutputHandle) (closed : Bool) (error : Option Error)
+pub given : (limit : ℕ) (old : Linked) (handle : OutputHandle) (closed : Bool) (error : Option Error)
     (frames : List SessionFrame) (new : Linked) → Fits limit old handle closed error
     → DetachGiven old handle closed error [] new frames → Done limit old frames new
 given limit old handle closed error frames new fit g =

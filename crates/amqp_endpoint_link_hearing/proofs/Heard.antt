@@ -17,6 +17,7 @@ use Rattle.amqp_link_base.specs.declared.detached.Detached.{Detached}
 use Rattle.amqp_link.specs.declared.relay.AttachTold.{AttachTold}
 use Rattle.amqp_link_receiver.specs.declared.answer.Told.{Told}
 use Rattle.amqp_endpoint_links.specs.declared.session.AskedSession.{AskedSession}
+use Rattle.amqp_endpoint_links.specs.declared.asking.AttachTaken.{AttachTaken as AttachAnswer}
 use Rattle.amqp_endpoint_links.specs.declared.asking.AttachTaken.TheVariants as attach
 use Rattle.amqp_endpoint_links.specs.declared.asking.DetachTaken.TheVariants as detach
 use Rattle.amqp_endpoint_links.specs.declared.asking.NamedLink.TheVariants.{Waiting}
@@ -86,17 +87,30 @@ pub is-there : (talk : Talk) (session : ℕ) (handle : OutputHandle) (after : Se
 is-there talk session handle after link live there = ap (λ (s : Option Session). link_in s handle) live ∙ there
 
 -- the link that waited took the peer's Attach
-pub record AttachedThere (old new : Linked) (handle : OutputHandle) : Type 0 where
-  pub link : Link
-  pub there : link_at new.session handle.0 ≡ Some link
-  pub fields : new.session.fields ≡ old.session.fields
-  pub outgoing : new.session.outgoing ≡ old.session.outgoing
+pub record AttachedThere (old new : Linked) (handle : OutputHandle) (it : AttachFrame) (told : AttachTold) : Type 0
+  where
+    pub before : Link
+    pub was : link_at old.session handle.0 ≡ Some before
+    pub link : Link
+    pub there : link_at new.session handle.0 ≡ Some link
+    pub took : gives.attaches before it (Ok told) link
+    pub fields : new.session.fields ≡ old.session.fields
+    pub outgoing : new.session.outgoing ≡ old.session.outgoing
+
+abbrev told-in : AttachTold → Result (AttachAnswer AttachTold) SessionError → AttachTold
+told-in told (Ok (attach.ByLink x)) = x
+told-in told other = told
 
 attach-by : (old new : Linked) (handle : OutputHandle) (it : AttachFrame) (told : AttachTold)
     (r : Result AttachTold SessionError) → Ok (attach.ByLink told) ≡ by_link r
-    → AttachTaken gives old.session handle.0 it r new.session → AttachedThere old new handle
+    → AttachTaken gives old.session handle.0 it r new.session → AttachedThere old new handle it told
 attach-by old new handle it told (Ok x) is (free, st, rest) =
     record {
+      before = st.before;
+      was = st.had;
+      took =
+          subst (λ (k : AttachTold). gives.attaches st.before it (Ok k) st.after) (sym (ap (told-in told) is))
+          st.stepped;
       link = st.after;
       there =
           stepped-there (λ before after. gives.attaches before it (Ok x) after) old.session handle.0 new.session st;
@@ -106,14 +120,14 @@ attach-by old new handle it told (Ok x) is (free, st, rest) =
 attach-by old new handle it told (Err e) is t = absurd cc
 
 attach-at : (used : Bool) (old new : Linked) (handle : OutputHandle) (it : AttachFrame) (told : AttachTold)
-    → AttachAt gives used old it (Waiting handle) (Ok (attach.ByLink told)) new → AttachedThere old new handle
+    → AttachAt gives used old it (Waiting handle) (Ok (attach.ByLink told)) new → AttachedThere old new handle it told
 attach-at true old new handle it told t = let clash = t.0 in absurd cc
 attach-at false old new handle it told t = attach-by old new handle it told t.told t.answer t.taken
 
 pub attach-there : (old : Talk) (channel : IncomingChannel) (out : List SessionFrame) (it : AttachFrame)
     (handle : OutputHandle) (session : ℕ) (told : AttachTold) (new : Talk) (out_new : List SessionFrame)
     → (s : IsTaken old channel out (Attach it (Waiting handle)) session (taken.Attach (attach.ByLink told)) new out_new)
-    → AttachedThere (s.before).value ((s.takes).after).value handle
+    → AttachedThere (s.before).value ((s.takes).after).value handle it told
 attach-there old channel out it handle session told new out_new s =
     attach-at (in_use (s.before).value it.handle.0) (s.before).value ((s.takes).after).value handle it told
     (((s.takes).hears).heard).0

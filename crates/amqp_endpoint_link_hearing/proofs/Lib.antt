@@ -4,6 +4,7 @@ mod Lending
 mod Flows
 mod Releases
 mod Doing
+mod AttachDone
 pub mod Heard
 mod Attaches
 mod Detaches
@@ -16,6 +17,9 @@ mod Partings
 mod Readies
 mod Becoming
 pub mod Barrings
+pub mod Reached
+mod AttachReadied
+mod AttachServes
 mod Dispositions
 mod Stepped
 mod Transfers

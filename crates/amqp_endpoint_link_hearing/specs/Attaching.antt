@@ -1,5 +1,5 @@
 -- The peer's Attach (part 2, 2.6.3, 2.7.3).
-use Rattle.std.specs.Prelude.{◌≡◌, ◌⊎◌, ℕ, List, [], ◌∷◌, Option, Some, None, Result, Ok, Err}
+use Rattle.std.specs.Prelude.{◌≡◌, ◌⊎◌, ◌++◌, ℕ, List, [], ◌∷◌, Option, Some, option_map, Result, Ok, Err}
 use Rattle.amqp_session_types.specs.declared.channels.IncomingChannel.{IncomingChannel}
 use Rattle.amqp_session_types.specs.declared.handles.OutputHandle.{OutputHandle}
 use Rattle.amqp_session_performatives.specs.declared.attach.Attach.{Attach}
@@ -23,15 +23,19 @@ use Rattle.amqp_endpoint_model.specs.declared.event.Event.{Event}
 use Rattle.amqp_endpoint_model.specs.declared.event.Event.TheVariants as event
 use Rattle.amqp_endpoint_model.specs.State.{error_of}
 use Rattle.amqp_endpoint_model.specs.Step.{not_allowed}
+use Rattle.amqp_endpoint_tables.specs.State.{reached}
 use Rattle.amqp_endpoint_linking.specs.Linking.{Link, Links, Talk}
 use Rattle.amqp_endpoint_linking.specs.Hearing.{IsUntold}
-use Rattle.amqp_endpoint_link_hearing.specs.InSession.{Closes, GoesOn}
+use Rattle.amqp_endpoint_messages.specs.All.{open_count}
+use Rattle.amqp_endpoint_messages.specs.GivingUp.{AttachedAt, ClosedFor}
+use Rattle.amqp_endpoint_messages.specs.GivingUp as giving_up
+use Rattle.amqp_endpoint_messages.specs.MadeReady.{MadeRoom}
+use Rattle.amqp_endpoint_link_hearing.specs.InSession.{GoesOn}
 use Rattle.amqp_endpoint_link_hearing.specs.Naming.{IsNamedOn, link_of}
 use Rattle.amqp_endpoint_link_hearing.specs.Heard.{attach_of}
 use Rattle.amqp_endpoint_link_hearing.specs.declared.hearing.Took.{Took}
 use Rattle.amqp_endpoint_link_hearing.specs.declared.hearing.Took.TheVariants as took
 use Rattle.amqp_endpoint_link_hearing.specs.Saying.{Answers, BarsSaid, FailsBySaid, LinkHeard}
-use Rattle.amqp_endpoint_link_hearing.specs.declared.attaching.LinkAttached.{LinkAttached}
 
 -- what a link makes of the peer's Attach: what is left to be done, or why it refuses it. A receiver gives no delivery
 -- up
@@ -57,77 +61,98 @@ attached_told link exchange = event.Attached (record { link = link; exchange = e
 
 -- a link is closed here, for its peer's fault
 abbrev pub refused_told : ℕ → ℕ → LinkError → List Event
-refused_told session link error =
-    event.Refused (record { session = session; link = Some link; error = LinkFault error }) ∷ []
+refused_told session link error = giving_up.refused_told session link (LinkFault error)
 
--- the deliveries that a link gives up are its owner's to send
-abbrev pub left_by : ℕ → OutputHandle → ℕ → Attaching → LinkAttached
-left_by session handle link attaching =
-    record { session = session; handle = handle; link = link; aborts = attaching.aborts }
+-- a link that accepts the Attach is attached: it tells what that ends, and gives up the deliveries that are to be given
+-- up; so many of its messages were open before
+pub record IsAttached (limit session count : ℕ) (handle : OutputHandle) (attaching : Attaching) (link : Link)
+    (old : Talk) (frames : List SessionFrame) (events : List Event) (new : Talk) : Type 0 where
+  pub behind : List Event
+  pub goes : GoesOn (AttachedAt limit session count handle (error_of not_allowed) attaching.aborts frames behind) old
+      session new
+  pub told : events ≡ attached_told link.number attaching.exchange ++ behind
 
--- a link that accepts the Attach is attached; one that refuses it is closed
-abbrev pub LinkTakes : Result Attaching LinkError → Talk → ℕ → OutputHandle → Link → Option LinkAttached
+-- one that refuses it is closed
+abbrev pub LinkTakes : Result Attaching LinkError → (limit session count : ℕ) → OutputHandle → Link → Talk
     → List SessionFrame → List Event → Talk → Type 0
-LinkTakes (Ok attaching) old session handle link left frames events new =
-    (left ≡ Some (left_by session handle link.number attaching)) × (frames ≡ [])
-    × (events ≡ attached_told link.number attaching.exchange) × (new ≡ old)
-LinkTakes (Err error) old session handle link left frames events new =
-    (left ≡ None) × GoesOn (Closes (Some (error_of not_allowed)) handle frames) old session new
-    × (events ≡ refused_told session link.number error)
+LinkTakes (Ok attaching) limit session count handle link old frames events new =
+    IsAttached limit session count handle attaching link old frames events new
+LinkTakes (Err error) limit session count handle link old frames events new =
+    GoesOn (ClosedFor session (LinkFault error) count handle (error_of not_allowed) frames events) old session new
 
-pub record ByLink (old : Talk) (session : ℕ) (handle : OutputHandle) (told : AttachTold) (left : Option LinkAttached)
+pub record ByLink (limit count : ℕ) (old : Talk) (session : ℕ) (handle : OutputHandle) (told : AttachTold)
     (frames : List SessionFrame) (events : List Event) (new : Talk) : Type 0 where
   pub link : Link
   pub there : link_of old session handle ≡ Some link
-  pub takes : LinkTakes (outcome_of told) old session handle link left frames events new
+  pub takes : LinkTakes (outcome_of told) limit session count handle link old frames events new
 
 -- nothing more comes of it than what is told
-abbrev pub IsTold : List Event → Talk → Option LinkAttached → List SessionFrame → List Event → Talk → Type 0
-IsTold told old left frames events new = (left ≡ None) × (frames ≡ []) × (events ≡ told) × (new ≡ old)
+abbrev pub IsTold : List Event → Talk → List SessionFrame → List Event → Talk → Type 0
+IsTold told old frames events new = (frames ≡ []) × (events ≡ told) × (new ≡ old)
 
--- what comes of it once it is heard: the link that waited for it takes it, or the peer asks for a link; in a session
--- that is ending nothing does
-abbrev pub Becomes : Took → NamedLink → Talk → Attach → Option LinkAttached → List SessionFrame → List Event → Talk
+-- what comes of it once it is heard: the link that waited for it takes it, of whose messages so many were open, or the
+-- peer asks for a link; in a session that is ending nothing does
+abbrev pub BecomesBy : (limit count : ℕ) → Took → NamedLink → Talk → Attach → List SessionFrame → List Event → Talk
     → Type 0
-Becomes (took.Asked session) named old it left frames events new =
-    IsTold (asked_told session it) old left frames events new
-Becomes (took.ByLink session told) (Waiting handle) old it left frames events new =
-    ByLink old session handle told left frames events new
-Becomes took named old it left frames events new = IsTold [] old left frames events new
+BecomesBy limit count (took.Asked session) named old it frames events new =
+    IsTold (asked_told session it) old frames events new
+BecomesBy limit count (took.ByLink session told) (Waiting handle) old it frames events new =
+    ByLink limit count old session handle told frames events new
+BecomesBy limit count took named old it frames events new = IsTold [] old frames events new
+
+-- how many messages of the link that waits in the session that took it are open
+abbrev pub opened_of : Option Link → ℕ
+opened_of link = open_count (option_map (λ (n : Link). n.link) link)
+
+abbrev pub opened_in : Talk → Took → NamedLink → ℕ
+opened_in talk (took.ByLink session told) (Waiting handle) = opened_of (link_of talk session handle)
+opened_in talk took named = 0
+
+-- room is made for transfers in the session that the channel reaches
+pub record MakesRoomIn (old : Talk) (channel : IncomingChannel) (new : Talk) : Type 0 where
+  pub number : ℕ
+  pub reaches : reached old.sessions channel.0 ≡ Some number
+  pub made : GoesOn MadeRoom old number new
+
+-- where a link waits for the Attach, for what it gives up, if it gives anything up
+abbrev pub MakesRoom : NamedLink → Talk → IncomingChannel → Talk → Type 0
+MakesRoom (Waiting handle) old channel new = (new ≡ old) ⊎ MakesRoomIn old channel new
+MakesRoom named old channel new = new ≡ old
 
 -- the session takes it
-pub record TakesAttach (old : Talk) (links : Links) (channel : IncomingChannel) (attach : Attach)
-    (left : Option LinkAttached) (frames : List SessionFrame) (events : List Event) (new : Talk) (links_new : Links)
-    : Type 0 where
-  pub named : NamedLink
-  pub is_named : IsNamedOn old links channel attach named
+pub record TakesAttach (named : NamedLink) (old : Talk) (links : Links) (limit : ℕ) (channel : IncomingChannel)
+    (attach : Attach) (frames : List SessionFrame) (events : List Event) (new : Talk) (links_new : Links) : Type 0 where
   pub heard : LinkHeard
   pub mid : Talk
   pub answered : Answers old channel (said.Attach attach named) (Ok heard) [] mid
-  pub becomes : Becomes (attach_of heard) named mid attach left frames events new
+  pub becomes :
+      BecomesBy limit (opened_in old (attach_of heard) named) (attach_of heard) named mid attach frames events new
   pub same : links_new ≡ links
 
 -- or it ends by its fault
-pub record FailsByAttach (old : Talk) (links : Links) (channel : IncomingChannel) (attach : Attach)
-    (left : Option LinkAttached) (frames : List SessionFrame) (events : List Event) (new : Talk) (links_new : Links)
-    : Type 0 where
+abbrev pub HearsReady : NamedLink → Talk → Links → ℕ → IncomingChannel → Attach → List SessionFrame → List Event → Talk
+    → Links → Type 0
+HearsReady named old links limit channel attach frames events new links_new =
+    TakesAttach named old links limit channel attach frames events new links_new
+    ⊎ FailsBySaid old links channel (said.Attach attach named) frames events new links_new
+
+-- first room is made
+pub record HearsAttach (old : Talk) (links : Links) (limit : ℕ) (channel : IncomingChannel) (attach : Attach)
+    (frames : List SessionFrame) (events : List Event) (new : Talk) (links_new : Links) : Type 0 where
   pub named : NamedLink
   pub is_named : IsNamedOn old links channel attach named
-  pub fails : FailsBySaid old links channel (said.Attach attach named) frames events new links_new
-  pub none : left ≡ None
-
-abbrev pub HearsAttach : Talk → Links → IncomingChannel → Attach → Option LinkAttached → List SessionFrame → List Event
-    → Talk → Links → Type 0
-HearsAttach old links channel attach left frames events new links_new =
-    TakesAttach old links channel attach left frames events new links_new
-    ⊎ FailsByAttach old links channel attach left frames events new links_new
+  pub ready : Talk
+  pub makes_room : MakesRoom named old channel ready
+  pub hears : HearsReady named ready links limit channel attach frames events new links_new
 
 -- it ends the connection by this
 pub record BarsAttach (old : Talk) (links : Links) (channel : IncomingChannel) (attach : Attach) (e : EndpointError)
     (new : Talk) : Type 0 where
   pub named : NamedLink
   pub is_named : IsNamedOn old links channel attach named
-  pub bars : BarsSaid old channel (said.Attach attach named) e new
+  pub ready : Talk
+  pub makes_room : MakesRoom named old channel ready
+  pub bars : BarsSaid ready channel (said.Attach attach named) e new
 
 abbrev pub RefusesAttach : Talk → Links → IncomingChannel → Attach → EndpointError → Talk → Type 0
 RefusesAttach old links channel attach e new =

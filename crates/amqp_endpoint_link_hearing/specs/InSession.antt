@@ -8,9 +8,10 @@ use Rattle.amqp_link.specs.declared.end.End.{End}
 use Rattle.amqp_endpoint_tables.specs.Steps.{Step, ChangesLive}
 use Rattle.amqp_endpoint_fitting.specs.Plain.{message_size_exceeded, transfer_limit_exceeded}
 use Rattle.amqp_endpoint_model.specs.Step.{not_allowed}
-use Rattle.amqp_endpoint_attached.specs.Detaching.{DetachGiven, DetachReplied, is_there}
-use Rattle.amqp_endpoint_attached.specs.Linked.{Linked, end_at, gives}
+use Rattle.amqp_endpoint_attached.specs.Detaching.{DetachReplied}
+use Rattle.amqp_endpoint_attached.specs.Linked.{Linked, gives}
 use Rattle.amqp_endpoint_attached.specs.TakenOut.{TakenOut}
+use Rattle.amqp_endpoint_messages.specs.GivingUp as giving_up
 use Rattle.amqp_endpoint_linking.specs.Linking.{Link, Session, Talk}
 use Rattle.amqp_endpoint_link_hearing.specs.declared.closing.Condition.{Condition}
 use Rattle.amqp_endpoint_link_hearing.specs.declared.closing.Condition.TheVariants as condition
@@ -37,13 +38,12 @@ name_of condition.NotAllowed = not_allowed
 name_of condition.TransferLimitExceeded = transfer_limit_exceeded
 name_of condition.MessageSizeExceeded = message_size_exceeded
 
--- a link is closed here: its own closing Detach says why, and is sent where the link is attached
+-- a link is closed here, where it is attached
 abbrev pub ClosesIf : Bool → Option Error → Linked → OutputHandle → List SessionFrame → Linked → Type 0
-ClosesIf true why old handle frames new = DetachGiven old handle true why [] new frames
-ClosesIf false why old handle frames new = (new ≡ old) × (frames ≡ [])
+ClosesIf there why old handle frames new = giving_up.ClosesIf there why old handle frames new
 
 abbrev pub Closes : Option Error → OutputHandle → List SessionFrame → Linked → Linked → Type 0
-Closes why handle frames old new = ClosesIf (is_there (end_at old handle)) why old handle frames new
+Closes why handle frames old new = giving_up.Closes why handle frames old new
 
 -- the peer's Detach is answered, where the own one hadn't gone
 abbrev pub AnswersIf : Bool → Linked → OutputHandle → Bool → Option Error → List SessionFrame → Linked → Type 0

@@ -19,7 +19,7 @@ mod refusing;
 mod transferring;
 mod unechoed;
 
-pub use attaching::{LinkAttached, hear_attach};
+pub use attaching::hear_attach;
 pub use detaching::hear_detach;
 pub use disposing::hear_disposition;
 pub use flowing::hear_flow;

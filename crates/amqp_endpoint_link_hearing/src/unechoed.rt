@@ -5,7 +5,6 @@ ghost use Rattle.std.specs.Prelude.{Some, option_map, true};
 ghost use Rattle.std.specs.Vec.{vec_capacity, vec_len};
 ghost use Rattle.std.specs.VecDeque.{deque_capacity, deque_len};
 ghost use Rattle.amqp_session_performatives.specs.declared.session_frame.SessionFrame.{SessionFrame as Frame};
-ghost use Rattle.amqp_endpoint_attached.specs.Linked.{end_at};
 ghost use Rattle.amqp_endpoint_conversation.specs.Going.{Goes, Rests};
 ghost use Rattle.amqp_endpoint_linking.specs.Handed.{Tells};
 ghost use Rattle.amqp_endpoint_linking.specs.Linking.{Link, Session};
@@ -27,7 +26,7 @@ use crate::naming::{link_of, number_of};
 use amqp_endpoint_attached::LinkSession;
 use amqp_endpoint_conversation::Conversation;
 use amqp_endpoint_links::Numbered;
-use amqp_endpoint_messages::{open_count, tell_first};
+use amqp_endpoint_messages::{open_count, open_in, tell_first};
 use amqp_endpoint_model::{EndpointError, Event, Refused};
 use amqp_link::LinkEnd;
 use amqp_session_core::Touched;
@@ -135,16 +134,6 @@ fn make_one(
         answer,
         count,
     })
-}
-
-/// How many messages are open of the link of the session with this own handle.
-fn open_in(session: &LinkSession, handle: OutputHandle) -> usize
-    ensures { result ≡ open_count (end_at session.now handle) }
-{
-    match session.session.link(handle) {
-        Some(link) => open_count(&link.link),
-        None => 0,
-    }
 }
 
 /// How many events are told at most where these links are closed. None is answered where that passes the largest

@@ -96,15 +96,33 @@ text-fits limit channel most payload text few le w =
       length-append w.bytes payload,
     )))
 
-frame-fits : (limit channel most : ℕ) (t : Transfer) (payload : List ℕ) → limit < 2 ^ 32
+pub frame-fits : (limit channel most : ℕ) (t : Transfer) (payload : List ℕ) → limit < 2 ^ 32
     → 8 + most + length payload ≤ limit → Within most (canon (transfer_item t))
     → FrameFits limit (record { channel = channel; body = body.Transfer t payload })
 frame-fits limit channel most t payload few le w =
     text-fits limit channel most payload (canon (transfer_item t)) few le w
 
 -- the largest number takes five bytes
-abbrev largest : List ℕ
+abbrev pub largest : List ℕ
 largest = 0x70 ∷ to_be_bytes w32 (2 ^ 32 - 1)
+
+-- a transfer whose fields are no longer than those of another is no longer
+pub none-longer : (said : List Item) (text : List ℕ) (whole : Listed said text) (most : ℕ) (other : Transfer)
+    → 1 ≤ length whole.content → most ≤ length whole.content → ShortFields most (transfer_fields other)
+    → Within (length text) (canon (transfer_item other))
+none-longer said text whole most other some long fields =
+    let of : Sized whole.content whole.whole =
+    sized (item_count (items_of said)) whole.content whole.whole some whole.is_whole in
+    let inner : Within (length whole.whole) (canon (list (items_of (trimmed (transfer_fields other))))) =
+    made most (length whole.whole) (canon_all (items_of (trimmed (transfer_fields other))))
+    (list_text (item_count (items_of (trimmed (transfer_fields other))))) fields.within
+    (λ x le. no-more (length whole.whole) (item_count (items_of (trimmed (transfer_fields other)))) x whole.content
+    whole.whole of (omega arith) (omega (arith, le, long))) in
+    let coded : Short 2 (scalar (ulong 0x14)) =
+    short 2 (scalar (ulong 0x14)) (0x53 ∷ 0x14 ∷ []) refl (omega arith) in
+    let all =
+    described-short 0x14 (length whole.whole) (list (items_of (trimmed (transfer_fields other)))) coded inner in
+    record { bytes = all.bytes; is = all.is; short = omega (arith, all.short, whole.long) }
 
 -- what the measured transfer says
 module _ (handle : OutputHandle) (m : Message) (settled : Bool) where
@@ -226,19 +244,8 @@ module _ (handle : OutputHandle) (m : Message) (settled : Bool) where
     no-longer : (other : Transfer) → ShortFields (most whole.content of_fields) (transfer_fields other)
         → Within (length text) (canon (transfer_item other))
     no-longer other fields =
-        let of : Sized whole.content whole.whole =
-        sized (item_count (items_of said)) whole.content whole.whole (omega (arith, of_fields.long)) whole.is_whole in
-        let inner : Within (length whole.whole) (canon (list (items_of (trimmed (transfer_fields other))))) =
-        made (most whole.content of_fields) (length whole.whole)
-        (canon_all (items_of (trimmed (transfer_fields other))))
-        (list_text (item_count (items_of (trimmed (transfer_fields other))))) fields.within
-        (λ x le. no-more (length whole.whole) (item_count (items_of (trimmed (transfer_fields other)))) x whole.content
-        whole.whole of (omega arith) (omega (arith, le, of_fields.long))) in
-        let coded : Short 2 (scalar (ulong 0x14)) =
-        short 2 (scalar (ulong 0x14)) (0x53 ∷ 0x14 ∷ []) refl (omega arith) in
-        let all =
-        described-short 0x14 (length whole.whole) (list (items_of (trimmed (transfer_fields other)))) coded inner in
-        record { bytes = all.bytes; is = all.is; short = omega (arith, all.short, whole.long) }
+        none-longer said text whole (most whole.content of_fields) other (omega (arith, of_fields.long)) of_fields.long
+        fields
 
 -- each of the transfers, in a frame of its link
 module _ (limit channel room : ℕ) (handle : OutputHandle) (m : Message) (settled : Bool) (few : limit < 2 ^ 32)

@@ -8,3 +8,5 @@ pub mod Outcomes
 pub mod All
 pub mod Echoing
 pub mod Sending
+pub mod GivingUp
+pub mod MadeReady

@@ -36,7 +36,7 @@ pub(crate) fn cut(
 }
 
 /// A transfer on this own handle.
-fn on_handle(handle: OutputHandle, transfer: Transfer) -> Transfer
+pub(crate) fn on_handle(handle: OutputHandle, transfer: Transfer) -> Transfer
     ensures { result ≡ on_handle handle transfer }
 {
     let mut transfer = transfer;

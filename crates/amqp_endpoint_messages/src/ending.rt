@@ -29,6 +29,16 @@ pub fn open_count(link: &LinkEnd) -> usize
     }
 }
 
+/// How many messages are open of the link of the session with this own handle: none where no link has it.
+pub fn open_in(session: &LinkSession, handle: OutputHandle) -> usize
+    ensures { result ≡ open_count (end_at session.now handle) }
+{
+    match session.session.link(handle) {
+        Some(link) => open_count(&link.link),
+        None => 0,
+    }
+}
+
 /// Tells of so many of the messages that ended, and that the sending link with this own handle hasn't told of yet, in
 /// the order in which they ended; of fewer where there are no more (part 2, 2.6.12; part 3, 3.4). The link forgets what
 /// it told of. Of a receiving link, and where no link has the handle, nothing is told.

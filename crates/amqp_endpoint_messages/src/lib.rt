@@ -5,7 +5,9 @@
 //! What is sent says specs/Sending.antt. Messages that came are disposed of several at once, all or none, or one: what
 //! each call does say specs/: Disposing and Dispositions, with what it is refused for in Refusals, and what a frame
 //! holds in Longest. Outcomes are told of the messages that a disposition of the peer reaches, and of those that
-//! a link has as it ends: specs/ Reached and All; what is echoed to the peer (part 2, 2.8.3), Echoing.
+//! a link has as it ends: specs/ Reached and All; what is echoed to the peer (part 2, 2.8.3), Echoing. What a link does
+//! once the peer's Attach is taken (part 2, 2.6.13), and which deliveries it gives up, says GivingUp; what is made ready
+//! for that, MadeReady.
 #![tactic(auto)]
 
 mod cutting;
@@ -14,6 +16,7 @@ pub mod disposing_laws;
 mod dispositions;
 mod echoing;
 mod ending;
+mod giving_up;
 mod looking;
 mod measuring;
 mod one;
@@ -24,7 +27,8 @@ mod sending;
 
 pub use disposing_all::dispose_all;
 pub use echoing::{Echoes, make_echoes, send_echoes};
-pub use ending::{open_count, tell_by, tell_first};
+pub use ending::{open_count, open_in, tell_by, tell_first};
+pub use giving_up::{AttachReady, GivingUp, go_on_attached, make_attach_ready, refuse_attach};
 pub use looking::is_receiving;
 pub use measuring::delivery_fits;
 pub use one::dispose;

@@ -1,11 +1,11 @@
 use Rattle.std.proofs.Common.{◌≡◌, refl}
 use Rattle.amqp_session_frames.specs.declared.frame.FrameBody.TheVariants as body
 use Rattle.amqp_endpoint_linking.specs.Hearing.{HearsBegin, TakesEnd}
+use Rattle.amqp_endpoint_link_hearing.specs.Attaching.{HearsAttach}
 use Rattle.amqp_endpoint_link_hearing.specs.Detaching.{HearsDetach}
 use Rattle.amqp_endpoint_link_hearing.specs.Disposing.{HearsDisposition}
 use Rattle.amqp_endpoint_link_hearing.specs.Flowing.{HearsFlow}
 use Rattle.amqp_endpoint_link_hearing.specs.Transferring.{HearsTransfer}
-use Rattle.amqp_endpoint.specs.Hearing.{AttachHeard}
 use Rattle.amqp_endpoint.proofs.Heard.{hears-if, kept-so, refuses-if}
 use Rattle.amqp_endpoint.proofs.hearing.hear.Goals as goal
 
@@ -42,16 +42,16 @@ returns-in-Begin-clause-goes c = λ least. c.hear_begin.ensures.goes c.args.limi
 
 pub returns-in-Attach-clause-ok : goal.returns-in-Attach-clause-ok
 returns-in-Attach-clause-ok c =
-    let call = c.take_attach in
+    let call = c.hear_attach in
     hears-if c.args.talk.now call.new.talk c.args.links.now call.new.links c.args.given.now c.args.given.now
     c.args.limit c.args.channel c.args.body (body.Attach c.in-Attach.attach) c.args.out.now.items call.new.out.items
     c.args.events.now.items call.new.events.items
-    (λ frames events. AttachHeard c.args.talk.now c.args.links.now c.args.channel c.in-Attach.attach frames events
-    call.new.talk call.new.links) (λ frames events h. (h, refl)) c.in-Attach.is call.result call.ensures.ok
+    (λ frames events. HearsAttach c.args.talk.now c.args.links.now c.args.limit c.args.channel c.in-Attach.attach frames
+    events call.new.talk call.new.links) (λ frames events h. (h, refl)) c.in-Attach.is call.result call.ensures.ok
 
 pub returns-in-Attach-clause-err : goal.returns-in-Attach-clause-err
 returns-in-Attach-clause-err c =
-    let call = c.take_attach in
+    let call = c.hear_attach in
     refuses-if c.args.talk.now call.new.talk c.args.links.now call.new.links c.args.given.now c.args.given.now
     c.args.limit c.args.channel c.args.body (body.Attach c.in-Attach.attach)
     ((call.new.links ≡ c.args.links.now) × (call.new.out.items ≡ c.args.out.now.items)
@@ -60,7 +60,7 @@ returns-in-Attach-clause-err c =
 
 pub returns-in-Attach-clause-kept : goal.returns-in-Attach-clause-kept
 returns-in-Attach-clause-kept c =
-    let call = c.take_attach in
+    let call = c.hear_attach in
     kept-so
     ((call.new.links ≡ c.args.links.now) × (call.new.out.items ≡ c.args.out.now.items)
     × (call.new.events.items ≡ c.args.events.now.items))
@@ -69,7 +69,7 @@ returns-in-Attach-clause-kept c =
     (λ kept. (kept.0, refl, kept.1, kept.2)) call.result call.ensures.kept
 
 pub returns-in-Attach-clause-goes : goal.returns-in-Attach-clause-goes
-returns-in-Attach-clause-goes c = c.take_attach.ensures.goes c.args.limit
+returns-in-Attach-clause-goes c = c.hear_attach.ensures.goes
 
 pub returns-in-Flow-clause-ok : goal.returns-in-Flow-clause-ok
 returns-in-Flow-clause-ok c =

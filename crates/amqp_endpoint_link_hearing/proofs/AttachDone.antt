@@ -1,0 +1,224 @@
+-- What a link does once it took the peer's Attach is done by steps of its session that bring what fits.
+use Rattle.std.proofs.Common.{◌≡◌, inl, inr, ℕ, Bool, true, false, List, [], ◌∷◌, ◌++◌, Option, Some, None, refl, sym}
+use Rattle.std.proofs.Common.{ap, subst, ◌∙◌, append-nil, append_assoc}
+use Rattle.std.specs.Prelude.{All, map}
+use Rattle.std.proofs.lemmas.List.Elements.{All-head, All-tail}
+use Rattle.amqp_session_types.specs.declared.error.Error.{Error}
+use Rattle.amqp_session_types.specs.declared.handles.OutputHandle.{OutputHandle}
+use Rattle.amqp_session_performatives.specs.declared.session_frame.SessionFrame.{SessionFrame}
+use Rattle.amqp_session_core.specs.State.{link_at}
+use Rattle.amqp_session_core.specs.Steps.{Changes, SendsTransfers}
+use Rattle.amqp_session_core.specs.declared.fields.SessionFields.{SessionFields}
+use Rattle.amqp_link_unsettled.specs.declared.exchanging.Abort.{Abort}
+use Rattle.amqp_endpoint_fitting.specs.Fits.{UnitFits}
+use Rattle.amqp_endpoint_fitting.specs.Handed.{AllAskingEndFit, AllAskingHand, AllAskingSendFit}
+use Rattle.amqp_endpoint_links.specs.History.{AskingHistory, InSession}
+use Rattle.amqp_endpoint_model.specs.declared.error.EndpointError.{EndpointError}
+use Rattle.amqp_endpoint_model.specs.declared.event.Event.{Event}
+use Rattle.amqp_endpoint_attached.specs.Detaching.{is_there}
+use Rattle.amqp_endpoint_attached.specs.Linked.{Linked, LinksIn, end_at, gives}
+use Rattle.amqp_endpoint_messages.specs.All.{TellsFirst, TellsIn, behind_told}
+use Rattle.amqp_endpoint_messages.specs.GivingUp.{AttachedAt, ClosedFor, ClosesIf, EndsIf, GivesUp, HandsEach, batch_of}
+use Rattle.amqp_endpoint_messages.specs.GivingUp.{fitting}
+use Rattle.amqp_endpoint_linking.specs.Linking.{Link}
+use Rattle.amqp_endpoint_link_hearing.proofs.Doing.{Done, Fits, LinkAct, given, unchanged}
+
+-- one after the other
+history-both : (first later : List LinkAct) (old mid new : Linked) → AskingHistory gives old first mid
+    → AskingHistory gives mid later new → AskingHistory gives old (first ++ later) new
+history-both [] later old mid new same h = subst (λ (s : Linked). AskingHistory gives s later new) same h
+history-both (step ∷ steps) later old mid new (next, one, rest) h =
+    (next, one, history-both steps later next mid new rest h)
+
+sends-both : (channel limit : ℕ) (first later : List LinkAct) → AllAskingSendFit channel limit first
+    → AllAskingSendFit channel limit later → AllAskingSendFit channel limit (first ++ later)
+sends-both channel limit [] later f l = l
+sends-both channel limit (step ∷ steps) later f l = (f.0, sends-both channel limit steps later f.1 l)
+
+ends-both : (limit : ℕ) (first later : List LinkAct) → AllAskingEndFit limit first → AllAskingEndFit limit later
+    → AllAskingEndFit limit (first ++ later)
+ends-both limit [] later f l = l
+ends-both limit (step ∷ steps) later f l = (f.0, ends-both limit steps later f.1 l)
+
+hand-both : (first later : List LinkAct) (a b : List SessionFrame) → AllAskingHand first a → AllAskingHand later b
+    → AllAskingHand (first ++ later) (a ++ b)
+hand-both [] later a b none h = subst (λ (fs : List SessionFrame). AllAskingHand later (fs ++ b)) (sym none) h
+hand-both (step ∷ steps) later a b (f, l, hands, rest, is) h =
+    let all = ap (λ (fs : List SessionFrame). fs ++ b) is ∙ append_assoc f l b in
+    (f, l ++ b, hands, hand-both steps later l b rest h, all)
+
+-- by which the session's channel stays
+pub record Stepped (limit : ℕ) (old : Linked) (frames : List SessionFrame) (new : Linked) : Type 0 where
+  pub done : Done limit old frames new
+  pub fields : new.session.fields ≡ old.session.fields
+
+both : (limit : ℕ) (old mid new : Linked) (a b : List SessionFrame) → Stepped limit old a mid → Stepped limit mid b new
+    → Stepped limit old (a ++ b) new
+both limit old mid new a b f l =
+    let later : AllAskingSendFit old.session.fields.channel.0 limit l.done.steps =
+    subst (λ (s : SessionFields). AllAskingSendFit s.channel.0 limit l.done.steps) f.fields l.done.sends in
+    record {
+      done =
+          record {
+            steps = f.done.steps ++ l.done.steps;
+            history = history-both f.done.steps l.done.steps old mid new f.done.history l.done.history;
+            sends = sends-both old.session.fields.channel.0 limit f.done.steps l.done.steps f.done.sends later;
+            ends = ends-both limit f.done.steps l.done.steps f.done.ends l.done.ends;
+            hand = hand-both f.done.steps l.done.steps a b f.done.hand l.done.hand;
+          };
+      fields = l.fields ∙ f.fields;
+    }
+
+stays : (limit : ℕ) (old new : Linked) (frames : List SessionFrame) → new ≡ old → frames ≡ []
+    → Stepped limit old frames new
+stays limit old new frames same none =
+    record {
+      done = unchanged limit old frames new same none;
+      fields = ap (λ (s : Linked). s.session.fields) same;
+    }
+
+-- a link tells of messages
+tells-by : (limit count : ℕ) (handle : OutputHandle) (link : Option Link) (old new : Linked)
+    → TellsIn count handle link old.session new.session → new ≡ record old { session = new.session }
+    → Stepped limit old [] new
+tells-by limit count handle None old new same rest =
+    stays limit old new [] (rest ∙ ap (λ (s : LinksIn). record old { session = s }) same) refl
+tells-by limit count handle (Some link) old new stepped rest =
+    record {
+      done =
+          record {
+            steps =
+                InSession (Changes handle.0 link (record link { link = behind_told count link.link })) ∷ [];
+            history = (new, (stepped, rest), refl);
+            sends = (tt, tt);
+            ends = (tt, tt);
+            hand = ([], [], refl, refl, refl);
+          };
+      fields = ap (λ (s : LinksIn). s.fields) stepped.1;
+    }
+
+tells : (limit count : ℕ) (handle : OutputHandle) (link : Option Link) (old new : Linked)
+    → TellsFirst count handle link old new → Stepped limit old [] new
+tells limit count handle link old new t = tells-by limit count handle link old new t.tells t.rest
+
+-- deliveries are given up
+record Handing (limit : ℕ) (base : Linked) (old new : LinksIn) (out out_new : List SessionFrame) : Type 0 where
+  pub frames : List SessionFrame
+  pub queued : out_new ≡ out ++ frames
+  pub goes : Stepped limit (record base { session = old }) frames (record base { session = new })
+
+abbrev Fitting : (limit : ℕ) → OutputHandle → ℕ → Abort → Type 0
+Fitting limit handle channel abort = All (UnitFits channel limit handle.0) (batch_of handle abort)
+
+hands-each : (limit : ℕ) (base : Linked) (handle : OutputHandle) (aborts : List Abort) (old new : LinksIn)
+    (out out_new : List SessionFrame) (stopped : Bool) → ((channel : ℕ) → All (Fitting limit handle channel) aborts)
+    → HandsEach handle (map (batch_of handle) aborts) old out stopped new out_new
+    → Handing limit base old new out out_new
+hands-each limit base handle [] old new out out_new stopped fit (_, same, silent) =
+    record {
+      frames = [];
+      queued = silent ∙ sym (append-nil out);
+      goes =
+          stays limit (record base { session = old }) (record base { session = new }) []
+          (ap (λ (s : LinksIn). record base { session = s }) same) refl;
+    }
+hands-each limit base handle (abort ∷ aborts) old new out out_new stopped fit (inl (mid, out_mid, one, rest)) =
+    let later : Handing limit base mid new out_mid out_new =
+    hands-each limit base handle aborts mid new out_mid out_new stopped
+    (λ channel. All-tail (Fitting limit handle channel) abort aborts (fit channel)) rest in
+    let first : Stepped limit (record base { session = old }) one.frames (record base { session = mid }) =
+    record {
+      done =
+          record {
+            steps = InSession (SendsTransfers handle (batch_of handle abort) one.left one.frames) ∷ [];
+            history = (record base { session = mid }, (one.stepped, refl), refl);
+            sends = (All-head (Fitting limit handle old.fields.channel.0) abort aborts (fit old.fields.channel.0), tt);
+            ends = (tt, tt);
+            hand = (one.frames, [], refl, refl, sym (append-nil one.frames));
+          };
+      fields = ap (λ (s : LinksIn). s.fields) one.stepped.2;
+    } in
+    record {
+      frames = one.frames ++ later.frames;
+      queued =
+          later.queued
+          ∙ ap (λ (o : List SessionFrame). o ++ later.frames) one.added
+          ∙ append_assoc out one.frames later.frames;
+      goes =
+          both limit (record base { session = old }) (record base { session = mid }) (record base { session = new })
+          one.frames later.frames first later.goes;
+    }
+hands-each limit base handle (abort ∷ aborts) old new out out_new stopped fit (inr ((_, same, silent), _)) =
+    record {
+      frames = [];
+      queued = silent ∙ sym (append-nil out);
+      goes =
+          stays limit (record base { session = old }) (record base { session = new }) []
+          (ap (λ (s : LinksIn). record base { session = s }) same) refl;
+    }
+
+gives-up : (limit : ℕ) (handle : OutputHandle) (aborts : List Abort) (old new : Linked) (stuck : Option EndpointError)
+    (frames : List SessionFrame) → GivesUp limit handle aborts old [] stuck new frames → Stepped limit old frames new
+gives-up limit handle aborts old new stuck frames g =
+    let h : Handing limit old old.session new.session [] frames =
+    hands-each limit old handle (fitting limit handle aborts) old.session new.session [] frames g.stopped g.fit
+    g.hands in
+    let so : Stepped limit old h.frames new =
+    subst (λ (s : Linked). Stepped limit old h.frames s) (sym g.rest) h.goes in
+    subst (λ (fs : List SessionFrame). Stepped limit old fs new) (sym h.queued) so
+
+-- a link is closed
+closes-if : (there : Bool) (limit : ℕ) (why : Option Error) (old new : Linked) (handle : OutputHandle)
+    (frames : List SessionFrame) → Fits limit old handle true why → ClosesIf there why old handle frames new
+    → Stepped limit old frames new
+closes-if true limit why old new handle frames fit g =
+    record {
+      done = given limit old handle true why frames new fit g;
+      fields =
+          ap (λ (s : LinksIn). s.fields) (g.sent).sent.2
+          ∙ ap (λ (s : LinksIn). s.fields) (g.sent).changed.1;
+    }
+closes-if false limit why old new handle frames fit (same, none) = stays limit old new frames same none
+
+pub closed-for : (limit session : ℕ) (error : EndpointError) (count : ℕ) (handle : OutputHandle) (why : Error)
+    (frames : List SessionFrame) (events : List Event) (old new : Linked) → Fits limit old handle true (Some why)
+    → ClosedFor session error count handle why frames events old new → Stepped limit old frames new
+closed-for limit session error count handle why frames events old new fit c =
+    let both_so : Stepped limit old (frames ++ []) new =
+    both limit old c.mid new frames []
+    (closes-if (is_there (end_at old handle)) limit (Some why) old c.mid handle frames fit c.closes)
+    (tells limit count handle (link_at (c.mid).session handle.0) c.mid new c.tells) in
+    subst (λ (fs : List SessionFrame). Stepped limit old fs new) (append-nil frames) both_so
+
+ends-if : (stuck : Option EndpointError) (limit session count : ℕ) (handle : OutputHandle) (why : Error)
+    (frames : List SessionFrame) (events : List Event) (old new : Linked) → Fits limit old handle true (Some why)
+    → EndsIf stuck session count handle why frames events old new → Stepped limit old frames new
+ends-if None limit session count handle why frames events old new fit (none, _, same) =
+    stays limit old new frames same none
+ends-if (Some error) limit session count handle why frames events old new fit c =
+    closed-for limit session error count handle why frames events old new fit c
+
+-- the own Detach fits as before
+fits-still : (limit : ℕ) (old new : Linked) (handle : OutputHandle) (error : Option Error)
+    → new.session.fields ≡ old.session.fields → Fits limit old handle true error → Fits limit new handle true error
+fits-still limit old new handle error same fit =
+    subst
+    (λ (s : SessionFields). Fits limit (record old { session = record old.session { fields = s } }) handle true error)
+    (sym same) fit
+
+pub attached-at : (limit session count : ℕ) (handle : OutputHandle) (why : Error) (aborts : List Abort)
+    (frames : List SessionFrame) (events : List Event) (old new : Linked) → Fits limit old handle true (Some why)
+    → AttachedAt limit session count handle why aborts frames events old new → Stepped limit old frames new
+attached-at limit session count handle why aborts frames events old new fit a =
+    let first : Stepped limit old [] a.told =
+    tells limit count handle (link_at old.session handle.0) old a.told a.tells in
+    let second : Stepped limit a.told a.up a.given =
+    gives-up limit handle aborts a.told a.given a.stuck a.up a.gives_up in
+    let here : Fits limit a.given handle true (Some why) =
+    fits-still limit old a.given handle (Some why) (second.fields ∙ first.fields) fit in
+    let third : Stepped limit a.given a.down new =
+    ends-if a.stuck limit session count handle why a.down a.failed a.given new here a.ends in
+    let all : Stepped limit old (a.up ++ a.down) new =
+    both limit old a.told new [] (a.up ++ a.down) first
+    (both limit a.told a.given new a.up a.down second third) in
+    subst (λ (fs : List SessionFrame). Stepped limit old fs new) (sym a.frames_are) all

@@ -1,0 +1,67 @@
+use Rattle.std.proofs.Common.{◌+◌, ◌≤◌, None, Some, length, arith, refl, sym, subst}
+use Rattle.std.specs.VecDeque.{deque_capacity, deque_len}
+use Rattle.amqp_session_outgoing.specs.Queues.{frames_in, room_behind}
+use Rattle.amqp_session_outgoing.specs.State as sending
+use Rattle.amqp_session_core.specs.declared.batch.BehindFrame.{BehindFrame}
+use Rattle.amqp_session_core.specs.declared.batch.TransferFrame.{TransferFrame}
+use Rattle.amqp_endpoint_attached.specs.Linked.{Linked}
+use Rattle.amqp_endpoint_attached.proofs.There.{is_there_in}
+use Rattle.amqp_endpoint_messages.proofs.Attached.{attached, attached-not, no-copies, still-there}
+use Rattle.amqp_endpoint_messages.proofs.giving_up.go_on_attached.Goals as goal
+
+pub tell_first-requires : goal.tell_first-requires
+tell_first-requires c = omega (arith, c.requires.tells)
+
+pub give_up-stopped-requires-clause-there : goal.give_up-stopped-requires-clause-there
+give_up-stopped-requires-clause-there c =
+    is_there_in c.tell_first.new.session.session c.args.handle (c.tell_first.ensures.there c.requires.there)
+
+pub give_up-stopped-requires-clause-room : goal.give_up-stopped-requires-clause-room
+give_up-stopped-requires-clause-room c =
+    subst
+    (λ (o : sending.State TransferFrame BehindFrame). length c.args.ready.giving.batches.items ≤ o.room)
+    (sym c.tell_first.ensures.waiting) c.requires.sends.room
+
+pub give_up-stopped-requires-clause-spare : goal.give_up-stopped-requires-clause-spare
+give_up-stopped-requires-clause-spare c =
+    subst
+    (λ (o : sending.State TransferFrame BehindFrame).
+    deque_len c.args.out.now + (frames_in o.queues + o.room) + 1 ≤ deque_capacity c.args.out.now)
+    (sym c.tell_first.ensures.waiting) c.requires.sends.spare
+
+pub close_for-requires-clause-there : goal.close_for-requires-clause-there
+close_for-requires-clause-there c =
+    still-there c.tell_first.new.session.session c.give_up-stopped.new.session c.args.handle
+    c.give_up-stopped.ensures.links (c.tell_first.ensures.there c.requires.there)
+
+pub close_for-requires-clause-place : goal.close_for-requires-clause-place
+close_for-requires-clause-place c =
+    c.give_up-stopped.ensures.place c.args.ready.place c.requires.sends.some
+    (subst
+    (λ (o : sending.State TransferFrame BehindFrame). room_behind c.args.handle.0 1 o.queues ≤ c.args.ready.place)
+    (sym c.tell_first.ensures.waiting) c.requires.sends.place)
+
+pub close_for-requires-clause-tells : goal.close_for-requires-clause-tells
+close_for-requires-clause-tells c =
+    omega (arith, c.requires.tells, c.tell_first.ensures.few, c.tell_first.ensures.capacity)
+
+pub returns-in_default : goal.returns-in_default
+returns-in_default c = λ limit aborts planned.
+    let given : Linked = record c.tell_first.new.session { session = c.give_up-stopped.new.session } in
+    attached limit c.args.number c.args.ready.count c.args.handle c.args.ready.why aborts
+    c.args.ready.giving.batches.items c.args.ready.giving.all_fit planned c.args.session.now
+    c.tell_first.new.session given c.args.out.now.items c.give_up-stopped.new.out.items c.args.events.now.items
+    c.tell_first.new.events.items c.give_up-stopped.result c.tell_first.ensures.tells
+    (c.tell_first.ensures.told None (no-copies c.args.ready.count _ c.new.ensures.items))
+    c.give_up-stopped.ensures.hands refl None c.in_default.ensures refl
+
+pub returns : goal.returns
+returns c = λ limit aborts planned.
+    let given : Linked = record c.tell_first.new.session { session = c.give_up-stopped.new.session } in
+    attached-not limit c.args.number c.args.ready.count c.args.handle c.args.ready.why aborts
+    c.args.ready.giving.batches.items c.args.ready.giving.all_fit planned c.args.session.now
+    c.tell_first.new.session given c.args.out.now.items c.give_up-stopped.new.out.items c.args.events.now.items
+    c.tell_first.new.events.items c.give_up-stopped.result c.tell_first.ensures.tells
+    (c.tell_first.ensures.told None (no-copies c.args.ready.count _ c.new.ensures.items))
+    c.give_up-stopped.ensures.hands refl (Some c.in-Some.error) c.in-Some.ensures c.in-Some.error
+    c.close_for.new.session c.close_for.new.out.items c.close_for.new.events.items refl c.close_for.ensures

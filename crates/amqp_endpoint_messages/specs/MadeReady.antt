@@ -1,0 +1,69 @@
+-- What is made ready for a link that waits for the peer's Attach: part 2, 2.6.3, 2.6.6, 2.6.13.
+use Rattle.std.specs.Prelude.{◌≡◌, ◌+◌, ◌++◌, ◌≤◌, ℕ, List, Bool, true, false, Option, Some, None, length, map}
+use Rattle.amqp_session_types.specs.declared.error.Error.{Error}
+use Rattle.amqp_session_types.specs.declared.handles.OutputHandle.{OutputHandle}
+use Rattle.amqp_session_performatives.specs.declared.attach.Attach.{Attach}
+use Rattle.amqp_session_performatives.specs.declared.session_frame.SessionFrame.{SessionFrame}
+use Rattle.amqp_session_outgoing.specs.Queues.{frames_in, room_behind}
+use Rattle.amqp_session_core.specs.Batch.{Transfers}
+use Rattle.amqp_session_core.specs.Steps.{Reserves, Step}
+use Rattle.amqp_link_unsettled.specs.declared.exchanging.Abort.{Abort}
+use Rattle.amqp_endpoint_model.specs.State.{error_of}
+use Rattle.amqp_endpoint_model.specs.Step.{not_allowed}
+use Rattle.amqp_endpoint_attached.specs.Linked.{Linked, LinksIn, end_at, gives}
+use Rattle.amqp_endpoint_messages.specs.All.{open_count}
+use Rattle.amqp_endpoint_messages.specs.GivingUp.{Closes, EachFits, abort_fits, all_fit, batch_of, fitting}
+use Rattle.amqp_endpoint_messages.specs.GivingUp.{planned_at}
+use Rattle.amqp_endpoint_messages.specs.declared.giving_up.AttachReady.{AttachReady}
+use Rattle.amqp_endpoint_messages.specs.declared.giving_up.GivingUp.{GivingUp}
+
+-- The transfers of these deliveries before the first that the peer takes no frame for, and whether it takes one for
+-- each.
+pub record ArePlanned (limit : ℕ) (handle : OutputHandle) (aborts : List Abort) (batches : List Transfers) (all : Bool)
+    : Type 0 where
+  pub these : batches ≡ map (batch_of handle) (fitting limit handle aborts)
+  pub whether : all ≡ all_fit limit handle aborts
+  pub fit : EachFits limit handle (fitting limit handle aborts)
+
+abbrev pub IsMadeReady : ℕ → OutputHandle → List Abort → GivingUp → Type 0
+IsMadeReady limit handle aborts giving = ArePlanned limit handle aborts giving.batches.items giving.all_fit
+
+-- That of one of them, where the peer takes it.
+abbrev pub IsPlanned : ℕ → OutputHandle → Abort → Option Transfers → Type 0
+IsPlanned limit handle abort None = abort_fits limit handle abort ≡ false
+IsPlanned limit handle abort (Some batch) = (batch ≡ batch_of handle abort) × (abort_fits limit handle abort ≡ true)
+
+-- For the link with this own handle: what it gives up by the peer's Attach, how many of its messages are open, and what
+-- its Detach says where it is closed.
+pub record IsReadyFor (limit : ℕ) (s : Linked) (handle : OutputHandle) (attach : Attach) (ready : AttachReady) : Type 0
+  where
+    pub giving : IsMadeReady limit handle (planned_at (end_at s handle) attach) ready.giving
+    pub count : ready.count ≡ open_count (end_at s handle)
+    pub why : ready.why ≡ error_of not_allowed
+
+-- There is room for what is handed out: in the session, among what is handed out, and for the Detach.
+pub record HasRoomToSend (handle : OutputHandle) (ready : AttachReady) (s : Linked) (len capacity : ℕ) : Type 0 where
+  pub room : length ready.giving.batches.items ≤ s.session.outgoing.room
+  pub spare : len + (frames_in s.session.outgoing.queues + s.session.outgoing.room) + 1 ≤ capacity
+  pub some : 1 ≤ ready.place
+  pub place : room_behind handle.0 1 s.session.outgoing.queues ≤ ready.place
+
+-- And for what is told: the outcomes of so many messages, then one event more, and once more so many outcomes.
+abbrev pub HasRoomToTell : ℕ → ℕ → ℕ → Type 0
+HasRoomToTell count len capacity = len + (count + (count + 1)) ≤ capacity
+
+-- Room is made in a session, and nothing else changes.
+pub record MadeRoomIn (old new : LinksIn) : Type 0 where
+  pub count : ℕ
+  pub reserves : Step gives old (Reserves count) new
+
+pub record MadeRoom (old new : Linked) : Type 0 where
+  pub made : MadeRoomIn old.session new.session
+  pub rest : new ≡ record old { session = new.session }
+
+-- The link is closed, where it is attached, and what is handed out goes on by its Detach, where that leaves at once.
+pub record ClosesOut (handle : OutputHandle) (why : Error) (old : Linked) (out : List SessionFrame) (new : Linked)
+    (out_new : List SessionFrame) : Type 0 where
+  pub frames : List SessionFrame
+  pub closes : Closes (Some why) handle frames old new
+  pub queued : out_new ≡ out ++ frames

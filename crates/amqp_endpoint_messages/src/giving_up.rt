@@ -1,0 +1,489 @@
+//! What a link does once it is attached at both ends: it tells the outcomes that the peer's list decides, and gives
+//! deliveries up (part 2, 2.6.13, 2.7.5).
+ghost use Rattle.std.specs.Prelude.{◌≡◌, ◌+◌, ◌≤◌, ◌<◌, ℕ, List, [], ◌∷◌, All, IfOk, IsSome, None, OnErr, OnOk, length};
+ghost use Rattle.std.specs.Vec.{vec_capacity, vec_len};
+ghost use Rattle.std.specs.VecDeque.{deque_capacity, deque_len};
+ghost use Rattle.amqp_session_types.specs.declared.handles.OutputHandle.{OutputHandle};
+ghost use Rattle.amqp_session_outgoing.specs.Queues.{frames_in, room_behind};
+ghost use Rattle.amqp_session_core.specs.Batch.{first_of};
+ghost use Rattle.amqp_session_core.specs.State.{link_at};
+ghost use Rattle.amqp_link_unsettled.specs.declared.exchanging.Abort.{Abort};
+ghost use Rattle.amqp_endpoint_model.specs.State.{error_of};
+ghost use Rattle.amqp_endpoint_model.specs.Step.{not_allowed as condition};
+ghost use Rattle.amqp_endpoint_attached.specs.Detaching.{is_there};
+ghost use Rattle.amqp_endpoint_attached.specs.Linked.{end_at, end_in};
+ghost use Rattle.amqp_endpoint_messages.specs.GivingUp.{DoesAttached, DoesClosedFor, HandsEach, HandsOne, IsBare};
+ghost use Rattle.amqp_endpoint_messages.specs.GivingUp.{abort_on, given_up_by, planned_at, stuck_by};
+ghost use Rattle.amqp_endpoint_messages.specs.GivingUp.{transfer_fits};
+ghost use Rattle.amqp_endpoint_messages.specs.MadeReady.{ClosesOut, HasRoomToSend, HasRoomToTell, IsMadeReady};
+ghost use Rattle.amqp_endpoint_messages.specs.MadeReady.{IsPlanned};
+ghost use Rattle.amqp_endpoint_messages.specs.MadeReady.{IsReadyFor, MadeRoom, MadeRoomIn};
+
+use crate::cutting::on_handle;
+use crate::ending::{open_in, tell_first};
+use amqp_endpoint_attached::{LinkSession, detach_placed};
+use amqp_endpoint_links::Numbered;
+use amqp_endpoint_model::{EndpointError, Event, Refused};
+use amqp_link::{LinkEnd, PreparedAttach};
+use amqp_link_sender::SenderLink;
+use amqp_link_types::LinkError;
+use amqp_link_unsettled::{Abort, fits_text};
+use amqp_session_core::{Batch, BehindFrame, Session};
+use amqp_session_outgoing::Place;
+use amqp_session_performatives::{Attach, SessionFrame, Transfer};
+use amqp_session_types::{OutputHandle, definitions};
+use bytes::Bytes;
+use serde_amqp_types::Symbol;
+use std::alloc::{AllocError, Global};
+use std::collections::VecDeque;
+
+/// The deliveries that a link gives up, made ready to be handed to its session.
+#[derive(Drop)]
+pub struct GivingUp {
+    /// A batch for each before the first of which the peer takes no frame, in their order.
+    pub(crate) batches: VecDeque<Batch>,
+    /// Whether it takes one for each.
+    pub(crate) all_fit: bool,
+}
+
+/// What is made ready for a link that waits for the peer's Attach, before it takes it.
+#[derive(Drop)]
+pub struct AttachReady {
+    /// The deliveries that it gives up.
+    pub(crate) giving: GivingUp,
+    /// How many of its messages are open.
+    pub(crate) count: usize,
+    /// Why it is closed, where it is, as its Detach says it (part 2, 2.8.15).
+    pub(crate) why: definitions::Error,
+    /// Room for that Detach behind what the link has waiting then.
+    pub(crate) place: Place<BehindFrame>,
+}
+
+/// What the peer's Attach leaves to be done for the link with this own handle is made ready, before the link takes it,
+/// and room for all of it: the transfers that give deliveries up, the events, `Attached` or `Refused` among them, and
+/// the Detach that closes the link where it refuses the Attach, or can't give all deliveries up. Of the session nothing
+/// changes but the room for transfers.
+///
+/// It is refused where there is no memory, and nothing changes then.
+pub fn make_attach_ready(
+    session: &mut LinkSession,
+    alloc: Global,
+    limit: u32,
+    handle: OutputHandle,
+    attach: &Attach,
+    out: &mut VecDeque<SessionFrame>,
+    events: &mut Vec<Event>,
+) -> Result<AttachReady, AllocError>
+    ensures ready { IfOk result (IsReadyFor limit session.old handle attach.now) }
+    ensures sends { IfOk result (λ ready.
+        HasRoomToSend handle ready session.new (deque_len out.new) (deque_capacity out.new)) }
+    ensures tells { IfOk result (λ ready. HasRoomToTell ready.count (vec_len events.new + 1)
+        (vec_capacity events.new)) }
+    ensures bare { IfOk result (λ ready. All IsBare ready.giving.batches.items) }
+    ensures made { OnOk result (MadeRoom session.old session.new) }
+    ensures kept { OnErr result (session.new ≡ session.old) }
+    ensures out { out.new.items ≡ out.old.items }
+    ensures events { events.new.items ≡ events.old.items }
+{
+    let giving = giving_up_in(&session.session, alloc, limit, handle, attach)?;
+    let count = open_in(session, handle);
+    let why = not_allowed(alloc)?;
+    let Ok(place) = session.session.place_behind_more(alloc, handle, 1) else {
+        return Err(AllocError);
+    };
+    make_room_to_tell(events, count)?;
+    make_room_to_send(&mut session.session, out, giving.batches.len())?;
+    Ok(AttachReady {
+        giving,
+        count,
+        why,
+        place,
+    })
+}
+
+/// The deliveries that the link with this own handle gives up by the peer's Attach, made ready. It is refused where
+/// there is no memory.
+fn giving_up_in(
+    session: &Session<Numbered<LinkEnd>>,
+    alloc: Global,
+    limit: u32,
+    handle: OutputHandle,
+    attach: &Attach,
+) -> Result<GivingUp, AllocError>
+    ensures { IfOk result (IsMadeReady limit handle (planned_at (end_in session.now handle) attach.now)) }
+{
+    let Some(link) = session.link(handle) else {
+        return Ok(none(alloc));
+    };
+    let decided = link.link.prepare_attach(alloc, attach)?;
+    giving_up_by(alloc, limit, handle, &decided)
+}
+
+/// The deliveries that are given up as the link takes the Attach that was made ready for it, or none where it refuses
+/// it. It is refused where there is no memory.
+fn giving_up_by(
+    alloc: Global,
+    limit: u32,
+    handle: OutputHandle,
+    decided: &Result<PreparedAttach, LinkError>,
+) -> Result<GivingUp, AllocError>
+    ensures { IfOk result (IsMadeReady limit handle (given_up_by decided.now)) }
+{
+    match decided {
+        Ok(prepared) => make_giving_up(alloc, limit, handle, prepared.aborts()),
+        Err(_) => Ok(none(alloc)),
+    }
+}
+
+/// No deliveries. It takes no memory.
+fn none(alloc: Global) -> GivingUp
+    ensures { (limit : ℕ) (handle : OutputHandle) → IsMadeReady limit handle [] result }
+{
+    GivingUp {
+        batches: VecDeque::new(alloc),
+        all_fit: true,
+    }
+}
+
+/// These deliveries, made ready to be given up by the link with this own handle. It is refused where there is no
+/// memory.
+fn make_giving_up(
+    alloc: Global,
+    limit: u32,
+    handle: OutputHandle,
+    aborts: &[Abort],
+) -> Result<GivingUp, AllocError>
+    ensures { IfOk result (IsMadeReady limit handle aborts.now) }
+{
+    let mut batches = VecDeque::new(alloc);
+    let mut rest = aborts;
+    while let Some((abort, others)) = rest.split_first() {
+        let planned = batch_for(alloc, limit, handle, abort)?;
+        let Some(batch) = planned else {
+            return Ok(GivingUp {
+                batches,
+                all_fit: false,
+            });
+        };
+        batches.push_back(batch)?;
+        rest = others;
+    }
+    Ok(GivingUp {
+        batches,
+        all_fit: true,
+    })
+}
+
+/// The transfer that gives a delivery up, as a batch, where the peer takes a frame for it, whatever number the delivery
+/// gets (part 2, 2.4.1). It is refused where there is no memory.
+fn batch_for(
+    alloc: Global,
+    limit: u32,
+    handle: OutputHandle,
+    abort: &Abort,
+) -> Result<Option<Batch>, AllocError>
+    ensures { IfOk result (IsPlanned limit handle abort.now) }
+{
+    let mut first = first_transfer(handle, abort)?;
+    if !fits_numbered(&mut first, limit) {
+        return Ok(None);
+    }
+    let batch = alone(alloc, first)?;
+    Ok(Some(batch))
+}
+
+/// The transfer that gives a delivery up, on the own handle of its link. It is refused where there is no memory.
+fn first_transfer(handle: OutputHandle, abort: &Abort) -> Result<Transfer, AllocError>
+    ensures { IfOk result (λ first. first ≡ abort_on handle abort.now) }
+{
+    let tag = abort.tag.clone()?;
+    let message_format = abort.message_format;
+    Ok(on_handle(
+        handle,
+        SenderLink::abort_transfer(Abort {
+            tag,
+            message_format,
+        }),
+    ))
+}
+
+/// A transfer without a payload that begins a delivery, as a batch. It is refused where there is no memory.
+fn alone(alloc: Global, first: Transfer) -> Result<Batch, AllocError>
+    ensures { IfOk result (λ batch. batch ≡ first_of first [] ∷ []) }
+{
+    let mut batch = Batch::new(alloc);
+    batch.push_first(alloc, first, Bytes::new())?;
+    Ok(batch)
+}
+
+/// Whether a transfer without a payload fits a frame of at most so many bytes, whatever its channel and whatever number
+/// its delivery gets (part 1, 1.6.5). It stays as it is.
+fn fits_numbered(transfer: &mut Transfer, limit: u32) -> bool
+    requires { transfer.old.delivery_id ≡ None }
+    ensures same { transfer.new ≡ transfer.old }
+    ensures fits { result ≡ transfer_fits limit transfer.old }
+{
+    transfer.delivery_id = Some(u32::MAX);
+    let fits = fits_text(transfer, limit);
+    transfer.delivery_id = None;
+    fits
+}
+
+/// What a Detach says of a link that is closed for what isn't allowed (part 2, 2.8.15).
+fn not_allowed(alloc: Global) -> Result<definitions::Error, AllocError>
+    ensures { IfOk result (λ why. why ≡ error_of condition) }
+{
+    Ok(definitions::Error {
+        condition: Symbol::new(String::from_str(alloc, "amqp:not-allowed")?),
+        description: None,
+        info: None,
+    })
+}
+
+/// Room for two events, and for twice so many more.
+fn make_room_to_tell(events: &mut Vec<Event>, count: usize) -> Result<(), AllocError>
+    ensures room { OnOk result (vec_len events.new + (count + (count + 2)) ≤ vec_capacity events.new) }
+    ensures same { events.new.items ≡ events.old.items }
+{
+    let failed = count.checked_add(2).ok_or(AllocError)?;
+    events.reserve(count.checked_add(failed).ok_or(AllocError)?)
+}
+
+/// Room for so many transfers in the session, and for one frame behind them.
+fn make_room_to_send(
+    session: &mut Session<Numbered<LinkEnd>>,
+    out: &mut VecDeque<SessionFrame>,
+    count: usize,
+) -> Result<(), AllocError>
+    ensures room { OnOk result (count ≤ session.new.outgoing.room) }
+    ensures spare { OnOk result (deque_len out.new + (frames_in session.new.outgoing.queues
+        + session.new.outgoing.room) + 1 ≤ deque_capacity out.new) }
+    ensures made { OnOk result (MadeRoomIn session.old session.new) }
+    ensures kept { OnErr result (session.new ≡ session.old) }
+    ensures out { out.new.items ≡ out.old.items }
+{
+    match session.reserve_transfers(out, count, 1) {
+        Ok(()) => Ok(()),
+        Err(_) => Err(AllocError),
+    }
+}
+
+/// The link with this own handle in the session with this number took the peer's Attach: it tells the outcomes of its
+/// messages that end by what the peer lists, and then it gives up the deliveries that are to be given up, in their
+/// order. Where the peer takes no frame for one of them, or its number is in use, the link is closed, and `Refused` is
+/// told with `FrameTooLarge` or `NumberInUse`, and behind that the outcomes of its messages that end by it (part 2,
+/// 2.6.6, 2.6.12, 2.6.13). All of it was made ready, and it takes no memory.
+pub fn go_on_attached(
+    session: &mut LinkSession,
+    alloc: Global,
+    number: u64,
+    handle: OutputHandle,
+    ready: AttachReady,
+    out: &mut VecDeque<SessionFrame>,
+    events: &mut Vec<Event>,
+)
+    requires there { IsSome (end_at session.old handle) }
+    requires sends { HasRoomToSend handle ready session.old (deque_len out.old) (deque_capacity out.old) }
+    requires tells { HasRoomToTell ready.count (vec_len events.old) (vec_capacity events.old) }
+    requires bare { All IsBare ready.giving.batches.items }
+    ensures { (limit : ℕ) (aborts : List Abort) → IsMadeReady limit handle aborts ready.giving →
+        DoesAttached limit number ready.count handle ready.why aborts session.old out.old.items events.old.items
+        session.new out.new.items events.new.items }
+{
+    let AttachReady {
+        giving,
+        count,
+        why,
+        place,
+    } = ready;
+    let GivingUp { batches, all_fit } = giving;
+    tell_first(session, handle, count, Vec::new(alloc), events);
+    let stopped = give_up(&mut session.session, alloc, handle, batches, out);
+    let Some(error) = stuck_by(stopped, all_fit) else {
+        return;
+    };
+    close_for(
+        session,
+        alloc,
+        number,
+        handle,
+        (place, why),
+        error,
+        count,
+        out,
+        events,
+    );
+}
+
+/// The link with this own handle in the session with this number refuses the peer's Attach for this: it is closed, and
+/// `Refused` is told, and behind that the outcomes of its messages that end by it (part 2, 2.6.3, 2.6.6). All of it was
+/// made ready, and it takes no memory.
+pub fn refuse_attach(
+    session: &mut LinkSession,
+    alloc: Global,
+    number: u64,
+    handle: OutputHandle,
+    ready: AttachReady,
+    error: EndpointError,
+    out: &mut VecDeque<SessionFrame>,
+    events: &mut Vec<Event>,
+)
+    requires there { IsSome (end_at session.old handle) }
+    requires sends { HasRoomToSend handle ready session.old (deque_len out.old) (deque_capacity out.old) }
+    requires tells { HasRoomToTell ready.count (vec_len events.old) (vec_capacity events.old) }
+    ensures { DoesClosedFor number error ready.count handle ready.why session.old out.old.items events.old.items
+        session.new out.new.items events.new.items }
+{
+    let AttachReady {
+        giving: _,
+        count,
+        why,
+        place,
+    } = ready;
+    close_for(
+        session,
+        alloc,
+        number,
+        handle,
+        (place, why),
+        error,
+        count,
+        out,
+        events,
+    );
+}
+
+/// A session takes the transfers of the link with this own handle that give deliveries up, in their order. It stops at
+/// one whose number is in use, and answers whether it did. There is room for all of them, and it takes no memory.
+fn give_up(
+    session: &mut Session<Numbered<LinkEnd>>,
+    alloc: Global,
+    handle: OutputHandle,
+    batches: VecDeque<Batch>,
+    out: &mut VecDeque<SessionFrame>,
+) -> bool
+    requires there { IsSome (link_at session.old handle.0) }
+    requires bare { All IsBare batches.items }
+    requires room { length batches.items ≤ session.old.outgoing.room }
+    requires spare { deque_len out.old + (frames_in session.old.outgoing.queues + session.old.outgoing.room) + 1
+        ≤ deque_capacity out.old }
+    ensures hands { HandsEach handle batches.items session.old out.old.items result session.new out.new.items }
+    ensures spare { deque_len out.new < deque_capacity out.new }
+    ensures place { (most : ℕ) → 1 ≤ most → room_behind handle.0 1 session.old.outgoing.queues ≤ most →
+        room_behind handle.0 1 session.new.outgoing.queues ≤ most }
+    ensures links { session.new.links ≡ session.old.links }
+    ensures fields { session.new.fields ≡ session.old.fields }
+{
+    let mut batches = batches;
+    while let Some(mut batch) = batches.pop_front() {
+        if !hand_over(session, alloc, handle, &mut batch, out) {
+            return true;
+        }
+    }
+    false
+}
+
+/// A session takes one of them, and answers whether it did: not where its number is in use (part 2, 2.8.6). Nothing
+/// else is in the way: a link has the handle, the delivery has a tag, and there is room for it. It takes no memory.
+fn hand_over(
+    session: &mut Session<Numbered<LinkEnd>>,
+    alloc: Global,
+    handle: OutputHandle,
+    batch: &mut Batch,
+    out: &mut VecDeque<SessionFrame>,
+) -> bool
+    requires there { IsSome (link_at session.old handle.0) }
+    requires bare { IsBare batch.old }
+    requires room { 0 < session.old.outgoing.room }
+    requires spare { deque_len out.old + (frames_in session.old.outgoing.queues + session.old.outgoing.room) + 1
+        ≤ deque_capacity out.old }
+    ensures handed { HandsOne handle batch.old session.old out.old.items result session.new out.new.items }
+    ensures room { session.old.outgoing.room ≤ session.new.outgoing.room + 1 }
+    ensures spare { deque_len out.new + (frames_in session.new.outgoing.queues + session.new.outgoing.room) + 1
+        ≤ deque_capacity out.new }
+    ensures place { (most : ℕ) → 1 ≤ most → room_behind handle.0 1 session.old.outgoing.queues ≤ most →
+        room_behind handle.0 1 session.new.outgoing.queues ≤ most }
+    ensures links { session.new.links ≡ session.old.links }
+    ensures fields { session.new.fields ≡ session.old.fields }
+{
+    match session.on_outgoing_transfer(alloc, out, handle, batch) {
+        Ok(()) => true,
+        Err(_) => false,
+    }
+}
+
+/// Why not all deliveries are given up, by whether the session stopped, and whether the peer takes a frame for each.
+fn stuck_by(stopped: bool, all_fit: bool) -> Option<EndpointError>
+    ensures { result ≡ stuck_by stopped all_fit }
+{
+    if stopped {
+        return Some(EndpointError::NumberInUse);
+    }
+    if all_fit {
+        return None;
+    }
+    Some(EndpointError::FrameTooLarge)
+}
+
+/// The link with this own handle in the session with this number is closed for this, where it is attached, with what
+/// its Detach says and room for it; `Refused` is told, and behind that the outcomes of so many of its messages that end
+/// by it, if as many do. It takes no memory.
+fn close_for(
+    session: &mut LinkSession,
+    alloc: Global,
+    number: u64,
+    handle: OutputHandle,
+    detach: (Place<BehindFrame>, definitions::Error),
+    error: EndpointError,
+    count: usize,
+    out: &mut VecDeque<SessionFrame>,
+    events: &mut Vec<Event>,
+)
+    requires there { IsSome (end_at session.old handle) }
+    requires place { room_behind handle.0 1 session.old.session.outgoing.queues ≤ detach.0 }
+    requires spare { deque_len out.old < deque_capacity out.old }
+    requires tells { vec_len events.old + (count + 1) ≤ vec_capacity events.old }
+    ensures { DoesClosedFor number error count handle detach.1 session.old out.old.items events.old.items session.new
+        out.new.items events.new.items }
+{
+    let Some(there) = session.session.link(handle) else {
+        unreachable!()
+    };
+    let link = there.number;
+    close_where(session, handle, detach, out);
+    events.push_reserved(Event::Refused(Refused {
+        session: number,
+        link: Some(link),
+        error,
+    }));
+    tell_first(session, handle, count, Vec::new(alloc), events);
+}
+
+/// The link with this own handle is closed, where it is attached, with what its Detach says and room for it. It takes
+/// no memory.
+fn close_where(
+    session: &mut LinkSession,
+    handle: OutputHandle,
+    detach: (Place<BehindFrame>, definitions::Error),
+    out: &mut VecDeque<SessionFrame>,
+)
+    requires place { room_behind handle.0 1 session.old.session.outgoing.queues ≤ detach.0 }
+    requires spare { deque_len out.old < deque_capacity out.old }
+    ensures { ClosesOut handle detach.1 session.old out.old.items session.new out.new.items }
+{
+    if !is_attached(session, handle) {
+        return;
+    }
+    let (place, why) = detach;
+    detach_placed(session, handle, place, true, Some(why), out);
+}
+
+/// Whether an attached link has this own handle.
+fn is_attached(session: &LinkSession, handle: OutputHandle) -> bool
+    ensures { result ≡ is_there (end_at session.now handle) }
+{
+    match session.session.link(handle) {
+        Some(link) => link.link.local_state().is_attached(),
+        None => false,
+    }
+}
