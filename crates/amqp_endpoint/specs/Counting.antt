@@ -1,5 +1,5 @@
 -- How an endpoint counts the messages that it sends and those that it hands out.
-use Rattle.std.specs.Prelude.{◌≡◌, ℕ, suc}
+use Rattle.std.specs.Prelude.{◌≡◌, suc}
 use Rattle.amqp_endpoint_model.specs.declared.call.Call.{Call}
 use Rattle.amqp_endpoint_model.specs.declared.call.Call.TheVariants.{Send}
 use Rattle.amqp_endpoint.specs.declared.linked.LinkedSessions.{LinkedSessions}
