@@ -29,12 +29,12 @@ use Rattle.amqp_endpoint_attached.specs.Detaching.{own_detach}
 use Rattle.amqp_endpoint_attached.specs.Linked.{Linked, LinksIn, end_at, end_in}
 use Rattle.amqp_endpoint_messages.specs.All.{open_count}
 use Rattle.amqp_endpoint_messages.specs.GivingUp.{AttachedAt, ClosedFor, DoesAttached, DoesClosedFor, IsBare}
-use Rattle.amqp_endpoint_messages.specs.GivingUp.{planned_at}
+use Rattle.amqp_endpoint_messages.specs.GivingUp.{attached_told, planned_at}
 use Rattle.amqp_endpoint_messages.specs.MadeReady.{HasRoomToSend, HasRoomToTell, IsMadeReady, IsReadyFor, MadeRoom}
 use Rattle.amqp_endpoint_messages.specs.declared.giving_up.AttachReady.{AttachReady}
 use Rattle.amqp_endpoint_linking.specs.Linking.{Session, Talk}
 use Rattle.amqp_endpoint_linking.specs.Handed.{Hands, Tells}
-use Rattle.amqp_endpoint_link_hearing.specs.Attaching.{ByLink, IsAttached, LinkTakes, MakesRoom, attached_told}
+use Rattle.amqp_endpoint_link_hearing.specs.Attaching.{ByLink, IsAttached, LinkTakes, MakesRoom}
 use Rattle.amqp_endpoint_link_hearing.specs.Attaching.{outcome_of}
 use Rattle.amqp_endpoint_link_hearing.specs.InSession.{GoesOn}
 use Rattle.amqp_endpoint_link_hearing.specs.Leaving.{detach_frame}
@@ -165,7 +165,8 @@ module _ (limit session count : ℕ) (handle : OutputHandle) (aborts : List Abor
   abbrev AttachedSo : Type 0
   AttachedSo =
       Tells (λ (frames : List SessionFrame) (events : List Event).
-      GoesOn (AttachedAt limit session count handle why aborts frames events) old session new) out told out_new told_new
+      GoesOn (AttachedAt limit session count handle why aborts None frames events) old session new) out told out_new
+      told_new
 
   pub attached-goes : (from : ℕ) → (t : AttachedSo) → ((s : Linked) → FitsIn s) → from ≡ length out
       → All IsRead (drop from out_new) → Goes limit old new out out_new
@@ -173,17 +174,17 @@ module _ (limit session count : ℕ) (handle : OutputHandle) (aborts : List Abor
       let before : Linked = ((t.is_so).before).value in
       let after : Linked = ((t.is_so).after).value in
       let Does : List SessionFrame → Linked → Linked → Type 0 = λ frames.
-      AttachedAt limit session count handle why aborts frames t.events in
+      AttachedAt limit session count handle why aborts None frames t.events in
       let h : Hands (λ (frames : List SessionFrame). GoesOn (Does frames) old session new) out out_new =
       record { frames = t.frames; is_so = t.is_so; queued = t.queued } in
       let s : Stepped limit before t.frames after =
-      attached-at limit session count handle why aborts t.frames t.events before after (fit before) (t.is_so).done in
+      attached-at limit session count handle why aborts None t.frames t.events before after (fit before) (t.is_so).done in
       done-goes Does old session new out out_new h limit from is reads s.done
 
   pub attached-rests : AttachedSo → Rests old new out out_new
   attached-rests t =
       let Does : List SessionFrame → Linked → Linked → Type 0 = λ frames.
-      AttachedAt limit session count handle why aborts frames t.events in
+      AttachedAt limit session count handle why aborts None frames t.events in
       done-rests Does old session new out out_new
       (record { frames = t.frames; is_so = t.is_so; queued = t.queued })
 
@@ -230,13 +231,13 @@ module _ (session count : ℕ) (handle : OutputHandle) (says : Error) (is : says
     (lent : Session) (live : Some lent ≡ live_at old.sessions session) (before after : Linked)
     (same : before ≡ lent.value) (out out_new : List SessionFrame) (told told_new : List Event) where
   pub attached-on : (limit : ℕ) (aborts : List Abort)
-      → DoesAttached limit session count handle says aborts before out told after out_new told_new
+      → DoesAttached limit session count handle says aborts None before out told after out_new told_new
       → AttachedSo limit session count handle aborts old (behind-talk old session lent after) out out_new told told_new
   attached-on limit aborts d =
       let Does : List SessionFrame → List Event → Linked → Linked → Type 0 = λ frames events.
-      AttachedAt limit session count handle (error_of not_allowed) aborts frames events in
+      AttachedAt limit session count handle (error_of not_allowed) aborts None frames events in
       tells-on Does old session lent live before after same out out_new told told_new d.frames d.events
-      (subst (λ (w : Error). AttachedAt limit session count handle w aborts d.frames d.events before after) is d.does)
+      (subst (λ (w : Error). AttachedAt limit session count handle w aborts None d.frames d.events before after) is d.does)
       d.queued d.are_told
 
   pub closed-on : (error : LinkError)
@@ -262,7 +263,7 @@ module _ (limit count : ℕ) (old : Talk) (session : ℕ) (handle : OutputHandle
   pub link-attached : (attaching : Attaching) → Ok attaching ≡ outcome_of answer
       → mid ≡ events ++ attached_told number attaching.exchange
       → Tells (λ (frames : List SessionFrame) (told : List Event).
-      GoesOn (AttachedAt limit session count handle (error_of not_allowed) attaching.aborts frames told) old session
+      GoesOn (AttachedAt limit session count handle (error_of not_allowed) attaching.aborts None frames told) old session
       new)
       out mid out_new events_new → Takes
   link-attached attaching is are t =

@@ -1,5 +1,6 @@
 //! The peer's Attach (part 2, 2.6.3, 2.7.3).
-ghost use Rattle.std.specs.Prelude.{◌≡◌, ◌+◌, ◌<◌, ◌≤◌, ◌++◌, ℕ, All, IfErr, IfOk, IsSome, List, OnErr, OnOk, Some};
+ghost use Rattle.std.specs.Prelude.{◌≡◌, ◌+◌, ◌<◌, ◌≤◌, ◌++◌, ℕ, All, IfErr, IfOk, IsSome, List, None, OnErr, OnOk};
+ghost use Rattle.std.specs.Prelude.{Some};
 ghost use Rattle.std.specs.Vec.{vec_capacity, vec_len};
 ghost use Rattle.std.specs.VecDeque.{deque_capacity, deque_len};
 ghost use Rattle.amqp_link_unsettled.specs.declared.exchanging.Abort.{Abort};
@@ -11,12 +12,12 @@ ghost use Rattle.amqp_endpoint_model.specs.State.{error_of};
 ghost use Rattle.amqp_endpoint_model.specs.Step.{not_allowed};
 ghost use Rattle.amqp_endpoint_tables.specs.State.{live_at};
 ghost use Rattle.amqp_endpoint_conversation.specs.Going.{Goes, Rests};
-ghost use Rattle.amqp_endpoint_messages.specs.GivingUp.{AttachedAt, ClosedFor, IsBare};
+ghost use Rattle.amqp_endpoint_messages.specs.GivingUp.{AttachedAt, ClosedFor, IsBare, attached_told};
 ghost use Rattle.amqp_endpoint_messages.specs.MadeReady.{HasRoomToSend, HasRoomToTell, IsMadeReady};
 ghost use Rattle.amqp_endpoint_linking.specs.Linking.{Session};
 ghost use Rattle.amqp_endpoint_linking.specs.Handed.{Tells};
 ghost use Rattle.amqp_endpoint_link_hearing.specs.Attaching.{BecomesBy, ByLink, HearsAttach, HearsReady, MakesRoom};
-ghost use Rattle.amqp_endpoint_link_hearing.specs.Attaching.{RefusesAttach, asked_told, attached_told};
+ghost use Rattle.amqp_endpoint_link_hearing.specs.Attaching.{RefusesAttach, asked_told};
 ghost use Rattle.amqp_endpoint_link_hearing.specs.Attaching.{of_receiver, of_sender, outcome_of};
 ghost use Rattle.amqp_endpoint_link_hearing.specs.InSession.{GoesOn};
 ghost use Rattle.amqp_endpoint_link_hearing.specs.Naming.{link_of};
@@ -286,8 +287,8 @@ fn go_on(
     requires why { ready.why ≡ error_of not_allowed }
     requires bare { All IsBare ready.giving.batches.items }
     ensures does { (limit : ℕ) (aborts : List Abort) → IsMadeReady limit handle aborts ready.giving →
-        Tells (λ frames told. GoesOn (AttachedAt limit session ready.count handle (error_of not_allowed) aborts frames
-        told) talk.old session talk.new)
+        Tells (λ frames told. GoesOn (AttachedAt limit session ready.count handle (error_of not_allowed) aborts None
+        frames told) talk.old session talk.new)
         out.old.items events.old.items out.new.items events.new.items }
     ensures goes { (limit : ℕ) (aborts : List Abort) → IsMadeReady limit handle aborts ready.giving → 512 ≤ limit →
         Goes limit talk.old talk.new out.old.items out.new.items }
@@ -299,7 +300,7 @@ fn go_on(
     let Some(live) = talk.sessions.live_mut(session) else {
         unreachable!()
     };
-    go_on_attached(live, alloc, session, handle, ready, out, events);
+    go_on_attached(live, alloc, session, handle, ready, None, out, events);
     frames_are_read(out, from);
 }
 

@@ -33,13 +33,18 @@ abbrev pub IsPlanned : ℕ → OutputHandle → Abort → Option Transfers → T
 IsPlanned limit handle abort None = abort_fits limit handle abort ≡ false
 IsPlanned limit handle abort (Some batch) = (batch ≡ batch_of handle abort) × (abort_fits limit handle abort ≡ true)
 
--- For the link with this own handle: what it gives up by the peer's Attach, how many of its messages are open, and what
--- its Detach says where it is closed.
-pub record IsReadyFor (limit : ℕ) (s : Linked) (handle : OutputHandle) (attach : Attach) (ready : AttachReady) : Type 0
-  where
-    pub giving : IsMadeReady limit handle (planned_at (end_at s handle) attach) ready.giving
-    pub count : ready.count ≡ open_count (end_at s handle)
-    pub why : ready.why ≡ error_of not_allowed
+-- For a link with this own handle: the deliveries that it gives up, how many of its messages are open, and what its
+-- Detach says where it is closed.
+pub record IsReadyWith (limit : ℕ) (handle : OutputHandle) (aborts : List Abort) (opened : ℕ) (ready : AttachReady)
+    : Type 0 where
+  pub giving : IsMadeReady limit handle aborts ready.giving
+  pub count : ready.count ≡ opened
+  pub why : ready.why ≡ error_of not_allowed
+
+-- For the one that waits for the peer's Attach: what it gives up by that.
+abbrev pub IsReadyFor : ℕ → Linked → OutputHandle → Attach → AttachReady → Type 0
+IsReadyFor limit s handle attach ready =
+    IsReadyWith limit handle (planned_at (end_at s handle) attach) (open_count (end_at s handle)) ready
 
 -- There is room for what is handed out: in the session, among what is handed out, and for the Detach.
 pub record HasRoomToSend (handle : OutputHandle) (ready : AttachReady) (s : Linked) (len capacity : ℕ) : Type 0 where

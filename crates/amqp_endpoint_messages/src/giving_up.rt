@@ -17,11 +17,13 @@ ghost use Rattle.amqp_endpoint_messages.specs.GivingUp.{abort_on, given_up_by, p
 ghost use Rattle.amqp_endpoint_messages.specs.GivingUp.{transfer_fits};
 ghost use Rattle.amqp_endpoint_messages.specs.MadeReady.{ClosesOut, HasRoomToSend, HasRoomToTell, IsMadeReady};
 ghost use Rattle.amqp_endpoint_messages.specs.MadeReady.{IsPlanned};
-ghost use Rattle.amqp_endpoint_messages.specs.MadeReady.{IsReadyFor, MadeRoom, MadeRoomIn};
+ghost use Rattle.amqp_endpoint_messages.specs.All.{open_count};
+ghost use Rattle.amqp_endpoint_messages.specs.MadeReady.{IsReadyFor, IsReadyWith, MadeRoom, MadeRoomIn};
+ghost use Rattle.amqp_link.specs.GoingOn.{aborts_of};
 
 use crate::cutting::on_handle;
-use crate::ending::{open_in, tell_first};
-use amqp_endpoint_attached::{LinkSession, detach_placed};
+use crate::ending::{open_count, open_in, tell_first};
+use amqp_endpoint_attached::{LinkSession, detach_placed, take_kept};
 use amqp_endpoint_links::Numbered;
 use amqp_endpoint_model::{EndpointError, Event, Refused};
 use amqp_link::{LinkEnd, PreparedAttach};
@@ -30,7 +32,7 @@ use amqp_link_types::LinkError;
 use amqp_link_unsettled::{Abort, fits_text};
 use amqp_session_core::{Batch, BehindFrame, Session};
 use amqp_session_outgoing::Place;
-use amqp_session_performatives::{Attach, SessionFrame, Transfer};
+use amqp_session_performatives::{Attach, LinkFlow, SessionFrame, Transfer};
 use amqp_session_types::{OutputHandle, definitions};
 use bytes::Bytes;
 use serde_amqp_types::Symbol;
@@ -87,6 +89,62 @@ pub fn make_attach_ready(
 {
     let giving = giving_up_in(&session.session, alloc, limit, handle, attach)?;
     let count = open_in(session, handle);
+    make_room_for(session, alloc, handle, giving, count, out, events)
+}
+
+/// What is left to be done for a link that answers one that the peer asks for is made ready, as `make_attach_ready` does,
+/// before it is in the session under this handle, where the peer's Attach makes this of it; and there is room for one
+/// frame more, its own Attach, before the others. Of the session nothing changes but the room for transfers.
+///
+/// It is refused where there is no memory, and nothing changes then.
+pub fn make_answer_ready(
+    session: &mut LinkSession,
+    alloc: Global,
+    limit: u32,
+    handle: OutputHandle,
+    link: &LinkEnd,
+    taken: &PreparedAttach,
+    out: &mut VecDeque<SessionFrame>,
+    events: &mut Vec<Event>,
+) -> Result<AttachReady, AllocError>
+    ensures ready { IfOk result (IsReadyWith limit handle (aborts_of taken.now) (open_count (Some link.now))) }
+    ensures sends { IfOk result (λ ready.
+        HasRoomToSend handle ready session.new (deque_len out.new + 1) (deque_capacity out.new)) }
+    ensures tells { IfOk result (λ ready. HasRoomToTell ready.count (vec_len events.new + 1)
+        (vec_capacity events.new)) }
+    ensures bare { IfOk result (λ ready. All IsBare ready.giving.batches.items) }
+    ensures made { OnOk result (MadeRoom session.old session.new) }
+    ensures kept { OnErr result (session.new ≡ session.old) }
+    ensures out { out.new.items ≡ out.old.items }
+    ensures events { events.new.items ≡ events.old.items }
+{
+    let giving = make_giving_up(alloc, limit, handle, taken.aborts())?;
+    make_room_for(session, alloc, handle, giving, open_count(link), out, events)
+}
+
+/// Room for all that is left to be done for the link that has this own handle, or gets it: for these transfers, with one
+/// frame before them; for the events of so many open messages; and for the Detach where it is closed. It is refused
+/// where there is no memory.
+fn make_room_for(
+    session: &mut LinkSession,
+    alloc: Global,
+    handle: OutputHandle,
+    giving: GivingUp,
+    count: usize,
+    out: &mut VecDeque<SessionFrame>,
+    events: &mut Vec<Event>,
+) -> Result<AttachReady, AllocError>
+    ensures ready { IfOk result (λ ready. (ready.giving ≡ giving)
+        × ((ready.count ≡ count) × (ready.why ≡ error_of condition))) }
+    ensures sends { IfOk result (λ ready.
+        HasRoomToSend handle ready session.new (deque_len out.new + 1) (deque_capacity out.new)) }
+    ensures tells { IfOk result (λ ready. HasRoomToTell ready.count (vec_len events.new + 1)
+        (vec_capacity events.new)) }
+    ensures made { OnOk result (MadeRoom session.old session.new) }
+    ensures kept { OnErr result (session.new ≡ session.old) }
+    ensures out { out.new.items ≡ out.old.items }
+    ensures events { events.new.items ≡ events.old.items }
+{
     let why = not_allowed(alloc)?;
     let Ok(place) = session.session.place_behind_more(alloc, handle, 1) else {
         return Err(AllocError);
@@ -249,7 +307,7 @@ fn make_room_to_tell(events: &mut Vec<Event>, count: usize) -> Result<(), AllocE
     events.reserve(count.checked_add(failed).ok_or(AllocError)?)
 }
 
-/// Room for so many transfers in the session, and for one frame behind them.
+/// Room for so many transfers in the session, and for two frames beside them.
 fn make_room_to_send(
     session: &mut Session<Numbered<LinkEnd>>,
     out: &mut VecDeque<SessionFrame>,
@@ -257,12 +315,12 @@ fn make_room_to_send(
 ) -> Result<(), AllocError>
     ensures room { OnOk result (count ≤ session.new.outgoing.room) }
     ensures spare { OnOk result (deque_len out.new + (frames_in session.new.outgoing.queues
-        + session.new.outgoing.room) + 1 ≤ deque_capacity out.new) }
+        + session.new.outgoing.room) + 2 ≤ deque_capacity out.new) }
     ensures made { OnOk result (MadeRoomIn session.old session.new) }
     ensures kept { OnErr result (session.new ≡ session.old) }
     ensures out { out.new.items ≡ out.old.items }
 {
-    match session.reserve_transfers(out, count, 1) {
+    match session.reserve_transfers(out, count, 2) {
         Ok(()) => Ok(()),
         Err(_) => Err(AllocError),
     }
@@ -272,13 +330,15 @@ fn make_room_to_send(
 /// messages that end by what the peer lists, and then it gives up the deliveries that are to be given up, in their
 /// order. Where the peer takes no frame for one of them, or its number is in use, the link is closed, and `Refused` is
 /// told with `FrameTooLarge` or `NumberInUse`, and behind that the outcomes of its messages that end by it (part 2,
-/// 2.6.6, 2.6.12, 2.6.13). All of it was made ready, and it takes no memory.
+/// 2.6.6, 2.6.12, 2.6.13). Else it takes what was kept of a Flow, where the link answers one that the peer asked for, and
+/// replies to it where that wants it (part 2, 2.7.4). All of it was made ready, and it takes no memory.
 pub fn go_on_attached(
     session: &mut LinkSession,
     alloc: Global,
     number: u64,
     handle: OutputHandle,
     ready: AttachReady,
+    kept: Option<LinkFlow>,
     out: &mut VecDeque<SessionFrame>,
     events: &mut Vec<Event>,
 )
@@ -287,7 +347,7 @@ pub fn go_on_attached(
     requires tells { HasRoomToTell ready.count (vec_len events.old) (vec_capacity events.old) }
     requires bare { All IsBare ready.giving.batches.items }
     ensures { (limit : ℕ) (aborts : List Abort) → IsMadeReady limit handle aborts ready.giving →
-        DoesAttached limit number ready.count handle ready.why aborts session.old out.old.items events.old.items
+        DoesAttached limit number ready.count handle ready.why aborts kept session.old out.old.items events.old.items
         session.new out.new.items events.new.items }
 {
     let AttachReady {
@@ -300,6 +360,7 @@ pub fn go_on_attached(
     tell_first(session, handle, count, Vec::new(alloc), events);
     let stopped = give_up(&mut session.session, alloc, handle, batches, out);
     let Some(error) = stuck_by(stopped, all_fit) else {
+        take_kept(session, handle, kept, place, out);
         return;
     };
     close_for(

@@ -45,20 +45,34 @@ pub close_for-requires-clause-tells : goal.close_for-requires-clause-tells
 close_for-requires-clause-tells c =
     omega (arith, c.requires.tells, c.tell_first.ensures.few, c.tell_first.ensures.capacity)
 
+pub take_kept-requires-clause-there : goal.take_kept-requires-clause-there
+take_kept-requires-clause-there c =
+    is_there_in c.give_up-stopped.new.session c.args.handle
+    (still-there c.tell_first.new.session.session c.give_up-stopped.new.session c.args.handle
+    c.give_up-stopped.ensures.links (c.tell_first.ensures.there c.requires.there))
+
+pub take_kept-requires-clause-place : goal.take_kept-requires-clause-place
+take_kept-requires-clause-place c =
+    c.give_up-stopped.ensures.place c.args.ready.place c.requires.sends.some
+    (subst
+    (λ (o : sending.State TransferFrame BehindFrame). room_behind c.args.handle.0 1 o.queues ≤ c.args.ready.place)
+    (sym c.tell_first.ensures.waiting) c.requires.sends.place)
+
 pub returns-in_default : goal.returns-in_default
 returns-in_default c = λ limit aborts planned.
     let given : Linked = record c.tell_first.new.session { session = c.give_up-stopped.new.session } in
-    attached limit c.args.number c.args.ready.count c.args.handle c.args.ready.why aborts
+    attached limit c.args.number c.args.ready.count c.args.handle c.args.ready.why aborts c.args.kept
     c.args.ready.giving.batches.items c.args.ready.giving.all_fit planned c.args.session.now
     c.tell_first.new.session given c.args.out.now.items c.give_up-stopped.new.out.items c.args.events.now.items
     c.tell_first.new.events.items c.give_up-stopped.result c.tell_first.ensures.tells
     (c.tell_first.ensures.told None (no-copies c.args.ready.count _ c.new.ensures.items))
-    c.give_up-stopped.ensures.hands refl None c.in_default.ensures refl
+    c.give_up-stopped.ensures.hands refl None c.in_default.ensures refl c.take_kept.new.session
+    c.take_kept.new.out.items c.take_kept.ensures
 
 pub returns : goal.returns
 returns c = λ limit aborts planned.
     let given : Linked = record c.tell_first.new.session { session = c.give_up-stopped.new.session } in
-    attached-not limit c.args.number c.args.ready.count c.args.handle c.args.ready.why aborts
+    attached-not limit c.args.number c.args.ready.count c.args.handle c.args.ready.why aborts c.args.kept
     c.args.ready.giving.batches.items c.args.ready.giving.all_fit planned c.args.session.now
     c.tell_first.new.session given c.args.out.now.items c.give_up-stopped.new.out.items c.args.events.now.items
     c.tell_first.new.events.items c.give_up-stopped.result c.tell_first.ensures.tells
