@@ -1,7 +1,7 @@
 //! How a link attaches, and what comes of it at once (part 2, 2.6.3).
 ghost use Rattle.std.specs.Prelude.{◌≡◌, ◌<◌, ◌≤◌, ◌++◌, ℕ, [], IfErr, IfOk, OnErr};
 ghost use Rattle.std.specs.Vec.{vec_capacity, vec_len};
-ghost use Rattle.amqp_endpoint_conversation.specs.Going.{Goes, Rests, Within};
+ghost use Rattle.amqp_endpoint_conversation.specs.Going.{Goes, Rests};
 ghost use Rattle.amqp_endpoint_attached.specs.Links.{link_by, receiver_by, sender_by};
 ghost use Rattle.amqp_endpoint_link_calls.specs.Refusals.{BarsAttaching};
 ghost use Rattle.amqp_endpoint_linking.specs.Handed.{Hands};
@@ -41,7 +41,6 @@ pub(crate) fn attach_sender(
     ensures kept { OnErr result
         ((talk.new ≡ talk.old) × (links.new ≡ links.old) × (out.new.items ≡ out.old.items)) }
     ensures goes { Goes limit talk.old talk.new out.old.items out.new.items }
-    ensures waits { (most : ℕ) → Within most talk.old → Within most talk.new }
     ensures rests { Rests talk.old talk.new out.old.items out.new.items }
 {
     let mut events = room_to_tell(talk, links, alloc, session, Role::Sender, settings)?;
@@ -67,7 +66,6 @@ pub(crate) fn attach_receiver(
     ensures kept { OnErr result
         ((talk.new ≡ talk.old) × (links.new ≡ links.old) × (out.new.items ≡ out.old.items)) }
     ensures goes { Goes limit talk.old talk.new out.old.items out.new.items }
-    ensures waits { (most : ℕ) → Within most talk.old → Within most talk.new }
     ensures rests { Rests talk.old talk.new out.old.items out.new.items }
 {
     let mut events = room_to_tell(talk, links, alloc, session, Role::Receiver, settings)?;

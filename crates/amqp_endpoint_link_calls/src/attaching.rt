@@ -4,7 +4,7 @@ ghost use Rattle.amqp_link.specs.Ends.{state_of};
 ghost use Rattle.amqp_link.specs.declared.end.End.{End};
 ghost use Rattle.amqp_endpoint_attached.specs.Links.{is_at_rest, receiver_by, sender_by};
 ghost use Rattle.amqp_endpoint_conversation.specs.Ending.{IsMapped};
-ghost use Rattle.amqp_endpoint_conversation.specs.Going.{Goes, Rests, Within};
+ghost use Rattle.amqp_endpoint_conversation.specs.Going.{Goes, Rests};
 ghost use Rattle.amqp_endpoint_link_calls.specs.Attaching.{AttachesIn, LinkAttaches};
 ghost use Rattle.amqp_endpoint_link_calls.specs.Refusals.{BarsAttaching, BarsMade, BarsPlacing};
 
@@ -53,7 +53,6 @@ pub fn attach(
     ensures kept { OnErr result
         ((talk.new ≡ talk.old) × (links.new ≡ links.old) × (out.new.items ≡ out.old.items)) }
     ensures goes { Goes limit talk.old talk.new out.old.items out.new.items }
-    ensures waits { (most : ℕ) → Within most talk.old → Within most talk.new }
     ensures rests { Rests talk.old talk.new out.old.items out.new.items }
 {
     let room = links.room();
@@ -84,7 +83,6 @@ pub fn attach_sender(
     ensures kept { OnErr result
         ((talk.new ≡ talk.old) × (links.new ≡ links.old) × (out.new.items ≡ out.old.items)) }
     ensures goes { Goes limit talk.old talk.new out.old.items out.new.items }
-    ensures waits { (most : ℕ) → Within most talk.old → Within most talk.new }
     ensures rests { Rests talk.old talk.new out.old.items out.new.items }
 {
     match attach_refusal(talk, links, alloc, session, Role::Sender, settings) {
@@ -110,7 +108,6 @@ fn place_sender(
     ensures kept { OnErr result
         ((talk.new ≡ talk.old) × (links.new ≡ links.old) × (out.new.items ≡ out.old.items)) }
     ensures goes { Goes limit talk.old talk.new out.old.items out.new.items }
-    ensures waits { (most : ℕ) → Within most talk.old → Within most talk.new }
     ensures rests { Rests talk.old talk.new out.old.items out.new.items }
 {
     let room = links.room();
@@ -141,7 +138,6 @@ pub fn attach_receiver(
     ensures kept { OnErr result
         ((talk.new ≡ talk.old) × (links.new ≡ links.old) × (out.new.items ≡ out.old.items)) }
     ensures goes { Goes limit talk.old talk.new out.old.items out.new.items }
-    ensures waits { (most : ℕ) → Within most talk.old → Within most talk.new }
     ensures rests { Rests talk.old talk.new out.old.items out.new.items }
 {
     match attach_refusal(talk, links, alloc, session, Role::Receiver, settings) {
@@ -167,7 +163,6 @@ fn place_receiver(
     ensures kept { OnErr result
         ((talk.new ≡ talk.old) × (links.new ≡ links.old) × (out.new.items ≡ out.old.items)) }
     ensures goes { Goes limit talk.old talk.new out.old.items out.new.items }
-    ensures waits { (most : ℕ) → Within most talk.old → Within most talk.new }
     ensures rests { Rests talk.old talk.new out.old.items out.new.items }
 {
     let room = links.room();
@@ -196,7 +191,6 @@ fn attach_made(
     ensures err { IfErr result (BarsMade limit talk.old session made) }
     ensures kept { OnErr result ((talk.new ≡ talk.old) × (out.new.items ≡ out.old.items)) }
     ensures goes { Goes limit talk.old talk.new out.old.items out.new.items }
-    ensures waits { (most : ℕ) → Within most talk.old → Within most talk.new }
     ensures rests { Rests talk.old talk.new out.old.items out.new.items }
 {
     match made {

@@ -1,25 +1,33 @@
 //! How a link attaches in its session (part 2, 2.6.3).
-ghost use Rattle.std.specs.Prelude.{◌≡◌, ℕ, None, Some, true, IfErr, IfOk, IsSome, OnErr};
+ghost use Rattle.std.specs.Prelude.{◌≡◌, ◌+◌, ◌++◌, ℕ, All, List, None, Some, true, IfErr, IfOk, IsSome, OnErr};
 ghost use Rattle.std.specs.FinMap as map;
+ghost use Rattle.std.specs.Vec.{vec_capacity, vec_len};
+ghost use Rattle.std.specs.VecDeque.{deque_capacity, deque_len};
 ghost use Rattle.amqp_link.specs.Ends.{state_of};
 ghost use Rattle.amqp_endpoint_attached.specs.Answering.{RefusesAnswer};
 ghost use Rattle.amqp_endpoint_attached.specs.Attaching.{RefusesAttach};
+ghost use Rattle.amqp_endpoint_attached.specs.Linked.{end_at};
 ghost use Rattle.amqp_endpoint_attached.specs.Links.{is_at_rest};
 ghost use Rattle.amqp_endpoint_conversation.specs.Ending.{IsMapped};
-ghost use Rattle.amqp_endpoint_conversation.specs.Going.{Goes, Rests, Within};
+ghost use Rattle.amqp_endpoint_conversation.specs.Going.{Goes, Rests};
+ghost use Rattle.amqp_endpoint_messages.specs.GivingUp.{DoesAttached, IsBare, attached_told};
+ghost use Rattle.amqp_endpoint_messages.specs.MadeReady.{HasRoomToSend, HasRoomToTell, IsMadeReady};
+ghost use Rattle.amqp_link_unsettled.specs.declared.exchanging.Abort.{Abort};
+ghost use Rattle.amqp_endpoint_link_calls.specs.Answering.{IsAllReady};
 ghost use Rattle.amqp_endpoint_link_calls.specs.Attaching.{AttachedBy, AttachesIn, AttachesOne};
 ghost use Rattle.amqp_endpoint_link_calls.specs.Refusals.{BarsIn, RefusesOne, of_refusal};
 
 use crate::LinkTalk;
 use crate::meeting::met;
 use crate::placed::Placed;
-use amqp_endpoint_attached::{Answered, AttachRefusal, LinkSession, Unattached, answer, attach};
+use amqp_endpoint_attached::{Answered, AttachRefusal, LinkSession, PreparedAnswer, Unattached, answer, attach, offered};
+use amqp_endpoint_attached::prepare_answer;
 use amqp_endpoint_fitting::frames_are_read;
-use amqp_endpoint_model::EndpointError;
+use amqp_endpoint_messages::{AttachReady, go_on_attached, make_answer_ready};
+use amqp_endpoint_model::{Attached, EndpointError, Event};
 use amqp_link::LinkEnd;
 use amqp_session_performatives::SessionFrame;
 use amqp_session_types::{InputHandle, SessionError};
-use serde_amqp_types::Array;
 use std::alloc::Global;
 use std::collections::VecDeque;
 
@@ -42,7 +50,6 @@ pub(crate) fn attach_live(
     ensures err { IfErr result (BarsIn limit talk.old session link) }
     ensures kept { OnErr result ((talk.new ≡ talk.old) × (out.new.items ≡ out.old.items)) }
     ensures goes { Goes limit talk.old talk.new out.old.items out.new.items }
-    ensures waits { (most : ℕ) → Within most talk.old → Within most talk.new }
     ensures rests { Rests talk.old talk.new out.old.items out.new.items }
 {
     let from = out.len();
@@ -114,15 +121,127 @@ fn answer_asked(
 ) -> Result<Placed, AttachRefusal>
     requires asked { IsSome (map.get live.old.asked input.0) }
     requires at_rest { is_at_rest (state_of link) ≡ true }
-    ensures ok { IfOk result (λ placed. AttachedBy (Some input) placed.exchange live.old out.old.items limit link
-        placed live.new out.new.items) }
+    ensures ok { IfOk result (λ placed. AttachedBy (Some input) live.old out.old.items limit link placed live.new
+        out.new.items) }
     ensures placed { IfOk result (λ placed. (placed.session ≡ session) × (placed.link ≡ number)) }
     ensures err { IfErr result (RefusesAnswer limit live.old link input) }
     ensures kept { OnErr result ((live.new ≡ live.old) × (out.new.items ≡ out.old.items)) }
 {
-    match answer(live, alloc, limit, number, link, input, out) {
-        Ok(answered) => Ok(placed_by(answered, session, number)),
-        Err(refused) => Err(refusal_in(refused)),
+    let room = live.session.transfers_room();
+    let AnswerReady {
+        prepared,
+        behind,
+        events,
+    } = make_ready(live, alloc, limit, &link, input, out)?;
+    match answer(live, alloc, number, link, input, prepared, out) {
+        Ok(answered) => Ok(go_on(
+            live, alloc, session, number, answered, behind, events, out,
+        )),
+        Err(refused) => {
+            live.session.lower_transfers(room);
+            Err(refusal_in(refused))
+        }
+    }
+}
+
+/// What a link says and does that answers an asked one, made ready before it changes.
+#[derive(Drop)]
+struct AnswerReady {
+    /// What it says.
+    prepared: PreparedAnswer,
+    /// What it leaves to be done behind its Attach.
+    behind: AttachReady,
+    /// No event yet, with room for all that are told.
+    events: Vec<Event>,
+}
+
+/// What a link, which is at rest, says and does that answers the one that the peer asks for with this handle, and room
+/// for all of it. Of the session nothing changes but the room for transfers.
+fn make_ready(
+    live: &mut LinkSession,
+    alloc: Global,
+    limit: u32,
+    link: &LinkEnd,
+    input: InputHandle,
+    out: &mut VecDeque<SessionFrame>,
+) -> Result<AnswerReady, AttachRefusal>
+    requires asked { IsSome (map.get live.old.asked input.0) }
+    requires at_rest { is_at_rest (state_of link.now) ≡ true }
+    ensures ok { IfOk result (λ ready. IsAllReady limit live.old link.now input ready live.new (deque_len out.new)
+        (deque_capacity out.new)) }
+    ensures err { IfErr result (RefusesAnswer limit live.old link.now input) }
+    ensures kept { OnErr result (live.new ≡ live.old) }
+    ensures out { out.new.items ≡ out.old.items }
+{
+    let prepared = prepare_answer(live, alloc, limit, link, input)?;
+    let handle = offered(&live.session)?;
+    let mut events = Vec::new(alloc);
+    match make_answer_ready(
+        live,
+        alloc,
+        limit,
+        handle,
+        link,
+        &prepared.taken,
+        out,
+        &mut events,
+    ) {
+        Ok(behind) => Ok(AnswerReady {
+            prepared,
+            behind,
+            events,
+        }),
+        Err(_) => Err(AttachRefusal::Memory),
+    }
+}
+
+/// A link that answered an asked one goes on: it is told that it is attached, and what its Attach leaves to be done is
+/// done, as it was made ready.
+fn go_on(
+    live: &mut LinkSession,
+    alloc: Global,
+    session: u64,
+    number: u64,
+    answered: Answered,
+    behind: AttachReady,
+    events: Vec<Event>,
+    out: &mut VecDeque<SessionFrame>,
+) -> Placed
+    requires there { IsSome (end_at live.old answered.handle) }
+    requires sends { HasRoomToSend answered.handle behind live.old (deque_len out.old) (deque_capacity out.old) }
+    requires tells { HasRoomToTell behind.count (vec_len events + 1) (vec_capacity events) }
+    requires bare { All IsBare behind.giving.batches.items }
+    ensures placed { (result.link ≡ number) × ((result.session ≡ session) × (result.handle ≡ answered.handle)) }
+    ensures does { (limit : ℕ) (aborts : List Abort) → IsMadeReady limit answered.handle aborts behind.giving →
+        DoesAttached limit session behind.count answered.handle behind.why aborts answered.kept live.old out.old.items
+        (events.items ++ attached_told number answered.exchange) live.new out.new.items result.events.items }
+{
+    let Answered {
+        handle,
+        exchange,
+        aborts: _,
+        kept,
+    } = answered;
+    let mut events = events;
+    events.push_reserved(Event::Attached(Attached {
+        link: number,
+        exchange,
+    }));
+    go_on_attached(
+        live,
+        alloc,
+        session,
+        handle,
+        behind,
+        kept,
+        out,
+        &mut events,
+    );
+    Placed {
+        link: number,
+        session,
+        handle,
+        events,
     }
 }
 
@@ -132,30 +251,6 @@ fn refusal_in(refused: Unattached) -> AttachRefusal
 {
     let Unattached { refusal, link: _ } = refused;
     refusal
-}
-
-/// What is told of it.
-fn placed_by(answered: Answered, session: u64, number: u64) -> Placed
-    ensures { result ≡ record {
-      link = number;
-      session = session;
-      handle = answered.handle;
-      exchange = Some answered.exchange;
-      aborts = answered.aborts;
-    } }
-{
-    let Answered {
-        handle,
-        exchange,
-        aborts,
-    } = answered;
-    Placed {
-        link: number,
-        session,
-        handle,
-        exchange: Some(exchange),
-        aborts,
-    }
 }
 
 /// It attaches of itself, and waits for the peer's Attach.
@@ -169,8 +264,8 @@ fn attach_own(
     out: &mut VecDeque<SessionFrame>,
 ) -> Result<Placed, AttachRefusal>
     requires at_rest { is_at_rest (state_of link) ≡ true }
-    ensures ok { IfOk result (λ placed. AttachedBy None placed.exchange live.old out.old.items limit link placed
-        live.new out.new.items) }
+    ensures ok { IfOk result (λ placed. AttachedBy None live.old out.old.items limit link placed live.new
+        out.new.items) }
     ensures placed { IfOk result (λ placed. (placed.session ≡ session) × (placed.link ≡ number)) }
     ensures err { IfErr result (RefusesAttach limit live.old.session link) }
     ensures kept { OnErr result ((live.new ≡ live.old) × (out.new.items ≡ out.old.items)) }
@@ -180,8 +275,7 @@ fn attach_own(
             link: number,
             session,
             handle,
-            exchange: None,
-            aborts: Array::new(alloc),
+            events: Vec::new(alloc),
         }),
         Err(refused) => Err(refusal_in(refused)),
     }

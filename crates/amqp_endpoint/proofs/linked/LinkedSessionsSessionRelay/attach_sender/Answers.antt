@@ -1,4 +1,5 @@
 use Rattle.std.proofs.Common.{refl}
+use Rattle.amqp_endpoint_conversation.proofs.Calls.{none-within}
 use Rattle.amqp_endpoint_model.specs.declared.call.Call.TheVariants.{AttachSender}
 use Rattle.amqp_endpoint_model.specs.Said.{attaching}
 use Rattle.amqp_endpoint_attached.specs.Links.{sender_by}
@@ -20,7 +21,10 @@ returns-clause-ok c =
     (λ a frames attached. attached) call.result call.ensures.ok
 
 pub returns-clause-within : goal.returns-clause-within
-returns-clause-within c most least = c.attach_sender.ensures.waits most
+returns-clause-within c = c.attach_sender.ensures.goes.waits c.requires.waiting
+
+pub returns-clause-none : goal.returns-clause-none
+returns-clause-none c none most = none-within most c.attach_sender.new.talk (c.attach_sender.ensures.rests.idle none)
 
 pub returns-clause-quiet : goal.returns-clause-quiet
 returns-clause-quiet c = c.attach_sender.ensures.rests.silent
